@@ -1,0 +1,4 @@
+pub mod Held
+pub mod MemoryDesk
+pub mod Outside
+pub mod SoundDesk

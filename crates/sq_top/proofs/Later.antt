@@ -1,0 +1,62 @@
+-- What a command left stays said after its complaint.
+use Rattle.std.proofs.Common.{ℕ, ◌-◌, ◌^◌, inl, inr, List, take, Option, Some, None, ap, ◌∙◌, arith}
+use Rattle.std.proofs.lemmas.Bool.{cases_lt}
+use Rattle.sq_num.specs.declared.packed.Packed.{Packed}
+use Rattle.sq_desk.specs.Outside.{Outside, Place, Rose, NoneFall, Complaining, KeepsFiles, KeepsPrinted, KeepsComplained, appended}
+use Rattle.sq_top.specs.declared.ending.Ending.{Ending}
+use Rattle.sq_top.specs.declared.ending.Ending.TheVariants.{Done, Words, Desk, Refused, Memory}
+use Rattle.sq_top.specs.declared.ending.Call.TheVariants.{Load, Store, Print}
+use Rattle.sq_top.specs.Commands.{Form, PackForm, form_of}
+use Rattle.sq_top.specs.Endings.{complaint_of, StoresPacked, LeavesPack, Leaves, ComplainsLine}
+use Rattle.sq_top.specs.Promises.{Ends}
+
+-- a complaint: files and what is printed stay, and no faults fall
+pub record OnlyComplains (before after : Outside) : Type 0 where
+  pub files : KeepsFiles before after
+  pub printed : KeepsPrinted before after
+  pub faults : NoneFall before after
+
+-- faults that rose before have risen
+rose_on : (place : Place) (before middle after : Outside) → NoneFall before middle → NoneFall middle after → Rose place before middle → Rose place before after
+rose_on place before middle after first second (inl less) = inl (omega (arith, second place))
+rose_on place before middle after first second (inr last) =
+    elim (cases_lt (2 ^ 64 - 1) (after.faults place)) [ inl more ↦ inl (omega (arith, first place)) | inr most ↦ inr (omega (arith, second place)) ]
+
+-- faults that rose later have risen
+rose_then : (place : Place) (before middle after : Outside) → NoneFall before middle → Rose place middle after → Rose place before after
+rose_then place before middle after first (inl less) = inl (omega (arith, first place))
+rose_then place before middle after first (inr last) = inr last
+
+module _ (before middle after : Outside) (first : NoneFall before middle) (quiet : OnlyComplains middle after) where
+  stores_on : {input output : List ℕ} {packed : Packed} → StoresPacked input output packed before middle → StoresPacked input output packed before after
+  stores_on stored = record { packs = stored.packs; stores = quiet.files ∙ stored.stores }
+
+  pack_on : (input output : List ℕ) (ending : Ending) → LeavesPack input output ending before middle → LeavesPack input output ending before after
+  pack_on input output Done left = (left.0, stores_on left.1, quiet.printed ∙ left.2)
+  pack_on input output Words left = left
+  pack_on input output (Desk Load) left = (rose_on _ before middle after first quiet.faults left.0, quiet.files ∙ left.1, quiet.printed ∙ left.2)
+  pack_on input output (Desk Store) left =
+      (left.0, left.1, rose_on _ before middle after first quiet.faults left.2, (left.3.0, quiet.files ∙ left.3.1), quiet.printed ∙ left.4)
+  pack_on input output (Desk Print) left =
+      (left.0, stores_on left.1, rose_on _ before middle after first quiet.faults left.2, (left.3.0, quiet.printed ∙ left.3.1))
+  pack_on input output (Refused refusal) left = (left.0, quiet.files ∙ left.1, quiet.printed ∙ left.2)
+  pack_on input output Memory left =
+      (elim left.0 [ inl kept ↦ inl (quiet.files ∙ kept) | inr stored ↦ inr (stored.0, stores_on stored.1) ], quiet.printed ∙ left.1)
+
+  leaves_on : (form : Option Form) (ending : Ending) → Leaves form ending before middle → Leaves form ending before after
+  leaves_on None ending left = (left.0, quiet.files ∙ left.1, quiet.printed ∙ left.2)
+  leaves_on (Some (PackForm input output)) ending left = pack_on input output ending left
+
+  complains_on : (line : Option (List ℕ)) → KeepsComplained before middle → ComplainsLine line middle after → ComplainsLine line before after
+  complains_on None silent said = said ∙ silent
+  complains_on (Some line) silent (inl all) = inl (all ∙ ap (appended line) silent)
+  complains_on (Some line) silent (inr (inl prefix)) =
+      inr (inl ((prefix.0.0, prefix.0.1 ∙ ap (appended (take prefix.0.0 line)) silent), rose_then Complaining before middle after first prefix.1))
+  complains_on (Some line) silent (inr (inr none)) = inr (inr (none ∙ silent))
+
+  pub ends_by : (words : List (List ℕ)) (ending : Ending) → Leaves (form_of words) ending before middle → KeepsComplained before middle → ComplainsLine (complaint_of ending) middle after → Ends words ending before after
+  ends_by words ending left silent said = record {
+    leaves = leaves_on (form_of words) ending left;
+    complains = complains_on (complaint_of ending) silent said;
+    faults = λ place. omega (arith, first place, quiet.faults place);
+  }

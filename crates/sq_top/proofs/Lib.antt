@@ -1,0 +1,5 @@
+pub mod Later
+pub mod PackedFile
+pub mod Promised
+pub mod Refused
+pub mod StraightPart

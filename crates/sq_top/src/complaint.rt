@@ -1,0 +1,47 @@
+//! What is complained.
+
+ghost use Rattle.std.specs.Prelude.{◌≡◌, ◌≤◌, length};
+ghost use Rattle.sq_desk.specs.Outside.{KeepsFiles, KeepsPrinted, NoneFall};
+ghost use Rattle.sq_top.specs.Endings.{complaint_of, ComplainsLine};
+
+use crate::ending::{Call, Ending};
+use sq_desk::Desk;
+use sq_num::Line;
+use std::alloc::Global;
+
+/// A line that holds just this text.
+fn line_of(text: &str) -> Line
+    requires { length text.now ≤ 96 }
+    ensures { result ≡ text.now }
+{
+    let mut line = Line::new();
+    line.push_text(text);
+    line
+}
+
+/// The line that is complained, or None where there is none. It takes no memory.
+fn complaint_of(ending: &Ending) -> Option<Line>
+    ensures { result ≡ complaint_of ending.now }
+{
+    match ending {
+        Ending::Done => None,
+        Ending::Words => Some(line_of("words\n")),
+        Ending::Desk(Call::Load) => Some(line_of("desk load\n")),
+        Ending::Desk(Call::Store) => Some(line_of("desk store\n")),
+        Ending::Desk(Call::Print) => Some(line_of("desk print\n")),
+        Ending::Refused(refusal) => Some(refusal.line()),
+        Ending::Memory => Some(line_of("memory\n")),
+    }
+}
+
+/// Complains the line of the ending, where it has one. A complaint that fails changes no status.
+pub fn complain<D: Desk>(alloc: Global, desk: &mut D, ending: &Ending)
+    ensures line { ComplainsLine (complaint_of ending.now) (D.outside desk.old) (D.outside desk.new) }
+    ensures files { KeepsFiles (D.outside desk.old) (D.outside desk.new) }
+    ensures printed { KeepsPrinted (D.outside desk.old) (D.outside desk.new) }
+    ensures faults { NoneFall (D.outside desk.old) (D.outside desk.new) }
+{
+    if let Some(line) = complaint_of(ending) {
+        let _ = desk.complain(alloc, line.as_slice());
+    }
+}

@@ -1,0 +1,42 @@
+//! The lines that commands print.
+
+ghost use Rattle.std.specs.Prelude.{◌≡◌, ◌+◌, ◌≤◌, ◌++◌, length, decimal};
+ghost use Rattle.sq_top.specs.Packing.{packed_text, sizes_text};
+
+use sq_num::{Line, Packed};
+
+/// The line that tells the sizes of a packing.
+#[tactic(auto, unfolding(crate::specs::Packing::packed_text))]
+pub fn packed_line(packed: &Packed) -> Line
+    ensures { result ≡ packed_text packed.now }
+{
+    sizes_line(
+        packed.text_before,
+        packed.text_after,
+        packed.loaded_before,
+        packed.loaded_after,
+    )
+}
+
+/// `text A -> B, loaded C -> D` and a newline: at most 63 bytes.
+fn sizes_line(text_before: u32, text_after: u32, loaded_before: u32, loaded_after: u32) -> Line
+    ensures { result ≡ sizes_text text_before text_after loaded_before loaded_after }
+{
+    let mut line = Line::new();
+    push_labelled(&mut line, "text ", text_before);
+    push_labelled(&mut line, " -> ", text_after);
+    push_labelled(&mut line, ", loaded ", loaded_before);
+    push_labelled(&mut line, " -> ", loaded_after);
+    line.push_text("\n");
+    line
+}
+
+/// Appends a label and a number of at most ten digits.
+fn push_labelled(line: &mut Line, label: &str, number: u32)
+    requires { length line.old + length label.now + 10 ≤ 96 }
+    ensures text { line.new ≡ line.old ++ label.now ++ decimal number }
+    ensures short { length line.new ≤ length line.old + length label.now + 10 }
+{
+    line.push_text(label);
+    line.push_number(u64::from(number));
+}

@@ -1,0 +1,55 @@
+//! From the bytes of a file to those of the packed file.
+
+ghost use Rattle.std.specs.Prelude.{◌≡◌, ◌⊎◌, ◌≤◌, ◌-◌, ◌/◌, IfOk};
+ghost use Rattle.sq_num.specs.declared.refusal.Refusal.{Refusal};
+ghost use Rattle.sq_top.specs.Packing.{Packs, no_savings};
+ghost use Rattle.sq_top.specs.Refusing.{IsRefused};
+
+use crate::refusing::refusal_of;
+use crate::straight::straight_words;
+use sq_num::{Bytes, Denied, Packed, Refusal, Savings};
+use sq_write::{read_plain, write_plain};
+use std::alloc::Global;
+
+/// Packs the file of these bytes, or refuses it.
+pub fn pack_bytes(alloc: Global, bytes: &[u8]) -> Result<Packed, Denied>
+    ensures packed { IfOk result (Packs bytes.now) }
+    ensures refused { (refusal : Refusal) → result ≡ Err (Denied.Refused refusal) → IsRefused bytes.now refusal }
+    ensures exact { (refusal : Refusal) → IsRefused bytes.now refusal → (result ≡ Err (Denied.Refused refusal)) ⊎ (result ≡ Err Denied.Memory) }
+{
+    if let Some(refusal) = refusal_of(bytes) {
+        return Err(Denied::Refused(refusal));
+    }
+    let Some(text) = read_plain(alloc, bytes)? else {
+        return Err(Denied::Refused(Refusal::NotBuilt));
+    };
+    let Some(words) = straight_words(alloc, text)? else {
+        return Err(Denied::Refused(Refusal::NotBuilt));
+    };
+    let file = write_plain(alloc, words.as_slice())?;
+    Ok(packed_of(file, text.len() as u32, 4 * words.len() as u32))
+}
+
+/// A packed file with the bytes of text that there were before and after.
+fn packed_of(file: Vec<u8>, before: u32, after: u32) -> Packed
+    requires { after ≤ before }
+    ensures output { result.bytes ≡ file.items }
+    ensures text_before { result.text_before ≡ before }
+    ensures text_after { result.text_after ≡ after }
+    ensures loaded_before { result.loaded_before ≡ before }
+    ensures loaded_after { result.loaded_after ≡ after }
+    ensures unreached { result.unreached ≡ (before - after) / 4 }
+    ensures procedures { result.procedures ≡ 0 }
+    ensures savings { result.savings ≡ no_savings }
+{
+    Packed {
+        bytes: Bytes::from_vec(file),
+        text_before: before,
+        text_after: after,
+        loaded_before: before,
+        loaded_after: after,
+        unreached: (before - after) / 4,
+        procedures: 0,
+        savings: Savings::NONE,
+    }
+}

@@ -1,0 +1,4 @@
+pub mod Laying
+pub mod Reading
+pub mod Splitting
+pub mod Words

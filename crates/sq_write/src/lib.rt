@@ -1,0 +1,15 @@
+//! Files as they are written: the plain file of a list of words.
+//!
+//! To the layers above it promises the exact bytes. A plain file is the output file (header, piece
+//! headers, pieces, seven sections) of one piece of text; `write_plain` writes it, and
+//! `read_plain` finds the text in a file that is one, word by word.
+#![tactic(auto)]
+
+mod fields;
+mod parts;
+mod plain;
+
+pub use plain::{read_plain, word_at, write_plain};
+
+#[cfg(test)]
+mod tests;
