@@ -1,5 +1,5 @@
 -- The first place that fails, step by step.
-use Rattle.std.proofs.Common.{◌≡◌, ℕ, zero, suc, ◌+◌, ◌-◌, ◌<◌, Bool, true, false, if◌then◌else◌, List, ◌∷◌, Option, Some, None, refl, ap, ◌∙◌, arith}
+use Rattle.std.proofs.Common.{◌≡◌, ℕ, zero, suc, ◌+◌, ◌-◌, ◌<◌, Bool, true, false, if◌then◌else◌, List, ◌∷◌, Some, None, refl, ap, arith}
 use Rattle.sq_num.specs.Refusals.{Row, first_from, refused_at, first_refusal}
 
 -- where this place fails, it is the first
