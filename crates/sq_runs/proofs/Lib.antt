@@ -1,0 +1,5 @@
+pub mod Traces
+pub mod Breaks
+pub mod Steps
+pub mod Follow
+pub mod Simulate

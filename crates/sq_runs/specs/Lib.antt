@@ -1,0 +1,4 @@
+pub mod Runs
+pub mod Follows
+pub mod Simulation
+pub mod Laws
