@@ -1,6 +1,6 @@
 -- The first break, and runs that have none.
-use Rattle.std.proofs.Common.{◌≡◌, ◌↔◌, ℕ, zero, suc, ◌<◌, ◌≤◌, Option, Some, None, refl, sym, ap, ◌∙◌, arith}
-use Rattle.sq_runs.specs.Runs.{Next, Went, Ended, Broke, Status, Running, Trace, onward, trace, moved, state_after, break_from, first_break, IsUnbroken, BreaksAt}
+use Rattle.std.proofs.Common.{◌≡◌, ◌↔◌, ℕ, zero, suc, ◌<◌, Option, Some, None, refl, ap, ◌∙◌, arith}
+use Rattle.sq_runs.specs.Runs.{Next, Went, Ended, Broke, Running, Trace, onward, trace, moved, state_after, break_from, first_break, IsUnbroken, BreaksAt}
 
 -- one step earlier
 breaks_later : {E H B S : Type 0} (step : S → Next E H B S) (s t : S) (e : Option E) (k : ℕ) (b : B) → step s ≡ Went e t → BreaksAt step t k b → BreaksAt step s (suc k) b

@@ -1,8 +1,8 @@
 -- Following is reflexive and transitive, lock step is following, and what makes the runs of two files the same.
-use Rattle.std.proofs.Common.{◌≡◌, ℕ, refl, sym, ◌∙◌, subst}
-use Rattle.sq_runs.specs.Runs.{Next, Trace, trace, IsUnbroken}
+use Rattle.std.proofs.Common.{refl, sym, ◌∙◌, subst}
+use Rattle.sq_runs.specs.Runs.{Next, trace}
 use Rattle.sq_runs.specs.Follows.{LeadsTo, FollowsRuns, LocksWith, SameRuns}
-use Rattle.sq_runs.proofs.Traces.{leads_refl, leads_trans, never_breaks}
+use Rattle.sq_runs.proofs.Traces.{leads_refl, leads_trans}
 
 pub follows_refl : {E H B S : Type 0} (a : S → Next E H B S) (s : S) → FollowsRuns a s a s
 follows_refl a s = record {

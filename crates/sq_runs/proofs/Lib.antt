@@ -3,3 +3,4 @@ pub mod Breaks
 pub mod Steps
 pub mod Follow
 pub mod Simulate
+pub mod LittleRuns

@@ -1,5 +1,5 @@
 -- A simulation gives following, and one in lock step gives lock step.
-use Rattle.std.proofs.Common.{◌≡◌, ℕ, zero, suc, [], Option, Some, None, refl, sym, ap, ◌∙◌, subst}
+use Rattle.std.proofs.Common.{◌≡◌, ℕ, zero, suc, [], Some, None, refl, ap, ◌∙◌}
 use Rattle.sq_runs.specs.Runs.{Next, Went, Ended, Broke, Trace, Halted, logged, onward, trace, IsUnbroken}
 use Rattle.sq_runs.specs.Follows.{LeadsTo, FollowsRuns, LocksWith}
 use Rattle.sq_runs.specs.Simulation.{Silent, Quiet, Skips, Goes, Matches, Meets, Simulates, SimulatesInStep}

@@ -1,7 +1,7 @@
 -- One step behind n steps: what a loop over steps needs.
-use Rattle.std.proofs.Common.{◌≡◌, ℕ, zero, suc, ◌+◌, ◌-◌, ◌<◌, ◌≤◌, List, [], ◌++◌, Option, Some, None, refl, sym, ap, ◌∙◌, subst, arith}
+use Rattle.std.proofs.Common.{◌≡◌, ℕ, ◌+◌, ◌-◌, ◌<◌, ◌≤◌, [], ◌++◌, Option, Some, refl, sym, ap, ◌∙◌, subst, arith}
 use Rattle.std.proofs.lemmas.List.{append-nil}
-use Rattle.sq_runs.specs.Runs.{Next, Went, Ended, Broke, Status, Running, Halted, Broken, Trace, with_event, trace, moved, state_after, first_break, IsOver, going_on, continued, BreaksAt}
+use Rattle.sq_runs.specs.Runs.{Next, Went, Ended, Broke, Running, Halted, Broken, with_event, trace, state_after, first_break, IsOver}
 use Rattle.sq_runs.proofs.Traces.{stay, split, stays, state_split}
 use Rattle.sq_runs.proofs.Breaks.{first_break_is}
 

@@ -1,9 +1,9 @@
 -- Traces as the number of steps grows.
-use Rattle.std.proofs.Common.{◌≡◌, ◌↔◌, ℕ, zero, suc, ◌+◌, ◌<◌, ◌≤◌, List, [], ◌∷◌, ◌++◌, Option, Some, None, refl, sym, ap, ap₂, ◌∙◌, subst, arith}
+use Rattle.std.proofs.Common.{◌≡◌, ℕ, zero, suc, ◌+◌, ◌≤◌, List, [], ◌∷◌, ◌++◌, Option, Some, None, refl, sym, ap, ◌∙◌, subst, arith}
 use Rattle.std.proofs.Math.Nat.{zero-add, suc-add}
 use Rattle.std.proofs.lemmas.List.{append-nil, append_assoc}
-use Rattle.sq_runs.specs.Runs.{Next, Went, Ended, Broke, Status, Running, Halted, Broken, Trace, with_event, logged, onward, trace, moved, state_after, break_from, first_break, NotBroken, IsUnbroken, HasHalted, IsOver, going_on, continued}
-use Rattle.sq_runs.specs.Follows.{IsPrefix, LeadsTo}
+use Rattle.sq_runs.specs.Runs.{Next, Went, Ended, Broke, Status, Running, Halted, Broken, Trace, logged, onward, trace, moved, state_after, IsUnbroken, HasHalted, IsOver, continued}
+use Rattle.sq_runs.specs.Follows.{LeadsTo}
 
 -- A run that is over stays as it is.
 stay_from : {E H B S : Type 0} (x : Next E H B S) (go later : S → Trace E H) → ((t : S) → IsOver (go t) → later t ≡ go t) → IsOver (onward x go) → onward x later ≡ onward x go

@@ -2,7 +2,6 @@
 use Rattle.std.specs.Prelude.{◌≡◌, ◌↔◌, ℕ, ◌+◌, ◌<◌, ◌≤◌, Some, None}
 use Rattle.sq_runs.specs.Runs.{Next, trace, state_after, first_break, IsUnbroken, HasHalted, IsOver, continued, BreaksAt}
 use Rattle.sq_runs.specs.Follows.{LeadsTo, FollowsRuns, LocksWith, SameRuns}
-use Rattle.sq_runs.specs.Simulation.{Simulates, SimulatesInStep}
 
 -- After an end or a break what is seen stays the same.
 abbrev pub Stay : {E H B S : Type 0} → (S → Next E H B S) → Type 0
@@ -51,14 +50,6 @@ FollowsThrough {S} {T} {U} a b c = (s : S) (t : T) (u : U) → FollowsRuns a s b
 -- Runs in lock step follow.
 abbrev pub LockFollows : {E H B C S T : Type 0} → (S → Next E H B S) → (T → Next E H C T) → Type 0
 LockFollows {S} {T} a b = (s : S) (t : T) → LocksWith a s b t → FollowsRuns a s b t
-
--- Lock step of steps gives lock step of runs.
-abbrev pub Lock : {E H B C S T : Type 0} → (S → Next E H B S) → (T → Next E H C T) → (S → T → Type 0) → Type 0
-Lock {S} {T} a b R = SimulatesInStep a b R → (s : S) (t : T) → R s t → LocksWith a s b t
-
--- A simulation in which each side may skip gives following.
-abbrev pub Follow : {E H B C S T : Type 0} → (S → Next E H B S) → (T → Next E H C T) → (S → T → Type 0) → Type 0
-Follow {S} {T} a b R = Simulates a b R → (s : S) (t : T) → R s t → FollowsRuns a s b t
 
 -- Where a watch sees a and locks with a run g, a run h follows g, and h locks with b, the runs of a and b are the same.
 abbrev pub Assemble : {E H B C D S T U V W : Type 0} → (U → Next E H B U) → (S → Next E H ⊥ S) → (V → Next E H C V) → (W → Next E H D W) → (T → Next E H ⊥ T) → Type 0

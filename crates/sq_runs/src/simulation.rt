@@ -1,40 +1,61 @@
-// Simulations between machines whose states are the values of a type.
+// Relations between the states of two machines, and what they give for runs.
 
 ghost use Rattle.sq_runs.specs.Runs.{Next};
 ghost use Rattle.sq_runs.specs.Follows.{FollowsRuns, LocksWith};
-ghost use Rattle.sq_runs.specs.Simulation.{Matches, Meets};
+ghost use Rattle.sq_runs.specs.Simulation.{Simulates, SimulatesInStep};
 
-/// A machine, whose states are the values of the type.
-pub trait StateMachine {
-    type Event;
-    type Halt;
-    type Break;
+use std::marker::Brand;
 
-    ghost step: { Self → Next Self.Event Self.Halt Self.Break Self };
+/// Two machines with the same kinds of events and halts, and a relation of their states.
+pub trait Relation {
+    ghost Event: { Type 0 };
+
+    ghost Halt: { Type 0 };
+
+    ghost FirstBreak: { Type 0 };
+
+    ghost FirstState: { Type 0 };
+
+    ghost SecondBreak: { Type 0 };
+
+    ghost SecondState: { Type 0 };
+
+    ghost first: { FirstState → Next Event Halt FirstBreak FirstState };
+
+    ghost second: { SecondState → Next Event Halt SecondBreak SecondState };
+
+    ghost related: { FirstState → SecondState → Type 0 };
 }
 
-/// A relation by which each step of this machine is met by `T`: each side may first skip silent steps.
-pub trait SimulatedBy<T: StateMachine<Event = Self::Event, Halt = Self::Halt>>: StateMachine {
-    ghost related: { Self → T → Type 0 };
+// Where a caller passes `Brand`, its proof picks the machines and the relation; these stand where it picks none.
+impl Relation for Brand {
+    ghost Event = { ⊥ };
 
-    ghost meets: { (s : Self) (t : T) → related s t → Meets Self.step T.step related (Self.step s) (T.step t) };
+    ghost Halt = { ⊥ };
+
+    ghost FirstBreak = { ⊥ };
+
+    ghost FirstState = { ⊥ };
+
+    ghost SecondBreak = { ⊥ };
+
+    ghost SecondState = { ⊥ };
+
+    ghost first = { λ s. absurd s };
+
+    ghost second = { λ t. absurd t };
+
+    ghost related = { λ s t. ⊥ };
 }
 
-/// A relation by which each step of this machine is matched by one of `T`.
-pub trait LockedWith<T: StateMachine<Event = Self::Event, Halt = Self::Halt>>: StateMachine {
-    ghost related: { Self → T → Type 0 };
-
-    ghost matches: { (s : Self) (t : T) → related s t → Matches related (Self.step s) (T.step t) };
-}
-
-/// A simulation gives following.
-pub fn simulation<S: SimulatedBy<T>, T: StateMachine<Event = S::Event, Halt = S::Halt>>()
-    ensures { (s : S) (t : T) → S.related s t → FollowsRuns S.step s T.step t }
-{
-}
+/// A simulation in which each side may skip silent steps gives following.
+pub fn follows_by_simulation<R: Relation>()
+    requires { Simulates R.first R.second R.related }
+    ensures { (s : R.FirstState) (t : R.SecondState) → R.related s t → FollowsRuns R.first s R.second t }
+{}
 
 /// A simulation in lock step gives equal traces.
-pub fn lock_step<S: LockedWith<T>, T: StateMachine<Event = S::Event, Halt = S::Halt>>()
-    ensures { (s : S) (t : T) → S.related s t → LocksWith S.step s T.step t }
-{
-}
+pub fn locks_by_steps<R: Relation>()
+    requires { SimulatesInStep R.first R.second R.related }
+    ensures { (s : R.FirstState) (t : R.SecondState) → R.related s t → LocksWith R.first s R.second t }
+{}
