@@ -1,0 +1,2 @@
+// Memory.
+#![tactic(auto)]
