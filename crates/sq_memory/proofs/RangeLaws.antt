@@ -1,7 +1,7 @@
 -- Laws of contents, a range of addresses at a time.
-use Rattle.std.proofs.Common.{◌≡◌, ◌≢◌, ℕ, zero, suc, ◌+◌, ◌-◌, ◌<◌, ◌≤◌, ◌⊎◌, inl, inr, List, [], ◌∷◌, ◌++◌, length, map, Option, Some, None, IsSome, is_some, option_map, slice_get, refl, sym, ap, ap₂, ◌∙◌, subst, arith}
-use Rattle.sq_memory.specs.Cells.{Cells, in_place, placed, placed_all, joined, taken, mapped, AreThere, Both, AllBoth, AgreeOn}
-use Rattle.sq_memory.proofs.CellLaws.{placed_same, placed_other, placed_there, placed_mapped, placed_agree, placed_beside, beside_placed}
+use Rattle.std.proofs.Common.{◌≡◌, ◌↔◌, ℕ, zero, suc, ◌+◌, ◌<◌, ◌≤◌, ◌⊎◌, inl, inr, List, [], ◌∷◌, ◌++◌, length, map, Option, Some, None, IsSome, is_some, option_map, slice_get, refl, ap, ap₂, ◌∙◌, subst, arith}
+use Rattle.sq_memory.specs.Cells.{Cells, placed, placed_all, joined, taken, mapped, AreThere, Both, AllBoth, AgreeOn}
+use Rattle.sq_memory.proofs.CellLaws.{placed_same, placed_other, placed_there, placed_mapped, placed_agree}
 
 -- before the range and behind it nothing changes
 pub placed_all_before : {C : Type 0} (cs : List C) (m : Cells C) (x y : ℕ) → y < x → placed_all m x cs y ≡ m y
@@ -87,10 +87,10 @@ more_taken {C} k m x (Some c) (Some ds) cs p f h =
     let e : c ∷ ds ≡ cs = cc in
     let r = f ds refl in
     subst (λ (l : List C). Taken m x (suc k) l) e (ap suc r.0, at r.1)
-    where
-      at : ((i : ℕ) → i < k → m ((x + 1) + i) ≡ slice_get ds i) → (i : ℕ) → i < suc k → m (x + i) ≡ slice_get (c ∷ ds) i
-      at g zero l = let z : x + 0 ≡ x = omega arith in rw z p
-      at g (suc i) l = let z : x + suc i ≡ (x + 1) + i = omega arith in rw z (g i (omega arith))
+  where
+    at : ((i : ℕ) → i < k → m ((x + 1) + i) ≡ slice_get ds i) → (i : ℕ) → i < suc k → m (x + i) ≡ slice_get (c ∷ ds) i
+    at g zero l = let z : x + 0 ≡ x = omega arith in rw z p
+    at g (suc i) l = let z : x + suc i ≡ (x + 1) + i = omega arith in rw z (g i (omega arith))
 
 pub taken_some : {C : Type 0} (k : ℕ) (m : Cells C) (x : ℕ) (cs : List C) → taken m x k ≡ Some cs → (length cs ≡ k) × ((i : ℕ) → i < k → m (x + i) ≡ slice_get cs i)
 taken_some {C} zero m x cs h = let e : [] ≡ cs = cc in subst (λ (l : List C). Taken m x 0 l) e (refl, λ i l. absurd (omega arith))
@@ -137,3 +137,16 @@ taken_placed cs m x h = taken_is cs (placed_all m x cs) x (λ i l. placed_all_in
 pub taken_apart : {C : Type 0} (cs : List C) (m : Cells C) (x y k : ℕ) → (y + k ≤ x) ⊎ (x + length cs ≤ y) → taken (placed_all m x cs) y k ≡ taken m y k
 taken_apart cs m x y k (inl l) = taken_same k (placed_all m x cs) m y (λ i h. placed_all_before cs m x (y + i) (omega arith))
 taken_apart cs m x y k (inr l) = taken_same k (placed_all m x cs) m y (λ i h. placed_all_behind cs m x (y + i) (omega arith))
+
+pub placed_all_apart : {C : Type 0} (cs : List C) (m : Cells C) (x y : ℕ) → (y < x) ⊎ (x + length cs ≤ y) → placed_all m x cs y ≡ m y
+placed_all_apart cs m x y (inl l) = placed_all_before cs m x y l
+placed_all_apart cs m x y (inr l) = placed_all_behind cs m x y l
+
+pub taken_exactly : {C : Type 0} (m : Cells C) (x n : ℕ) (cs : List C) → (taken m x n ≡ Some cs) ↔ ((length cs ≡ n) × ((i : ℕ) → i < n → m (x + i) ≡ slice_get cs i))
+taken_exactly m x n cs = (
+  taken_some n m x cs,
+  λ h. subst (λ k. taken m x k ≡ Some cs) h.0 (taken_is cs m x (λ i l. h.1 i (subst (λ k. i < k) h.0 l))),
+)
+
+pub taken_where_there : {C : Type 0} (m : Cells C) (x n : ℕ) → IsSome (taken m x n) ↔ AreThere m x n
+taken_where_there m x n = (taken_there n m x, there_taken n m x)

@@ -1,10 +1,10 @@
 -- A list of regions is contents.
-use Rattle.std.proofs.Common.{◌≡◌, ◌≢◌, ℕ, zero, suc, ◌+◌, ◌-◌, ◌<◌, ◌≤◌, Bool, true, false, List, [], ◌∷◌, length, map, Option, Some, None, IsSome, is_some, nat_eq, nat_le, option_map, slice_get, slice_set, if◌then◌else◌, refl, sym, ap, ap₂, ◌∙◌, subst, arith, eq-eqb, ne_eqb}
+use Rattle.std.proofs.Common.{◌≡◌, ℕ, zero, suc, ◌+◌, ◌-◌, ◌≤◌, Bool, true, false, List, [], ◌∷◌, map, Option, Some, None, IsSome, is_some, nat_eq, nat_le, option_map, slice_get, slice_set, if◌then◌else◌, refl, sym, ap, ap₂, ◌∙◌, arith, eq-eqb, ne_eqb}
 use Rattle.std.proofs.Math.Dec.{eqb-suc-suc}
 use Rattle.std.proofs.lemmas.Bool.{eqb-true, eqb-false, leb-true}
 use Rattle.std.proofs.lemmas.List.{map-set}
 use Rattle.std.proofs.lemmas.Option.{slice_get-map}
-use Rattle.sq_memory.specs.Cells.{Cells, in_place, placed, placed_all, mapped}
+use Rattle.sq_memory.specs.Cells.{in_place, placed, placed_all, mapped}
 use Rattle.sq_memory.specs.Regions.{Region, region_cell, or_else, get, with_cell, put, put_all, mapped_region, mapped_regions}
 
 -- an element after a write
@@ -42,6 +42,7 @@ region_written r x y c h = tell (nat_le r.start y) refl
     nothing : {C : Type 0} (b : Bool) (c : C) → None ≡ (if b then in_place None c else None)
     nothing true c = refl
     nothing false c = refl
+
     tell : (b : Bool) → nat_le r.start y ≡ b → (if b then slice_get (slice_set r.cells (x - r.start) c) (y - r.start) else None) ≡ (if nat_eq y x then in_place (if b then slice_get r.cells (y - r.start) else None) c else if b then slice_get r.cells (y - r.start) else None)
     tell true e = slice_get-set r.cells (x - r.start) (y - r.start) c ∙ rw (apart r.start x y (cell_within r x h) (leb-true r.start y e)) refl
     tell false e = nothing (nat_eq y x) c

@@ -1,5 +1,5 @@
 -- Contents of memory: a map from addresses to cells of any kind.
-use Rattle.std.specs.Prelude.{◌≡◌, ℕ, zero, suc, ◌+◌, ◌<◌, List, [], ◌∷◌, Option, Some, None, IsSome, nat_eq, option_map, if◌then◌else◌}
+use Rattle.std.specs.Prelude.{ℕ, zero, suc, ◌+◌, ◌<◌, List, [], ◌∷◌, Option, Some, None, IsSome, nat_eq, option_map, if◌then◌else◌}
 
 -- what stands at an address, where something does
 abbrev pub Cells : Type 0 → Type 0

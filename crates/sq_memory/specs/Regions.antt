@@ -1,5 +1,5 @@
 -- Memory as a list of regions. The first region that has a cell at an address holds it.
-use Rattle.std.specs.Prelude.{ℕ, ◌+◌, ◌-◌, Bool, true, false, List, [], ◌∷◌, Option, Some, None, is_some, nat_le, slice_get, slice_set, map, if◌then◌else◌}
+use Rattle.std.specs.Prelude.{ℕ, ◌+◌, ◌-◌, List, [], ◌∷◌, Option, Some, None, is_some, nat_le, slice_get, slice_set, map, if◌then◌else◌}
 use Rattle.sq_memory.specs.Cells.{Cells}
 
 -- cells from an address on, one at each

@@ -1,2 +1,4 @@
-// Memory.
+// Memory: what stands at which address, for cells of any kind.
 #![tactic(auto)]
+
+pub mod laws;
