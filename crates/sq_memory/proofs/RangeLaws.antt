@@ -1,5 +1,6 @@
 -- Laws of contents, a range of addresses at a time.
-use Rattle.std.proofs.Common.{◌≡◌, ◌↔◌, ℕ, zero, suc, ◌+◌, ◌<◌, ◌≤◌, ◌⊎◌, inl, inr, List, [], ◌∷◌, ◌++◌, length, map, Option, Some, None, IsSome, is_some, option_map, slice_get, refl, ap, ap₂, ◌∙◌, subst, arith}
+use Rattle.std.proofs.Common.{◌≡◌, ◌↔◌, ℕ, true, zero, suc, ◌+◌, ◌<◌, ◌≤◌, ◌⊎◌, inl, inr, List, [], ◌∷◌, ◌++◌, length, map, Option, Some, None, IsSome, is_some, option_map, slice_get, refl, ap, ap₂, ◌∙◌, subst, arith}
+use Rattle.std.proofs.Math.Nat.{suc-add}
 use Rattle.sq_memory.specs.Cells.{Cells, placed, placed_all, joined, taken, mapped, AreThere, Both, AllBoth, AgreeOn}
 use Rattle.sq_memory.proofs.CellLaws.{placed_same, placed_other, placed_there, placed_mapped, placed_agree}
 
@@ -150,3 +151,28 @@ taken_exactly m x n cs = (
 
 pub taken_where_there : {C : Type 0} (m : Cells C) (x n : ℕ) → IsSome (taken m x n) ↔ AreThere m x n
 taken_where_there m x n = (taken_there n m x, there_taken n m x)
+
+-- one cell more
+pub taken_more : {C : Type 0} (n : ℕ) (m : Cells C) (x : ℕ) (cs : List C) (c : C) → taken m x n ≡ Some cs → m (x + n) ≡ Some c → taken m x (n + 1) ≡ Some (cs ++ c ∷ [])
+taken_more {C} zero m x cs c t h =
+    let e : x + 0 ≡ x = omega arith in
+    let f : [] ≡ cs = cc in
+    let here : m x ≡ Some c = subst (λ y. m y ≡ Some c) e h in
+    rw here (ap (λ (l : List C). Some (l ++ c ∷ [])) f)
+taken_more (suc n) m x cs c t h =
+    let e : x + suc n ≡ (x + 1) + n = omega arith in
+    rw suc-add (more_joined (m x) (taken m (x + 1) n) (taken m (x + 1) (n + 1)) cs c t (λ ds f. taken_more n m (x + 1) ds c f (subst (λ y. m y ≡ Some c) e h)))
+  where
+    more_joined : {C : Type 0} (o : Option C) (os more : Option (List C)) (cs : List C) (c : C) → joined o os ≡ Some cs → ((ds : List C) → os ≡ Some ds → more ≡ Some (ds ++ c ∷ [])) → joined o more ≡ Some (cs ++ c ∷ [])
+    more_joined None os more cs c t f = absurd (cc)
+    more_joined (Some b) None more cs c t f = absurd (cc)
+    more_joined {C} (Some b) (Some ds) more cs c t f =
+        let e : b ∷ ds ≡ cs = cc in rw (f ds refl) (ap (λ (l : List C). Some (l ++ c ∷ [])) e)
+
+-- one that is absent
+pub taken_none : {C : Type 0} (m : Cells C) (x n i : ℕ) → i < n → m (x + i) ≡ None → taken m x n ≡ None
+taken_none {C} m x n i l h = tell (taken m x n) (λ s. taken_there n m x s i l)
+  where
+    tell : (o : Option (List C)) → (IsSome o → IsSome (m (x + i))) → o ≡ None
+    tell None f = refl
+    tell (Some cs) f = let e : is_some (m (x + i)) ≡ true = f refl in absurd (cc)

@@ -1,8 +1,8 @@
 -- A list of regions is contents.
-use Rattle.std.proofs.Common.{◌≡◌, ℕ, zero, suc, ◌+◌, ◌-◌, ◌≤◌, Bool, true, false, List, [], ◌∷◌, map, Option, Some, None, IsSome, is_some, nat_eq, nat_le, option_map, slice_get, slice_set, if◌then◌else◌, refl, sym, ap, ap₂, ◌∙◌, arith, eq-eqb, ne_eqb}
+use Rattle.std.proofs.Common.{◌≡◌, ℕ, zero, suc, ◌+◌, ◌-◌, ◌<◌, ◌≤◌, length, Bool, true, false, List, [], ◌∷◌, map, Option, Some, None, IsSome, is_some, nat_eq, nat_le, option_map, slice_get, slice_set, get_or, take, ◌++◌, if◌then◌else◌, refl, sym, ap, ap₂, ◌∙◌, arith, eq-eqb, ne_eqb}
 use Rattle.std.proofs.Math.Dec.{eqb-suc-suc}
 use Rattle.std.proofs.lemmas.Bool.{eqb-true, eqb-false, leb-true}
-use Rattle.std.proofs.lemmas.List.{map-set}
+use Rattle.std.proofs.lemmas.List.{map-set, take_more, length-take-le}
 use Rattle.std.proofs.lemmas.Option.{slice_get-map}
 use Rattle.sq_memory.specs.Cells.{in_place, placed, placed_all, mapped}
 use Rattle.sq_memory.specs.Regions.{Region, region_cell, or_else, get, with_cell, put, put_all, mapped_region, mapped_regions}
@@ -120,3 +120,15 @@ put_mapped {C} {D} f (r ∷ rs) x c =
 pub put_all_mapped : {C D : Type 0} (f : C → D) (cs : List C) (rs : List (Region C)) (x : ℕ) → put_all (mapped_regions f rs) x (map f cs) ≡ mapped_regions f (put_all rs x cs)
 put_all_mapped f [] rs x = refl
 put_all_mapped f (c ∷ cs) rs x = ap (λ m. put_all m (x + 1) (map f cs)) (put_mapped f rs x c) ∙ put_all_mapped f cs (put rs x c) (x + 1)
+
+-- one cell more is put behind those before it
+pub put_more : {C : Type 0} (rs : List (Region C)) (x : ℕ) (cs : List C) (i : ℕ) (c : C) → i < length cs → c ≡ get_or cs i c → put_all rs x (take (i + 1) cs) ≡ put (put_all rs x (take i cs)) (x + i) c
+put_more rs x cs i c l e =
+    let f : take (i + 1) cs ≡ take i cs ++ c ∷ [] = take_more cs i c l ∙ ap (λ d. take i cs ++ d ∷ []) (sym e) in
+    let h : length (take i cs) ≡ i = length-take-le i cs (omega arith) in
+    ap (put_all rs x) f ∙ (put_all_append (take i cs) (c ∷ []) rs x ∙ ap (λ n. put (put_all rs x (take i cs)) (x + n) c) h)
+  where
+    put_all_append : {C : Type 0} (cs ds : List C) (rs : List (Region C)) (x : ℕ) → put_all rs x (cs ++ ds) ≡ put_all (put_all rs x cs) (x + length cs) ds
+    put_all_append [] ds rs x = let e : x + 0 ≡ x = omega arith in rw e refl
+    put_all_append (c ∷ cs) ds rs x =
+        let e : x + suc (length cs) ≡ (x + 1) + length cs = omega arith in rw e (put_all_append cs ds (put rs x c) (x + 1))

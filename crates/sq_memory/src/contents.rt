@@ -4,6 +4,7 @@ ghost use Rattle.std.specs.Prelude.{◌≡◌, position, is_some};
 ghost use Rattle.sq_memory.specs.Regions.{region_cell};
 ghost use Rattle.sq_memory.specs.Contents.{region_of};
 
+use std::alloc::{AllocError, Global};
 use std::marker::Model;
 
 /// Cells from an address on, one at each.
@@ -67,10 +68,10 @@ impl<C> Model for Contents<C> {
 }
 
 impl<C: Copy + Drop> Contents<C> {
-    ghost use Rattle.std.specs.Prelude.{◌≡◌, ◌+◌, ◌≤◌, ◌^◌, length, position, is_some};
-    ghost use Rattle.sq_memory.specs.Cells.{placed, placed_all};
-    ghost use Rattle.sq_memory.specs.Regions.{region_cell, get, put};
-    ghost use Rattle.sq_memory.specs.Contents.{region_of, regions_of};
+    ghost use Rattle.std.specs.Prelude.{◌≡◌, ◌+◌, ◌≤◌, ◌^◌, length, option_map, IfOk};
+    ghost use Rattle.sq_memory.specs.Cells.{taken};
+    ghost use Rattle.sq_memory.specs.Regions.{get, put, put_all};
+    ghost use Rattle.sq_memory.specs.Contents.{regions_of};
 
     pub fn new(regions: Vec<Region<C>>) -> Contents<C>
         ensures { result ≡ regions_of regions.items }
@@ -93,5 +94,35 @@ impl<C: Copy + Drop> Contents<C> {
         if let Some(place) = place(&self.regions, address) {
             self.regions[place].set(address, cell);
         }
+    }
+
+    /// Writes cells from an address on, where cells are there.
+    pub fn put_all(&mut self, address: u32, cells: &[C])
+        requires { address + length cells.now ≤ 2 ^ 32 }
+        ensures { self.new ≡ put_all self.old address cells.now }
+    {
+        for (i, cell) in cells.iter().enumerate() {
+            self.put(address + i as u32, *cell);
+        }
+    }
+
+    /// The cells from an address on, where all of them are there.
+    pub fn get_all(
+        &self,
+        alloc: Global,
+        address: u32,
+        count: u32,
+    ) -> Result<Option<Vec<C>>, AllocError>
+        requires { address + count ≤ 2 ^ 32 }
+        ensures { IfOk result (λ found. option_map (λ cells. cells.items) found ≡ taken (get self.now) address count) }
+    {
+        let mut cells = Vec::new(alloc);
+        for i in 0..count {
+            match self.get(address + i) {
+                Some(cell) => cells.push(cell)?,
+                None => return Ok(None),
+            }
+        }
+        Ok(Some(cells))
     }
 }
