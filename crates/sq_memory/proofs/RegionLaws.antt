@@ -132,3 +132,7 @@ put_more rs x cs i c l e =
     put_all_append [] ds rs x = let e : x + 0 ≡ x = omega arith in rw e refl
     put_all_append (c ∷ cs) ds rs x =
         let e : x + suc (length cs) ≡ (x + 1) + length cs = omega arith in rw e (put_all_append cs ds (put rs x c) (x + 1))
+
+-- one turn of a loop that puts cells
+pub put_step : {C : Type 0} (rs : List (Region C)) (x : ℕ) (cs : List C) (i : ℕ) (c : C) (now next : List (Region C)) → i < length cs → c ≡ get_or cs i c → now ≡ put_all rs x (take i cs) → next ≡ put now (x + i) c → next ≡ put_all rs x (take (i + 1) cs)
+put_step rs x cs i c now next l e h p = p ∙ (ap (λ m. put m (x + i) c) h ∙ sym (put_more rs x cs i c l e))

@@ -126,3 +126,39 @@ impl<C: Copy + Drop> Contents<C> {
         Ok(Some(cells))
     }
 }
+
+#[cfg(test)]
+mod tests {
+    use super::*;
+    use std::test::Fail;
+
+    // A piece of two cells stands inside a region of eight, and hides it there.
+    #[test]
+    fn a_piece_hides_what_lies_behind_it(rt: HostRuntime) -> Result<(), Fail> {
+        let alloc = rt.alloc();
+        let piece = Region::new(6, vec![in alloc; 1u8, 2]?);
+        let behind = Region::new(4, vec![in alloc; 0u8; 8]?);
+        let mut memory = Contents::new(vec![in alloc; piece, behind]?);
+        memory.put(6, 9);
+        memory.put(3, 5);
+        memory.put_all(7, &[7, 8]);
+        assert_eq!(rt; memory.get(3), None);
+        assert_eq!(rt; memory.get(6), Some(9));
+        assert!(rt; memory.get_all(alloc, 4, 9)?.is_none());
+        let cells = memory.get_all(alloc, 4, 8)?;
+        assert!(rt;
+            cells.is_some_and(|cells| cells.as_slice() == [0, 0, 9, 7, 8, 0, 0, 0].as_slice())
+        );
+        Ok(())
+    }
+
+    #[test]
+    fn the_last_address_holds_a_cell(rt: HostRuntime) -> Result<(), Fail> {
+        let alloc = rt.alloc();
+        let last = Region::new(u32::MAX, vec![in alloc; false]?);
+        let mut memory = Contents::new(vec![in alloc; last]?);
+        memory.put_all(u32::MAX, &[true]);
+        assert_eq!(rt; memory.get(u32::MAX), Some(true));
+        Ok(())
+    }
+}
