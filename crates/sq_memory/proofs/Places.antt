@@ -3,7 +3,7 @@ use Rattle.std.proofs.Common.{◌≡◌, ℕ, suc, ◌+◌, Bool, true, false, L
 use Rattle.std.specs.List.{position_from}
 use Rattle.std.proofs.lemmas.Iterator.Adapters.{position_from-zero}
 use Rattle.std.proofs.lemmas.Option.{get_or_from_slice_get}
-use Rattle.sq_memory.specs.Regions.{Region, region_cell, or_else, get, with_cell, put}
+use Rattle.sq_memory.specs.Regions.{Region, region_cell, or_else, get, region_with, put}
 
 module _ {A C : Type 0} (v : A → Region C) (x : ℕ) where
   abbrev has : A → Bool
@@ -15,7 +15,7 @@ module _ {A C : Type 0} (v : A → Region C) (x : ℕ) where
     pub at : slice_get xs j ≡ Some region
     pub there : is_some (region_cell (v region) x) ≡ true
     pub got : get (map v xs) x ≡ region_cell (v region) x
-    pub written : (c : C) (s : A) → v s ≡ with_cell (v region) x c → map v (slice_set xs j s) ≡ put (map v xs) x c
+    pub written : (c : C) (s : A) → v s ≡ region_with (v region) x c → map v (slice_set xs j s) ≡ put (map v xs) x c
 
   -- No region holds it.
   pub record HoldsNone (xs : List A) : Type 0 where
@@ -86,7 +86,7 @@ module _ {A C : Type 0} (v : A → Region C) (x : ℕ) where
       subst HoldsNone s (none_from ys 0 (sym (position_from-zero has ys) ∙ (sym p ∙ none_of o f)))
 
   -- r is what an index reads at the place found
-  pub found_region : (xs : List A) (k : ℕ) (r : A) → HoldsAt xs k → r ≡ get_or xs k r → (is_some (region_cell (v r) x) ≡ true) × (region_cell (v r) x ≡ get (map v xs) x) × ((c : C) (s : A) → v s ≡ with_cell (v r) x c → map v (slice_set xs k s) ≡ put (map v xs) x c)
+  pub found_region : (xs : List A) (k : ℕ) (r : A) → HoldsAt xs k → r ≡ get_or xs k r → (is_some (region_cell (v r) x) ≡ true) × (region_cell (v r) x ≡ get (map v xs) x) × ((c : C) (s : A) → v s ≡ region_with (v r) x c → map v (slice_set xs k s) ≡ put (map v xs) x c)
   found_region xs k r h e =
       let f : h.region ≡ r = sym (e ∙ get_or_from_slice_get xs k h.region r h.at) in
-      subst (λ (q : A). (is_some (region_cell (v q) x) ≡ true) × (region_cell (v q) x ≡ get (map v xs) x) × ((c : C) (s : A) → v s ≡ with_cell (v q) x c → map v (slice_set xs k s) ≡ put (map v xs) x c)) f (h.there, sym h.got, h.written)
+      subst (λ (q : A). (is_some (region_cell (v q) x) ≡ true) × (region_cell (v q) x ≡ get (map v xs) x) × ((c : C) (s : A) → v s ≡ region_with (v q) x c → map v (slice_set xs k s) ≡ put (map v xs) x c)) f (h.there, sym h.got, h.written)

@@ -20,20 +20,20 @@ abbrev pub get : {C : Type 0} → List (Region C) → Cells C
 get [] x = None
 get (r ∷ rs) x = or_else (region_cell r x) (get rs x)
 
-abbrev pub with_cell : {C : Type 0} → Region C → ℕ → C → Region C
-with_cell r x c = record { start = r.start; cells = slice_set r.cells (x - r.start) c }
+abbrev pub region_with : {C : Type 0} → Region C → ℕ → C → Region C
+region_with r x c = record { start = r.start; cells = slice_set r.cells (x - r.start) c }
 
 -- The memory with c at address x, where a cell is there.
 abbrev pub put : {C : Type 0} → List (Region C) → ℕ → C → List (Region C)
 put [] x c = []
-put (r ∷ rs) x c = if is_some (region_cell r x) then with_cell r x c ∷ rs else r ∷ put rs x c
+put (r ∷ rs) x c = if is_some (region_cell r x) then region_with r x c ∷ rs else r ∷ put rs x c
 
-abbrev pub mapped_region : {C D : Type 0} → (C → D) → Region C → Region D
-mapped_region f r = record { start = r.start; cells = map f r.cells }
+abbrev pub map_region : {C D : Type 0} → (C → D) → Region C → Region D
+map_region f r = record { start = r.start; cells = map f r.cells }
 
 -- each cell as f gives it
-abbrev pub mapped_regions : {C D : Type 0} → (C → D) → List (Region C) → List (Region D)
-mapped_regions f rs = map (mapped_region f) rs
+abbrev pub map_regions : {C D : Type 0} → (C → D) → List (Region C) → List (Region D)
+map_regions f rs = map (map_region f) rs
 
 -- the memory with these cells from address x on
 abbrev pub put_all : {C : Type 0} → List (Region C) → ℕ → List C → List (Region C)

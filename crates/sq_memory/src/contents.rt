@@ -16,7 +16,7 @@ pub struct Region<C> {
 
 impl<C: Copy + Drop> Region<C> {
     ghost use Rattle.std.specs.Prelude.{◌≡◌, IsSome};
-    ghost use Rattle.sq_memory.specs.Regions.{region_cell, with_cell};
+    ghost use Rattle.sq_memory.specs.Regions.{region_cell, region_with};
     ghost use Rattle.sq_memory.specs.Contents.{region_of};
 
     pub fn new(start: u32, cells: Vec<C>) -> Region<C>
@@ -36,7 +36,7 @@ impl<C: Copy + Drop> Region<C> {
 
     fn set(&mut self, address: u32, cell: C)
         requires { IsSome (region_cell (region_of self.old) address) }
-        ensures { region_of self.new ≡ with_cell (region_of self.old) address cell }
+        ensures { region_of self.new ≡ region_with (region_of self.old) address cell }
     {
         self.cells[(address - self.start) as usize] = cell;
     }
@@ -69,7 +69,7 @@ impl<C> Model for Contents<C> {
 
 impl<C: Copy + Drop> Contents<C> {
     ghost use Rattle.std.specs.Prelude.{◌≡◌, ◌+◌, ◌≤◌, ◌^◌, length, option_map, IfOk};
-    ghost use Rattle.sq_memory.specs.Cells.{taken};
+    ghost use Rattle.sq_memory.specs.Cells.{cells_from};
     ghost use Rattle.sq_memory.specs.Regions.{get, put, put_all};
     ghost use Rattle.sq_memory.specs.Contents.{regions_of};
 
@@ -114,7 +114,7 @@ impl<C: Copy + Drop> Contents<C> {
         count: u32,
     ) -> Result<Option<Vec<C>>, AllocError>
         requires { address + count ≤ 2 ^ 32 }
-        ensures { IfOk result (λ found. option_map (λ cells. cells.items) found ≡ taken (get self.now) address count) }
+        ensures { IfOk result (λ found. option_map (λ cells. cells.items) found ≡ cells_from (get self.now) address count) }
     {
         let mut cells = Vec::new(alloc);
         for i in 0..count {

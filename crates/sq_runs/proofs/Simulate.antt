@@ -1,9 +1,9 @@
 -- A simulation gives following, and one in lock step gives lock step.
 use Rattle.std.proofs.Common.{◌≡◌, ℕ, zero, suc, [], Some, None, refl, ap, ◌∙◌}
-use Rattle.sq_runs.specs.Runs.{Next, Went, Ended, Broke, Trace, Halted, logged, onward, trace, IsUnbroken}
+use Rattle.sq_runs.specs.Runs.{Next, Went, Ended, Broke, Trace, Halted, after_event, trace_from, trace, IsUnbroken}
 use Rattle.sq_runs.specs.Follows.{LeadsTo, FollowsRuns, LocksWith}
 use Rattle.sq_runs.specs.Simulation.{Silent, Quiet, Skips, Goes, Matches, Meets, Simulates, SimulatesInStep}
-use Rattle.sq_runs.proofs.Traces.{leads_refl, leads_logged}
+use Rattle.sq_runs.proofs.Traces.{leads_refl, leads_after_event}
 
 -- The trace x is that of some number of b's steps from a state on, and is unbroken.
 abbrev Shows : {E H C T : Type 0} → (T → Next E H C T) → Trace E H → T → Type 0
@@ -14,7 +14,7 @@ abbrev Fits : {E H B S : Type 0} → (S → Next E H B S) → Trace E H → S �
 Fits a w s = (n : ℕ) × (IsUnbroken (trace a n s) → IsUnbroken w × LeadsTo w (trace a n s))
 
 -- each moment of a is one of b: silent steps of b, the match, silent steps of a
-shows_before : {E H C T : Type 0} (b : T → Next E H C T) (x : Trace E H) (P : T → Type 0) (y : Next E H C T) → Quiet y P → ((t : T) → P t → Shows b x t) → (m : ℕ) × IsUnbroken (onward y (trace b m)) × (onward y (trace b m) ≡ x)
+shows_before : {E H C T : Type 0} (b : T → Next E H C T) (x : Trace E H) (P : T → Type 0) (y : Next E H C T) → Quiet y P → ((t : T) → P t → Shows b x t) → (m : ℕ) × IsUnbroken (trace_from y (trace b m)) × (trace_from y (trace b m) ≡ x)
 shows_before b x P (Went None t) q f = f t q
 shows_before b x P (Went (Some e) t) q f = absurd q
 shows_before b x P (Ended h) q f = absurd q
@@ -25,7 +25,7 @@ shows_after b x P zero t g f = f t g
 shows_after b x P (suc j) t g f =
     let r = shows_before b x (λ t1. Goes b j P (b t1)) (b t) g (λ t' g'. shows_after b x P j t' g' f) in (suc r.0, r.1, r.2)
 
-shows_match : {E H B C S T : Type 0} (b : T → Next E H C T) (R : S → T → Type 0) (go : S → Trace E H) (x : Next E H B S) (y : Next E H C T) → Matches R x y → IsUnbroken (onward x go) → ((s : S) (t : T) → R s t → IsUnbroken (go s) → Shows b (go s) t) → (m : ℕ) × IsUnbroken (onward y (trace b m)) × (onward y (trace b m) ≡ onward x go)
+shows_match : {E H B C S T : Type 0} (b : T → Next E H C T) (R : S → T → Type 0) (go : S → Trace E H) (x : Next E H B S) (y : Next E H C T) → Matches R x y → IsUnbroken (trace_from x go) → ((s : S) (t : T) → R s t → IsUnbroken (go s) → Shows b (go s) t) → (m : ℕ) × IsUnbroken (trace_from y (trace b m)) × (trace_from y (trace b m) ≡ trace_from x go)
 shows_match b R go (Broke c) y k u f = absurd u
 shows_match b R go (Ended h) (Ended g) k u f = (0, tt, ap (λ z. let r : Trace _ _ = record { events = []; status = Halted z } in r) k)
 shows_match b R go (Ended h) (Went e t) k u f = absurd k
@@ -34,16 +34,16 @@ shows_match b R go (Went e s) (Ended h) k u f = absurd k
 shows_match b R go (Went e s) (Broke c) k u f = absurd k
 shows_match b R go (Went e s) (Went e' t) k u f =
     let r = f s t k.1 u in
-    (r.0, r.1, ap (logged e') r.2 ∙ ap (λ d. logged d (go s)) k.0)
+    (r.0, r.1, ap (after_event e') r.2 ∙ ap (λ d. after_event d (go s)) k.0)
 
-shows_silent : {E H B C S T : Type 0} (b : T → Next E H C T) (t : T) (go : S → Trace E H) (P : S → Type 0) (x : Next E H B S) → Silent x P → IsUnbroken (onward x go) → ((s : S) → P s → IsUnbroken (go s) → Shows b (go s) t) → Shows b (onward x go) t
+shows_silent : {E H B C S T : Type 0} (b : T → Next E H C T) (t : T) (go : S → Trace E H) (P : S → Type 0) (x : Next E H B S) → Silent x P → IsUnbroken (trace_from x go) → ((s : S) → P s → IsUnbroken (go s) → Shows b (go s) t) → Shows b (trace_from x go) t
 shows_silent b t go P (Went None s) k u f = f s k u
 shows_silent b t go P (Went (Some e) s) k u f = absurd k
 shows_silent b t go P (Ended h) k u f = absurd k
 shows_silent b t go P (Broke c) k u f = absurd u
 
 -- each moment of b leads to one of a: the match, silent steps of a, silent steps of b
-fits_match : {E H B C S T : Type 0} (R : S → T → Type 0) (a : S → Next E H B S) (there : T → Trace E H) (x : Next E H B S) (y : Next E H C T) → Matches R x y → ((s : S) (t : T) → R s t → Fits a (there t) s) → (n : ℕ) × (IsUnbroken (onward x (trace a n)) → IsUnbroken (onward y there) × LeadsTo (onward y there) (onward x (trace a n)))
+fits_match : {E H B C S T : Type 0} (R : S → T → Type 0) (a : S → Next E H B S) (there : T → Trace E H) (x : Next E H B S) (y : Next E H C T) → Matches R x y → ((s : S) (t : T) → R s t → Fits a (there t) s) → (n : ℕ) × (IsUnbroken (trace_from x (trace a n)) → IsUnbroken (trace_from y there) × LeadsTo (trace_from y there) (trace_from x (trace a n)))
 fits_match R a there (Broke c) y k f = (0, λ u. absurd u)
 fits_match R a there (Ended h) (Ended g) k f = (0, λ u. (tt, rw k (leads_refl (record { events = []; status = Halted h }))))
 fits_match R a there (Ended h) (Went e t) k f = absurd k
@@ -52,9 +52,9 @@ fits_match R a there (Went e s) (Ended h) k f = absurd k
 fits_match R a there (Went e s) (Broke c) k f = absurd k
 fits_match R a there (Went e s) (Went e' t) k f =
     let r = f s t k.1 in
-    (r.0, λ u. let p = r.1 u in (p.0, rw k.0 (leads_logged e (there t) (trace a r.0 s) p.1)))
+    (r.0, λ u. let p = r.1 u in (p.0, rw k.0 (leads_after_event e (there t) (trace a r.0 s) p.1)))
 
-fits_silent : {E H B S : Type 0} (a : S → Next E H B S) (w : Trace E H) (P : S → Type 0) (x : Next E H B S) → Silent x P → ((s : S) → P s → Fits a w s) → (n : ℕ) × (IsUnbroken (onward x (trace a n)) → IsUnbroken w × LeadsTo w (onward x (trace a n)))
+fits_silent : {E H B S : Type 0} (a : S → Next E H B S) (w : Trace E H) (P : S → Type 0) (x : Next E H B S) → Silent x P → ((s : S) → P s → Fits a w s) → (n : ℕ) × (IsUnbroken (trace_from x (trace a n)) → IsUnbroken w × LeadsTo w (trace_from x (trace a n)))
 fits_silent a w P (Went None s) k f = f s k
 fits_silent a w P (Went (Some e) s) k f = absurd k
 fits_silent a w P (Ended h) k f = absurd k
@@ -65,7 +65,7 @@ fits_after a w P zero s k f = f s k
 fits_after a w P (suc i) s k f =
     let r = fits_silent a w (λ s1. Skips a i P (a s1)) (a s) k (λ s1 k1. fits_after a w P i s1 k1 f) in (suc r.0, r.1)
 
-fits_quiet : {E H B C S T : Type 0} (a : S → Next E H B S) (s : S) (there : T → Trace E H) (P : T → Type 0) (y : Next E H C T) → Quiet y P → ((t : T) → P t → Fits a (there t) s) → Fits a (onward y there) s
+fits_quiet : {E H B C S T : Type 0} (a : S → Next E H B S) (s : S) (there : T → Trace E H) (P : T → Type 0) (y : Next E H C T) → Quiet y P → ((t : T) → P t → Fits a (there t) s) → Fits a (trace_from y there) s
 fits_quiet a s there P (Went None t) k f = f t k
 fits_quiet a s there P (Went (Some e) t) k f = absurd k
 fits_quiet a s there P (Ended h) k f = absurd k
@@ -101,7 +101,7 @@ module _ {E H B C S T : Type 0} (a : S → Next E H B S) (b : T → Next E H C T
       }
 
 module _ {E H B C S T : Type 0} (a : S → Next E H B S) (b : T → Next E H C T) (R : S → T → Type 0) (sim : SimulatesInStep a b R) where
-  locks_match : (n : ℕ) (x : Next E H B S) (y : Next E H C T) → Matches R x y → ((s : S) (t : T) → R s t → IsUnbroken (trace a n s) → IsUnbroken (trace b n t) × (trace b n t ≡ trace a n s)) → IsUnbroken (onward x (trace a n)) → IsUnbroken (onward y (trace b n)) × (onward y (trace b n) ≡ onward x (trace a n))
+  locks_match : (n : ℕ) (x : Next E H B S) (y : Next E H C T) → Matches R x y → ((s : S) (t : T) → R s t → IsUnbroken (trace a n s) → IsUnbroken (trace b n t) × (trace b n t ≡ trace a n s)) → IsUnbroken (trace_from x (trace a n)) → IsUnbroken (trace_from y (trace b n)) × (trace_from y (trace b n) ≡ trace_from x (trace a n))
   locks_match n (Broke c) y k f u = absurd u
   locks_match n (Ended h) (Ended g) k f u = (tt, ap (λ z. let r : Trace _ _ = record { events = []; status = Halted z } in r) k)
   locks_match n (Ended h) (Went e t) k f u = absurd k
@@ -110,7 +110,7 @@ module _ {E H B C S T : Type 0} (a : S → Next E H B S) (b : T → Next E H C T
   locks_match n (Went e s) (Broke c) k f u = absurd k
   locks_match n (Went e s) (Went e' t) k f u =
       let r = f s t k.1 u in
-      (r.0, ap (logged e') r.1 ∙ ap (λ d. logged d (trace a n s)) k.0)
+      (r.0, ap (after_event e') r.1 ∙ ap (λ d. after_event d (trace a n s)) k.0)
 
   locks_from : (n : ℕ) (s : S) (t : T) → R s t → IsUnbroken (trace a n s) → IsUnbroken (trace b n t) × (trace b n t ≡ trace a n s)
   locks_from zero s t r u = (tt, refl)

@@ -2,6 +2,7 @@
 use Rattle.std.proofs.Common.{◌≡◌, ℕ, ◌+◌, ◌-◌, ◌<◌, ◌≤◌, [], ◌++◌, Option, Some, refl, sym, ap, ◌∙◌, subst, arith}
 use Rattle.std.proofs.lemmas.List.{append-nil}
 use Rattle.sq_runs.specs.Runs.{Next, Went, Ended, Broke, Running, Halted, Broken, with_event, trace, state_after, first_break, IsOver}
+use Rattle.sq_runs.specs.Laws.{StepGoesOn, StepEnds, StepBreaks}
 use Rattle.sq_runs.proofs.Traces.{stay, split, stays, state_split}
 use Rattle.sq_runs.proofs.Breaks.{first_break_is}
 
@@ -37,3 +38,13 @@ pub state_broke : {E H B S : Type 0} (step : S → Next E H B S) (n m : ℕ) (s 
 state_broke step n m s b p l =
     let e : m ≡ n + (m - n) = omega arith in
     ap (λ k. state_after step k s) e ∙ (state_split step n (m - n) s ∙ stays step (m - n) (state_after step n s) (λ go. rw p refl))
+
+-- Each of the three, whole.
+pub step_goes_on : {E H B S : Type 0} (step : S → Next E H B S) → StepGoesOn step
+step_goes_on step n s t e r p = (trace_went step n s t e r p, state_went step n s t e p)
+
+pub step_ends : {E H B S : Type 0} (step : S → Next E H B S) → StepEnds step
+step_ends step n m s h r p l = (trace_ended step n m s h r p l, state_ended step n m s h p (omega arith))
+
+pub step_breaks : {E H B S : Type 0} (step : S → Next E H B S) → StepBreaks step
+step_breaks step n m s b r p l = (trace_broke step n m s b r p l, state_broke step n m s b p (omega arith), break_met step n m s b r p l)

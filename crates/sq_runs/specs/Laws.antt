@@ -1,6 +1,6 @@
 -- The laws of runs, each as one statement.
-use Rattle.std.specs.Prelude.{◌≡◌, ◌↔◌, ℕ, ◌+◌, ◌<◌, ◌≤◌, Some, None}
-use Rattle.sq_runs.specs.Runs.{Next, trace, state_after, first_break, IsUnbroken, HasHalted, IsOver, continued, BreaksAt}
+use Rattle.std.specs.Prelude.{◌≡◌, ◌↔◌, ℕ, ◌+◌, ◌<◌, ◌≤◌, [], ◌++◌, Option, Some, None}
+use Rattle.sq_runs.specs.Runs.{Next, Went, Ended, Broke, Running, Halted, Broken, with_event, trace, state_after, first_break, IsUnbroken, HasHalted, IsOver, and_then, BreaksAt}
 use Rattle.sq_runs.specs.Follows.{LeadsTo, FollowsRuns, LocksWith, SameRuns}
 
 -- After an end or a break what is seen stays the same.
@@ -13,11 +13,23 @@ Prefix {S} step = (n m : ℕ) (s : S) → n ≤ m → LeadsTo (trace step n s) (
 
 -- What is seen of n + k steps is what is seen of n, and then of k from the state after them.
 abbrev pub Split : {E H B S : Type 0} → (S → Next E H B S) → Type 0
-Split {S} step = (n k : ℕ) (s : S) → trace step (n + k) s ≡ continued (trace step n s) (trace step k (state_after step n s))
+Split {S} step = (n k : ℕ) (s : S) → trace step (n + k) s ≡ and_then (trace step n s) (trace step k (state_after step n s))
 
 -- The state after n + k steps is the one after k steps from the state after n.
 abbrev pub StateSplit : {E H B S : Type 0} → (S → Next E H B S) → Type 0
 StateSplit {S} step = (n k : ℕ) (s : S) → state_after step (n + k) s ≡ state_after step k (state_after step n s)
+
+-- A step that goes on, behind steps that did: its event comes last.
+abbrev pub StepGoesOn : {E H B S : Type 0} → (S → Next E H B S) → Type 0
+StepGoesOn {E} {S} step = (n : ℕ) (s t : S) (e : Option E) → (trace step n s).status ≡ Running → step (state_after step n s) ≡ Went e t → (trace step (n + 1) s ≡ record { events = (trace step n s).events ++ with_event e []; status = Running }) × (state_after step (n + 1) s ≡ t)
+
+-- A step that ends, behind steps that went on: what is seen from then on.
+abbrev pub StepEnds : {E H B S : Type 0} → (S → Next E H B S) → Type 0
+StepEnds {H} {S} step = (n m : ℕ) (s : S) (h : H) → (trace step n s).status ≡ Running → step (state_after step n s) ≡ Ended h → n < m → (trace step m s ≡ record { events = (trace step n s).events; status = Halted h }) × (state_after step m s ≡ state_after step n s)
+
+-- A step that breaks, behind steps that went on: what is seen from then on.
+abbrev pub StepBreaks : {E H B S : Type 0} → (S → Next E H B S) → Type 0
+StepBreaks {B} {S} step = (n m : ℕ) (s : S) (b : B) → (trace step n s).status ≡ Running → step (state_after step n s) ≡ Broke b → n < m → (trace step m s ≡ record { events = (trace step n s).events; status = Broken }) × (state_after step m s ≡ state_after step n s) × (first_break step m s ≡ Some b)
 
 -- What is unbroken was so before.
 abbrev pub UnbrokenBefore : {E H B S : Type 0} → (S → Next E H B S) → Type 0

@@ -24,30 +24,30 @@ with_event None es = es
 with_event (Some e) es = e ∷ es
 
 -- the trace behind at most one event
-abbrev pub logged : {E H : Type 0} → Option E → Trace E H → Trace E H
-logged e t = record { events = with_event e t.events; status = t.status }
+abbrev pub after_event : {E H : Type 0} → Option E → Trace E H → Trace E H
+after_event e t = record { events = with_event e t.events; status = t.status }
 
 -- what is seen from a step on, where go is what is seen behind it
-abbrev pub onward : {E H B S : Type 0} → Next E H B S → (S → Trace E H) → Trace E H
-onward (Went e s) go = logged e (go s)
-onward (Ended h) go = record { events = []; status = Halted h }
-onward (Broke b) go = record { events = []; status = Broken }
+abbrev pub trace_from : {E H B S : Type 0} → Next E H B S → (S → Trace E H) → Trace E H
+trace_from (Went e s) go = after_event e (go s)
+trace_from (Ended h) go = record { events = []; status = Halted h }
+trace_from (Broke b) go = record { events = []; status = Broken }
 
 -- What is seen of the first n steps. After an end or a break nothing follows.
 abbrev pub trace : {E H B S : Type 0} → (S → Next E H B S) → ℕ → S → Trace E H
 trace step zero s = record { events = []; status = Running }
-trace step (suc n) s = onward (step s) (trace step n)
+trace step (suc n) s = trace_from (step s) (trace step n)
 
 -- the state behind a step, or the state itself where the step ends or breaks
-abbrev pub moved : {E H B S : Type 0} → Next E H B S → S → (S → S) → S
-moved (Went e t) s go = go t
-moved (Ended h) s go = s
-moved (Broke b) s go = s
+abbrev pub state_from : {E H B S : Type 0} → Next E H B S → S → (S → S) → S
+state_from (Went e t) s go = go t
+state_from (Ended h) s go = s
+state_from (Broke b) s go = s
 
 -- The state after the first n steps. A step that ends or breaks changes nothing.
 abbrev pub state_after : {E H B S : Type 0} → (S → Next E H B S) → ℕ → S → S
 state_after step zero s = s
-state_after step (suc n) s = moved (step s) s (state_after step n)
+state_after step (suc n) s = state_from (step s) s (state_after step n)
 
 -- the break of this step, or of those behind it
 abbrev pub break_from : {E H B S : Type 0} → Next E H B S → (S → Option B) → Option B
@@ -60,42 +60,42 @@ abbrev pub first_break : {E H B S : Type 0} → (S → Next E H B S) → ℕ →
 first_break step zero s = None
 first_break step (suc n) s = break_from (step s) (first_break step n)
 
--- none of the steps is a break
-abbrev pub NotBroken : {H : Type 0} → Status H → Type 0
-NotBroken Running = Unit {0}
-NotBroken (Halted h) = Unit {0}
-NotBroken Broken = ⊥
+-- no step was a break
+abbrev pub IsNotBroken : {H : Type 0} → Status H → Type 0
+IsNotBroken Running = Unit {0}
+IsNotBroken (Halted h) = Unit {0}
+IsNotBroken Broken = ⊥
 
 abbrev pub IsUnbroken : {E H : Type 0} → Trace E H → Type 0
-IsUnbroken t = NotBroken t.status
+IsUnbroken t = IsNotBroken t.status
 
 -- a step was the end, which is no break
-abbrev pub AtHalt : {H : Type 0} → Status H → Type 0
-AtHalt Running = ⊥
-AtHalt (Halted h) = Unit {0}
-AtHalt Broken = ⊥
+abbrev pub IsHalted : {H : Type 0} → Status H → Type 0
+IsHalted Running = ⊥
+IsHalted (Halted h) = Unit {0}
+IsHalted Broken = ⊥
 
 abbrev pub HasHalted : {E H : Type 0} → Trace E H → Type 0
-HasHalted t = AtHalt t.status
+HasHalted t = IsHalted t.status
 
 -- a step was the end or a break
-abbrev pub AtEnd : {H : Type 0} → Status H → Type 0
-AtEnd Running = ⊥
-AtEnd (Halted h) = Unit {0}
-AtEnd Broken = Unit {0}
+abbrev pub IsEnd : {H : Type 0} → Status H → Type 0
+IsEnd Running = ⊥
+IsEnd (Halted h) = Unit {0}
+IsEnd Broken = Unit {0}
 
 -- nothing follows
 abbrev pub IsOver : {E H : Type 0} → Trace E H → Type 0
-IsOver t = AtEnd t.status
+IsOver t = IsEnd t.status
 
 -- u behind t, where t still runs; t itself where it is over
-abbrev pub going_on : {E H : Type 0} → Status H → Trace E H → Trace E H → Trace E H
-going_on Running t u = record { events = t.events ++ u.events; status = u.status }
-going_on (Halted h) t u = t
-going_on Broken t u = t
+abbrev pub and_then_from : {E H : Type 0} → Status H → Trace E H → Trace E H → Trace E H
+and_then_from Running t u = record { events = t.events ++ u.events; status = u.status }
+and_then_from (Halted h) t u = t
+and_then_from Broken t u = t
 
-abbrev pub continued : {E H : Type 0} → Trace E H → Trace E H → Trace E H
-continued t u = going_on t.status t u
+abbrev pub and_then : {E H : Type 0} → Trace E H → Trace E H → Trace E H
+and_then t u = and_then_from t.status t u
 
 -- After k steps the run still runs, and the next step is the break b.
 pub record BreaksAt {E H B S : Type 0} (step : S → Next E H B S) (s : S) (k : ℕ) (b : B) : Type 0 where

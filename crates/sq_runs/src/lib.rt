@@ -6,7 +6,7 @@
 #![tactic(auto)]
 
 ghost use Rattle.sq_runs.specs.Runs.{Next};
-ghost use Rattle.sq_runs.specs.Laws.{Stay, Prefix, Split, StateSplit, UnbrokenBefore, UnbrokenAtHalt, NoBreak, FirstBreak, NeverBreaks, FollowsItself, FollowsThrough, LockFollows, Assemble};
+ghost use Rattle.sq_runs.specs.Laws.{Stay, Prefix, Split, StateSplit, StepGoesOn, StepEnds, StepBreaks, UnbrokenBefore, UnbrokenAtHalt, NoBreak, FirstBreak, NeverBreaks, FollowsItself, FollowsThrough, LockFollows, Assemble};
 
 pub mod countdowns;
 pub mod simulation;
@@ -21,6 +21,13 @@ pub fn stay<E, H, B, S>()
 pub fn split<E, H, B, S>()
     ensures trace { (step : S → Next E H B S) → Split step }
     ensures state { (step : S → Next E H B S) → StateSplit step }
+{}
+
+/// What the step behind some steps adds to what is seen of them: all that a loop over steps needs.
+pub fn next_step<E, H, B, S>()
+    ensures goes_on { (step : S → Next E H B S) → StepGoesOn step }
+    ensures ends { (step : S → Next E H B S) → StepEnds step }
+    ensures breaks { (step : S → Next E H B S) → StepBreaks step }
 {}
 
 /// What is unbroken was so before, and stays so after a halt. A machine that has no break is unbroken.
