@@ -4,3 +4,4 @@ pub mod Steps
 pub mod Follow
 pub mod Simulate
 pub mod LittleRuns
+pub mod Loops

@@ -1,6 +1,6 @@
 -- A simulation gives following, and one in lock step gives lock step.
 use Rattle.std.proofs.Common.{◌≡◌, ℕ, zero, suc, [], Some, None, refl, ap, ◌∙◌}
-use Rattle.sq_runs.specs.Runs.{Next, Went, Ended, Broke, Trace, Halted, after_event, trace_from, trace, IsUnbroken}
+use Rattle.sq_runs.specs.Runs.{Next, Went, Ended, Broke, map_next, Trace, Halted, after_event, trace_from, trace, IsUnbroken}
 use Rattle.sq_runs.specs.Follows.{LeadsTo, FollowsRuns, LocksWith}
 use Rattle.sq_runs.specs.Simulation.{Silent, Quiet, Skips, Goes, Matches, Meets, Simulates, SimulatesInStep}
 use Rattle.sq_runs.proofs.Traces.{leads_refl, leads_after_event}
@@ -154,3 +154,22 @@ matches_map R Q (Broke c) y h m = tt
 -- A simulation in lock step is a simulation.
 pub steps_simulate : {E H B C S T : Type 0} (a : S → Next E H B S) (b : T → Next E H C T) (R : S → T → Type 0) → SimulatesInStep a b R → Simulates a b R
 steps_simulate a b R sim s t r = meets_now a b R (a s) (b t) (sim s t r)
+
+-- Results that match still do with their states carried on, as a row's result becomes a machine's.
+pub matches_map_next : {E H B C B' C' S T S' T' : Type 0} (R : S → T → Type 0) (Q : S' → T' → Type 0) (f : S → S') (g : T → T') (i : B → B') (j : C → C') (x : Next E H B S) (y : Next E H C T) → ((s : S) (t : T) → R s t → Q (f s) (g t)) → Matches R x y → Matches Q (map_next f i x) (map_next g j y)
+matches_map_next R Q f g i j (Went e s) (Went e' t) h m = (m.0, h s t m.1)
+matches_map_next R Q f g i j (Went e s) (Ended k) h m = m
+matches_map_next R Q f g i j (Went e s) (Broke c) h m = m
+matches_map_next R Q f g i j (Ended k) (Went e t) h m = m
+matches_map_next R Q f g i j (Ended k) (Ended k') h m = m
+matches_map_next R Q f g i j (Ended k) (Broke c) h m = m
+matches_map_next R Q f g i j (Broke c) y h m = tt
+
+-- A machine and its image under a map of states lock.
+pub locks_by_map : {E H B C S T : Type 0} (a : S → Next E H B S) (b : T → Next E H C T) (f : S → T) (g : B → C) → ((s : S) → b (f s) ≡ map_next f g (a s)) → (s : S) → LocksWith a s b (f s)
+locks_by_map {E} {H} {B} {C} {S} {T} a b f g h s = locks_by a b (λ s t. t ≡ f s) (λ s t r. rw (r, h s) (image (a s))) s (f s) refl
+  where
+    image : (x : Next E H B S) → Matches (λ s t. t ≡ f s) x (map_next f g x)
+    image (Went e s) = (refl, refl)
+    image (Ended k) = refl
+    image (Broke c) = tt

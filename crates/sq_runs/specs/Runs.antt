@@ -101,3 +101,14 @@ and_then t u = and_then_from t.status t u
 pub record BreaksAt {E H B S : Type 0} (step : S → Next E H B S) (s : S) (k : ℕ) (b : B) : Type 0 where
   pub running : (trace step k s).status ≡ Running
   pub broke : step (state_after step k s) ≡ Broke b
+
+-- n steps were made: they lead from old to new, and a log grew from before to after by their events.
+pub record RunsFor {E H B S : Type 0} (step : S → Next E H B S) (n : ℕ) (old new : S) (before after : List E) : Type 0 where
+  pub state : new ≡ state_after step n old
+  pub events : after ≡ before ++ (trace step n old).events
+
+-- a result with its state and its break as f and g give them
+abbrev pub map_next : {E H B C S T : Type 0} → (S → T) → (B → C) → Next E H B S → Next E H C T
+map_next f g (Went e s) = Went e (f s)
+map_next f g (Ended h) = Ended h
+map_next f g (Broke b) = Broke (g b)
