@@ -14,7 +14,7 @@ pub struct Region<C> {
     cells: Vec<C>,
 }
 
-impl<C: Copy + Drop> Region<C> {
+impl<C: Copy> Region<C> {
     ghost use Rattle.std.specs.Prelude.{◌≡◌, IsSome};
     ghost use Rattle.sq_memory.specs.Regions.{region_cell, region_with};
     ghost use Rattle.sq_memory.specs.Contents.{region_of};
@@ -43,7 +43,7 @@ impl<C: Copy + Drop> Region<C> {
 }
 
 // The first region that has a cell at an address.
-fn place<C: Copy + Drop>(regions: &[Region<C>], address: u32) -> Option<usize>
+fn place<C: Copy>(regions: &[Region<C>], address: u32) -> Option<usize>
     ensures { result ≡ position (λ r. is_some (region_cell (region_of r) address)) regions.now }
 {
     regions
@@ -67,7 +67,7 @@ impl<C> Model for Contents<C> {
     ghost view = { λ m. regions_of m.regions.items };
 }
 
-impl<C: Copy + Drop> Contents<C> {
+impl<C: Copy> Contents<C> {
     ghost use Rattle.std.specs.Prelude.{◌≡◌, ◌+◌, ◌≤◌, ◌^◌, length, option_map, IfOk};
     ghost use Rattle.sq_memory.specs.Cells.{cells_from};
     ghost use Rattle.sq_memory.specs.Regions.{get, put, put_all};
