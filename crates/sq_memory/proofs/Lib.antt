@@ -1,0 +1,4 @@
+pub mod CellLaws
+pub mod RangeLaws
+pub mod RegionLaws
+pub mod Places
