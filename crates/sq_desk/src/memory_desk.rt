@@ -1,6 +1,6 @@
 //! A desk in memory that fails chosen calls.
 
-ghost use Rattle.std.specs.Prelude.{◌≡◌, ◌<◌, ◌≤◌, ◌↔◌, ℕ, [], length, Some, None, true, false, IsTrue, OnOk, OnErr, IfOk};
+ghost use Rattle.std.specs.Prelude.{◌≡◌, ◌<◌, ◌≤◌, ◌↔◌, ◌/◌, ℕ, [], length, take, Some, None, true, false, IsTrue, OnOk, OnErr, IfOk};
 ghost use Rattle.std.specs.Option.{option_map};
 
 use crate::desk::{Desk, DeskFault, LoadFault};
@@ -163,9 +163,7 @@ impl Desk for MemoryDesk {
         ensures counts { CountsCall self.old self.new (next_fails self.old) }
     {
         if self.count_call() {
-            self.held
-                .printed
-                .extend_from_slice(&bytes[..bytes.len() / 2])?;
+            self.held.printed.extend_from_slice(first_half(bytes))?;
             return Err(DeskFault::Failed);
         }
         self.held.printed.extend_from_slice(bytes)?;
@@ -188,12 +186,17 @@ impl Desk for MemoryDesk {
         ensures counts { CountsCall self.old self.new (next_fails self.old) }
     {
         if self.count_call() {
-            self.held
-                .complained
-                .extend_from_slice(&bytes[..bytes.len() / 2])?;
+            self.held.complained.extend_from_slice(first_half(bytes))?;
             return Err(DeskFault::Failed);
         }
         self.held.complained.extend_from_slice(bytes)?;
         Ok(())
     }
+}
+
+/// The first half of the bytes, the odd one left out.
+fn first_half(bytes: &[u8]) -> &[u8]
+    ensures { result.now ≡ take (length bytes.now / 2) bytes.now }
+{
+    &bytes[..bytes.len() / 2]
 }

@@ -128,3 +128,6 @@ fn load_fault(error: &io::Error) -> LoadFault {
         LoadFault::Failed
     }
 }
+
+#[cfg(test)]
+mod tests;
