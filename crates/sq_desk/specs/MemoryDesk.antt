@@ -16,6 +16,10 @@ memory_files desk = files_of desk.held
 abbrev pub call_number : MemoryDesk → ℕ
 call_number desk = desk.calls
 
+-- how many faults there were
+abbrev pub fault_count : MemoryDesk → ℕ
+fault_count desk = desk.faults
+
 -- the numbers of the calls that fail
 abbrev pub failing_calls : MemoryDesk → List ℕ
 failing_calls desk = desk.failing.items

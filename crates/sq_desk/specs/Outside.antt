@@ -9,8 +9,8 @@ abbrev pub Files : Type 0
 Files = List ℕ → Option (List ℕ)
 
 -- what a name holds: a name without a file stands for the empty file
-abbrev pub held : Files → List ℕ → List ℕ
-held files name = unwrap_or (files name) []
+abbrev pub content_of : Files → List ℕ → List ℕ
+content_of files name = unwrap_or (files name) []
 
 -- the files after that of `name` became `content`, where None is no file
 abbrev pub with_file : List ℕ → Option (List ℕ) → Files → Files
@@ -57,18 +57,18 @@ abbrev pub KeepsComplained : Outside → Outside → Type 0
 KeepsComplained before after = after.complained ≡ before.complained
 
 -- what was told, with these bytes behind it
-abbrev pub appended : List ℕ → Option (List ℕ) → Option (List ℕ)
-appended bytes told = option_map (λ text. text ++ bytes) told
+abbrev pub extended_text : List ℕ → Option (List ℕ) → Option (List ℕ)
+extended_text bytes told = option_map (λ text. text ++ bytes) told
 
 abbrev pub Prints : List ℕ → Outside → Outside → Type 0
-Prints bytes before after = after.printed ≡ appended bytes before.printed
+Prints bytes before after = after.printed ≡ extended_text bytes before.printed
 
 -- a prefix of the bytes was printed
 abbrev pub PrintsPrefix : List ℕ → Outside → Outside → Type 0
 PrintsPrefix bytes before after = (n : ℕ) × Prints (take n bytes) before after
 
 abbrev pub Complains : List ℕ → Outside → Outside → Type 0
-Complains bytes before after = after.complained ≡ appended bytes before.complained
+Complains bytes before after = after.complained ≡ extended_text bytes before.complained
 
 -- a prefix of the bytes was complained
 abbrev pub ComplainsPrefix : List ℕ → Outside → Outside → Type 0

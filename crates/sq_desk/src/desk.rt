@@ -1,7 +1,7 @@
 //! The trait through which a program reaches the outside.
 
 ghost use Rattle.std.specs.Prelude.{◌≡◌, ◌<◌, ◌≤◌, length, Some, OnOk, IfOk};
-ghost use Rattle.sq_desk.specs.Outside.{Outside, held, Rose, NoneFall, Loading, Storing, Printing, Complaining, KeepsFiles, SetsFile, LosesFile, KeepsPrinted, KeepsComplained, Prints, PrintsPrefix, Complains, ComplainsPrefix, ForFiles};
+ghost use Rattle.sq_desk.specs.Outside.{Outside, content_of, Rose, NoneFall, Loading, Storing, Printing, Complaining, KeepsFiles, SetsFile, LosesFile, KeepsPrinted, KeepsComplained, Prints, PrintsPrefix, Complains, ComplainsPrefix, ForFiles};
 
 use sq_num::Memory;
 use std::alloc::{AllocError, Global};
@@ -65,12 +65,13 @@ impl From<Memory> for DeskFault {
 pub trait Desk {
     ghost outside: { Self → Outside };
 
-    /// The file of `name`, where it has at most `limit` bytes. A name without a file stands for the
-    /// empty file. No file changes.
+    /// The file of `name`. A name without a file stands for the empty file. `TooLong` comes where
+    /// it has more than `limit` bytes, `Failed` only where the faults of loading `name` rose. No
+    /// file changes.
     fn load(&mut self, alloc: Global, name: &str, limit: u32) -> Result<Vec<u8>, LoadFault>
         ensures within { IfOk result (λ bytes. length bytes.items ≤ limit) }
-        ensures told { IfOk result (λ bytes. ForFiles (outside self.old) (λ files. bytes.items ≡ held files name.now)) }
-        ensures too_long { result ≡ Err LoadFault.TooLong → ForFiles (outside self.old) (λ files. limit < length (held files name.now)) }
+        ensures told { IfOk result (λ bytes. ForFiles (outside self.old) (λ files. bytes.items ≡ content_of files name.now)) }
+        ensures too_long { result ≡ Err LoadFault.TooLong → ForFiles (outside self.old) (λ files. limit < length (content_of files name.now)) }
         ensures failed { result ≡ Err LoadFault.Failed → Rose (Loading name.now) (outside self.old) (outside self.new) }
         ensures faults { NoneFall (outside self.old) (outside self.new) }
         ensures files { KeepsFiles (outside self.old) (outside self.new) }

@@ -21,7 +21,7 @@ pub struct MemoryDesk {
 
 impl MemoryDesk {
     ghost use Rattle.sq_desk.specs.Outside.{SetsFile, KeepsFiles, KeepsPrinted, KeepsComplained};
-    ghost use Rattle.sq_desk.specs.MemoryDesk.{memory_outside, memory_files, call_number, failing_calls, next_fails, CountsCall, CountsNothing};
+    ghost use Rattle.sq_desk.specs.MemoryDesk.{memory_outside, memory_files, call_number, fault_count, failing_calls, next_fails, CountsCall, CountsNothing};
 
     /// No files, nothing printed or complained, and no call yet. `failing` lists the numbers of the
     /// calls that fail.
@@ -30,6 +30,7 @@ impl MemoryDesk {
         ensures printed { IfOk result (λ desk. (memory_outside desk).printed ≡ Some []) }
         ensures complained { IfOk result (λ desk. (memory_outside desk).complained ≡ Some []) }
         ensures calls { IfOk result (λ desk. call_number desk ≡ 0) }
+        ensures faults { IfOk result (λ desk. fault_count desk ≡ 0) }
         ensures failing { IfOk result (λ desk. failing_calls desk ≡ failing.now) }
     {
         let failing = Vec::from_slice(alloc, failing)?;
@@ -82,6 +83,7 @@ impl MemoryDesk {
         ensures held { self.new.held ≡ self.old.held }
         ensures rises { self.old.faults ≤ self.new.faults }
     {
+        // A read that lets the check know that the count fits.
         let _faults = self.faults;
         let fails = self.failing.contains(&self.calls);
         self.calls = self.calls.saturating_add(1);
@@ -94,15 +96,15 @@ impl MemoryDesk {
 
 impl Desk for MemoryDesk {
     ghost use Rattle.std.specs.Prelude.{◌≡◌, ◌<◌, ◌≤◌, ◌↔◌, length, Some, None, true, false, IsTrue, OnOk, IfOk};
-    ghost use Rattle.sq_desk.specs.Outside.{held, Rose, NoneFall, Loading, Storing, Printing, Complaining, KeepsFiles, SetsFile, LosesFile, KeepsPrinted, KeepsComplained, Prints, PrintsPrefix, Complains, ComplainsPrefix, ForFiles};
+    ghost use Rattle.sq_desk.specs.Outside.{content_of, Rose, NoneFall, Loading, Storing, Printing, Complaining, KeepsFiles, SetsFile, LosesFile, KeepsPrinted, KeepsComplained, Prints, PrintsPrefix, Complains, ComplainsPrefix, ForFiles};
     ghost use Rattle.sq_desk.specs.MemoryDesk.{memory_outside, memory_files, next_fails, load_fails, first_half, CountsCall};
 
     ghost outside = { memory_outside };
 
     fn load(&mut self, alloc: Global, name: &str, limit: u32) -> Result<Vec<u8>, LoadFault>
         ensures within { IfOk result (λ bytes. length bytes.items ≤ limit) }
-        ensures told { IfOk result (λ bytes. ForFiles (memory_outside self.old) (λ files. bytes.items ≡ held files name.now)) }
-        ensures too_long { result ≡ Err LoadFault.TooLong → ForFiles (memory_outside self.old) (λ files. limit < length (held files name.now)) }
+        ensures told { IfOk result (λ bytes. ForFiles (memory_outside self.old) (λ files. bytes.items ≡ content_of files name.now)) }
+        ensures too_long { result ≡ Err LoadFault.TooLong → ForFiles (memory_outside self.old) (λ files. limit < length (content_of files name.now)) }
         ensures failed { result ≡ Err LoadFault.Failed → Rose (Loading name.now) (memory_outside self.old) (memory_outside self.new) }
         ensures faults { NoneFall (memory_outside self.old) (memory_outside self.new) }
         ensures files { KeepsFiles (memory_outside self.old) (memory_outside self.new) }

@@ -1,4 +1,5 @@
 pub mod Halves
 pub mod Refusals
 pub mod RefusalTexts
+pub mod Saved
 pub mod Texts

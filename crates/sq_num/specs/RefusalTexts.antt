@@ -105,10 +105,10 @@ place_text (Hex v) = hex_text v
 place_text (Number v) = decimal v
 
 -- each place follows after one space
-abbrev pub spaced : Option Place → List ℕ
-spaced None = []
-spaced (Some place) = codes " " ++ place_text place
+abbrev pub place_suffix : Option Place → List ℕ
+place_suffix None = []
+place_suffix (Some place) = codes " " ++ place_text place
 
 -- `refused`, the number and the places, each after one space
 unfoldable pub refusal_text : Refusal → List ℕ
-refusal_text r = codes "refused " ++ decimal (number_of r) ++ spaced (first_place r) ++ spaced (second_place r)
+refusal_text r = codes "refused " ++ decimal (number_of r) ++ place_suffix (first_place r) ++ place_suffix (second_place r)

@@ -20,7 +20,7 @@ pub use halves::{hi20, lo12};
 pub use line::Line;
 pub use memory::Memory;
 pub use packed::{Packed, Savings};
-pub use refusal::{Denied, Place, Refusal};
+pub use refusal::{Denied, Refusal};
 pub use word_list::WordList;
 
 #[cfg(test)]

@@ -3,7 +3,8 @@
 use crate::bytes::Bytes;
 
 /// The words that each row of the cost rule saved: U (unreached blocks), J1 to J3 and C (jumps and
-/// calls), T (equal tails), O1 to O4 (procedures), and the moves of whole chains.
+/// calls), T (equal tails), O1 to O4 (procedures; windows of a block count with O1 and O2), and the
+/// moves of whole chains, net of the branches that they widen.
 #[derive(Clone, Copy, Debug, PartialEq, Eq)]
 pub struct Savings {
     pub u: u32,

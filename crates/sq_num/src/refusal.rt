@@ -1,7 +1,7 @@
 //! Why a file is refused.
 
 ghost use Rattle.std.specs.Prelude.{◌≡◌, ◌≤◌, ◌+◌, ◌++◌, length, codes, decimal};
-ghost use Rattle.sq_num.specs.RefusalTexts.{number_of, first_place, second_place, refusal_text, spaced};
+ghost use Rattle.sq_num.specs.RefusalTexts.{number_of, first_place, second_place, refusal_text, place_suffix};
 
 use crate::line::Line;
 use crate::memory::Memory;
@@ -26,7 +26,8 @@ pub enum Refusal {
     TableOutside { table: u32, index: u32 },
     /// 6: a PT_LOAD with more bytes in the file than in memory, or one that ends past 2^32.
     BadSegment { index: u32 },
-    /// 7: a program header of a type that is not packed.
+    /// 7: a program header for dynamic linking, an interpreter or thread-local storage (types 2, 3
+    /// and 7).
     SegmentKind { index: u32, kind: u32 },
     /// 8: two ranges of memory of PT_LOADs meet.
     SegmentOverlap { index: u32 },
@@ -56,7 +57,7 @@ pub enum Refusal {
     UnsupportedInstruction { address: u32, word: u32 },
     /// 21: a target that is no word of text.
     BadTarget { address: u32 },
-    /// 22: an instruction that goes on past the end of text.
+    /// 22: an instruction that goes on, or calls, right before the end of text.
     FallsOffText { address: u32 },
     /// 23: an `auipc` without a relocation.
     UnrelocatedAuipc { address: u32 },
@@ -66,7 +67,7 @@ pub enum Refusal {
     ConflictingReloc { address: u32 },
     /// 26: an entry of the note, counted from 1, that the file does not bear out; 0 for the section.
     BadNote { entry: u32 },
-    /// 27: a lower half whose upper half is not there.
+    /// 27: a lower half whose upper half is not there, or that has an addend of its own.
     LoneHalf { address: u32 },
     /// 28: more than 64 pieces (kind 1) or more than 16,777,216 loaded bytes (kind 2).
     TooLarge { kind: u32, count: u64 },
@@ -74,7 +75,7 @@ pub enum Refusal {
 
 /// A place in the text of a refusal.
 #[derive(Clone, Copy, Debug, PartialEq, Eq)]
-pub enum Place {
+enum Place {
     /// An address, an offset, a word or flags: `0x` and eight digits.
     Hex(u32),
     /// Any other number, in decimal.
@@ -103,7 +104,7 @@ impl From<Memory> for Denied {
 
 impl Refusal {
     /// The number of the refusal, 0 to 28.
-    pub fn number(&self) -> u32
+    fn number(&self) -> u32
         ensures value { result ≡ number_of self.now }
         ensures small { result ≤ 28 }
     {
@@ -141,7 +142,7 @@ impl Refusal {
     }
 
     /// The first place that the refusal's text names.
-    pub fn first_place(&self) -> Option<Place>
+    fn first_place(&self) -> Option<Place>
         ensures { result ≡ first_place self.now }
     {
         match self {
@@ -176,7 +177,7 @@ impl Refusal {
     }
 
     /// The second place that the refusal's text names.
-    pub fn second_place(&self) -> Option<Place>
+    fn second_place(&self) -> Option<Place>
         ensures { result ≡ second_place self.now }
     {
         match self {
@@ -209,7 +210,7 @@ impl Refusal {
 /// Appends a space and the place, where there is one: at most 21 bytes.
 fn push_place(line: &mut Line, place: Option<Place>)
     requires { length line.old + 21 ≤ 96 }
-    ensures text { line.new ≡ line.old ++ spaced place }
+    ensures text { line.new ≡ line.old ++ place_suffix place }
     ensures short { length line.new ≤ length line.old + 21 }
 {
     match place {

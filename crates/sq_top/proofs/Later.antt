@@ -2,10 +2,10 @@
 use Rattle.std.proofs.Common.{ℕ, ◌-◌, ◌^◌, inl, inr, List, take, Option, Some, None, ap, ◌∙◌, arith}
 use Rattle.std.proofs.lemmas.Bool.{cases_lt}
 use Rattle.sq_num.specs.declared.packed.Packed.{Packed}
-use Rattle.sq_desk.specs.Outside.{Outside, Place, Rose, NoneFall, Complaining, KeepsFiles, KeepsPrinted, KeepsComplained, appended}
+use Rattle.sq_desk.specs.Outside.{Outside, Place, Rose, NoneFall, Complaining, KeepsFiles, KeepsPrinted, KeepsComplained, extended_text}
 use Rattle.sq_top.specs.declared.ending.Ending.{Ending}
 use Rattle.sq_top.specs.declared.ending.Ending.TheVariants.{Done, Words, Desk, Refused, Memory}
-use Rattle.sq_top.specs.declared.ending.Call.TheVariants.{Load, Store, Print}
+use Rattle.sq_top.specs.declared.ending.DeskCall.TheVariants.{Load, Store, Print}
 use Rattle.sq_top.specs.Commands.{Form, PackForm, form_of}
 use Rattle.sq_top.specs.Endings.{complaint_of, StoresPacked, LeavesPack, Leaves, ComplainsLine}
 use Rattle.sq_top.specs.Promises.{Ends}
@@ -49,9 +49,9 @@ module _ (before middle after : Outside) (first : NoneFall before middle) (quiet
 
   complains_on : (line : Option (List ℕ)) → KeepsComplained before middle → ComplainsLine line middle after → ComplainsLine line before after
   complains_on None silent said = said ∙ silent
-  complains_on (Some line) silent (inl all) = inl (all ∙ ap (appended line) silent)
+  complains_on (Some line) silent (inl all) = inl (all ∙ ap (extended_text line) silent)
   complains_on (Some line) silent (inr (inl prefix)) =
-      inr (inl ((prefix.0.0, prefix.0.1 ∙ ap (appended (take prefix.0.0 line)) silent), rose_then Complaining before middle after first prefix.1))
+      inr (inl ((prefix.0.0, prefix.0.1 ∙ ap (extended_text (take prefix.0.0 line)) silent), rose_then Complaining before middle after first prefix.1))
   complains_on (Some line) silent (inr (inr none)) = inr (inr (none ∙ silent))
 
   pub ends_by : (words : List (List ℕ)) (ending : Ending) → Leaves (form_of words) ending before middle → KeepsComplained before middle → ComplainsLine (complaint_of ending) middle after → Ends words ending before after

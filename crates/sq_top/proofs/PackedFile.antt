@@ -1,6 +1,9 @@
 -- What the parts of a packing say together.
-use Rattle.std.proofs.Common.{◌≡◌, ℕ, ◌-◌, ◌*◌, ◌/◌, List, [], ◌∷◌, ◌++◌, length, Some, None, inl, inr, sym, ap, subst, ◌∙◌, arith, length-append}
+use Rattle.std.proofs.Common.{◌≡◌, ℕ, ◌-◌, ◌*◌, ◌≤◌, List, [], ◌∷◌, ◌++◌, length, Some, None, inl, inr, sym, ap, subst, ◌∙◌, arith, append-nil, length-append, ◌+◌}
+use Rattle.sq_num.specs.declared.packed.Packed.{Packed}
+use Rattle.sq_top.specs.Packing.{text_bytes, loaded_bytes, Packs, GoodOutput}
 use Rattle.sq_num.specs.declared.refusal.Refusal.{Refusal}
+use Rattle.sq_write.specs.Output.{words}
 use Rattle.sq_write.specs.Plain.{plain_file, ArePlainWords, IsPlainFile, HasText, Spells}
 use Rattle.sq_write.proofs.Splitting.{length_words}
 use Rattle.sq_top.specs.Straight.{jump_to_self, IsStraight, reached_words, text_words, straight_part}
@@ -25,7 +28,7 @@ not_plain bytes none straight = none (record { text = text_words straight; are_w
 pub record Reaches (bytes text kept : List ℕ) : Type 0 where
   pub straight : IsStraight bytes
   pub kept_is : kept ≡ reached_words straight
-  pub text_is : length text ≡ 4 * length (text_words straight)
+  pub text_is : length text ≡ text_bytes (text_words straight)
 
 pub reaches : (bytes text kept : List ℕ) → HasText bytes text → ((words : List ℕ) → Spells text words → Some kept ≡ straight_part words) → Reaches bytes text kept
 reaches bytes text kept has part =
@@ -41,12 +44,29 @@ reaches bytes text kept has part =
         whole = plain.whole ∙ ap plain_file keeps.words_are;
       };
       kept_is = keeps.kept_is;
-      text_is = ap length spells.spelling ∙ length_words plain.text ∙ ap (λ words. 4 * length words) keeps.words_are;
+      text_is = ap length spells.spelling ∙ ap text_bytes keeps.words_are;
     }
 
+-- a plain file loads its text alone
+pub loads_text : (text : List ℕ) → text_bytes text ≡ loaded_bytes text
+loads_text text = sym (ap length (append-nil (words text)))
+
 -- the words behind the part, counted by bytes
-pub rest_count : (steps rest : List ℕ) → (4 * length (steps ++ jump_to_self ∷ rest) - 4 * length (steps ++ jump_to_self ∷ [])) / 4 ≡ length rest
-rest_count steps rest = simp length-append (omega arith)
+pub rest_count : (steps rest : List ℕ) → text_bytes (steps ++ jump_to_self ∷ rest) ≡ text_bytes (steps ++ jump_to_self ∷ []) + 4 * length rest
+rest_count steps rest = rw (length_words (steps ++ jump_to_self ∷ rest), length_words (steps ++ jump_to_self ∷ [])) (simp length-append (omega arith))
+
+-- what is reached loads no more
+pub loads_no_more : (steps rest : List ℕ) → loaded_bytes (steps ++ jump_to_self ∷ []) ≤ loaded_bytes (steps ++ jump_to_self ∷ rest)
+loads_no_more steps rest = omega (arith, rest_count steps rest, loads_text (steps ++ jump_to_self ∷ rest), loads_text (steps ++ jump_to_self ∷ []))
+
+-- a packing is a good output
+unfoldable pub good : (given : List ℕ) (packed : Packed) → Packs given packed → GoodOutput given packed.bytes
+good given packed packs = record {
+  accepted = packs.accepted;
+  straight = packs.straight;
+  output_is = packs.output;
+  loads_no_more = loads_no_more packs.straight.steps packs.straight.rest;
+}
 
 -- a straight file that the table accepts is not refused
 pub not_refused : (bytes : List ℕ) → refusal_of bytes ≡ None → IsStraight bytes → (refusal : Refusal) → IsRefused bytes refusal → ⊥

@@ -1,29 +1,17 @@
 -- How the ending of a call keeps each promise.
 use Rattle.std.proofs.Common.{◌≡◌, ℕ, ◌≤◌, ◌⊎◌, inl, inr, List, [], ◌∷◌, ◌++◌, Option, Some, None, refl, ap, ◌∙◌, arith, length-append}
 use Rattle.std.specs.Option.{option_map}
+use Rattle.sq_top.proofs.PackedFile.{good}
 use Rattle.sq_num.specs.declared.packed.Packed.{Packed}
-use Rattle.sq_desk.specs.Outside.{Outside, Files, held, with_file}
+use Rattle.sq_desk.specs.Outside.{Outside, Files, content_of, with_file}
 use Rattle.sq_top.specs.declared.ending.Ending.{Ending}
 use Rattle.sq_top.specs.declared.ending.Ending.TheVariants.{Done, Words, Desk, Refused, Memory}
-use Rattle.sq_top.specs.declared.ending.Call.TheVariants.{Load, Store, Print}
+use Rattle.sq_top.specs.declared.ending.DeskCall.TheVariants.{Load, Store, Print}
 use Rattle.sq_top.specs.Commands.{Form, PackForm, form_of}
 use Rattle.sq_top.specs.Straight.{jump_to_self}
-use Rattle.sq_top.specs.Packing.{Packs, GoodOutput, Headline, packed_text, sizes_text, bytes_in}
+use Rattle.sq_top.specs.Packing.{Packs, GoodOutput, Headline, packed_text, sizes_text}
 use Rattle.sq_top.specs.Endings.{status_of, complaint_of, StoresPacked, LeavesPack, Leaves, ComplainsLine}
 use Rattle.sq_top.specs.Promises.{Ends, ForPack, IsDone, HoldsOutput, StayOrHold, HasRefusal, IsComplete}
-
--- what is reached is no more than all of the text
-loads_no_more : (steps rest : List ℕ) → bytes_in (steps ++ jump_to_self ∷ []) ≤ bytes_in (steps ++ jump_to_self ∷ rest)
-loads_no_more steps rest = simp length-append (omega arith)
-
--- a packing is a good output
-good : (given : List ℕ) (packed : Packed) → Packs given packed → GoodOutput given packed.bytes
-good given packed packs = record {
-  accepted = packs.accepted;
-  straight = packs.straight;
-  output_is = packs.output;
-  loads_no_more = loads_no_more packs.straight.steps packs.straight.rest;
-}
 
 same_sizes : {a b c d e f g h : ℕ} → a ≡ e → b ≡ f → c ≡ g → d ≡ h → sizes_text a b c d ≡ sizes_text e f g h
 same_sizes first second third fourth = λ i. sizes_text (first i) (second i) (third i) (fourth i)
@@ -50,7 +38,7 @@ module _ (words : List (List ℕ)) (ending : Ending) (before after : Outside) (e
 pub done_promised : (words : List (List ℕ)) (ending : Ending) (before after : Outside) → Ends words ending before after → ForPack words (λ input output. status_of ending ≡ 0 → IsDone input output before after)
 done_promised words ending before after ends input output form status files told = by_case ending status (left words ending before after ends input output form)
   where
-    by_case : (e : Ending) → status_of e ≡ 0 → LeavesPack input output e before after → (packed : List ℕ) × (line : List ℕ) × Headline (held files input) packed line × (after.files ≡ Some (with_file output (Some packed) files)) × (after.printed ≡ option_map (λ text. text ++ line) before.printed)
+    by_case : (e : Ending) → status_of e ≡ 0 → LeavesPack input output e before after → (packed : List ℕ) × (line : List ℕ) × Headline (content_of files input) packed line × (after.files ≡ Some (with_file output (Some packed) files)) × (after.printed ≡ option_map (λ text. text ++ line) before.printed)
     by_case Done zero_is (packed, stored, prints) =
         (packed.bytes, packed_text packed, headline _ packed (stored.packs files told), in_place stored files told, prints)
     by_case Words other gone = absurd (cc other)
@@ -65,7 +53,7 @@ refused_promised words ending before after ends input output form status = by_ca
     by_case Done other gone said = absurd (cc other)
     by_case Words other gone said = absurd (cc other)
     by_case (Desk call) other gone said = absurd (cc other)
-    by_case (Refused refusal) three gone said = (refusal, gone.0, said)
+    by_case (Refused refusal) three gone said = (gone.1, gone.2, refusal, gone.0, said)
     by_case Memory other gone said = absurd (cc other)
 
 pub complete_promised : (words : List (List ℕ)) (ending : Ending) (before after : Outside) → Ends words ending before after → ForPack words (λ input output. IsComplete input output (status_of ending) before after)
@@ -84,13 +72,13 @@ pub files_promised : (words : List (List ℕ)) (ending : Ending) (before after :
 files_promised words ending before after ends = by_form (form_of words) refl ends.leaves
   where
     by_case : (input output : List ℕ) → form_of words ≡ Some (PackForm input output) → (e : Ending) → LeavesPack input output e before after → StayOrHold words (status_of e) before after
-    by_case input output form Done gone = inr (input, output, form, inl (holds gone.1))
+    by_case input output form Done gone = inr ((λ same. cc same), (λ same. cc same), input, output, form, inl (holds gone.1))
     by_case input output form Words gone = absurd gone
     by_case input output form (Desk Load) gone = inl gone.1
-    by_case input output form (Desk Store) gone = inr (input, output, form, inr (refl, gone.2, gone.3))
-    by_case input output form (Desk Print) gone = inr (input, output, form, inl (holds gone.1))
+    by_case input output form (Desk Store) gone = inr ((λ same. cc same), (λ same. cc same), input, output, form, inr (refl, gone.2, gone.3))
+    by_case input output form (Desk Print) gone = inr ((λ same. cc same), (λ same. cc same), input, output, form, inl (holds gone.1))
     by_case input output form (Refused refusal) gone = inl gone.1
-    by_case input output form Memory gone = elim gone.0 [ inl kept ↦ inl kept | inr stored ↦ inr (input, output, form, inl (holds stored.1)) ]
+    by_case input output form Memory gone = elim gone.0 [ inl kept ↦ inl kept | inr stored ↦ inr ((λ same. cc same), (λ same. cc same), input, output, form, inl (holds stored.1)) ]
 
     by_form : (f : Option Form) → form_of words ≡ f → Leaves f ending before after → StayOrHold words (status_of ending) before after
     by_form None form gone = inl gone.1

@@ -2,11 +2,11 @@
 use Rattle.std.specs.Prelude.{◌≡◌, ℕ, ◌⊎◌, List, ◌++◌, codes, Option, Some, None, ⊤}
 use Rattle.sq_num.specs.RefusalTexts.{refusal_text}
 use Rattle.sq_num.specs.declared.packed.Packed.{Packed}
-use Rattle.sq_desk.specs.Outside.{Outside, held, Rose, Loading, Storing, Printing, Complaining, KeepsFiles, SetsFile, LosesFile, KeepsPrinted, KeepsComplained, Prints, PrintsPrefix, Complains, ComplainsPrefix, ForFiles}
+use Rattle.sq_desk.specs.Outside.{Outside, content_of, Rose, Loading, Storing, Printing, Complaining, KeepsFiles, SetsFile, LosesFile, KeepsPrinted, KeepsComplained, Prints, PrintsPrefix, Complains, ComplainsPrefix, ForFiles}
 use Rattle.sq_top.specs.declared.ending.Ending.{Ending}
 use Rattle.sq_top.specs.declared.ending.Ending.TheVariants.{Done, Words, Desk, Refused, Memory}
-use Rattle.sq_top.specs.declared.ending.Call.{Call}
-use Rattle.sq_top.specs.declared.ending.Call.TheVariants.{Load, Store, Print}
+use Rattle.sq_top.specs.declared.ending.DeskCall.{DeskCall}
+use Rattle.sq_top.specs.declared.ending.DeskCall.TheVariants.{Load, Store, Print}
 use Rattle.sq_top.specs.Commands.{Form, PackForm}
 use Rattle.sq_top.specs.Packing.{Packs, packed_text}
 use Rattle.sq_top.specs.Refusing.{IsRefused}
@@ -18,7 +18,7 @@ status_of (Desk call) = 2
 status_of (Refused refusal) = 3
 status_of Memory = 4
 
-abbrev pub call_text : Call → List ℕ
+abbrev pub call_text : DeskCall → List ℕ
 call_text Load = codes "desk load\n"
 call_text Store = codes "desk store\n"
 call_text Print = codes "desk print\n"
@@ -33,7 +33,7 @@ complaint_of Memory = Some (codes "memory\n")
 
 -- what the named file holds was packed so
 abbrev pub PacksFile : List ℕ → Packed → Outside → Type 0
-PacksFile input packed before = ForFiles before (λ files. Packs (held files input) packed)
+PacksFile input packed before = ForFiles before (λ files. Packs (content_of files input) packed)
 
 -- the output became the packing of the input
 pub record StoresPacked (input output : List ℕ) (packed : Packed) (before after : Outside) : Type 0 where
@@ -47,7 +47,7 @@ LeavesUnpacked input Words before after = ⊥
 LeavesUnpacked input (Desk Load) before after = Rose (Loading input) before after
 LeavesUnpacked input (Desk Store) before after = ⊥
 LeavesUnpacked input (Desk Print) before after = ⊥
-LeavesUnpacked input (Refused refusal) before after = ForFiles before (λ files. IsRefused (held files input) refusal)
+LeavesUnpacked input (Refused refusal) before after = ForFiles before (λ files. IsRefused (content_of files input) refusal)
 LeavesUnpacked input Memory before after = ⊤
 
 -- what the printing of a last line leaves
@@ -84,7 +84,7 @@ LeavesPack input output (Desk Store) before after =
 LeavesPack input output (Desk Print) before after =
     (packed : Packed) × StoresPacked input output packed before after × Rose Printing before after × PrintsPrefix (packed_text packed) before after
 LeavesPack input output (Refused refusal) before after =
-    ForFiles before (λ files. IsRefused (held files input) refusal) × KeepsFiles before after × KeepsPrinted before after
+    ForFiles before (λ files. IsRefused (content_of files input) refusal) × KeepsFiles before after × KeepsPrinted before after
 LeavesPack input output Memory before after =
     (KeepsFiles before after ⊎ ((packed : Packed) × StoresPacked input output packed before after)) × KeepsPrinted before after
 

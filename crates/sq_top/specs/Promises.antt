@@ -1,12 +1,12 @@
 -- The promises of the top call, over what is outside before it and after it.
-use Rattle.std.specs.Prelude.{◌≡◌, ℕ, ◌⊎◌, List, ◌++◌, codes, Some}
+use Rattle.std.specs.Prelude.{◌≡◌, ℕ, ◌⊎◌, List, ◌++◌, codes, Some, ◌≢◌}
 use Rattle.sq_num.specs.RefusalTexts.{refusal_text}
 use Rattle.sq_num.specs.declared.refusal.Refusal.{Refusal}
 use Rattle.sq_num.specs.declared.packed.Packed.{Packed}
-use Rattle.sq_desk.specs.Outside.{Outside, Place, Loading, Storing, Printing, held, with_file, Rose, NoneFall, KeepsFiles, LosesFile, KeepsPrinted, Prints, PrintsPrefix, ForFiles}
+use Rattle.sq_desk.specs.Outside.{Outside, Place, Loading, Storing, Printing, content_of, with_file, Rose, NoneFall, KeepsFiles, LosesFile, KeepsPrinted, Prints, PrintsPrefix, ForFiles}
 use Rattle.sq_top.specs.declared.ending.Ending.{Ending}
-use Rattle.sq_top.specs.declared.ending.Call.{Call}
-use Rattle.sq_top.specs.declared.ending.Call.TheVariants.{Load, Store, Print}
+use Rattle.sq_top.specs.declared.ending.DeskCall.{DeskCall}
+use Rattle.sq_top.specs.declared.ending.DeskCall.TheVariants.{Load, Store, Print}
 use Rattle.sq_top.specs.Commands.{PackForm, form_of}
 use Rattle.sq_top.specs.Packing.{GoodOutput, Headline, packed_text}
 use Rattle.sq_top.specs.Refusing.{IsRefused}
@@ -19,7 +19,7 @@ pub record Ends (words : List (List ℕ)) (ending : Ending) (before after : Outs
   pub faults : NoneFall before after
 
 -- the place of a call that `pack IN OUT` uses
-abbrev pub place_of : Call → List ℕ → List ℕ → Place
+abbrev pub place_of : DeskCall → List ℕ → List ℕ → Place
 place_of Load input output = Loading input
 place_of Store input output = Storing output
 place_of Print input output = Printing
@@ -31,46 +31,48 @@ ForPack words P = (input output : List ℕ) → form_of words ≡ Some (PackForm
 -- the output's file holds a good output of the input's, and every other file is as before
 abbrev pub HoldsOutput : List ℕ → List ℕ → Outside → Outside → Type 0
 HoldsOutput input output before after =
-    ForFiles before (λ files. (packed : List ℕ) × GoodOutput (held files input) packed × (after.files ≡ Some (with_file output (Some packed) files)))
+    ForFiles before (λ files. (packed : List ℕ) × GoodOutput (content_of files input) packed × (after.files ≡ Some (with_file output (Some packed) files)))
 
--- THE HEADLINE of status 0, where files are told
+-- the headline of status 0, where files are told
 abbrev pub IsDone : List ℕ → List ℕ → Outside → Outside → Type 0
 IsDone input output before after =
     ForFiles before (λ files.
-    (packed : List ℕ) × (line : List ℕ) × Headline (held files input) packed line × (after.files ≡ Some (with_file output (Some packed) files)) × Prints line before after)
+    (packed : List ℕ) × (line : List ℕ) × Headline (content_of files input) packed line × (after.files ≡ Some (with_file output (Some packed) files)) × Prints line before after)
 
--- files stay, or hold a good output: or the output's is not known, where its storing failed
+-- files stay; or with status 0, 2 or 4 the output's holds a good output; or with status 2 it is not
+-- known, where its storing failed
 abbrev pub StayOrHold : List (List ℕ) → ℕ → Outside → Outside → Type 0
 StayOrHold words status before after =
     KeepsFiles before after
-    ⊎ ((input : List ℕ) × (output : List ℕ) × (form_of words ≡ Some (PackForm input output))
+    ⊎ ((status ≢ 1) × (status ≢ 3) × (input : List ℕ) × (output : List ℕ) × (form_of words ≡ Some (PackForm input output))
     × (HoldsOutput input output before after ⊎ ((status ≡ 2) × Rose (Storing output) before after × LosesFile output before after)))
 
--- nothing was printed; or the line of status 0; or a prefix of it, where printing failed
+-- nothing was printed, but with status 0; or the line of status 0; or a prefix of it, where printing failed
 abbrev pub PrintsAsSaid : List (List ℕ) → ℕ → Outside → Outside → Type 0
 PrintsAsSaid words status before after =
-    KeepsPrinted before after
+    ((status ≢ 0) × KeepsPrinted before after)
     ⊎ ((input : List ℕ) × (output : List ℕ) × (form_of words ≡ Some (PackForm input output)) × (packed : Packed) × PacksFile input packed before
     × (((status ≡ 0) × Prints (packed_text packed) before after) ⊎ ((status ≡ 2) × Rose Printing before after × PrintsPrefix (packed_text packed) before after)))
 
 -- status 2 has its cause, and its line names it
 abbrev pub HasFault : List ℕ → List ℕ → Outside → Outside → Type 0
 HasFault input output before after =
-    (call : Call) × Rose (place_of call input output) before after × ComplainsLine (Some (call_text call)) before after
+    (call : DeskCall) × Rose (place_of call input output) before after × ComplainsLine (Some (call_text call)) before after
 
--- status 3 has its cause, and its line names it
+-- status 3 has its cause, its line names it, and nothing else changed
 abbrev pub HasRefusal : List ℕ → Outside → Outside → Type 0
 HasRefusal input before after =
-    (refusal : Refusal) × ForFiles before (λ files. IsRefused (held files input) refusal) × ComplainsLine (Some (refusal_text refusal ++ codes "\n")) before after
+    KeepsFiles before after × KeepsPrinted before after × (refusal : Refusal) × ForFiles before (λ files. IsRefused (content_of files input) refusal)
+    × ComplainsLine (Some (refusal_text refusal ++ codes "\n")) before after
 
 -- a refusal gives status 3, unless a load failed or memory ran out first
 abbrev pub RefusesExactly : List ℕ → ℕ → Outside → Outside → Type 0
 RefusesExactly input status before after =
     ForFiles before (λ files.
-    (refusal : Refusal) → IsRefused (held files input) refusal → (status ≡ 3) ⊎ ((status ≡ 2) × Rose (Loading input) before after) ⊎ (status ≡ 4))
+    (refusal : Refusal) → IsRefused (content_of files input) refusal → (status ≡ 3) ⊎ ((status ≡ 2) × Rose (Loading input) before after) ⊎ (status ≡ 4))
 
 -- with no fault of a used place and no refusal the status is 0 or 4
 abbrev pub IsComplete : List ℕ → List ℕ → ℕ → Outside → Outside → Type 0
 IsComplete input output status before after =
-    ((call : Call) → Rose (place_of call input output) before after → ⊥)
-    → ForFiles before (λ files. ((refusal : Refusal) → IsRefused (held files input) refusal → ⊥) → (status ≡ 0) ⊎ (status ≡ 4))
+    ((call : DeskCall) → Rose (place_of call input output) before after → ⊥)
+    → ForFiles before (λ files. ((refusal : Refusal) → IsRefused (content_of files input) refusal → ⊥) → (status ≡ 0) ⊎ (status ≡ 4))

@@ -4,7 +4,7 @@ ghost use Rattle.std.specs.Prelude.{◌≡◌, ◌≤◌, length};
 ghost use Rattle.sq_desk.specs.Outside.{KeepsFiles, KeepsPrinted, NoneFall};
 ghost use Rattle.sq_top.specs.Endings.{complaint_of, ComplainsLine};
 
-use crate::ending::{Call, Ending};
+use crate::ending::{DeskCall, Ending};
 use sq_desk::Desk;
 use sq_num::Line;
 use std::alloc::Global;
@@ -26,9 +26,9 @@ fn complaint_of(ending: &Ending) -> Option<Line>
     match ending {
         Ending::Done => None,
         Ending::Words => Some(line_of("words\n")),
-        Ending::Desk(Call::Load) => Some(line_of("desk load\n")),
-        Ending::Desk(Call::Store) => Some(line_of("desk store\n")),
-        Ending::Desk(Call::Print) => Some(line_of("desk print\n")),
+        Ending::Desk(DeskCall::Load) => Some(line_of("desk load\n")),
+        Ending::Desk(DeskCall::Store) => Some(line_of("desk store\n")),
+        Ending::Desk(DeskCall::Print) => Some(line_of("desk print\n")),
         Ending::Refused(refusal) => Some(refusal.line()),
         Ending::Memory => Some(line_of("memory\n")),
     }

@@ -7,7 +7,7 @@ use sq_num::Refusal;
 
 /// A call on the desk.
 #[derive(Clone, Copy, Debug, PartialEq, Eq)]
-pub enum Call {
+pub enum DeskCall {
     Load,
     Store,
     Print,
@@ -21,7 +21,7 @@ pub enum Ending {
     /// The words have no form.
     Words,
     /// A call on the desk met a fault.
-    Desk(Call),
+    Desk(DeskCall),
     /// The input is refused.
     Refused(Refusal),
     /// Memory ran out.

@@ -4,7 +4,7 @@ ghost use Rattle.std.specs.Prelude.{IfOk, IfErr};
 ghost use Rattle.sq_desk.specs.Outside.{KeepsFiles, KeepsPrinted, KeepsComplained, NoneFall};
 ghost use Rattle.sq_top.specs.Endings.{PacksFile, LeavesUnpacked, LeavesPrinted, LeavesDelivered, LeavesPack};
 
-use crate::ending::{Call, Ending};
+use crate::ending::{DeskCall, Ending};
 use crate::lines::packed_line;
 use crate::packing::pack_bytes;
 use crate::refusing::LONGEST_FILE;
@@ -39,7 +39,7 @@ fn load_and_pack<D: Desk>(alloc: Global, desk: &mut D, input: &str) -> Result<Pa
             Err(Denied::Refused(refusal)) => Err(Ending::Refused(refusal)),
             Err(Denied::Memory) => Err(Ending::Memory),
         },
-        Err(LoadFault::Failed) => Err(Ending::Desk(Call::Load)),
+        Err(LoadFault::Failed) => Err(Ending::Desk(DeskCall::Load)),
         Err(LoadFault::TooLong) => Err(Ending::Refused(Refusal::FileTooLong)),
         Err(LoadFault::Memory) => Err(Ending::Memory),
     }
@@ -55,7 +55,7 @@ fn deliver<D: Desk>(alloc: Global, desk: &mut D, output: &str, packed: &Packed) 
     let line = packed_line(packed);
     match desk.store(alloc, output, packed.bytes.as_slice()) {
         Ok(()) => print_line(alloc, desk, line.as_slice()),
-        Err(DeskFault::Failed) => Ending::Desk(Call::Store),
+        Err(DeskFault::Failed) => Ending::Desk(DeskCall::Store),
         Err(DeskFault::Memory) => Ending::Memory,
     }
 }
@@ -69,7 +69,7 @@ fn print_line<D: Desk>(alloc: Global, desk: &mut D, line: &[u8]) -> Ending
 {
     match desk.print(alloc, line) {
         Ok(()) => Ending::Done,
-        Err(DeskFault::Failed) => Ending::Desk(Call::Print),
+        Err(DeskFault::Failed) => Ending::Desk(DeskCall::Print),
         Err(DeskFault::Memory) => Ending::Memory,
     }
 }

@@ -2,7 +2,7 @@
 
 ghost use Rattle.std.specs.Prelude.{◌≡◌, ◌⊎◌, ◌≤◌, ◌-◌, ◌/◌, IfOk};
 ghost use Rattle.sq_num.specs.declared.refusal.Refusal.{Refusal};
-ghost use Rattle.sq_top.specs.Packing.{Packs, no_savings};
+ghost use Rattle.sq_top.specs.Packing.{Packs, GoodOutput, no_savings};
 ghost use Rattle.sq_top.specs.Refusing.{IsRefused};
 
 use crate::refusing::refusal_of;
@@ -11,9 +11,12 @@ use sq_num::{Bytes, Denied, Packed, Refusal, Savings};
 use sq_write::{read_plain, write_plain};
 use std::alloc::Global;
 
-/// Packs the file of these bytes, or refuses it.
+/// Packs the file of these bytes: of a straight file, the words that a run reaches. It refuses a
+/// file that is too long (1) or not ELF (2), and for now every file that is not straight (0). Any
+/// step may find no memory.
 pub fn pack_bytes(alloc: Global, bytes: &[u8]) -> Result<Packed, Denied>
     ensures packed { IfOk result (Packs bytes.now) }
+    ensures good { IfOk result (λ packed. GoodOutput bytes.now packed.bytes) }
     ensures refused { (refusal : Refusal) → result ≡ Err (Denied.Refused refusal) → IsRefused bytes.now refusal }
     ensures exact { (refusal : Refusal) → IsRefused bytes.now refusal → (result ≡ Err (Denied.Refused refusal)) ⊎ (result ≡ Err Denied.Memory) }
 {

@@ -197,33 +197,86 @@ fn unreached_words_go(rt: HostRuntime) -> Result<(), Fail> {
     Ok(())
 }
 
+/// A command line over a desk with the file `a`, and what it must leave.
+#[derive(Clone, Copy)]
+struct Case<'a> {
+    failing: &'a [u64],
+    length: usize,
+    line: &'a str,
+    status: u8,
+    printed: &'a str,
+    complained: &'a str,
+}
+
 #[test]
 fn statuses_have_their_complaints(rt: HostRuntime) -> Result<(), Fail> {
     let alloc = rt.alloc();
     let smallest = file_of(alloc, &SMALLEST)?;
-    let cases: [(&[u64], usize, &str, u8, &str); 9] = [
-        (&[], 464, "pack a", 1, "words\n"),
-        (&[], 464, "pack a b c", 1, "words\n"),
-        (&[], 464, "Pack a b", 1, "words\n"),
-        (&[0], 464, "pack a", 1, "wor"),
-        (&[0], 464, "pack a b", 2, "desk load\n"),
-        (&[1], 464, "pack a b", 2, "desk store\n"),
-        (&[2], 464, "pack a b", 2, "desk print\n"),
-        (&[], 51, "pack a b", 3, "refused 0\n"),
-        (&[], 3, "pack a b", 3, "refused 2 0x00000003\n"),
+    let case = |failing, length, line, status, printed, complained| Case {
+        failing,
+        length,
+        line,
+        status,
+        printed,
+        complained,
+    };
+    let cases = [
+        case(&[], 464, "pack a", 1, "", "words\n"),
+        case(&[], 464, "pack a b c", 1, "", "words\n"),
+        case(&[], 464, "Pack a b", 1, "", "words\n"),
+        case(&[0], 464, "pack a", 1, "", "wor"),
+        case(&[0], 464, "pack a b", 2, "", "desk load\n"),
+        case(&[1], 464, "pack a b", 2, "", "desk store\n"),
+        case(&[], 51, "pack a b", 3, "", "refused 0\n"),
+        case(&[], 3, "pack a b", 3, "", "refused 2 0x00000003\n"),
     ];
-    for (failing, length, line, status, complained) in cases {
-        let mut desk = MemoryDesk::new(alloc, failing)?;
-        desk.put("a", smallest.as_slice().get(..length).unwrap_or(&[]))?;
+    for case in cases {
+        let given = smallest.as_slice().get(..case.length).unwrap_or(&[]);
+        let mut desk = MemoryDesk::new(alloc, case.failing)?;
+        desk.put("a", given)?;
         desk.put("c", b"kept")?;
-        assert_eq!(rt; run(&rt, &mut desk, line)?, status, "{line}");
-        assert_eq!(rt; desk.complained(), complained.as_bytes(), "{line}");
-        assert!(rt; desk.file("c") == Some(b"kept".as_slice()));
         assert_eq!(rt;
-            desk.file("b").is_some(),
-            failing == [2].as_slice(),
-            "{line}"
+            run(&rt, &mut desk, case.line)?,
+            case.status,
+            "{}",
+            case.line
         );
+        assert_eq!(rt; desk.printed(), case.printed.as_bytes());
+        assert_eq!(rt; desk.complained(), case.complained.as_bytes());
+        assert!(rt; desk.file("a") == Some(given));
+        assert!(rt; desk.file("b").is_none());
+        assert!(rt; desk.file("c") == Some(b"kept".as_slice()));
+    }
+    Ok(())
+}
+
+#[test]
+fn failed_print_leaves_the_output(rt: HostRuntime) -> Result<(), Fail> {
+    let alloc = rt.alloc();
+    let smallest = file_of(alloc, &SMALLEST)?;
+    let mut desk = MemoryDesk::new(alloc, &[2])?;
+    desk.put("a", smallest.as_slice())?;
+    assert_eq!(rt; run(&rt, &mut desk, "pack a b")?, 2);
+    assert_eq!(rt; desk.printed(), b"text 16 -> 16, ".as_slice());
+    assert_eq!(rt; desk.complained(), b"desk print\n".as_slice());
+    assert!(rt; desk.file("a") == Some(smallest.as_slice()));
+    assert!(rt; desk.file("b") == Some(smallest.as_slice()));
+    Ok(())
+}
+
+#[test]
+fn names_may_be_one_and_files_not_straight(rt: HostRuntime) -> Result<(), Fail> {
+    let alloc = rt.alloc();
+    let mut desk = MemoryDesk::new(alloc, &[])?;
+    desk.put("a", with_zeros(alloc, 8)?.as_slice())?;
+    assert_eq!(rt; run(&rt, &mut desk, "pack a a")?, 0);
+    assert!(rt; desk.file("a") == Some(file_of(alloc, &SMALLEST)?.as_slice()));
+    // A plain file with no jump to itself, and one with another word before it.
+    for words in [[0x0000_0073, 0x0000_0073], [0x3052_9073, 0x0000_006f]] {
+        let mut desk = MemoryDesk::new(alloc, &[])?;
+        desk.put("a", sq_write::write_plain(alloc, &words)?.as_slice())?;
+        assert_eq!(rt; run(&rt, &mut desk, "pack a b")?, 3);
+        assert_eq!(rt; desk.complained(), b"refused 0\n".as_slice());
     }
     Ok(())
 }

@@ -1,9 +1,9 @@
 -- A plain file is its head, its text and its tail.
 use Rattle.std.proofs.Common.{◌≡◌, ℕ, ◌+◌, ◌*◌, ◌%◌, List, [], ◌∷◌, ◌++◌, length, refl, sym, ap, ◌∙◌, arith, append-nil}
-use Rattle.sq_write.specs.Output.{words, file_header, section_table, sections_of, symbol_table, symbol_names, section_names, laid, offsets, end_of}
+use Rattle.sq_write.specs.Output.{words, file_header, section_table, sections_of, symbol_table, symbol_names, section_names, layout, offsets, end_of}
 use Rattle.sq_write.specs.Plain.{plain_start, plain_file, plain_output, empty_note}
 use Rattle.sq_write.specs.Parts.{plain_head, plain_parts, text_end}
-use Rattle.sq_write.proofs.Laying.{laid_shift, offsets_shift, end_shift}
+use Rattle.sq_write.proofs.Laying.{layout_shift, offsets_shift, end_shift}
 
 -- a word has four bytes
 pub length_words : (text : List ℕ) → length (words text) ≡ 4 * length text
@@ -13,7 +13,7 @@ length_words (w ∷ ws) = omega (arith, length_words ws)
 -- a file of this many bytes of text, with its end, its places and its layout as they are given
 file_with : List ℕ → ℕ → ℕ → List ℕ → (List ℕ → List ℕ) → List ℕ
 file_with text size last places lay =
-    file_header plain_start 1 last ++ words (1 ∷ 84 ∷ plain_start ∷ plain_start ∷ size ∷ 4 * length text ∷ 5 ∷ 1 ∷ []) ++ words text
+    file_header plain_start 1 last ++ words (1 ∷ 84 ∷ plain_start ∷ plain_start ∷ size ∷ size ∷ 5 ∷ 1 ∷ []) ++ words text
     ++ lay (section_table (sections_of (plain_output text) 84 places))
 
 contents : List (List ℕ)
@@ -39,21 +39,21 @@ places_are end even =
     ∙ ap (λ first. first ∷ (end + 16) ∷ (end + 20) ∷ (end + 20) ∷ (end + 28) ∷ []) (sym (no_more end))
 
 -- they are laid as they would be from offset 0 on
-pub layout_is : (end : ℕ) → end % 4 ≡ 0 → (parts : List (List ℕ)) → laid end parts ≡ laid 0 parts
-layout_is end even parts = ap (λ n. laid n parts) (no_more end) ∙ laid_shift end 0 even parts
+pub layout_is : (end : ℕ) → end % 4 ≡ 0 → (parts : List (List ℕ)) → layout end parts ≡ layout 0 parts
+layout_is end even parts = ap (λ n. layout n parts) (no_more end) ∙ layout_shift end 0 even parts
 
 as_given : List ℕ → ℕ → List ℕ
 as_given text size =
-    file_with text size (end_of (text_end size) contents) (offsets (text_end size) contents) (λ table. laid (text_end size) (contents ++ table ∷ []))
+    file_with text size (end_of (text_end size) contents) (offsets (text_end size) contents) (λ table. layout (text_end size) (contents ++ table ∷ []))
 
 by_parts : (text : List ℕ) → plain_file text ≡ as_given text (length (words text))
 unfolding plain_file file_with as_given contents
 by_parts text = rw (append-nil (words text)) refl
 
-at_end : (text : List ℕ) (size : ℕ) → text_end size % 4 ≡ 0 → as_given text size ≡ file_with text size (text_end size + 84) (text_end size ∷ (text_end size + 16) ∷ (text_end size + 20) ∷ (text_end size + 20) ∷ (text_end size + 28) ∷ []) (λ table. laid 0 (contents ++ table ∷ []))
+at_end : (text : List ℕ) (size : ℕ) → text_end size % 4 ≡ 0 → as_given text size ≡ file_with text size (text_end size + 84) (text_end size ∷ (text_end size + 16) ∷ (text_end size + 20) ∷ (text_end size + 20) ∷ (text_end size + 28) ∷ []) (λ table. layout 0 (contents ++ table ∷ []))
 unfolding as_given
 at_end text size even =
-    let lay : List ℕ → List ℕ = λ table. laid (text_end size) (contents ++ table ∷ []) in
+    let lay : List ℕ → List ℕ = λ table. layout (text_end size) (contents ++ table ∷ []) in
     let end : ℕ = text_end size in
     let places : List ℕ = end ∷ (end + 16) ∷ (end + 20) ∷ (end + 20) ∷ (end + 28) ∷ [] in
     ap (λ last. file_with text size last (offsets end contents) lay) (end_is end even)
@@ -61,11 +61,11 @@ at_end text size even =
     ∙ ap (λ layout. file_with text size (end + 84) places layout) (λ i table. layout_is end even (contents ++ table ∷ []) i)
 
 -- head, text and tail
-joined : (text : List ℕ) (size : ℕ) → size ≡ 4 * length text → length (words text) ≡ size → file_with text size (text_end size + 84) (text_end size ∷ (text_end size + 16) ∷ (text_end size + 20) ∷ (text_end size + 20) ∷ (text_end size + 28) ∷ []) (λ table. laid 0 (contents ++ table ∷ [])) ≡ plain_head size ++ (words text ++ laid 0 (plain_parts size))
+joined : (text : List ℕ) (size : ℕ) → length (words text) ≡ size → file_with text size (text_end size + 84) (text_end size ∷ (text_end size + 16) ∷ (text_end size + 20) ∷ (text_end size + 20) ∷ (text_end size + 28) ∷ []) (λ table. layout 0 (contents ++ table ∷ [])) ≡ plain_head size ++ (words text ++ layout 0 (plain_parts size))
 unfolding file_with contents plain_head plain_parts
-joined text size four has = rw (← four, has) refl
+joined text size has = rw has refl
 
-pub plain_split : (text : List ℕ) → plain_file text ≡ plain_head (4 * length text) ++ (words text ++ laid 0 (plain_parts (4 * length text)))
+pub plain_split : (text : List ℕ) → plain_file text ≡ plain_head (4 * length text) ++ (words text ++ layout 0 (plain_parts (4 * length text)))
 plain_split text =
     by_parts text ∙ ap (as_given text) (length_words text) ∙ at_end text (4 * length text) (even_end (length text))
-    ∙ joined text (4 * length text) refl (length_words text)
+    ∙ joined text (4 * length text) (length_words text)

@@ -20,23 +20,41 @@ pub record Piece : Type 0 where
   pub size : ℕ
   pub flags : ℕ
 
--- what is written: where a run starts, the pieces by address (text and those around it), the
--- relocation entries and the note
+-- a relocation entry: where, its type, and its addend. Its symbol is number 0
+pub record Relocation : Type 0 where
+  pub offset : ℕ
+  pub kind : ℕ
+  pub addend : ℕ
+
+-- what is written: where a run starts, the pieces by address (those before text, text, those
+-- behind it), the relocation entries and the note
 pub record Output : Type 0 where
   pub entry : ℕ
   pub before : List Piece
-  pub text : Piece
+  pub start : ℕ
+  pub text : List ℕ
   pub after : List Piece
-  pub relocations : List ℕ
+  pub relocations : List Relocation
   pub note : List ℕ
 
+-- text can be read and executed (PF_R and PF_X), and is loaded where it stands
+abbrev pub text_piece : Output → Piece
+text_piece o = record { address = o.start; load_address = o.start; bytes = words o.text; size = length (words o.text); flags = 5 }
+
 abbrev pub pieces_of : Output → List Piece
-pieces_of o = o.before ++ o.text ∷ o.after
+pieces_of o = o.before ++ text_piece o ∷ o.after
 
 -- the file bytes of the pieces, without gaps
 abbrev pub piece_bytes : List Piece → List ℕ
 piece_bytes [] = []
 piece_bytes (p ∷ ps) = p.bytes ++ piece_bytes ps
+
+-- the bytes of text, and the bytes that are loaded
+abbrev pub text_size : Output → ℕ
+text_size o = length (words o.text)
+
+abbrev pub loaded_size : Output → ℕ
+loaded_size o = length (piece_bytes (pieces_of o))
 
 -- a program header of type PT_LOAD and alignment 1, for a piece whose bytes are at the offset
 abbrev pub piece_header : ℕ → Piece → List ℕ
@@ -57,9 +75,9 @@ abbrev pub gap : ℕ → ℕ
 gap offset = (4 - offset % 4) % 4
 
 -- parts one behind another from an offset on, each at the next multiple of 4, gaps zero
-abbrev pub laid : ℕ → List (List ℕ) → List ℕ
-laid offset [] = []
-laid offset (part ∷ parts) = replicate (gap offset) 0 ++ (part ++ laid (offset + gap offset + length part) parts)
+abbrev pub layout : ℕ → List (List ℕ) → List ℕ
+layout offset [] = []
+layout offset (part ∷ parts) = replicate (gap offset) 0 ++ (part ++ layout (offset + gap offset + length part) parts)
 
 -- where each of these parts stands
 abbrev pub offsets : ℕ → List (List ℕ) → List ℕ
@@ -84,9 +102,14 @@ section_names =
     (0 ∷ []) ++ codes ".text" ++ (0 ∷ []) ++ codes ".symtab" ++ (0 ∷ []) ++ codes ".strtab" ++ (0 ∷ []) ++ codes ".rela.text" ++ (0 ∷ [])
     ++ codes ".squeeze" ++ (0 ∷ []) ++ codes ".shstrtab" ++ (0 ∷ [])
 
+-- the relocation entries: offset, symbol 0 and type, addend
+abbrev pub relocation_table : List Relocation → List ℕ
+relocation_table [] = []
+relocation_table (r ∷ rs) = words (r.offset ∷ r.kind ∷ r.addend ∷ []) ++ relocation_table rs
+
 -- the contents of sections 2 to 6
 abbrev pub contents_of : Output → List (List ℕ)
-contents_of o = symbol_table ∷ symbol_names ∷ o.relocations ∷ o.note ∷ section_names ∷ []
+contents_of o = symbol_table ∷ symbol_names ∷ relocation_table o.relocations ∷ o.note ∷ section_names ∷ []
 
 -- a section header
 pub record Section : Type 0 where
@@ -117,10 +140,10 @@ note_kind = 0x80515a31
 abbrev pub sections_of : Output → ℕ → List ℕ → List Section
 sections_of o text_offset places =
     record { name = 0; kind = 0; flags = 0; address = 0; offset = 0; size = 0; link = 0; info = 0; align = 0; entry_size = 0 }
-    ∷ record { name = 1; kind = 1; flags = 6; address = o.text.address; offset = text_offset; size = length o.text.bytes; link = 0; info = 0; align = 4; entry_size = 0 }
+    ∷ record { name = 1; kind = 1; flags = 6; address = o.start; offset = text_offset; size = text_size o; link = 0; info = 0; align = 4; entry_size = 0 }
     ∷ record { name = 7; kind = 2; flags = 0; address = 0; offset = slice_index places 0; size = length symbol_table; link = 3; info = 1; align = 4; entry_size = 16 }
     ∷ record { name = 15; kind = 3; flags = 0; address = 0; offset = slice_index places 1; size = length symbol_names; link = 0; info = 0; align = 1; entry_size = 0 }
-    ∷ record { name = 23; kind = 4; flags = 0; address = 0; offset = slice_index places 2; size = length o.relocations; link = 2; info = 1; align = 4; entry_size = 12 }
+    ∷ record { name = 23; kind = 4; flags = 0; address = 0; offset = slice_index places 2; size = length (relocation_table o.relocations); link = 2; info = 1; align = 4; entry_size = 12 }
     ∷ record { name = 34; kind = note_kind; flags = 0; address = 0; offset = slice_index places 3; size = length o.note; link = 0; info = 0; align = 4; entry_size = 0 }
     ∷ record { name = 43; kind = 3; flags = 0; address = 0; offset = slice_index places 4; size = length section_names; link = 0; info = 0; align = 1; entry_size = 0 }
     ∷ []
@@ -133,9 +156,9 @@ file_header entry count sections_at =
 
 -- where the contents begin: behind the pieces
 abbrev pub contents_at : Output → ℕ
-contents_at o = pieces_at (length (pieces_of o)) + length (piece_bytes (pieces_of o))
+contents_at o = pieces_at (length (pieces_of o)) + loaded_size o
 
--- THE output file
+-- the output file
 abbrev pub output_file : Output → List ℕ
 output_file o =
     let pieces : List Piece = pieces_of o in
@@ -143,4 +166,4 @@ output_file o =
     let text_at : ℕ = pieces_at (length pieces) + length (piece_bytes o.before) in
     let table : List ℕ = section_table (sections_of o text_at (offsets (contents_at o) contents)) in
     file_header o.entry (length pieces) (end_of (contents_at o) contents) ++ piece_headers (pieces_at (length pieces)) pieces ++ piece_bytes pieces
-    ++ laid (contents_at o) (contents ++ table ∷ [])
+    ++ layout (contents_at o) (contents ++ table ∷ [])

@@ -2,7 +2,7 @@
 -- there, no relocation entries, and a note without procedures.
 use Rattle.std.specs.Prelude.{◌≡◌, ℕ, ◌*◌, ◌<◌, ◌≤◌, ◌^◌, List, [], ◌∷◌, ◌++◌, length, codes}
 use Rattle.std.specs.List.{AllByRecursion}
-use Rattle.sq_write.specs.Output.{words, Piece, Output, output_file}
+use Rattle.sq_write.specs.Output.{words, Output, output_file}
 
 -- where the text of a plain file starts
 abbrev pub plain_start : ℕ
@@ -12,16 +12,11 @@ plain_start = 65536
 abbrev pub empty_note : List ℕ
 empty_note = codes "SQZ1" ++ words (0 ∷ [])
 
--- text can be read and executed (PF_R and PF_X)
-abbrev pub plain_text : List ℕ → Piece
-plain_text text =
-    record { address = plain_start; load_address = plain_start; bytes = words text; size = 4 * length text; flags = 5 }
-
 abbrev pub plain_output : List ℕ → Output
 plain_output text =
-    record { entry = plain_start; before = []; text = plain_text text; after = []; relocations = []; note = empty_note }
+    record { entry = plain_start; before = []; start = plain_start; text = text; after = []; relocations = []; note = empty_note }
 
--- THE plain file of the words
+-- the plain file of the words
 unfoldable pub plain_file : List ℕ → List ℕ
 plain_file text = output_file (plain_output text)
 

@@ -1,7 +1,7 @@
 //! What stands before and behind the text of a plain file.
 
 ghost use Rattle.std.specs.Prelude.{◌≡◌, ◌++◌, ◌+◌, ◌<◌, ◌^◌, length, OnOk};
-ghost use Rattle.sq_write.specs.Output.{file_header, laid};
+ghost use Rattle.sq_write.specs.Output.{file_header, layout};
 ghost use Rattle.sq_write.specs.Parts.{plain_head, plain_parts, plain_sections};
 
 use crate::fields::{push_gap, push_halves, push_part, push_words};
@@ -12,7 +12,7 @@ const START: u32 = 0x0001_0000;
 
 /// Where the text's bytes begin in a plain file: behind a header of 52 bytes and a piece header of
 /// 32.
-const TEXT_AT: u32 = 84;
+pub const TEXT_AT: u32 = 84;
 
 /// ELF, 32 bits, least byte first, version 1.
 const IDENTIFICATION: [u8; 16] = [0x7f, b'E', b'L', b'F', 1, 1, 1, 0, 0, 0, 0, 0, 0, 0, 0, 0];
@@ -69,7 +69,7 @@ fn push_sections(file: &mut Vec<u8>, size: u32) -> Result<(), Memory>
 /// at the next multiple of 4.
 pub fn push_tail(file: &mut Vec<u8>, size: u32) -> Result<(), Memory>
     requires { size + 112 < 2 ^ 32 }
-    ensures { OnOk result (file.new.items ≡ file.old.items ++ laid (length file.old.items) (plain_parts size)) }
+    ensures { OnOk result (file.new.items ≡ file.old.items ++ layout (length file.old.items) (plain_parts size)) }
 {
     push_part(file, &SYMBOL_TABLE)?;
     push_part(file, &SYMBOL_NAMES)?;

@@ -1,18 +1,16 @@
 //! The plain file of a list of words.
 
-ghost use Rattle.std.specs.Prelude.{◌≡◌, ◌≢◌, ◌↔◌, ◌+◌, ◌*◌, ◌%◌, ◌≤◌, ℕ, List, length, slice_index, IsTrue, IfOk, IfSome, IfNone};
-ghost use Rattle.sq_write.specs.Output.{laid};
+ghost use Rattle.std.specs.Prelude.{◌≡◌, ◌≢◌, ◌↔◌, ◌+◌, ◌*◌, ◌%◌, ◌≤◌, ℕ, List, length, drop, slice_index, IsTrue, IfOk, IfSome, IfNone};
+ghost use Rattle.byteorder.specs.Endian.{little_number};
+ghost use Rattle.sq_write.specs.Output.{layout};
 ghost use Rattle.sq_write.specs.Parts.{plain_head, plain_parts};
 ghost use Rattle.sq_write.specs.Plain.{plain_file, IsPlainFile, HasText, Spells};
 
 use crate::fields::push_words;
-use crate::parts::{push_head, push_tail};
+use crate::parts::{TEXT_AT, push_head, push_tail};
 use byteorder::{ByteOrder, LittleEndian};
 use sq_num::Memory;
 use std::alloc::Global;
-
-/// Bytes before the text.
-const HEAD: usize = 84;
 
 /// Bytes before and behind the text.
 const AROUND: usize = 448;
@@ -48,7 +46,7 @@ fn size_of_text(length: usize) -> Option<u32>
 /// Whether these bytes stand before and behind `size` bytes of text in a plain file.
 fn is_framed(alloc: Global, front: &[u8], back: &[u8], size: u32) -> Result<bool, Memory>
     requires { size ≤ 1048576 }
-    ensures { IfOk result (λ framed. IsTrue framed ↔ ((front.now ≡ plain_head size) × (back.now ≡ laid 0 (plain_parts size)))) }
+    ensures { IfOk result (λ framed. IsTrue framed ↔ ((front.now ≡ plain_head size) × (back.now ≡ layout 0 (plain_parts size)))) }
 {
     let mut head = Vec::new(alloc);
     push_head(&mut head, size)?;
@@ -66,7 +64,7 @@ pub fn read_plain(alloc: Global, bytes: &[u8]) -> Result<Option<&[u8]>, Memory>
     let Some(size) = size_of_text(bytes.len()) else {
         return Ok(None);
     };
-    let (front, rest) = bytes.split_at(HEAD);
+    let (front, rest) = bytes.split_at(TEXT_AT as usize);
     let (text, back) = rest.split_at(size as usize);
     if is_framed(alloc, front, back, size)? {
         Ok(Some(text))
@@ -78,7 +76,8 @@ pub fn read_plain(alloc: Global, bytes: &[u8]) -> Result<Option<&[u8]>, Memory>
 /// The word at `index` in the bytes of a text, least byte first.
 pub fn word_at(text: &[u8], index: usize) -> u32
     requires { 4 * index + 4 ≤ length text.now }
-    ensures { (words : List ℕ) → Spells text.now words → result ≡ slice_index words index }
+    ensures number { result ≡ little_number 4 (drop (4 * index) text.now) }
+    ensures word { (words : List ℕ) → Spells text.now words → result ≡ slice_index words index }
 {
     LittleEndian::read_u32(&text[4 * index..])
 }

@@ -21,6 +21,22 @@ fn plain_file_is_read_again(rt: HostRuntime) -> Result<(), Fail> {
 }
 
 #[test]
+fn file_with_another_byte_is_not_plain(rt: HostRuntime) -> Result<(), Fail> {
+    // In the file header, in the note, and in the last section header.
+    for place in [16, 123, 460] {
+        let mut file = write_plain(rt.alloc(), &SMALLEST)?;
+        if let Some(byte) = file.get_mut(place) {
+            *byte ^= 1;
+        }
+        assert!(rt;
+            read_plain(rt.alloc(), file.as_slice())?.is_none(),
+            "at {place}"
+        );
+    }
+    Ok(())
+}
+
+#[test]
 fn words_are_read_by_index(rt: HostRuntime) {
     assert_eq!(rt; word_at(&[1, 2, 3, 4, 0x6f, 0, 0, 0x80], 1), 0x8000_006f);
 }

@@ -1,1 +1,3 @@
+pub mod Complaints
 pub mod HostDesk
+pub mod Streams

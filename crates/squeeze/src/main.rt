@@ -5,6 +5,12 @@
 //! UTF-8, and want of memory while the words are collected, are complained and end with 1 and 4.
 #![tactic(auto)]
 
+ghost use Rattle.std.specs.Prelude.{◌≡◌, IfOk, codes};
+ghost use Rattle.sq_top.specs.declared.ending.Ending.{Ending};
+ghost use Rattle.sq_top.specs.Endings.{status_of};
+ghost use Rattle.sq_top.specs.Promises.{Ends};
+ghost use Rattle.squeeze.specs.Complaints.{OnlyComplains};
+
 mod host_desk;
 
 use host_desk::HostDesk;
@@ -42,11 +48,15 @@ fn collect_words(rt: &HostRuntime, alloc: Global) -> Result<WordList, WordsFault
     Ok(words)
 }
 
-fn main(rt: HostRuntime) -> ExitCode {
-    let alloc = rt.alloc();
-    let mut desk = HostDesk::new(&rt);
-    let status = match collect_words(&rt, alloc) {
-        Ok(words) => sq_top::squeeze(alloc, &mut desk, &words),
+/// The status of the words, or of the fault that kept them from being collected, which is complained
+/// and touches nothing else.
+fn status_of<D: Desk>(alloc: Global, desk: &mut D, words: Result<WordList, WordsFault>) -> u8
+    ensures collected { IfOk words (λ words. (ending : Ending) × (result ≡ status_of ending) × Ends words ending (D.outside desk.old) (D.outside desk.new)) }
+    ensures not_utf8 { words ≡ Err WordsFault.NotUtf8 → (result ≡ 1) × OnlyComplains (codes "words\n") (D.outside desk.old) (D.outside desk.new) }
+    ensures memory { words ≡ Err WordsFault.Memory → (result ≡ 4) × OnlyComplains (codes "memory\n") (D.outside desk.old) (D.outside desk.new) }
+{
+    match words {
+        Ok(words) => sq_top::squeeze(alloc, desk, &words),
         Err(WordsFault::NotUtf8) => {
             let _ = desk.complain(alloc, b"words\n");
             1
@@ -55,6 +65,12 @@ fn main(rt: HostRuntime) -> ExitCode {
             let _ = desk.complain(alloc, b"memory\n");
             4
         }
-    };
-    ExitCode::from(status)
+    }
+}
+
+fn main(rt: HostRuntime) -> ExitCode {
+    let alloc = rt.alloc();
+    let mut desk = HostDesk::new(&rt);
+    let words = collect_words(&rt, alloc);
+    ExitCode::from(status_of(alloc, &mut desk, words))
 }

@@ -31,14 +31,14 @@ returns-then-word-eq-JUMP_TO_SELF-clause-part c = λ words spells.
     let within : index < length words = within_words c.args.text.now words index spells (omega arith) in
     let jumps : nat_eq c.word_at-word.result jump_to_self ≡ true = rw c.if-word-eq-JUMP_TO_SELF.true refl in
     ap Some c.in_ok-push.ensures.items
-    ∙ sym (part_stops words c.loop-index.words.items index c.word_at-word.result within (c.loop-index.invariant.so_far words spells) (c.word_at-word.ensures words spells) jumps)
+    ∙ sym (part_stops words c.loop-index.words.items index c.word_at-word.result within (c.loop-index.invariant.so_far words spells) (c.word_at-word.ensures.word words spells) jumps)
 
 pub returns-then-not-is_step-clause-part : goal.returns-then-not-is_step-clause-part
 returns-then-not-is_step-clause-part c = λ words spells.
     let index : ℕ = c.loop-index.index in
     let within : index < length words = within_words c.args.text.now words index spells (omega arith) in
     let goes : nat_eq c.word_at-word.result jump_to_self ≡ false = is_other c.word_at-word.result c.if-word-eq-JUMP_TO_SELF.false in
-    sym (part_fails words c.loop-index.words.items index c.word_at-word.result within (c.loop-index.invariant.so_far words spells) (c.word_at-word.ensures words spells) goes (sym c.if-not-is_step.ensures))
+    sym (part_fails words c.loop-index.words.items index c.word_at-word.result within (c.loop-index.invariant.so_far words spells) (c.word_at-word.ensures.word words spells) goes (sym c.if-not-is_step.ensures))
 
 pub loop-index-preserved : goal.loop-index-preserved
 loop-index-preserved c = record {
@@ -47,7 +47,7 @@ loop-index-preserved c = record {
       let within : index < length words = within_words c.args.text.now words index spells (omega arith) in
       let goes : nat_eq c.word_at-word.result jump_to_self ≡ false = is_other c.word_at-word.result c.if-word-eq-JUMP_TO_SELF.false in
       rw c.in_ok-push.ensures.items
-      (part_goes words c.loop-index.words.items index c.word_at-word.result within (c.loop-index.invariant.so_far words spells) (c.word_at-word.ensures words spells) goes (sym c.if-not-is_step.ensures));
+      (part_goes words c.loop-index.words.items index c.word_at-word.result within (c.loop-index.invariant.so_far words spells) (c.word_at-word.ensures.word words spells) goes (sym c.if-not-is_step.ensures));
   counted = rw c.in_ok-push.ensures.items (grind (arith, common_steps));
 }
 
