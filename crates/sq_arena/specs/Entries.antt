@@ -58,7 +58,7 @@ module _ {T : Type 0} where
 
   -- the list with these pairs right behind the key
   abbrev pub insert_run_after : List (ℕ × T) → ℕ → List (ℕ × T) → List (ℕ × T)
-  insert_run_after entries key pairs = through entries key ++ pairs ++ behind entries key
+  insert_run_after entries key pairs = through entries key ++ (pairs ++ behind entries key)
 
   -- the list with this pair right behind the key
   abbrev pub insert_after : List (ℕ × T) → ℕ → ℕ × T → List (ℕ × T)
