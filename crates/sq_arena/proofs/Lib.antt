@@ -4,3 +4,6 @@ pub mod Pieces
 pub mod Relinks
 pub mod EntriesLemmas
 pub mod ArenaLemmas
+pub mod ArenaReads
+pub mod ArenaWrites
+pub mod Moves

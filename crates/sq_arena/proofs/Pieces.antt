@@ -6,13 +6,13 @@ use Rattle.sq_arena.specs.declared.links.Links.{Links}
 use Rattle.sq_arena.specs.declared.links.Node.{Node}
 use Rattle.sq_arena.specs.Links.{once, times, IsPath, places, HasNode, node_value, value_at, next_at, previous_at, IsJoined, HoldsEach, IsSpareList, IsLinked, Joins, Splices, Fills, Frees}
 use Rattle.slab.specs.Slab.{get}
+use Rattle.sq_arena.specs.Entries.{first_key}
 use Rattle.sq_arena.proofs.Paths.{place_cases, once_same, once_other, other_if, times-append, places-append, times-places-append, times-None, times-None-keys, last_of, sources, sources_last, last_of-append, IsPath-append, path_front, path_back, IsPath-kept, IsPath-map}
 
 module _ {T : Type 0} where
   -- the place at the head of the pairs, or the end
   abbrev pub first_place : List (ℕ × T) → Option ℕ
-  first_place [] = None
-  first_place (e ∷ rest) = Some e.0
+  first_place xs = first_key xs
 
   -- the places behind that, up to the end
   abbrev pub later_places : List (ℕ × T) → List (Option ℕ)
@@ -44,6 +44,11 @@ module _ {T : Type 0} where
   later_sources c (e ∷ xs) =
       let end : once c (last_of (Some e.0) (places xs ++ None ∷ [])) ≡ once c None = ap (once c) (last_of-append (Some e.0) (places xs) (None ∷ [])) in
       omega (arith, sources_last c (Some e.0) (places xs ++ None ∷ []), times-append c (places xs) (None ∷ []), end)
+
+  -- a node with a value is there
+  pub node_of_value : (node : Option (Node T)) (value : T) → node_value node ≡ Some value → IsSome node
+  node_of_value None value held = absurd (cc)
+  node_of_value (Some node) value held = refl
 
   pub HoldsEach-append : (l : Links T) (xs ys : List (ℕ × T)) → HoldsEach l xs → HoldsEach l ys → HoldsEach l (xs ++ ys)
   HoldsEach-append l [] ys front back = back

@@ -6,7 +6,7 @@ use Rattle.sq_arena.specs.declared.links.Node.{Node}
 use Rattle.sq_arena.specs.Links.{once, times, IsPath, places, HasNode, node_value, value_at, next_at, previous_at, IsJoined, HoldsEach, IsSpareList, IsLinked, Joins, Splices, Fills, Frees}
 use Rattle.slab.specs.Slab.{get}
 use Rattle.sq_arena.proofs.Paths.{once_same, once_other, other_if, times-append, places-append, times-places-append, times-None-keys, last_of, sources, sources_last, IsPath-kept, IsPath-map}
-use Rattle.sq_arena.proofs.Pieces.{first_place, later_places, last_place, run_end, later_times, later_sources, HoldsEach-append, held_front, held_back, HoldsEach-map, HoldsEach-kept, IsSpareList-kept, InPieces, ring_of, ring_front, ring_middle, ring_back, pieces_of, ahead_of_run, behind_run, pieces_join_up, others_of}
+use Rattle.sq_arena.proofs.Pieces.{first_place, later_places, last_place, run_end, node_of_value, later_times, later_sources, HoldsEach-append, held_front, held_back, HoldsEach-map, HoldsEach-kept, IsSpareList-kept, InPieces, ring_of, ring_front, ring_middle, ring_back, pieces_of, ahead_of_run, behind_run, pieces_join_up, others_of}
 
 module _ {T : Type 0} where
   -- no place stands twice in the pieces or among the keys to spare
@@ -133,11 +133,7 @@ module _ {T : Type 0} where
             (IsPath-kept (IsJoined l) (IsJoined m) (Some key) (Some key) kept None (places front) (omega arith) (omega arith) pieces.front_path)
             (frees.next (last_place front) differs ∙ joined.0, frees.previous (first_place back) ∙ joined.1)
             (IsPath-kept (IsJoined l) (IsJoined m) (Some key) (Some key) kept (first_place back) (later_places back) (omega arith) (omega arith) pieces.back_path);
-        spare = (frees.vacant, frees.nodes key (node_of_value (get l.nodes key) frees.held),
+        spare = (frees.vacant, frees.nodes key (node_of_value (get l.nodes key) value frees.held),
             rw frees.link (IsSpareList-kept l m (Some key) frees.next frees.nodes l.vacant ss (omega arith) pieces.spare));
         distinct = λ p. omega (arith, distinct p, times-places-append p front back);
       }
-    where
-      node_of_value : (node : Option (Node T)) → node_value node ≡ Some value → IsSome node
-      node_of_value None held = absurd (cc)
-      node_of_value (Some node) held = refl

@@ -3,7 +3,7 @@
 -- So the places make a ring, and each two that follow each other are joined.
 use Rattle.std.specs.Prelude.{◌≡◌, ℕ, zero, suc, ◌+◌, ◌≤◌, ◌<◌, ◌^◌, List, [], ◌∷◌, ◌++◌, map, length, Option, None, Some, IsSome, ◌==◌, if◌then◌else◌, ◌≢◌}
 use Rattle.slab.specs.Slab.{get}
-use Rattle.sq_arena.specs.Entries.{keys}
+use Rattle.sq_arena.specs.Entries.{last_key}
 use Rattle.sq_arena.specs.declared.links.Links.{Links}
 use Rattle.sq_arena.specs.declared.links.Node.{Node}
 
@@ -103,6 +103,11 @@ module _ {T : Type 0} where
     pub counted : length (listed l len) ≡ len
     pub to_spare : length spare_keys ≡ spare
     pub bound : len + spare < 2 ^ 32
+
+  -- the list falls into these two parts, and the place is the end of the first
+  pub record FallsAt (entries : List (ℕ × T)) (place : Option ℕ) (front back : List (ℕ × T)) : Type 0 where
+    pub whole : entries ≡ front ++ back
+    pub ends : last_key front ≡ place
 
   -- p names q as the next place now, and nothing else has changed
   pub record SetsNext (old new : Links T) (p q : Option ℕ) : Type 0 where
