@@ -14,7 +14,7 @@ use Rattle.sq_arena.proofs.Pieces.{first_place, last_place, run_end, HoldsEach-m
 use Rattle.sq_arena.proofs.Relinks.{cut_pieces}
 use Rattle.sq_arena.proofs.EntriesLemmas.{split_at, some_value, through-behind, HasShape, shape_of}
 use Rattle.sq_arena.proofs.ArenaLemmas.{Shows, Shows-linked, unlink_shows, move_shows, insert_shows}
-use Rattle.sq_arena.proofs.ArenaReads.{last_key-place, last_place-through, last_place-snoc, last_place-IsPlace, first_place-IsPlace, value_at-held, HasPlaces, run_places, IsPlace-map}
+use Rattle.sq_arena.proofs.ArenaReads.{last_key-place, last_place-through, last_place-snoc, last_place-IsPlace, first_place-IsPlace, value_at-held, HasPlaces, run_places, IsPlace-map, value_at-listed, key_places}
 
 module _ {T : Type 0} where
   -- links that tell the same show the same list
@@ -145,6 +145,31 @@ module _ {T : Type 0} where
       stands (e ∷ rest) has none =
           let differs = other_if (Some key) (Some e.0) (omega arith) in
           stands rest (rw (ne_eqb e.0 key (λ same. differs (ap Some same))) at has) (omega arith)
+
+  pub link_value_shows : (l : Links T) (len spare key : ℕ) (value : T) → IsArena l len spare → ContainsKey (listed l len) key → Shows (with_link_value l key value) len spare (with_value (listed l len) key value)
+  link_value_shows l len spare key value arena present =
+      let node = some_value (get l.nodes key) (key_places l len spare key arena present).at_first in
+      rw node.1 (value_shows l len spare key node.0 value arena node.1 present)
+
+  -- the first key to spare
+  pub vacant_some : (l : Links T) (p : Option ℕ) (ss : List ℕ) → IsSpareList l p ss → 0 < length ss → IsSome p
+  vacant_some l p [] list room = absurd (omega arith)
+  vacant_some l p (key ∷ rest) list room = ap is_some list.0
+
+  pub vacant_place : (l : Links T) (p : Option ℕ) (ss : List ℕ) → IsSpareList l p ss → IsPlace l p
+  vacant_place l p [] list = rw list tt
+  vacant_place l p (key ∷ rest) list = rw list.0 list.1
+
+  pub vacant_fresh : (l : Links T) (len spare key : ℕ) → IsArena l len spare → l.vacant ≡ Some key → value_of (listed l len) key ≡ None
+  vacant_fresh l len spare key arena vacant =
+      sym (value_at-listed l len spare key arena) ∙ arena.linked.others key (by_spare arena.spare_keys arena.linked)
+    where
+      by_spare : (ss : List ℕ) → IsLinked l (listed l len) ss → times (Some key) (places (listed l len)) ≡ 0
+      by_spare [] linked = absurd (cc (vacant, linked.spare))
+      by_spare (k ∷ rest) linked =
+          let both : Some key ≡ Some k = sym vacant ∙ linked.spare.0 in
+          let one : once (Some key) (Some k) ≡ 1 = ap (once (Some key)) (sym both) ∙ once_same (Some key) in
+          omega (arith, linked.distinct (Some key))
 
   -- a value behind a place of the list
   pub inserted_shows : (l mid m : Links T) (len spare : ℕ) (place : Option ℕ) (front back : List (ℕ × T)) (key : ℕ) (value : T) → IsArena l len spare → FallsAt (listed l len) place front back → Fills l mid key value → Splices mid m place key key → 0 < spare → Shows m (len + 1) (spare - 1) (front ++ (key, value) ∷ back)

@@ -86,10 +86,18 @@ impl<T> Arena<T> {
         ensures ok { OnOk result (self.new.spare ≡ max self.old.spare n) }
         ensures err { OnErr result (self.old.spare ≤ self.new.spare) }
     {
+        self.take_memory(n.saturating_sub(self.spare))?;
         for _ in self.spare..n {
             self.add_spare()?;
         }
         Ok(())
+    }
+
+    // Takes the memory for so many more pairs at once.
+    fn take_memory(&mut self, more: u32) -> Result<(), ArenaMemory>
+        ensures { self.new ≡ self.old }
+    {
+        self.links.reserve(more)
     }
 
     fn add_spare(&mut self) -> Result<(), ArenaMemory>
@@ -170,6 +178,21 @@ impl<T> Arena<T> {
     {
         self.links.cut(first, last);
         self.links.splice(Some(after), first, last);
+    }
+
+    /// An arena with the same pairs under the same keys, and as many to spare.
+    ///
+    /// The copy keeps this arena's allocator, as a clone of a collection does.
+    pub fn copy(&self, _alloc: Global) -> Result<Arena<T>, ArenaMemory>
+    where
+        T: Copy,
+        ensures { IfOk result (λ copy. copy ≡ self.now) }
+    {
+        Ok(Arena {
+            links: self.links.copy()?,
+            len: self.len,
+            spare: self.spare,
+        })
     }
 
     /// The value of the key, or `None` where the list has no such key.

@@ -1,7 +1,7 @@
 //! The nodes of an arena in their slab, each with the keys of its neighbours.
 //!
 //! A place is a key, or `None`, the end that lies ahead of the first key and behind the last one.
-ghost use Rattle.std.specs.Prelude.{◌≡◌, ℕ, [], IsSome, OnOk, OnErr, option_copied, ◌^◌, ◌<◌};
+ghost use Rattle.std.specs.Prelude.{◌≡◌, ℕ, [], IsSome, OnOk, OnErr, IfOk, option_copied, ◌^◌, ◌<◌};
 ghost use Rattle.std.specs.Borrow.{sem};
 ghost use Rattle.sq_arena.specs.Links.{HasNode, IsPlace, next_at, previous_at, value_at, SetsNext, SetsPrevious, Joins, Splices, Fills, Frees, AddsSpare, SameLinks};
 ghost use Rattle.sq_arena.specs.Lends.{lends_content, lends_link_value};
@@ -25,6 +25,18 @@ struct Node<T> {
     value: Option<T>,
     previous: Option<u32>,
     next: Option<u32>,
+}
+
+impl<T: Copy> Clone for Node<T> {
+    ghost is_clone = { λ node copy. copy ≡ node };
+
+    fn clone(&self) -> Result<Self, AllocError> {
+        Ok(Node {
+            value: self.value,
+            previous: self.previous,
+            next: self.next,
+        })
+    }
 }
 
 impl<T> Node<T> {
@@ -161,6 +173,14 @@ impl<T> Links<T> {
         value
     }
 
+    /// Takes the memory for so many more keys at once.
+    pub(crate) fn reserve(&mut self, more: u32) -> Result<(), ArenaMemory>
+        ensures { SameLinks self.old self.new }
+    {
+        self.nodes.reserve(more as usize)?;
+        Ok(())
+    }
+
     /// Makes one more key to spare.
     pub(crate) fn add_spare(&mut self) -> Result<(), ArenaMemory>
     where
@@ -191,5 +211,18 @@ impl<T> Links<T> {
             last: None,
             vacant: None,
         }
+    }
+
+    pub(crate) fn copy(&self) -> Result<Links<T>, ArenaMemory>
+    where
+        T: Copy,
+        ensures { IfOk result (SameLinks self.now) }
+    {
+        Ok(Links {
+            nodes: self.nodes.clone()?,
+            first: self.first,
+            last: self.last,
+            vacant: self.vacant,
+        })
     }
 }

@@ -1,0 +1,47 @@
+use Rattle.sq_arena.specs.Links.{listed}
+use Rattle.sq_arena.proofs.Moves.{cut_places, cut_of, at_after, behind_after, moved_shows}
+use Rattle.sq_arena.proofs.Arena.move_range_after.Goals as goal
+
+pub cut-requires-clause-first : goal.cut-requires-clause-first
+cut-requires-clause-first g c =
+    (cut_places c.self.inside.links c.self.inside.len c.self.inside.spare c.args.first c.args.last c.self.invariant (rw (← c.self.view_is) at c.requires.run)).at_first
+
+pub cut-requires-clause-last : goal.cut-requires-clause-last
+cut-requires-clause-last g c =
+    (cut_places c.self.inside.links c.self.inside.len c.self.inside.spare c.args.first c.args.last c.self.invariant (rw (← c.self.view_is) at c.requires.run)).at_last
+
+pub cut-requires-clause-before : goal.cut-requires-clause-before
+cut-requires-clause-before g c =
+    (cut_places c.self.inside.links c.self.inside.len c.self.inside.spare c.args.first c.args.last c.self.invariant (rw (← c.self.view_is) at c.requires.run)).before
+
+pub cut-requires-clause-behind : goal.cut-requires-clause-behind
+cut-requires-clause-behind g c =
+    (cut_places c.self.inside.links c.self.inside.len c.self.inside.spare c.args.first c.args.last c.self.invariant (rw (← c.self.view_is) at c.requires.run)).behind
+
+pub splice-requires-clause-after : goal.splice-requires-clause-after
+splice-requires-clause-after g c =
+    at_after c.cut.new.self (listed c.self.inside.links c.self.inside.len) c.args.first c.args.last c.args.after
+    (cut_of c.self.inside.links c.cut.new.self c.self.inside.len c.self.inside.spare c.args.first c.args.last c.self.invariant (rw (← c.self.view_is) at c.requires.run) c.cut.ensures)
+    (rw (← c.self.view_is) at c.requires.after)
+
+pub splice-requires-clause-first : goal.splice-requires-clause-first
+splice-requires-clause-first g c =
+    c.cut.ensures.nodes c.args.first (cut_places c.self.inside.links c.self.inside.len c.self.inside.spare c.args.first c.args.last c.self.invariant (rw (← c.self.view_is) at c.requires.run)).at_first
+
+pub splice-requires-clause-last : goal.splice-requires-clause-last
+splice-requires-clause-last g c =
+    c.cut.ensures.nodes c.args.last (cut_places c.self.inside.links c.self.inside.len c.self.inside.spare c.args.first c.args.last c.self.invariant (rw (← c.self.view_is) at c.requires.run)).at_last
+
+pub splice-requires-clause-behind : goal.splice-requires-clause-behind
+splice-requires-clause-behind g c =
+    behind_after c.cut.new.self (listed c.self.inside.links c.self.inside.len) c.args.first c.args.last c.args.after
+    (cut_of c.self.inside.links c.cut.new.self c.self.inside.len c.self.inside.spare c.args.first c.args.last c.self.invariant (rw (← c.self.view_is) at c.requires.run) c.cut.ensures)
+    (rw (← c.self.view_is) at c.requires.after)
+
+pub invariant_of-self : goal.invariant_of-self
+invariant_of-self g c =
+    (moved_shows c.self.inside.links c.cut.new.self c.splice.new.self c.self.inside.len c.self.inside.spare c.args.first c.args.last c.args.after c.self.invariant (rw (← c.self.view_is) at c.requires.run) (rw (← c.self.view_is) at c.requires.after) c.cut.ensures c.splice.ensures).sound
+
+pub returns-clause-entries : goal.returns-clause-entries
+returns-clause-entries g c =
+    rw (← c.self.view_is) (moved_shows c.self.inside.links c.cut.new.self c.splice.new.self c.self.inside.len c.self.inside.spare c.args.first c.args.last c.args.after c.self.invariant (rw (← c.self.view_is) at c.requires.run) (rw (← c.self.view_is) at c.requires.after) c.cut.ensures c.splice.ensures).list
