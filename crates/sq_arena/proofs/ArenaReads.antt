@@ -100,17 +100,3 @@ module _ {T : Type 0} where
   key_places l len spare key arena present =
       let value = some_value (value_of (listed l len) key) present in
       run_places l (before (listed l len) key) (key, value.0) [] (behind (listed l len) key) key arena.spare_keys (linked_at l (listed l len) arena.spare_keys key value.0 value.1 arena.linked) refl
-
-  none_equal : (key : ℕ) (xs : List (ℕ × T)) → times (Some key) (places xs) ≡ 0 → AllByRecursion (λ other. nat_eq key other ≡ false) (keys xs)
-  none_equal key [] absent = tt
-  none_equal key (e ∷ rest) absent =
-      let differs = other_if (Some key) (Some e.0) (omega arith) in
-      (ne_eqb key e.0 (λ same. differs (ap Some (sym same))), none_equal key rest (omega arith))
-
-  pub distinct_keys : (xs : List (ℕ × T)) → ((p : Option ℕ) → times p (places xs) ≤ 1) → HasDistinctKeys xs
-  unfolding IsDistinct
-  distinct_keys [] distinct = tt
-  distinct_keys (e ∷ rest) distinct =
-      let alone = distinct (Some e.0) in
-      let one : once (Some e.0) (Some e.0) ≡ 1 = rw (eq-eqb e.0 e.0 refl) in
-      (none_equal e.0 rest (omega arith), distinct_keys rest (λ p. omega (arith, distinct p)))

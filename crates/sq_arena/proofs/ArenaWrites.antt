@@ -192,7 +192,7 @@ module _ {T : Type 0} where
   -- the list falls into two behind each of its keys, and at its end
   pub FallsAt-key : (xs : List (ℕ × T)) (key : ℕ) → ContainsKey xs key → FallsAt xs (Some key) (through xs key) (behind xs key)
   FallsAt-key xs key present = record {
-    whole = sym (through-behind xs key present);
+    whole = sym (through-behind xs key);
     ends = last_key-place (through xs key) ∙ last_place-through xs key present;
   }
 

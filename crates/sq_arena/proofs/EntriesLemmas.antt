@@ -40,12 +40,13 @@ module _ {T : Type 0} where
   some_value None some = absurd (cc)
   some_value (Some value) some = (value, refl)
 
-  pub through-behind : (xs : List (ℕ × T)) (key : ℕ) → ContainsKey xs key → through xs key ++ behind xs key ≡ xs
-  through-behind xs key present =
-      let value = some_value (value_of xs key) present in
-      ap (λ ps. ps ++ behind xs key) (through-before xs key value.0 value.1)
-          ∙ append_assoc (before xs key) ((key, value.0) ∷ []) (behind xs key)
-          ∙ sym (split_at xs key value.0 value.1)
+  pub through-behind : (xs : List (ℕ × T)) (key : ℕ) → through xs key ++ behind xs key ≡ xs
+  through-behind [] key = refl
+  through-behind (e ∷ rest) key =
+      elim (cases_Bool (e.0 == key)) [
+        | inl here ↦ rw here
+        | inr apart ↦ rw apart (ap (λ ps. e ∷ ps) (through-behind rest key))
+      ]
 
   -- a run has a first pair
   pub record HasShape (xs : List (ℕ × T)) (first last : ℕ) : Type 0 where
@@ -66,7 +67,7 @@ module _ {T : Type 0} where
       let value = some_value (value_of xs first) is_run.starts in
       let from = starting_at-behind xs first value.0 value.1 in
       let last_value = some_value (value_of (starting_at xs first) last) is_run.ends in
-      let back = through-behind (starting_at xs first) last is_run.ends in
+      let back = through-behind (starting_at xs first) last in
       record {
         value = value.0;
         tail = cond (first == last) [] (through (behind xs first) last);

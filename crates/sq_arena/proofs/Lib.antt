@@ -3,6 +3,7 @@ pub mod Paths
 pub mod Pieces
 pub mod Relinks
 pub mod EntriesLemmas
+pub mod EntriesLaws
 pub mod ArenaLemmas
 pub mod ArenaReads
 pub mod ArenaWrites

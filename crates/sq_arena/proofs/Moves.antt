@@ -63,7 +63,7 @@ module _ {T : Type 0} where
   pub behind_after : (mid : Links T) (xs : List (ℕ × T)) (first last after : ℕ) → IsCut mid xs first last → ContainsKey (without_run xs first last) after → IsPlace mid (next_at mid (Some after))
   behind_after mid xs first last after cut present =
       let ys : List (ℕ × T) = without_run xs first last in
-      let whole : without_run xs first last ≡ through ys after ++ behind ys after = sym (through-behind ys after present) in
+      let whole : without_run xs first last ≡ through ys after ++ behind ys after = sym (through-behind ys after) in
       let P : List (ℕ × T) → Type 0 = λ zs. IsPath (IsJoined mid) None (places zs ++ None ∷ []) in
       let joined = ring_middle mid (through ys after) (behind ys after) (subst P whole cut.path) in
       let named : next_at mid (Some after) ≡ first_place (behind ys after) = ap (next_at mid) (sym (last_place-through ys after present)) ∙ joined.0 in
@@ -79,7 +79,7 @@ module _ {T : Type 0} where
               (whole-shape (listed l len) first last shape)
               (run_end-shape (listed l len) first last shape)
               joins
-              (sym (through-behind ys after present))
+              (sym (through-behind ys after))
               splices' in
       let P : List (ℕ × T) → Type 0 = λ r. Shows m len spare (through ys after ++ (r ++ behind ys after)) in
       subst P (sym shape.is) shows

@@ -1,5 +1,5 @@
 -- Words on a list of pairs of key and value, whose keys are distinct.
-use Rattle.std.specs.Prelude.{ℕ, Bool, List, [], ◌∷◌, ◌++◌, map, Option, None, Some, IsSome, ◌==◌, if◌then◌else◌, nat_eq}
+use Rattle.std.specs.Prelude.{◌≡◌, ◌≢◌, ℕ, Bool, List, [], ◌∷◌, ◌++◌, map, Option, None, Some, IsSome, ◌==◌, if◌then◌else◌, nat_eq}
 use Rattle.std.specs.List.{IsDistinct}
 
 module _ {T : Type 0} where
@@ -16,6 +16,14 @@ module _ {T : Type 0} where
 
   abbrev pub ContainsKey : List (ℕ × T) → ℕ → Type 0
   ContainsKey entries key = IsSome (value_of entries key)
+
+  -- each key but this one keeps its value
+  abbrev pub KeepsOthers : List (ℕ × T) → List (ℕ × T) → ℕ → Type 0
+  KeepsOthers old new key = (other : ℕ) → other ≢ key → value_of new other ≡ value_of old other
+
+  -- each key keeps its value
+  abbrev pub KeepsValues : List (ℕ × T) → List (ℕ × T) → Type 0
+  KeepsValues old new = (key : ℕ) → value_of new key ≡ value_of old key
 
   -- the pairs ahead of the key
   abbrev pub before : List (ℕ × T) → ℕ → List (ℕ × T)

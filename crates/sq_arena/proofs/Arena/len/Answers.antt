@@ -1,6 +1,6 @@
 use Rattle.std.proofs.Common.{arith}
 use Rattle.sq_arena.specs.Links.{listed}
-use Rattle.sq_arena.proofs.ArenaReads.{distinct_keys}
+use Rattle.sq_arena.proofs.EntriesLaws.{distinct_keys}
 use Rattle.sq_arena.proofs.Arena.len.Goals as goal
 
 pub returns-clause-distinct : goal.returns-clause-distinct

@@ -1,0 +1,176 @@
+-- What the words on pairs of key and value keep, for this crate and its callers.
+use Rattle.std.proofs.Common.{◌≡◌, ◌≢◌, ℕ, zero, suc, ◌+◌, ◌≤◌, Bool, true, false, cond, ◌==◌, nat_eq, List, [], ◌∷◌, ◌++◌, length, Option, None, Some, IsSome, is_some, refl, sym, ap, ◌∙◌, inl, inr, arith}
+use Rattle.std.proofs.lemmas.Bool.{cases_Bool, cases_eq, eqb-true, eqb-false, eq-eqb, ne_eqb}
+use Rattle.std.proofs.lemmas.List.{append_assoc, append-nil}
+use Rattle.std.specs.List.{IsDistinct, AllByRecursion}
+use Rattle.sq_arena.specs.Entries.{keys, HasDistinctKeys, value_of, ContainsKey, KeepsOthers, KeepsValues, before, through, starting_at, behind, run, without_run, without, IsRun, insert_run_after, insert_after, move_run_after, first_key, next_key}
+use Rattle.sq_arena.specs.Links.{once, times, places}
+use Rattle.sq_arena.proofs.Paths.{once_same, once_other, other_if, times-append, times-places-append, times-None}
+use Rattle.sq_arena.proofs.EntriesLemmas.{split_at, starting_at-behind, some_value, through-behind, HasShape, shape_of}
+
+module _ {T : Type 0} where
+  -- the first value, or the second where there is none
+  abbrev pub or_value : Option T → Option T → Option T
+  or_value None other = other
+  or_value (Some value) other = Some value
+
+  or_value-assoc : (a b c : Option T) → or_value (or_value a b) c ≡ or_value a (or_value b c)
+  or_value-assoc None b c = refl
+  or_value-assoc (Some v) b c = refl
+
+  or_value-swap : (a b c : Option T) → (IsSome a → b ≡ None) → or_value a (or_value b c) ≡ or_value b (or_value a c)
+  or_value-swap None b c apart = refl
+  or_value-swap (Some v) b c apart = rw (apart refl)
+
+  pub value_of-cons : (e : ℕ × T) (rest : List (ℕ × T)) (key : ℕ) → e.0 ≢ key → value_of (e ∷ rest) key ≡ value_of rest key
+  value_of-cons e rest key differs = rw (ne_eqb e.0 key differs)
+
+  pub value_of-append : (xs ys : List (ℕ × T)) (key : ℕ) → value_of (xs ++ ys) key ≡ or_value (value_of xs key) (value_of ys key)
+  value_of-append [] ys key = refl
+  value_of-append (e ∷ xs) ys key =
+      elim (cases_Bool (e.0 == key)) [ inl here ↦ rw here | inr apart ↦ rw apart (value_of-append xs ys key) ]
+
+  -- an insertion keeps the value of each other key
+  pub KeepsOthers-insert : (front back : List (ℕ × T)) (new : ℕ) (value : T) → KeepsOthers (front ++ back) (front ++ (new, value) ∷ back) new
+  KeepsOthers-insert front back new value other differs =
+      value_of-append front ((new, value) ∷ back) other
+          ∙ ap (or_value (value_of front other)) (value_of-cons (new, value) back other (λ same. differs (sym same)))
+          ∙ sym (value_of-append front back other)
+
+  pub KeepsOthers-insert_after : (xs : List (ℕ × T)) (key new : ℕ) (value : T) → KeepsOthers xs (insert_after xs key (new, value)) new
+  KeepsOthers-insert_after xs key new value other differs =
+      KeepsOthers-insert (through xs key) (behind xs key) new value other differs ∙ ap (λ ps. value_of ps other) (through-behind xs key)
+
+  -- so does a removal
+  pub KeepsOthers-without : (xs : List (ℕ × T)) (key : ℕ) → KeepsOthers xs (without xs key) key
+  KeepsOthers-without [] key other differs = refl
+  KeepsOthers-without (e ∷ rest) key other differs =
+      elim (cases_Bool (e.0 == key)) [
+        | inl here ↦ rw here (sym (value_of-cons e rest other (λ same. differs (sym same ∙ eqb-true e.0 key here))))
+        | inr apart ↦ rw apart (elim (cases_Bool (e.0 == other)) [
+          | inl this ↦ rw this
+          | inr that ↦ rw that (KeepsOthers-without rest key other differs)
+        ])
+      ]
+
+  -- a key that stands nowhere has no value
+  pub value_of-absent : (xs : List (ℕ × T)) (key : ℕ) → times (Some key) (places xs) ≡ 0 → value_of xs key ≡ None
+  value_of-absent [] key absent = refl
+  value_of-absent (e ∷ rest) key absent =
+      let differs = other_if (Some key) (Some e.0) (omega arith) in
+      value_of-cons e rest key (λ same. differs (ap Some same)) ∙ value_of-absent rest key (omega arith)
+
+  pub absent_if_no_value : (xs : List (ℕ × T)) (key : ℕ) → value_of xs key ≡ None → times (Some key) (places xs) ≡ 0
+  absent_if_no_value [] key none = refl
+  absent_if_no_value (e ∷ rest) key none =
+      elim (cases_eq e.0 key) [
+        | inl same ↦ absurd (cc (rw (eq-eqb e.0 key same) at none))
+        | inr differs ↦
+            let apart : once (Some key) (Some e.0) ≡ 0 = once_other (Some key) (Some e.0) (λ same. differs (cc)) in
+            omega (arith, absent_if_no_value rest key (rw (ne_eqb e.0 key differs) at none))
+      ]
+
+  pub present_if_value : (xs : List (ℕ × T)) (key : ℕ) → ContainsKey xs key → 1 ≤ times (Some key) (places xs)
+  present_if_value [] key some = absurd (cc)
+  present_if_value (e ∷ rest) key some =
+      elim (cases_eq e.0 key) [
+        | inl same ↦ omega (arith, ap (λ k. once (Some key) (Some k)) same, once_same (Some key))
+        | inr differs ↦ omega (arith, present_if_value rest key (rw (ne_eqb e.0 key differs) at some))
+      ]
+
+  -- distinct keys, by how often each place stands
+  none_equal : (key : ℕ) (xs : List (ℕ × T)) → times (Some key) (places xs) ≡ 0 → AllByRecursion (λ other. nat_eq key other ≡ false) (keys xs)
+  none_equal key [] absent = tt
+  none_equal key (e ∷ rest) absent =
+      let differs = other_if (Some key) (Some e.0) (omega arith) in
+      (ne_eqb key e.0 (λ same. differs (ap Some (sym same))), none_equal key rest (omega arith))
+
+  pub distinct_keys : (xs : List (ℕ × T)) → ((p : Option ℕ) → times p (places xs) ≤ 1) → HasDistinctKeys xs
+  unfolding IsDistinct
+  distinct_keys [] distinct = tt
+  distinct_keys (e ∷ rest) distinct =
+      let alone = distinct (Some e.0) in
+      let one = once_same (Some e.0) in
+      (none_equal e.0 rest (omega arith), distinct_keys rest (λ p. omega (arith, distinct p)))
+
+  absent_if_unequal : (key : ℕ) (xs : List (ℕ × T)) → AllByRecursion (λ other. nat_eq key other ≡ false) (keys xs) → times (Some key) (places xs) ≡ 0
+  absent_if_unequal key [] unequal = refl
+  absent_if_unequal key (e ∷ rest) unequal =
+      let none : once (Some key) (Some e.0) ≡ 0 = rw unequal.0 in
+      omega (arith, absent_if_unequal key rest unequal.1)
+
+  pub times_at_most_once : (xs : List (ℕ × T)) → HasDistinctKeys xs → (p : Option ℕ) → times p (places xs) ≤ 1
+  unfolding IsDistinct
+  times_at_most_once [] distinct p = omega arith
+  times_at_most_once (e ∷ rest) distinct None = omega (arith, times-None rest)
+  times_at_most_once (e ∷ rest) distinct (Some key) =
+      let absent = absent_if_unequal e.0 rest distinct.0 in
+      let others = times_at_most_once rest distinct.1 (Some key) in
+      elim (cases_eq key e.0) [
+        | inl same ↦ omega (arith, ap (λ k. times (Some k) (places rest)) same, ap (λ k. once (Some k) (Some e.0)) same, once_same (Some e.0))
+        | inr differs ↦
+            let none : once (Some key) (Some e.0) ≡ 0 = once_other (Some key) (Some e.0) (λ same. differs (cc)) in omega arith
+      ]
+
+  pub HasDistinctKeys-insert : (front back : List (ℕ × T)) (new : ℕ) (value : T) → HasDistinctKeys (front ++ back) → value_of (front ++ back) new ≡ None → HasDistinctKeys (front ++ (new, value) ∷ back)
+  HasDistinctKeys-insert front back new value distinct fresh =
+      let absent = absent_if_no_value (front ++ back) new fresh in
+      distinct_keys _ (λ p. at_most_once p)
+    where
+      at_most_once : (p : Option ℕ) → times p (places (front ++ (new, value) ∷ back)) ≤ 1
+      at_most_once None = omega (arith, times-None (front ++ (new, value) ∷ back))
+      at_most_once (Some key) =
+          let absent = absent_if_no_value (front ++ back) new fresh in
+          let others = times_at_most_once (front ++ back) distinct (Some key) in
+          let whole = times-places-append (Some key) front back in
+          let longer = times-places-append (Some key) front ((new, value) ∷ back) in
+          elim (cases_eq key new) [
+            | inl same ↦ omega (arith, ap (λ k. times (Some k) (places (front ++ back))) same, ap (λ k. once (Some k) (Some new)) same, once_same (Some new))
+            | inr differs ↦
+                let none : once (Some key) (Some new) ≡ 0 = once_other (Some key) (Some new) (λ same. differs (cc)) in omega arith
+          ]
+
+  -- a run that stands elsewhere keeps the value of each key
+  KeepsValues-moved : (front pairs back : List (ℕ × T)) → HasDistinctKeys (front ++ (pairs ++ back)) → (key : ℕ) → value_of (front ++ (pairs ++ back)) key ≡ or_value (value_of pairs key) (value_of (front ++ back) key)
+  KeepsValues-moved front pairs back distinct key =
+      let split = value_of-append front (pairs ++ back) key ∙ ap (or_value (value_of front key)) (value_of-append pairs back key) in
+      let apart : IsSome (value_of front key) → value_of pairs key ≡ None = λ some.
+          let counts = times-places-append (Some key) front (pairs ++ back) in
+          let counts' = times-places-append (Some key) pairs back in
+          value_of-absent pairs key (omega (arith, times_at_most_once (front ++ (pairs ++ back)) distinct (Some key), present_if_value front key some)) in
+      split ∙ or_value-swap (value_of front key) (value_of pairs key) (value_of back key) apart ∙ ap (or_value (value_of pairs key)) (sym (value_of-append front back key))
+
+  times_moved : (p : Option ℕ) (front pairs back front' back' : List (ℕ × T)) → front ++ back ≡ front' ++ back' → times p (places (front ++ (pairs ++ back))) ≡ times p (places (front' ++ (pairs ++ back')))
+  times_moved p front pairs back front' back' same =
+      omega (arith, times-places-append p front (pairs ++ back), times-places-append p pairs back, times-places-append p front' (pairs ++ back'), times-places-append p pairs back', times-places-append p front back, times-places-append p front' back', ap (λ xs. times p (places xs)) same)
+
+  pub HasDistinctKeys-move_run_after : (xs : List (ℕ × T)) (first last after : ℕ) → HasDistinctKeys xs → IsRun xs first last → HasDistinctKeys (move_run_after xs first last after)
+  HasDistinctKeys-move_run_after xs first last after distinct is_run =
+      let ys : List (ℕ × T) = without_run xs first last in
+      let whole = (shape_of xs first last is_run).whole in
+      distinct_keys _ (λ p. omega (arith, times_at_most_once xs distinct p, ap (λ ps. times p (places ps)) whole, times_moved p (before xs first) (run xs first last) (behind (starting_at xs first) last) (through ys after) (behind ys after) (sym (through-behind ys after))))
+
+  pub KeepsValues-move_run_after : (xs : List (ℕ × T)) (first last after : ℕ) → HasDistinctKeys xs → IsRun xs first last → KeepsValues xs (move_run_after xs first last after)
+  KeepsValues-move_run_after xs first last after distinct is_run key =
+      let ys : List (ℕ × T) = without_run xs first last in
+      let whole = (shape_of xs first last is_run).whole in
+      let front : List (ℕ × T) = before xs first in
+      let back : List (ℕ × T) = behind (starting_at xs first) last in
+      let moved = KeepsValues-moved (through ys after) (run xs first last) (behind ys after) (HasDistinctKeys-move_run_after xs first last after distinct is_run) key in
+      let stood = KeepsValues-moved front (run xs first last) back (rw (← whole) distinct) key in
+      moved ∙ ap (λ ps. or_value (value_of (run xs first last) key) (value_of ps key)) (through-behind ys after) ∙ sym stood ∙ ap (λ ps. value_of ps key) (sym whole)
+
+  -- two neighbours are a run
+  pub IsRun-next : (xs : List (ℕ × T)) (first last : ℕ) → ContainsKey xs first → next_key xs first ≡ Some last → IsRun xs first last
+  IsRun-next xs first last present next =
+      let value = some_value (value_of xs first) present in
+      record {
+        starts = present;
+        ends = rw (starting_at-behind xs first value.0 value.1) (found value.0 (behind xs first) next);
+      }
+    where
+      found : (value : T) (rest : List (ℕ × T)) → first_key rest ≡ Some last → ContainsKey ((first, value) ∷ rest) last
+      found value [] next = absurd (cc)
+      found value (e ∷ rest) next =
+          let same : e.0 ≡ last = cc in
+          elim (cases_Bool (first == last)) [ inl here ↦ rw here | inr apart ↦ rw (apart, eq-eqb e.0 last same) ]
