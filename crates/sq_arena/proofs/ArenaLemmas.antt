@@ -5,10 +5,11 @@ use Rattle.std.proofs.lemmas.List.{length-append}
 use Rattle.slab.specs.Slab.{get}
 use Rattle.sq_arena.specs.declared.links.Links.{Links}
 use Rattle.sq_arena.specs.declared.links.Node.{Node}
-use Rattle.sq_arena.specs.Entries.{value_of, ContainsKey, first_key, last_key}
+use Rattle.sq_arena.specs.Entries.{HasDistinctKeys, value_of, ContainsKey, first_key, last_key}
 use Rattle.sq_arena.specs.Links.{once, times, IsPath, IsPlace, places, HasNode, node_value, value_at, next_at, previous_at, IsJoined, HoldsEach, IsSpareList, IsLinked, Joins, Splices, Fills, Frees, AddsSpare, listed, listed_from, with_pair, IsArena}
 use Rattle.sq_arena.proofs.Paths.{once_same, once_other, other_if, times-append, places-append, times-places-append, times-None, last_of, last_of-append}
 use Rattle.sq_arena.proofs.Pieces.{first_place, later_places, last_place, run_end, InPieces, ring_of, ring_front, ring_middle, ring_back, pieces_of, ahead_of_run, behind_run, pieces_join_up, others_of, held_front, held_back}
+use Rattle.sq_arena.proofs.EntriesLaws.{distinct_keys}
 use Rattle.sq_arena.proofs.Relinks.{cut_pieces, spliced, filled_pieces, freed}
 
 module _ {T : Type 0} where
@@ -35,6 +36,11 @@ module _ {T : Type 0} where
         };
         list = list;
       }
+
+  pub Shows-distinct : (l : Links T) (len spare : ℕ) (xs : List (ℕ × T)) → Shows l len spare xs → HasDistinctKeys xs
+  Shows-distinct l len spare xs shows =
+      let linked : IsLinked l xs shows.sound.spare_keys = rw shows.list at shows.sound.linked in
+      distinct_keys xs (λ p. omega (arith, linked.distinct p))
 
   -- a value stands under exactly the keys of the list
   pub value_at-value_of : (l : Links T) (key : ℕ) (xs : List (ℕ × T)) → HoldsEach l xs → (times (Some key) (places xs) ≡ 0 → value_at l key ≡ None) → value_at l key ≡ value_of xs key

@@ -9,7 +9,7 @@
 ghost use Rattle.std.specs.Prelude.{◌≡◌, ℕ, ◌+◌, ◌^◌, ◌<◌, ◌≤◌, List, [], ◌∷◌, ◌++◌, length, max, OnOk, OnErr, IfOk, option_copied};
 ghost use Rattle.std.specs.Option.{option_copied_mut};
 ghost use Rattle.std.specs.Borrow.{sem};
-ghost use Rattle.sq_arena.specs.Entries.{HasDistinctKeys, value_of, ContainsKey, without, without_run, IsRun, insert_after, move_run_after, first_key, last_key, next_key, previous_key};
+ghost use Rattle.sq_arena.specs.Entries.{HasDistinctKeys, value_of, ContainsKey, KeepsOthers, KeepsValues, without, without_run, IsRun, insert_after, move_run_after, first_key, last_key, next_key, previous_key};
 
 mod links;
 mod memory;
@@ -123,6 +123,8 @@ impl<T> Arena<T> {
         ensures entries { self.new.entries ≡ self.old.entries ++ (result, value) ∷ [] }
         ensures spare { self.new.spare + 1 ≡ self.old.spare }
         ensures fresh { value_of self.old.entries result ≡ None }
+        ensures others { KeepsOthers self.old.entries self.new.entries result }
+        ensures distinct { HasDistinctKeys self.new.entries }
     {
         let last = self.last();
         self.insert_behind(last, value)
@@ -137,6 +139,8 @@ impl<T> Arena<T> {
         ensures entries { self.new.entries ≡ insert_after self.old.entries key (result, value) }
         ensures spare { self.new.spare + 1 ≡ self.old.spare }
         ensures fresh { value_of self.old.entries result ≡ None }
+        ensures others { KeepsOthers self.old.entries self.new.entries result }
+        ensures distinct { HasDistinctKeys self.new.entries }
     {
         self.insert_behind(Some(key), value)
     }
@@ -149,6 +153,7 @@ impl<T> Arena<T> {
         ensures entries { (front back : List (ℕ × T)) → FallsAt self.old.entries place front back → self.new.entries ≡ front ++ (result, value) ∷ back }
         ensures spare { self.new.spare + 1 ≡ self.old.spare }
         ensures fresh { value_of self.old.entries result ≡ None }
+        ensures distinct { HasDistinctKeys self.new.entries }
     {
         let key = self.links.fill(value);
         self.links.splice(place, key, key);
@@ -163,6 +168,8 @@ impl<T> Arena<T> {
         ensures value { value_of self.old.entries key ≡ Some result }
         ensures entries { self.new.entries ≡ without self.old.entries key }
         ensures spare { self.new.spare ≡ self.old.spare + 1 }
+        ensures others { KeepsOthers self.old.entries self.new.entries key }
+        ensures distinct { HasDistinctKeys self.new.entries }
     {
         self.links.cut(key, key);
         let value = self.links.free(key);
@@ -177,6 +184,8 @@ impl<T> Arena<T> {
         requires after { ContainsKey (without_run self.old.entries first last) after }
         ensures entries { self.new.entries ≡ move_run_after self.old.entries first last after }
         ensures spare { self.new.spare ≡ self.old.spare }
+        ensures values { KeepsValues self.old.entries self.new.entries }
+        ensures distinct { HasDistinctKeys self.new.entries }
     {
         self.links.cut(first, last);
         self.links.splice(Some(after), first, last);

@@ -1,4 +1,5 @@
-use Rattle.std.proofs.Common.{ap, sym, ◌∙◌}
+use Rattle.std.proofs.Common.{◌+◌, ◌-◌, ◌∷◌, ◌++◌}
+use Rattle.sq_arena.proofs.ArenaLemmas.{Shows-distinct}
 use Rattle.sq_arena.proofs.ArenaReads.{IsPlace-map}
 use Rattle.sq_arena.proofs.ArenaWrites.{vacant_some, vacant_place, vacant_fresh, place_of_front, place_behind_front, inserted_shows}
 use Rattle.sq_arena.proofs.Arena.insert_behind.Goals as goal
@@ -34,3 +35,9 @@ returns-clause-entries g c =
 pub returns-clause-fresh : goal.returns-clause-fresh
 returns-clause-fresh g c =
     rw (← c.self.view_is) (vacant_fresh c.self.inside.links c.self.inside.len c.self.inside.spare c.fill-key.result c.self.invariant c.fill-key.ensures.was_vacant)
+
+pub returns-clause-distinct : goal.returns-clause-distinct
+returns-clause-distinct g c =
+    let at = rw (← c.self.view_is) at c.requires.place in
+    let shows = inserted_shows c.self.inside.links c.fill-key.new.self c.splice.new.self c.self.inside.len c.self.inside.spare c.args.place at.0 at.1 c.fill-key.result c.args.value c.self.invariant at.2 c.fill-key.ensures c.splice.ensures (rw (← c.self.view_is) at c.requires.spare) in
+    rw shows.list (Shows-distinct c.splice.new.self (c.self.inside.len + 1) (c.self.inside.spare - 1) (at.0 ++ (c.fill-key.result, c.args.value) ∷ at.1) shows)
