@@ -71,9 +71,9 @@ module _ {T : Type 0} where
           let whole = spliced mid splices.between m front (key, value) [] back ss pieces splices.front second in
           let count : length (front ++ back) ≡ len = ap length (sym list) ∙ arena.counted in
           Shows-linked m (len + 1) (spare - 1) (front ++ (key, value) ∷ back) ss whole
-              (omega (arith, length-append front back, length-append front ((key, value) ∷ back)))
-              (omega arith)
-              (omega (arith, arena.bound))
+          (omega (arith, length-append front back, length-append front ((key, value) ∷ back)))
+          (omega arith)
+          (omega (arith, arena.bound))
 
   -- the pair leaves the list
   pub unlink_shows : (l mid m : Links T) (len spare : ℕ) (front back : List (ℕ × T)) (key : ℕ) (value freed_value : T) → IsArena l len spare → listed l len ≡ front ++ (key, value) ∷ back → Joins l mid (previous_at l (Some key)) (next_at l (Some key)) → Frees mid m key freed_value → Shows m (len - 1) (spare + 1) (front ++ back) × (freed_value ≡ value)
@@ -86,8 +86,7 @@ module _ {T : Type 0} where
       let both : Some freed_value ≡ Some value = sym frees.held ∙ pieces.run_values.0 in
       let same : freed_value ≡ value = cc in
       let frees' : Frees mid m key value = rw same at frees in
-      let count : length (front ++ (key, value) ∷ back) ≡ len = ap length (sym list) ∙ arena.counted in
-      (
+      let count : length (front ++ (key, value) ∷ back) ≡ len = ap length (sym list) ∙ arena.counted in (
         Shows-linked m (len - 1) (spare + 1) (front ++ back) (key ∷ arena.spare_keys) (freed mid m front back key value arena.spare_keys pieces joins'.joined frees')
             (omega (arith, length-append front back, length-append front ((key, value) ∷ back)))
             (omega (arith, arena.to_spare))
@@ -111,6 +110,6 @@ module _ {T : Type 0} where
       let count : length (front ++ (head ∷ tail ++ back)) ≡ len = ap length (sym list) ∙ arena.counted in
       let counts : length (front ++ back) ≡ length (front' ++ back') = ap length same in
       Shows-linked m len spare (front' ++ (head ∷ tail ++ back')) arena.spare_keys whole
-          (omega (arith, length-append front back, length-append front' back', length-append front (head ∷ tail ++ back), length-append front' (head ∷ tail ++ back'), length-append tail back, length-append tail back'))
-          arena.to_spare
-          arena.bound
+      (omega (arith, length-append front back, length-append front' back', length-append front (head ∷ tail ++ back), length-append front' (head ∷ tail ++ back'), length-append tail back, length-append tail back'))
+      arena.to_spare
+      arena.bound

@@ -24,21 +24,23 @@ module _ {T : Type 0} where
       let values : (key : ℕ) → value_at m key ≡ value_at l key = λ key. ap node_value (nodes key) in
       let has : (key : ℕ) → HasNode l key → HasNode m key = λ key some. ap is_some (nodes key) ∙ some in
       Shows-linked m len spare (listed l len) arena.spare_keys
-          (record {
-            values = HoldsEach-map l m values (listed l len) linked.values;
-            others = λ key absent. values key ∙ linked.others key absent;
-            path = IsPath-map (IsJoined l) (IsJoined m) (λ p q joined. (next p ∙ joined.0, previous q ∙ joined.1)) None _ linked.path;
-            spare = rw vacant (IsSpareList-map l.vacant arena.spare_keys linked.spare);
-            distinct = linked.distinct;
-          })
-          arena.counted arena.to_spare arena.bound
+      (record {
+        values = HoldsEach-map l m values (listed l len) linked.values;
+        others = λ key absent. values key ∙ linked.others key absent;
+        path = IsPath-map (IsJoined l) (IsJoined m) (λ p q joined. (next p ∙ joined.0, previous q ∙ joined.1)) None _ linked.path;
+        spare = rw vacant (IsSpareList-map l.vacant arena.spare_keys linked.spare);
+        distinct = linked.distinct;
+      })
+      arena.counted arena.to_spare arena.bound
     where
       next : (p : Option ℕ) → next_at m p ≡ next_at l p
       next None = first
       next (Some key) = ap node_next (nodes key)
+
       previous : (p : Option ℕ) → previous_at m p ≡ previous_at l p
       previous None = last
       previous (Some key) = ap node_previous (nodes key)
+
       IsSpareList-map : (p : Option ℕ) (ss : List ℕ) → IsSpareList l p ss → IsSpareList m p ss
       IsSpareList-map p [] list = list
       IsSpareList-map p (key ∷ rest) list = (list.0, ap is_some (nodes key) ∙ list.1, rw (next (Some key)) (IsSpareList-map (next_at l (Some key)) rest list.2))
@@ -71,20 +73,20 @@ module _ {T : Type 0} where
       let in_spare = absent_spare l key adds.was_absent l.vacant arena.spare_keys linked.spare in
       let in_ring = times-append c (places (listed l len)) (None ∷ []) in
       let kept : (p q : Option ℕ) → p ≢ Some key → q ≢ Some key → IsJoined l p q → IsJoined m p q =
-          λ p q source target joined. (adds.next p source ∙ joined.0, adds.previous q target ∙ joined.1) in
+      λ p q source target joined. (adds.next p source ∙ joined.0, adds.previous q target ∙ joined.1) in
       Shows-linked m len (spare + 1) (listed l len) (key ∷ arena.spare_keys)
-          (record {
-            values = HoldsEach-map l m adds.values (listed l len) linked.values;
-            others = λ other absent. adds.values other ∙ linked.others other absent;
-            path = IsPath-kept (IsJoined l) (IsJoined m) c c kept None (places (listed l len) ++ None ∷ [])
-                (omega (arith, sources_last c None (places (listed l len) ++ None ∷ []))) (omega arith) linked.path;
-            spare = (adds.vacant, adds.node, rw adds.link (IsSpareList-kept l m c adds.next adds.nodes l.vacant arena.spare_keys in_spare linked.spare));
-            distinct = λ p. elim (place_cases p (Some key)) [
-              | inl same ↦ omega (arith, once_same c, ap (λ q. once q None) same, ap (λ q. once q (Some key)) same, ap (λ q. times q (places (listed l len))) same, ap (λ q. times q (map Some arena.spare_keys)) same)
-              | inr differs ↦ omega (arith, linked.distinct p, once_other p (Some key) differs)
-            ];
-          })
-          arena.counted (omega (arith, arena.to_spare)) (omega arith)
+      (record {
+        values = HoldsEach-map l m adds.values (listed l len) linked.values;
+        others = λ other absent. adds.values other ∙ linked.others other absent;
+        path = IsPath-kept (IsJoined l) (IsJoined m) c c kept None (places (listed l len) ++ None ∷ [])
+            (omega (arith, sources_last c None (places (listed l len) ++ None ∷ []))) (omega arith) linked.path;
+        spare = (adds.vacant, adds.node, rw adds.link (IsSpareList-kept l m c adds.next adds.nodes l.vacant arena.spare_keys in_spare linked.spare));
+        distinct = λ p. elim (place_cases p (Some key)) [
+          | inl same ↦ omega (arith, once_same c, ap (λ q. once q None) same, ap (λ q. once q (Some key)) same, ap (λ q. times q (places (listed l len))) same, ap (λ q. times q (map Some arena.spare_keys)) same)
+          | inr differs ↦ omega (arith, linked.distinct p, once_other p (Some key) differs)
+        ];
+      })
+      arena.counted (omega (arith, arena.to_spare)) (omega arith)
 
   -- another value at a key
   places-with_value : (xs : List (ℕ × T)) (key : ℕ) (value : T) → places (with_value xs key value) ≡ places xs
@@ -122,24 +124,26 @@ module _ {T : Type 0} where
       let set : value_at (record l { nodes = with_node l.nodes key (with_content node value) }) key ≡ Some value = ap node_value (write_of l.nodes key node new found).changed in
       let same_places = places-with_value (listed l len) key value in
       Shows-linked m len spare (with_value (listed l len) key value) arena.spare_keys
-          (record {
-            values = HoldsEach-with_value l m key value set values (listed l len) (omega (arith, linked.distinct (Some key))) linked.values;
-            others = λ other absent. elim (cases_eq other key) [
-              | inl same ↦ absurd (stands (listed l len) present (ap (λ k. times (Some k) (places (listed l len))) (sym same) ∙ ap (times (Some other)) (sym same_places) ∙ absent))
-              | inr differs ↦ values other differs ∙ linked.others other (ap (times (Some other)) (sym same_places) ∙ absent)
-            ];
-            path = rw same_places (IsPath-map (IsJoined l) (IsJoined m) (λ p q joined. (next p ∙ joined.0, previous q ∙ joined.1)) None _ linked.path);
-            spare = IsSpareList-kept l m None (λ p _. next p) (λ other has. write_keeps is_some l.nodes key node new found refl other ∙ has) l.vacant arena.spare_keys (omega (arith, linked.distinct None)) linked.spare;
-            distinct = λ p. rw same_places (linked.distinct p);
-          })
-          (length-with_value (listed l len) key value ∙ arena.counted) arena.to_spare arena.bound
+      (record {
+        values = HoldsEach-with_value l m key value set values (listed l len) (omega (arith, linked.distinct (Some key))) linked.values;
+        others = λ other absent. elim (cases_eq other key) [
+          | inl same ↦ absurd (stands (listed l len) present (ap (λ k. times (Some k) (places (listed l len))) (sym same) ∙ ap (times (Some other)) (sym same_places) ∙ absent))
+          | inr differs ↦ values other differs ∙ linked.others other (ap (times (Some other)) (sym same_places) ∙ absent)
+        ];
+        path = rw same_places (IsPath-map (IsJoined l) (IsJoined m) (λ p q joined. (next p ∙ joined.0, previous q ∙ joined.1)) None _ linked.path);
+        spare = IsSpareList-kept l m None (λ p _. next p) (λ other has. write_keeps is_some l.nodes key node new found refl other ∙ has) l.vacant arena.spare_keys (omega (arith, linked.distinct None)) linked.spare;
+        distinct = λ p. rw same_places (linked.distinct p);
+      })
+      (length-with_value (listed l len) key value ∙ arena.counted) arena.to_spare arena.bound
     where
       next : (p : Option ℕ) → next_at (record l { nodes = with_node l.nodes key (with_content node value) }) p ≡ next_at l p
       next None = refl
       next (Some other) = write_keeps node_next l.nodes key node _ found refl other
+
       previous : (p : Option ℕ) → previous_at (record l { nodes = with_node l.nodes key (with_content node value) }) p ≡ previous_at l p
       previous None = refl
       previous (Some other) = write_keeps node_previous l.nodes key node _ found refl other
+
       stands : (xs : List (ℕ × T)) → ContainsKey xs key → times (Some key) (places xs) ≡ 0 → ⊥
       stands [] has none = cc
       stands (e ∷ rest) has none =

@@ -34,8 +34,8 @@ module _ {T : Type 0} where
   pub KeepsOthers-insert : (front back : List (ℕ × T)) (new : ℕ) (value : T) → KeepsOthers (front ++ back) (front ++ (new, value) ∷ back) new
   KeepsOthers-insert front back new value other differs =
       value_of-append front ((new, value) ∷ back) other
-          ∙ ap (or_value (value_of front other)) (value_of-cons (new, value) back other (λ same. differs (sym same)))
-          ∙ sym (value_of-append front back other)
+      ∙ ap (or_value (value_of front other)) (value_of-cons (new, value) back other (λ same. differs (sym same)))
+      ∙ sym (value_of-append front back other)
 
   pub KeepsOthers-insert_after : (xs : List (ℕ × T)) (key new : ℕ) (value : T) → KeepsOthers xs (insert_after xs key (new, value)) new
   KeepsOthers-insert_after xs key new value other differs =
@@ -135,9 +135,9 @@ module _ {T : Type 0} where
   KeepsValues-moved front pairs back distinct key =
       let split = value_of-append front (pairs ++ back) key ∙ ap (or_value (value_of front key)) (value_of-append pairs back key) in
       let apart : IsSome (value_of front key) → value_of pairs key ≡ None = λ some.
-          let counts = times-places-append (Some key) front (pairs ++ back) in
-          let counts' = times-places-append (Some key) pairs back in
-          value_of-absent pairs key (omega (arith, times_at_most_once (front ++ (pairs ++ back)) distinct (Some key), present_if_value front key some)) in
+      let counts = times-places-append (Some key) front (pairs ++ back) in
+      let counts' = times-places-append (Some key) pairs back in
+      value_of-absent pairs key (omega (arith, times_at_most_once (front ++ (pairs ++ back)) distinct (Some key), present_if_value front key some)) in
       split ∙ or_value-swap (value_of front key) (value_of pairs key) (value_of back key) apart ∙ ap (or_value (value_of pairs key)) (sym (value_of-append front back key))
 
   times_moved : (p : Option ℕ) (front pairs back front' back' : List (ℕ × T)) → front ++ back ≡ front' ++ back' → times p (places (front ++ (pairs ++ back))) ≡ times p (places (front' ++ (pairs ++ back')))
@@ -174,3 +174,36 @@ module _ {T : Type 0} where
       found value (e ∷ rest) next =
           let same : e.0 ≡ last = cc in
           elim (cases_Bool (first == last)) [ inl here ↦ rw here | inr apart ↦ rw (apart, eq-eqb e.0 last same) ]
+
+  -- one key is a run
+  pub IsRun-one : (xs : List (ℕ × T)) (key : ℕ) → ContainsKey xs key → IsRun xs key key
+  IsRun-one xs key present =
+      let value = some_value (value_of xs key) present in
+      record { starts = present; ends = rw (starting_at-behind xs key value.0 value.1, eq-eqb key key refl) }
+
+  -- a key that is not in the run is in the list without it
+  pub ContainsKey-without_run : (xs : List (ℕ × T)) (first last key : ℕ) → IsRun xs first last → ContainsKey xs key → value_of (run xs first last) key ≡ None → ContainsKey (without_run xs first last) key
+  ContainsKey-without_run xs first last key is_run present outside =
+      let front : List (ℕ × T) = before xs first in
+      let back : List (ℕ × T) = behind (starting_at xs first) last in
+      let whole = (shape_of xs first last is_run).whole in
+      let same = ap (λ ps. value_of ps key) whole
+      ∙ value_of-append front (run xs first last ++ back) key
+      ∙ ap (or_value (value_of front key)) (value_of-append (run xs first last) back key ∙ ap (λ o. or_value o (value_of back key)) outside)
+      ∙ sym (value_of-append front back key) in
+      ap is_some (sym same) ∙ present
+
+  -- the run of two neighbours has no other key
+  pub ContainsKey-without_pair : (xs : List (ℕ × T)) (first last key : ℕ) → ContainsKey xs first → next_key xs first ≡ Some last → ContainsKey xs key → key ≢ first → key ≢ last → ContainsKey (without_run xs first last) key
+  ContainsKey-without_pair xs first last key starts next present not_first not_last =
+      let value = some_value (value_of xs first) starts in
+      let shown = ap (λ ps. value_of (through ps last) key) (starting_at-behind xs first value.0 value.1) in
+      ContainsKey-without_run xs first last key (IsRun-next xs first last starts next) present (shown ∙ outside value.0 (behind xs first) next)
+    where
+      outside : (value : T) (rest : List (ℕ × T)) → first_key rest ≡ Some last → value_of (through ((first, value) ∷ rest) last) key ≡ None
+      outside value [] next' = absurd (cc)
+      outside value (e ∷ rest) next' =
+          let same : e.0 ≡ last = cc in
+          let no_first : (first == key) ≡ false = ne_eqb first key (λ s. not_first (sym s)) in
+          let no_last : (e.0 == key) ≡ false = ne_eqb e.0 key (λ s. not_last (sym s ∙ same)) in
+          elim (cases_Bool (first == last)) [ inl here ↦ rw (here, no_first) | inr apart ↦ rw (apart, no_first, eq-eqb e.0 last same, no_last) ]

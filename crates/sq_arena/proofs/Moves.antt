@@ -29,8 +29,8 @@ module _ {T : Type 0} where
   cut_places l len spare first last arena is_run =
       let shape = shape_of (listed l len) first last is_run in
       run_places l (before (listed l len) first) (first, shape.value) shape.tail (behind (starting_at (listed l len) first) last) last arena.spare_keys
-          (linked_around l (listed l len) arena.spare_keys first last shape arena.linked)
-          (run_end-shape (listed l len) first last shape)
+      (linked_around l (listed l len) arena.spare_keys first last shape arena.linked)
+      (run_end-shape (listed l len) first last shape)
 
   -- the run was cut out of the list
   pub record IsCut (l : Links T) (xs : List (ℕ × T)) (first last : ℕ) : Type 0 where
@@ -76,10 +76,10 @@ module _ {T : Type 0} where
       let shape = shape_of (listed l len) first last is_run in
       let splices' : Splices mid m (last_place (through ys after)) first last = rw (last_place-through ys after present) splices in
       let shows = move_shows l mid m len spare (before (listed l len) first) (first, shape.value) shape.tail (behind (starting_at (listed l len) first) last) (through ys after) (behind ys after) last arena
-              (whole-shape (listed l len) first last shape)
-              (run_end-shape (listed l len) first last shape)
-              joins
-              (sym (through-behind ys after))
-              splices' in
+      (whole-shape (listed l len) first last shape)
+      (run_end-shape (listed l len) first last shape)
+      joins
+      (sym (through-behind ys after))
+      splices' in
       let P : List (ℕ × T) → Type 0 = λ r. Shows m len spare (through ys after ++ (r ++ behind ys after)) in
       subst P (sym shape.is) shows

@@ -40,6 +40,7 @@ module _ {T : Type 0} where
       next : (other : Option ℕ) → other ≢ Some key → next_at (record l { nodes = with_node l.nodes key (record node { next = q }) }) other ≡ next_at l other
       next None differs = refl
       next (Some other) differs = write_keeps_others node_next l.nodes key node _ found other (λ same. differs (ap Some same))
+
       previous : (other : Option ℕ) → previous_at (record l { nodes = with_node l.nodes key (record node { next = q }) }) other ≡ previous_at l other
       previous None = refl
       previous (Some other) = write_keeps node_previous l.nodes key node _ found refl other
@@ -59,6 +60,7 @@ module _ {T : Type 0} where
       next : (other : Option ℕ) → next_at (record l { nodes = with_node l.nodes key (record node { previous = q }) }) other ≡ next_at l other
       next None = refl
       next (Some other) = write_keeps node_next l.nodes key node _ found refl other
+
       previous : (other : Option ℕ) → other ≢ Some key → previous_at (record l { nodes = with_node l.nodes key (record node { previous = q }) }) other ≡ previous_at l other
       previous None differs = refl
       previous (Some other) differs = write_keeps_others node_previous l.nodes key node _ found other (λ same. differs (ap Some same))
@@ -79,6 +81,7 @@ module _ {T : Type 0} where
       next : (other : Option ℕ) → next_at (record { nodes = with_node l.nodes key (record node { value = Some value }); first = l.first; last = l.last; vacant = node.next }) other ≡ next_at l other
       next None = refl
       next (Some other) = write_keeps node_next l.nodes key node _ found refl other
+
       previous : (other : Option ℕ) → previous_at (record { nodes = with_node l.nodes key (record node { value = Some value }); first = l.first; last = l.last; vacant = node.next }) other ≡ previous_at l other
       previous None = refl
       previous (Some other) = write_keeps node_previous l.nodes key node _ found refl other

@@ -138,7 +138,7 @@ module _ {T : Type 0} where
   pieces_join_up l front head tail back ss pieces ahead behind =
       let J = IsJoined l in
       let rest : IsPath (IsJoined l) (Some head.0) (places tail ++ (first_place back ∷ later_places back)) =
-          IsPath-append J (Some head.0) (places tail) (first_place back ∷ later_places back) pieces.run_path (behind, pieces.back_path) in
+      IsPath-append J (Some head.0) (places tail) (first_place back ∷ later_places back) pieces.run_path (behind, pieces.back_path) in
       let whole : IsPath (IsJoined l) (Some head.0) (places (tail ++ back) ++ None ∷ []) = rw (ring-append tail back) rest in
       record {
         values = HoldsEach-append l front (head ∷ tail ++ back) pieces.front_values (pieces.run_values.0, HoldsEach-append l tail back pieces.run_values.1 pieces.back_values);
@@ -155,7 +155,7 @@ module _ {T : Type 0} where
       let path' = rw same at path in
       let held = rw same at (HoldsEach-append l front back pieces.front_values pieces.back_values) in
       let counts : (p : Option ℕ) → times p (places front) + times p (places back) ≡ times p (places front') + times p (places back') =
-          λ p. sym (times-places-append p front back) ∙ ap (λ xs. times p (places xs)) same ∙ times-places-append p front' back' in
+      λ p. sym (times-places-append p front back) ∙ ap (λ xs. times p (places xs)) same ∙ times-places-append p front' back' in
       record {
         front_values = held_front l front' back' held;
         run_values = pieces.run_values;

@@ -116,7 +116,7 @@ module _ {T : Type 0} where
       let no_next = run_end_unused front (key, value) [] back ss distinct in
       let no_previous = head_unused front (key, value) [] back ss distinct in
       let kept : (p q : Option ℕ) → p ≢ Some key → q ≢ Some key → IsJoined l p q → IsJoined m p q =
-          λ p q source _ joined'. (frees.next p source ∙ joined'.0, frees.previous q ∙ joined'.1) in
+      λ p q source _ joined'. (frees.next p source ∙ joined'.0, frees.previous q ∙ joined'.1) in
       let differs = ends_differ front (key, value) [] back ss distinct in
       let alone = distinct (Some key) in
       let here = once_same (Some key) in
@@ -133,7 +133,10 @@ module _ {T : Type 0} where
             (IsPath-kept (IsJoined l) (IsJoined m) (Some key) (Some key) kept None (places front) (omega arith) (omega arith) pieces.front_path)
             (frees.next (last_place front) differs ∙ joined.0, frees.previous (first_place back) ∙ joined.1)
             (IsPath-kept (IsJoined l) (IsJoined m) (Some key) (Some key) kept (first_place back) (later_places back) (omega arith) (omega arith) pieces.back_path);
-        spare = (frees.vacant, frees.nodes key (node_of_value (get l.nodes key) value frees.held),
-            rw frees.link (IsSpareList-kept l m (Some key) frees.next frees.nodes l.vacant ss (omega arith) pieces.spare));
+        spare = (
+          frees.vacant,
+          frees.nodes key (node_of_value (get l.nodes key) value frees.held),
+          rw frees.link (IsSpareList-kept l m (Some key) frees.next frees.nodes l.vacant ss (omega arith) pieces.spare),
+        );
         distinct = λ p. omega (arith, distinct p, times-places-append p front back);
       }

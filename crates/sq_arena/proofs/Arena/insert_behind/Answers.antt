@@ -30,7 +30,7 @@ invariant_of-self g c =
 pub returns-clause-entries : goal.returns-clause-entries
 returns-clause-entries g c =
     λ front back falls.
-        (inserted_shows c.self.inside.links c.fill-key.new.self c.splice.new.self c.self.inside.len c.self.inside.spare c.args.place front back c.fill-key.result c.args.value c.self.invariant (rw (← c.self.view_is) at falls) c.fill-key.ensures c.splice.ensures (rw (← c.self.view_is) at c.requires.spare)).list
+    (inserted_shows c.self.inside.links c.fill-key.new.self c.splice.new.self c.self.inside.len c.self.inside.spare c.args.place front back c.fill-key.result c.args.value c.self.invariant (rw (← c.self.view_is) at falls) c.fill-key.ensures c.splice.ensures (rw (← c.self.view_is) at c.requires.spare)).list
 
 pub returns-clause-fresh : goal.returns-clause-fresh
 returns-clause-fresh g c =

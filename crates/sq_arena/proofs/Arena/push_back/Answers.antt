@@ -10,5 +10,5 @@ returns-clause-others g c other differs =
     let end = FallsAt-end c.args.self.now.entries in
     let list = c.insert_behind.ensures.entries c.args.self.now.entries [] (record { whole = end.whole; ends = end.ends ∙ sym c.last-last.ensures }) in
     ap (λ xs. value_of xs other) list
-        ∙ KeepsOthers-insert c.args.self.now.entries [] c.insert_behind.result c.args.value other differs
-        ∙ ap (λ xs. value_of xs other) (append-nil c.args.self.now.entries)
+    ∙ KeepsOthers-insert c.args.self.now.entries [] c.insert_behind.result c.args.value other differs
+    ∙ ap (λ xs. value_of xs other) (append-nil c.args.self.now.entries)

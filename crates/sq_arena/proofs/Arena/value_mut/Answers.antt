@@ -14,10 +14,13 @@ invariant_of-self-lent g c w =
 
 pub returns : goal.returns
 returns g c = (
-  (refl, λ w.
-    let list = (link_value_shows c.self.inside.links c.self.inside.len c.self.inside.spare c.args.key w c.self.invariant (rw (← c.self.view_is) at c.requires)).list in
-    let shown : List (ℕ × g.row.T.Denot) → Listed g.row.T.Denot = λ xs. record { entries = xs; spare = c.self.inside.spare } in
-    rw (← c.self.view_is) (ap shown list)),
+  (
+    refl,
+    λ w.
+        let list = (link_value_shows c.self.inside.links c.self.inside.len c.self.inside.spare c.args.key w c.self.invariant (rw (← c.self.view_is) at c.requires)).list in
+        let shown : List (ℕ × g.row.T.Denot) → Listed g.row.T.Denot = λ xs. record { entries = xs; spare = c.self.inside.spare } in
+        rw (← c.self.view_is) (ap shown list),
+  ),
   record {
     writes_back = tt;
     value = rw (← c.self.view_is) (sym (value_at-listed c.self.inside.links c.self.inside.len c.self.inside.spare c.args.key c.self.invariant) ∙ c.value_mut.ensures.value);
