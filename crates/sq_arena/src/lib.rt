@@ -174,7 +174,7 @@ impl<T> Arena<T> {
         self.links.cut(key, key);
         let value = self.links.free(key);
         self.len -= 1;
-        self.spare += 1;
+        self.spare += 1; // its key
         value
     }
 

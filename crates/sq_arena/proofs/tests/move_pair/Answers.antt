@@ -1,4 +1,4 @@
-use Rattle.std.proofs.Common.{rules, sym, ◌∙◌, ap, Some}
+use Rattle.std.proofs.Common.{rules}
 use Rattle.sq_arena.proofs.EntriesLaws.{IsRun-next, ContainsKey-without_pair}
 use Rattle.sq_arena.proofs.tests.move_pair.Goals as goal
 
@@ -8,4 +8,4 @@ move_range_after-requires-clause-run c =
 
 pub move_range_after-requires-clause-after : goal.move_range_after-requires-clause-after
 move_range_after-requires-clause-after c =
-    ContainsKey-without_pair c.args.arena.now.entries c.args.first c.args.last c.args.after (search rules) (search rules) (search rules) c.if-after-first.false c.if-after-last.false
+    ContainsKey-without_pair c.args.arena.now.entries c.args.first c.args.last c.args.after (search rules) (search rules) (search rules) (search rules) (search rules)
