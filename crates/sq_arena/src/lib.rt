@@ -6,7 +6,7 @@
 //! place in the order. A run of pairs moves by its links alone, whatever its length.
 #![tactic(auto)]
 
-ghost use Rattle.std.specs.Prelude.{◌≡◌, ℕ, ◌+◌, ◌^◌, ◌<◌, ◌≤◌, List, [], ◌∷◌, ◌++◌, length, max, OnOk, OnErr, IfOk, option_copied};
+ghost use Rattle.std.specs.Prelude.{◌≡◌, ℕ, ◌+◌, ◌^◌, ◌<◌, ◌≤◌, List, [], ◌∷◌, ◌++◌, length, max, IsOk, OnOk, OnErr, IfOk, option_copied};
 ghost use Rattle.std.specs.Option.{option_copied_mut};
 ghost use Rattle.std.specs.Borrow.{sem};
 ghost use Rattle.sq_arena.specs.Entries.{HasDistinctKeys, value_of, ContainsKey, KeepsOthers, KeepsValues, without, without_run, IsRun, insert_after, move_run_after, first_key, last_key, next_key, previous_key};
@@ -79,16 +79,20 @@ impl<T> Arena<T> {
         self.spare
     }
 
-    /// Makes room, so that at least `n` pairs can be inserted.
+    /// Makes room, so that at least `n` pairs can be inserted. After an error there may be room for some.
     pub fn reserve(&mut self, n: u32) -> Result<(), ArenaMemory>
     where
         T: Drop,
         requires { length self.old.entries + n < 2 ^ 32 }
         ensures entries { self.new.entries ≡ self.old.entries }
         ensures ok { OnOk result (self.new.spare ≡ max self.old.spare n) }
+        ensures enough { n ≤ self.old.spare → IsOk result }
         ensures err { OnErr result (self.old.spare ≤ self.new.spare) }
     {
-        self.take_memory(n.saturating_sub(self.spare))?;
+        if n <= self.spare {
+            return Ok(());
+        }
+        self.take_memory(n - self.spare)?;
         for _ in self.spare..n {
             self.add_spare()?;
         }
@@ -145,12 +149,18 @@ impl<T> Arena<T> {
         self.insert_behind(Some(key), value)
     }
 
+    // Inserts the value behind the place, which is the end of some front of the list.
     fn insert_behind(&mut self, place: Option<u32>, value: T) -> u32
     where
         T: Drop,
-        requires place { (front : List (ℕ × T)) × (back : List (ℕ × T)) × FallsAt self.old.entries place front back }
+        requires place {
+          (front : List (ℕ × T)) × (back : List (ℕ × T)) × FallsAt self.old.entries place front back
+        }
         requires spare { 0 < self.old.spare }
-        ensures entries { (front back : List (ℕ × T)) → FallsAt self.old.entries place front back → self.new.entries ≡ front ++ (result, value) ∷ back }
+        ensures entries {
+          (front back : List (ℕ × T)) → FallsAt self.old.entries place front back
+            → self.new.entries ≡ front ++ (result, value) ∷ back
+        }
         ensures spare { self.new.spare + 1 ≡ self.old.spare }
         ensures fresh { value_of self.old.entries result ≡ None }
         ensures distinct { HasDistinctKeys self.new.entries }
