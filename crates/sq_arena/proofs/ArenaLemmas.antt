@@ -1,14 +1,12 @@
 -- How the list of an arena follows its links.
-use Rattle.std.proofs.Common.{◌≡◌, ◌≢◌, ◌⊎◌, ℕ, zero, suc, ◌+◌, ◌-◌, ◌<◌, ◌≤◌, ◌^◌, List, [], ◌∷◌, ◌++◌, map, length, Option, None, Some, IsSome, is_some, refl, sym, ap, ◌∙◌, inl, inr, arith}
+use Rattle.std.proofs.Common.{◌≡◌, ℕ, ◌+◌, ◌-◌, ◌<◌, ◌^◌, List, [], ◌∷◌, ◌++◌, length, Option, None, Some, refl, sym, ap, ◌∙◌, inl, inr, arith}
 use Rattle.std.proofs.lemmas.Bool.{cases_eq, eq-eqb, ne_eqb}
 use Rattle.std.proofs.lemmas.List.{length-append}
-use Rattle.slab.specs.Slab.{get}
 use Rattle.sq_arena.specs.declared.links.Links.{Links}
-use Rattle.sq_arena.specs.declared.links.Node.{Node}
-use Rattle.sq_arena.specs.Entries.{HasDistinctKeys, value_of, ContainsKey, first_key, last_key}
-use Rattle.sq_arena.specs.Links.{once, times, IsPath, IsPlace, places, HasNode, node_value, value_at, next_at, previous_at, IsJoined, HoldsEach, IsSpareList, IsLinked, Joins, Splices, Fills, Frees, AddsSpare, listed, listed_from, with_pair, IsArena}
-use Rattle.sq_arena.proofs.Paths.{once_same, once_other, other_if, times-append, places-append, times-places-append, times-None, last_of, last_of-append}
-use Rattle.sq_arena.proofs.Pieces.{first_place, later_places, last_place, run_end, InPieces, ring_of, ring_front, ring_middle, ring_back, pieces_of, ahead_of_run, behind_run, pieces_join_up, others_of, held_front, held_back}
+use Rattle.sq_arena.specs.Entries.{HasDistinctKeys, value_of}
+use Rattle.sq_arena.specs.Links.{once, times, IsPath, places, value_at, next_at, previous_at, IsJoined, HoldsEach, IsLinked, Joins, Splices, Fills, Frees, listed, listed_from, IsArena}
+use Rattle.sq_arena.proofs.Paths.{once_other}
+use Rattle.sq_arena.proofs.Pieces.{first_place, last_place, run_end, ring_of, ring_middle, pieces_of, ahead_of_run, behind_run, others_of}
 use Rattle.sq_arena.proofs.EntriesLaws.{distinct_keys}
 use Rattle.sq_arena.proofs.Relinks.{cut_pieces, spliced, filled_pieces, freed}
 

@@ -1,15 +1,14 @@
 -- What the links of an arena tell of its list, and which places they name.
-use Rattle.std.proofs.Common.{◌≡◌, ◌≢◌, ◌⊎◌, ℕ, zero, suc, ◌+◌, ◌-◌, ◌<◌, ◌≤◌, ◌^◌, List, [], ◌∷◌, ◌++◌, map, length, Option, None, Some, IsSome, is_some, nat_eq, Bool, false, refl, sym, ap, subst, ◌∙◌, inl, inr, arith}
+use Rattle.std.proofs.Common.{◌≡◌, ℕ, List, [], ◌∷◌, ◌++◌, Option, None, Some, refl, sym, ap, subst, ◌∙◌, inl, inr}
 use Rattle.std.proofs.lemmas.Bool.{cases_eq, eq-eqb, ne_eqb}
-use Rattle.std.proofs.lemmas.List.{length-append, append-nil}
-use Rattle.std.specs.List.{IsDistinct, AllByRecursion}
+use Rattle.std.proofs.lemmas.List.{append-nil}
 use Rattle.slab.specs.Slab.{get}
 use Rattle.sq_arena.specs.declared.links.Links.{Links}
-use Rattle.sq_arena.specs.Entries.{keys, value_of, ContainsKey, HasDistinctKeys, before, through, behind, starting_at, run, without_run, IsRun, first_key, last_key}
-use Rattle.sq_arena.specs.Links.{once, times, IsPath, IsPlace, places, HasNode, node_value, value_at, next_at, previous_at, IsJoined, HoldsEach, IsLinked, listed, IsArena}
-use Rattle.sq_arena.proofs.Paths.{other_if, places-append, last_of, last_of-append}
+use Rattle.sq_arena.specs.Entries.{value_of, ContainsKey, before, through, behind, first_key, last_key}
+use Rattle.sq_arena.specs.Links.{IsPlace, places, HasNode, value_at, next_at, previous_at, IsJoined, HoldsEach, IsLinked, listed, IsArena}
+use Rattle.sq_arena.proofs.Paths.{places-append, last_of, last_of-append}
 use Rattle.sq_arena.proofs.Pieces.{first_place, last_place, run_end, node_of_value, ring_middle, ahead_of_run, behind_run, held_front, held_back}
-use Rattle.sq_arena.proofs.EntriesLemmas.{split_at, through-before, some_value, HasShape, shape_of}
+use Rattle.sq_arena.proofs.EntriesLemmas.{split_at, through-before, some_value}
 use Rattle.sq_arena.proofs.ArenaLemmas.{value_at-value_of}
 
 module _ {T : Type 0} where

@@ -1,20 +1,19 @@
 -- What each call makes of the list of an arena.
-use Rattle.std.proofs.Common.{◌≡◌, ◌≢◌, ◌⊎◌, ℕ, zero, suc, ◌+◌, ◌-◌, ◌<◌, ◌≤◌, ◌^◌, List, [], ◌∷◌, ◌++◌, map, length, slice_index_or, Option, None, Some, IsSome, is_some, refl, sym, ap, subst, ◌∙◌, inl, inr, arith}
+use Rattle.std.proofs.Common.{◌≡◌, ◌≢◌, ℕ, suc, ◌+◌, ◌-◌, ◌<◌, ◌≤◌, ◌^◌, List, [], ◌∷◌, ◌++◌, map, length, slice_index_or, Option, None, Some, IsSome, is_some, refl, sym, ap, ◌∙◌, inl, inr, arith}
 use Rattle.std.proofs.lemmas.Bool.{cases_eq, eq-eqb, ne_eqb}
-use Rattle.std.proofs.lemmas.List.{length-append, append-nil}
+use Rattle.std.proofs.lemmas.List.{append-nil}
 use Rattle.slab.specs.Slab.{get, with_value as with_node}
 use Rattle.sq_arena.specs.declared.links.Links.{Links}
 use Rattle.sq_arena.specs.declared.links.Node.{Node}
-use Rattle.sq_arena.specs.Entries.{value_of, ContainsKey, before, through, behind, starting_at, run, without, without_run, IsRun, insert_after, move_run_after, first_key, last_key, with_value}
-use Rattle.sq_arena.specs.Links.{once, times, IsPath, IsPlace, places, HasNode, node_value, node_next, node_previous, value_at, next_at, previous_at, IsJoined, HoldsEach, IsSpareList, IsLinked, Joins, Splices, Fills, Frees, AddsSpare, SameLinks, FallsAt, listed, IsArena}
-use Rattle.sq_arena.specs.Lends.{with_content, filled_node, with_link_value}
+use Rattle.sq_arena.specs.Entries.{value_of, ContainsKey, before, through, behind, without, last_key, with_value}
+use Rattle.sq_arena.specs.Links.{once, times, IsPlace, places, HasNode, node_value, node_next, node_previous, value_at, next_at, previous_at, IsJoined, HoldsEach, IsSpareList, IsLinked, Joins, Splices, Fills, Frees, AddsSpare, SameLinks, FallsAt, listed, IsArena}
+use Rattle.sq_arena.specs.Lends.{with_content, with_link_value}
 use Rattle.sq_arena.proofs.NodeWrites.{write_of, write_keeps, write_keeps_others}
-use Rattle.sq_arena.proofs.Paths.{place_cases, once_same, once_other, other_if, times-append, last_of, last_of-append, sources, sources_last, IsPath-kept, IsPath-map}
-use Rattle.sq_arena.proofs.Pieces.{first_place, last_place, run_end, HoldsEach-map, HoldsEach-kept, IsSpareList-kept, ring_middle, held_front, held_back, pieces_of, InPieces, ahead_of_run, behind_run, HoldsEach-append, ring_of}
-use Rattle.sq_arena.proofs.Relinks.{cut_pieces}
-use Rattle.sq_arena.proofs.EntriesLemmas.{split_at, some_value, through-behind, HasShape, shape_of}
-use Rattle.sq_arena.proofs.ArenaLemmas.{Shows, Shows-linked, unlink_shows, move_shows, insert_shows}
-use Rattle.sq_arena.proofs.ArenaReads.{last_key-place, last_place-through, last_place-snoc, last_place-IsPlace, first_place-IsPlace, value_at-held, HasPlaces, run_places, IsPlace-map, value_at-listed, key_places}
+use Rattle.sq_arena.proofs.Paths.{place_cases, once_same, once_other, other_if, times-append, sources_last, IsPath-kept, IsPath-map}
+use Rattle.sq_arena.proofs.Pieces.{first_place, HoldsEach-map, HoldsEach-kept, IsSpareList-kept, ring_middle, held_front, held_back}
+use Rattle.sq_arena.proofs.EntriesLemmas.{split_at, some_value, through-behind}
+use Rattle.sq_arena.proofs.ArenaLemmas.{Shows, Shows-linked, unlink_shows, insert_shows}
+use Rattle.sq_arena.proofs.ArenaReads.{last_key-place, last_place-through, last_place-IsPlace, first_place-IsPlace, value_at-listed, key_places}
 
 module _ {T : Type 0} where
   -- links that tell the same show the same list

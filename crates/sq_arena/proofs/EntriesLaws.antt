@@ -1,12 +1,12 @@
 -- What the words on pairs of key and value keep, for this crate and its callers.
-use Rattle.std.proofs.Common.{◌≡◌, ◌≢◌, ℕ, zero, suc, ◌+◌, ◌≤◌, Bool, true, false, cond, ◌==◌, nat_eq, List, [], ◌∷◌, ◌++◌, length, Option, None, Some, IsSome, is_some, refl, sym, ap, ◌∙◌, inl, inr, arith}
-use Rattle.std.proofs.lemmas.Bool.{cases_Bool, cases_eq, eqb-true, eqb-false, eq-eqb, ne_eqb}
-use Rattle.std.proofs.lemmas.List.{append_assoc, append-nil}
+use Rattle.std.proofs.Common.{◌≡◌, ◌≢◌, ℕ, ◌≤◌, false, ◌==◌, nat_eq, List, [], ◌∷◌, ◌++◌, Option, None, Some, IsSome, is_some, refl, sym, ap, ◌∙◌, inl, inr, arith}
+use Rattle.std.proofs.lemmas.Bool.{cases_Bool, cases_eq, eqb-true, eq-eqb, ne_eqb}
+use Rattle.std.proofs.lemmas.List.{append_assoc}
 use Rattle.std.specs.List.{IsDistinct, AllByRecursion}
-use Rattle.sq_arena.specs.Entries.{keys, HasDistinctKeys, value_of, ContainsKey, KeepsOthers, KeepsValues, before, through, starting_at, behind, run, without_run, without, IsRun, insert_run_after, insert_after, move_run_after, first_key, next_key}
+use Rattle.sq_arena.specs.Entries.{keys, HasDistinctKeys, value_of, ContainsKey, KeepsOthers, KeepsValues, before, through, starting_at, behind, run, without_run, without, IsRun, insert_after, move_run_after, first_key, next_key}
 use Rattle.sq_arena.specs.Links.{once, times, places}
-use Rattle.sq_arena.proofs.Paths.{once_same, once_other, other_if, times-append, times-places-append, times-None}
-use Rattle.sq_arena.proofs.EntriesLemmas.{split_at, starting_at-behind, some_value, through-behind, HasShape, shape_of}
+use Rattle.sq_arena.proofs.Paths.{once_same, once_other, other_if, times-places-append, times-None}
+use Rattle.sq_arena.proofs.EntriesLemmas.{starting_at-behind, some_value, through-behind, shape_of}
 
 module _ {T : Type 0} where
   -- the first value, or the second where there is none
@@ -207,3 +207,71 @@ module _ {T : Type 0} where
           let no_first : (first == key) ≡ false = ne_eqb first key (λ s. not_first (sym s)) in
           let no_last : (e.0 == key) ≡ false = ne_eqb e.0 key (λ s. not_last (sym s ∙ same)) in
           elim (cases_Bool (first == last)) [ inl here ↦ rw (here, no_first) | inr apart ↦ rw (apart, no_first, eq-eqb e.0 last same, no_last) ]
+
+  or_value_none : (a b : Option T) → or_value a b ≡ None → a ≡ None
+  or_value_none None b none = refl
+  or_value_none (Some v) b none = absurd (cc)
+
+  pub before-append : (front back : List (ℕ × T)) (key : ℕ) (value : T) → value_of front key ≡ None → before (front ++ (key, value) ∷ back) key ≡ front
+  before-append [] back key value fresh = rw (eq-eqb key key refl)
+  before-append (e ∷ front) back key value fresh =
+      elim (cases_Bool (e.0 == key)) [
+        | inl here ↦ absurd (cc (rw here at fresh))
+        | inr apart ↦ rw apart (ap (λ ps. e ∷ ps) (before-append front back key value (rw apart at fresh)))
+      ]
+
+  pub behind-append : (front back : List (ℕ × T)) (key : ℕ) (value : T) → value_of front key ≡ None → behind (front ++ (key, value) ∷ back) key ≡ back
+  behind-append [] back key value fresh = rw (eq-eqb key key refl)
+  behind-append (e ∷ front) back key value fresh =
+      elim (cases_Bool (e.0 == key)) [
+        | inl here ↦ absurd (cc (rw here at fresh))
+        | inr apart ↦ rw apart (behind-append front back key value (rw apart at fresh))
+      ]
+
+  pub starting_at-append : (front back : List (ℕ × T)) (key : ℕ) (value : T) → value_of front key ≡ None → starting_at (front ++ (key, value) ∷ back) key ≡ (key, value) ∷ back
+  starting_at-append [] back key value fresh = rw (eq-eqb key key refl)
+  starting_at-append (e ∷ front) back key value fresh =
+      elim (cases_Bool (e.0 == key)) [
+        | inl here ↦ absurd (cc (rw here at fresh))
+        | inr apart ↦ rw apart (starting_at-append front back key value (rw apart at fresh))
+      ]
+
+  -- without the new key the list is the old one
+  pub without-insert : (front back : List (ℕ × T)) (new : ℕ) (value : T) → value_of (front ++ back) new ≡ None → without (front ++ (new, value) ∷ back) new ≡ front ++ back
+  without-insert front back new value fresh =
+      let none : value_of front new ≡ None = or_value_none (value_of front new) (value_of back new) (sym (value_of-append front back new) ∙ fresh) in
+      ap (λ ps. ps ++ behind (front ++ (new, value) ∷ back) new) (before-append front back new value none)
+      ∙ ap (λ ps. front ++ ps) (behind-append front back new value none)
+
+  pub without-insert_after : (xs : List (ℕ × T)) (key new : ℕ) (value : T) → value_of xs new ≡ None → without (insert_after xs key (new, value)) new ≡ xs
+  without-insert_after xs key new value fresh =
+      without-insert (through xs key) (behind xs key) new value (ap (λ ps. value_of ps new) (through-behind xs key) ∙ fresh) ∙ through-behind xs key
+
+  -- a key that stands behind has no value ahead
+  absent_ahead : (front back : List (ℕ × T)) (key : ℕ) (value : T) → HasDistinctKeys (front ++ (key, value) ∷ back) → value_of front key ≡ None
+  absent_ahead front back key value distinct =
+      value_of-absent front key (omega (arith, times_at_most_once (front ++ (key, value) ∷ back) distinct (Some key), times-places-append (Some key) front ((key, value) ∷ back), once_same (Some key)))
+
+  distinct_back : (front back : List (ℕ × T)) → HasDistinctKeys (front ++ back) → HasDistinctKeys back
+  distinct_back front back distinct = distinct_keys back (λ p. omega (arith, times_at_most_once (front ++ back) distinct p, times-places-append p front back))
+
+  -- the pairs around a run that begins and ends with these keys
+  without_run-around : (front pairs back tail lead : List (ℕ × T)) (first last : ℕ) (value last_value : T) → pairs ≡ (first, value) ∷ tail → pairs ≡ lead ++ (last, last_value) ∷ [] → HasDistinctKeys (front ++ (pairs ++ back)) → without_run (front ++ (pairs ++ back)) first last ≡ front ++ back
+  without_run-around front pairs back tail lead first last value last_value starts ends distinct =
+      let whole : front ++ (pairs ++ back) ≡ front ++ (first, value) ∷ (tail ++ back) = ap (λ ps. front ++ (ps ++ back)) starts in
+      let rest : pairs ++ back ≡ lead ++ (last, last_value) ∷ back = ap (λ ps. ps ++ back) ends ∙ append_assoc lead ((last, last_value) ∷ []) back in
+      let rest' : (first, value) ∷ (tail ++ back) ≡ lead ++ (last, last_value) ∷ back = ap (λ ps. ps ++ back) (sym starts) ∙ rest in
+      let none = absent_ahead front (tail ++ back) first value (rw whole at distinct) in
+      let none_last = absent_ahead lead back last last_value (rw rest at (distinct_back front (pairs ++ back) distinct)) in
+      ap (λ ps. without_run ps first last) whole
+      ∙ ap (λ ps. ps ++ behind (starting_at (front ++ (first, value) ∷ (tail ++ back)) first) last) (before-append front (tail ++ back) first value none)
+      ∙ ap (λ ps. front ++ behind ps last) (starting_at-append front (tail ++ back) first value none ∙ rest')
+      ∙ ap (λ ps. front ++ ps) (behind-append lead back last last_value none_last)
+
+  -- a move keeps the order of the rest
+  pub without_run-move_run_after : (xs : List (ℕ × T)) (first last after : ℕ) → HasDistinctKeys xs → IsRun xs first last → without_run (move_run_after xs first last after) first last ≡ without_run xs first last
+  without_run-move_run_after xs first last after distinct is_run =
+      let shape = shape_of xs first last is_run in
+      let ys : List (ℕ × T) = without_run xs first last in
+      without_run-around (through ys after) (run xs first last) (behind ys after) shape.tail shape.lead first last shape.value shape.last_value shape.is shape.ends (HasDistinctKeys-move_run_after xs first last after distinct is_run)
+      ∙ through-behind ys after

@@ -1,8 +1,7 @@
 -- Lemmas on lists of pairs of key and value, for this crate and its callers.
-use Rattle.std.proofs.Common.{◌≡◌, ℕ, ◌+◌, ◌≤◌, Bool, true, false, cond, ◌==◌, List, [], ◌∷◌, ◌++◌, length, Option, None, Some, IsSome, is_some, refl, sym, ap, ◌∙◌, inl, inr, arith}
-use Rattle.std.proofs.lemmas.Bool.{cases_Bool, eqb-true, eq-eqb, ne_eqb}
-use Rattle.std.proofs.lemmas.List.{append_assoc, append-nil}
-use Rattle.sq_arena.specs.Entries.{keys, value_of, ContainsKey, before, through, starting_at, behind, run, without_run, without, IsRun, insert_run_after, insert_after, move_run_after, first_key, last_key, with_value}
+use Rattle.std.proofs.Common.{◌≡◌, ℕ, cond, ◌==◌, List, [], ◌∷◌, ◌++◌, Option, None, Some, IsSome, refl, sym, ap, ◌∙◌, inl, inr}
+use Rattle.std.proofs.lemmas.Bool.{cases_Bool, eqb-true}
+use Rattle.sq_arena.specs.Entries.{value_of, before, through, starting_at, behind, run, IsRun}
 
 module _ {T : Type 0} where
   pair_is : (e : ℕ × T) (key : ℕ) (value : T) → e.0 ≡ key → Some e.1 ≡ Some value → e ≡ (key, value)

@@ -1,10 +1,10 @@
 -- A run of an arena moves to another place.
-use Rattle.std.proofs.Common.{◌≡◌, ℕ, ◌+◌, ◌<◌, ◌^◌, List, [], ◌∷◌, ◌++◌, Option, None, Some, IsSome, refl, sym, ap, subst, ◌∙◌}
+use Rattle.std.proofs.Common.{◌≡◌, ℕ, List, [], ◌∷◌, ◌++◌, None, Some, sym, ap, subst, ◌∙◌}
 use Rattle.slab.specs.Slab.{get}
 use Rattle.sq_arena.specs.declared.links.Links.{Links}
-use Rattle.sq_arena.specs.Entries.{value_of, ContainsKey, before, through, behind, starting_at, run, without_run, IsRun, move_run_after}
-use Rattle.sq_arena.specs.Links.{IsPath, IsPlace, places, HasNode, value_at, next_at, previous_at, IsJoined, HoldsEach, IsLinked, Joins, Splices, listed, IsArena}
-use Rattle.sq_arena.proofs.Pieces.{first_place, last_place, run_end, node_of_value, InPieces, pieces_of, ahead_of_run, behind_run, HoldsEach-append, held_back, ring_of, ring_middle}
+use Rattle.sq_arena.specs.Entries.{value_of, ContainsKey, before, through, behind, starting_at, without_run, IsRun, move_run_after}
+use Rattle.sq_arena.specs.Links.{IsPath, IsPlace, places, HasNode, next_at, previous_at, IsJoined, HoldsEach, IsLinked, Joins, Splices, listed, IsArena}
+use Rattle.sq_arena.proofs.Pieces.{first_place, last_place, run_end, node_of_value, pieces_of, ahead_of_run, behind_run, HoldsEach-append, held_back, ring_of, ring_middle}
 use Rattle.sq_arena.proofs.Relinks.{cut_pieces}
 use Rattle.sq_arena.proofs.EntriesLemmas.{some_value, through-behind, HasShape, shape_of}
 use Rattle.sq_arena.proofs.ArenaLemmas.{Shows, move_shows}

@@ -1,11 +1,11 @@
 -- What a write of one node does to the links.
-use Rattle.std.proofs.Common.{◌≡◌, ◌≢◌, ℕ, Option, None, Some, IsSome, is_some, refl, sym, ap, ◌∙◌, inl, inr}
+use Rattle.std.proofs.Common.{◌≡◌, ◌≢◌, ℕ, Option, None, Some, is_some, refl, sym, ap, ◌∙◌, inl, inr}
 use Rattle.std.proofs.lemmas.Bool.{cases_eq}
 use Rattle.slab.specs.Slab.{Slab, get, with_value as with_node, Updates}
 use Rattle.slab.proofs.SlabLemmas.{Updates-with_value}
 use Rattle.sq_arena.specs.declared.links.Links.{Links}
 use Rattle.sq_arena.specs.declared.links.Node.{Node}
-use Rattle.sq_arena.specs.Links.{HasNode, node_value, node_next, node_previous, value_at, next_at, previous_at, SetsNext, SetsPrevious, Fills}
+use Rattle.sq_arena.specs.Links.{node_value, node_next, node_previous, next_at, previous_at, SetsNext, SetsPrevious, Fills}
 
 module _ {T : Type 0} where
   -- the node of this key is written

@@ -1,13 +1,11 @@
 -- The list of an arena in three pieces: the pairs ahead of a run, the run, and the pairs behind it.
 -- Within each piece the places are joined; which pieces are joined to each other is left open.
-use Rattle.std.proofs.Common.{◌≡◌, ◌≢◌, ◌⊎◌, ℕ, zero, suc, ◌+◌, ◌≤◌, List, [], ◌∷◌, ◌++◌, map, Option, None, Some, IsSome, is_some, refl, sym, ap, ◌∙◌, inl, inr, arith, append_assoc}
-use Rattle.std.proofs.lemmas.Bool.{cases_eq}
+use Rattle.std.proofs.Common.{◌≡◌, ◌≢◌, ℕ, ◌+◌, ◌≤◌, List, [], ◌∷◌, ◌++◌, map, Option, None, Some, IsSome, refl, sym, ap, ◌∙◌, arith}
 use Rattle.sq_arena.specs.declared.links.Links.{Links}
 use Rattle.sq_arena.specs.declared.links.Node.{Node}
-use Rattle.sq_arena.specs.Links.{once, times, IsPath, places, HasNode, node_value, value_at, next_at, previous_at, IsJoined, HoldsEach, IsSpareList, IsLinked, Joins, Splices, Fills, Frees}
-use Rattle.slab.specs.Slab.{get}
+use Rattle.sq_arena.specs.Links.{once, times, IsPath, places, HasNode, node_value, value_at, next_at, IsJoined, HoldsEach, IsSpareList, IsLinked}
 use Rattle.sq_arena.specs.Entries.{first_key}
-use Rattle.sq_arena.proofs.Paths.{place_cases, once_same, once_other, other_if, times-append, places-append, times-places-append, times-None, times-None-keys, last_of, sources, sources_last, last_of-append, IsPath-append, path_front, path_back, IsPath-kept, IsPath-map}
+use Rattle.sq_arena.proofs.Paths.{other_if, times-append, times-places-append, last_of, sources, sources_last, last_of-append, IsPath-append, path_front, path_back}
 
 module _ {T : Type 0} where
   -- the place at the head of the pairs, or the end

@@ -1,12 +1,11 @@
 -- What each change of the links makes of the list.
-use Rattle.std.proofs.Common.{◌≡◌, ◌≢◌, ◌⊎◌, ℕ, zero, suc, ◌+◌, ◌≤◌, List, [], ◌∷◌, ◌++◌, map, Option, None, Some, IsSome, is_some, refl, sym, ap, ◌∙◌, inl, inr, arith}
+use Rattle.std.proofs.Common.{◌≡◌, ◌≢◌, ℕ, ◌+◌, ◌≤◌, List, [], ◌∷◌, ◌++◌, map, Option, None, Some, sym, ap, ◌∙◌, inl, inr, arith}
 use Rattle.std.proofs.lemmas.Bool.{cases_eq}
 use Rattle.sq_arena.specs.declared.links.Links.{Links}
-use Rattle.sq_arena.specs.declared.links.Node.{Node}
-use Rattle.sq_arena.specs.Links.{once, times, IsPath, places, HasNode, node_value, value_at, next_at, previous_at, IsJoined, HoldsEach, IsSpareList, IsLinked, Joins, Splices, Fills, Frees}
+use Rattle.sq_arena.specs.Links.{once, times, places, value_at, next_at, IsJoined, IsLinked, Joins, Fills, Frees}
 use Rattle.slab.specs.Slab.{get}
-use Rattle.sq_arena.proofs.Paths.{once_same, once_other, other_if, times-append, places-append, times-places-append, times-None-keys, last_of, sources, sources_last, IsPath-kept, IsPath-map}
-use Rattle.sq_arena.proofs.Pieces.{first_place, later_places, last_place, run_end, node_of_value, later_times, later_sources, HoldsEach-append, held_front, held_back, HoldsEach-map, HoldsEach-kept, IsSpareList-kept, InPieces, ring_of, ring_front, ring_middle, ring_back, pieces_of, ahead_of_run, behind_run, pieces_join_up, others_of}
+use Rattle.sq_arena.proofs.Paths.{once_same, once_other, other_if, times-places-append, times-None-keys, sources, sources_last, IsPath-kept, IsPath-map}
+use Rattle.sq_arena.proofs.Pieces.{first_place, later_places, last_place, run_end, node_of_value, later_times, later_sources, HoldsEach-append, held_front, held_back, HoldsEach-map, HoldsEach-kept, IsSpareList-kept, InPieces, ring_of, ring_front, ring_back, pieces_join_up}
 
 module _ {T : Type 0} where
   -- no place stands twice in the pieces or among the keys to spare

@@ -1,5 +1,5 @@
 -- Words on a list of pairs of key and value, whose keys are distinct.
-use Rattle.std.specs.Prelude.{◌≡◌, ◌≢◌, ℕ, Bool, List, [], ◌∷◌, ◌++◌, map, Option, None, Some, IsSome, ◌==◌, if◌then◌else◌, nat_eq}
+use Rattle.std.specs.Prelude.{◌≡◌, ◌≢◌, ℕ, List, [], ◌∷◌, ◌++◌, map, Option, None, Some, IsSome, ◌==◌, if◌then◌else◌, nat_eq}
 use Rattle.std.specs.List.{IsDistinct}
 
 module _ {T : Type 0} where
@@ -19,7 +19,8 @@ module _ {T : Type 0} where
 
   -- each key but this one keeps its value
   abbrev pub KeepsOthers : List (ℕ × T) → List (ℕ × T) → ℕ → Type 0
-  KeepsOthers old new key = (other : ℕ) → other ≢ key → value_of new other ≡ value_of old other
+  KeepsOthers old new key =
+      (other : ℕ) → other ≢ key → value_of new other ≡ value_of old other
 
   -- each key keeps its value
   abbrev pub KeepsValues : List (ℕ × T) → List (ℕ × T) → Type 0

@@ -68,18 +68,21 @@ module _ {T : Type 0} where
   HoldsEach l [] = Unit {0}
   HoldsEach l (entry ∷ rest) = (value_at l entry.0 ≡ Some entry.1) × HoldsEach l rest
 
-  -- from this place on, the keys with a node to spare, each of which names the next
+  -- these keys are to spare, from this place on: each has a node and names the next
   abbrev pub IsSpareList : Links T → Option ℕ → List ℕ → Type 0
   IsSpareList l p [] = p ≡ None
-  IsSpareList l p (key ∷ rest) = (p ≡ Some key) × HasNode l key × IsSpareList l (next_at l (Some key)) rest
+  IsSpareList l p (key ∷ rest) =
+      (p ≡ Some key) × HasNode l key × IsSpareList l (next_at l (Some key)) rest
 
-  -- the list lies in the slab, and beside it these keys are to spare
+  -- the list lies in the slab: each value under its key and none elsewhere, the places in a ring of
+  -- joined ones, and beside it these keys to spare, all of them different
   pub record IsLinked (l : Links T) (entries : List (ℕ × T)) (spare_keys : List ℕ) : Type 0 where
     pub values : HoldsEach l entries
     pub others : (key : ℕ) → times (Some key) (places entries) ≡ 0 → value_at l key ≡ None
     pub path : IsPath (IsJoined l) None (places entries ++ None ∷ [])
     pub spare : IsSpareList l l.vacant spare_keys
-    pub distinct : (p : Option ℕ) → once p None + times p (places entries) + times p (map Some spare_keys) ≤ 1
+    pub distinct : (p : Option ℕ) → once p None + times p (places entries)
+        + times p (map Some spare_keys) ≤ 1
 
   -- the pair of the key and its value ahead of the others, or nothing
   abbrev pub with_pair : ℕ → Option T → List (ℕ × T) → List (ℕ × T)
@@ -105,7 +108,8 @@ module _ {T : Type 0} where
     pub bound : len + spare < 2 ^ 32
 
   -- the list falls into these two parts, and the place is the end of the first
-  pub record FallsAt (entries : List (ℕ × T)) (place : Option ℕ) (front back : List (ℕ × T)) : Type 0 where
+  pub record FallsAt (entries : List (ℕ × T)) (place : Option ℕ) (front back : List (ℕ × T))
+      : Type 0 where
     pub whole : entries ≡ front ++ back
     pub ends : last_key front ≡ place
 
@@ -122,7 +126,8 @@ module _ {T : Type 0} where
   pub record SetsPrevious (old new : Links T) (p q : Option ℕ) : Type 0 where
     pub set : previous_at new p ≡ q
     pub next : (other : Option ℕ) → next_at new other ≡ next_at old other
-    pub previous : (other : Option ℕ) → other ≢ p → previous_at new other ≡ previous_at old other
+    pub previous : (other : Option ℕ) → other ≢ p
+        → previous_at new other ≡ previous_at old other
     pub values : (key : ℕ) → value_at new key ≡ value_at old key
     pub nodes : (key : ℕ) → HasNode old key → HasNode new key
     pub vacant : new.vacant ≡ old.vacant
@@ -131,7 +136,8 @@ module _ {T : Type 0} where
   pub record Joins (old new : Links T) (p q : Option ℕ) : Type 0 where
     pub joined : IsJoined new p q
     pub next : (other : Option ℕ) → other ≢ p → next_at new other ≡ next_at old other
-    pub previous : (other : Option ℕ) → other ≢ q → previous_at new other ≡ previous_at old other
+    pub previous : (other : Option ℕ) → other ≢ q
+        → previous_at new other ≡ previous_at old other
     pub values : (key : ℕ) → value_at new key ≡ value_at old key
     pub nodes : (key : ℕ) → HasNode old key → HasNode new key
     pub vacant : new.vacant ≡ old.vacant
@@ -169,7 +175,8 @@ module _ {T : Type 0} where
     pub node : HasNode new key
     pub values : (other : ℕ) → value_at new other ≡ value_at old other
     pub next : (other : Option ℕ) → other ≢ Some key → next_at new other ≡ next_at old other
-    pub previous : (other : Option ℕ) → other ≢ Some key → previous_at new other ≡ previous_at old other
+    pub previous : (other : Option ℕ) → other ≢ Some key
+        → previous_at new other ≡ previous_at old other
     pub nodes : (other : ℕ) → HasNode old other → HasNode new other
     pub vacant : new.vacant ≡ Some key
     pub link : next_at new (Some key) ≡ old.vacant

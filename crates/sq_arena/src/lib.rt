@@ -79,7 +79,9 @@ impl<T> Arena<T> {
         self.spare
     }
 
-    /// Makes room, so that at least `n` pairs can be inserted. After an error there may be room for some.
+    /// Makes room, so that at least `n` pairs can be inserted.
+    ///
+    /// After an error there may be room for some of them.
     pub fn reserve(&mut self, n: u32) -> Result<(), ArenaMemory>
     where
         T: Drop,
@@ -127,6 +129,7 @@ impl<T> Arena<T> {
         ensures entries { self.new.entries ≡ self.old.entries ++ (result, value) ∷ [] }
         ensures spare { self.new.spare + 1 ≡ self.old.spare }
         ensures fresh { value_of self.old.entries result ≡ None }
+        ensures rest { without self.new.entries result ≡ self.old.entries }
         ensures others { KeepsOthers self.old.entries self.new.entries result }
         ensures distinct { HasDistinctKeys self.new.entries }
     {
@@ -143,6 +146,7 @@ impl<T> Arena<T> {
         ensures entries { self.new.entries ≡ insert_after self.old.entries key (result, value) }
         ensures spare { self.new.spare + 1 ≡ self.old.spare }
         ensures fresh { value_of self.old.entries result ≡ None }
+        ensures rest { without self.new.entries result ≡ self.old.entries }
         ensures others { KeepsOthers self.old.entries self.new.entries result }
         ensures distinct { HasDistinctKeys self.new.entries }
     {
@@ -153,14 +157,10 @@ impl<T> Arena<T> {
     fn insert_behind(&mut self, place: Option<u32>, value: T) -> u32
     where
         T: Drop,
-        requires place {
-          (front : List (ℕ × T)) × (back : List (ℕ × T)) × FallsAt self.old.entries place front back
-        }
+        requires place { (front : List (ℕ × T)) × (back : List (ℕ × T)) × FallsAt self.old.entries place front back }
         requires spare { 0 < self.old.spare }
-        ensures entries {
-          (front back : List (ℕ × T)) → FallsAt self.old.entries place front back
-            → self.new.entries ≡ front ++ (result, value) ∷ back
-        }
+        ensures entries { (front back : List (ℕ × T)) → FallsAt self.old.entries place front back
+            → self.new.entries ≡ front ++ (result, value) ∷ back }
         ensures spare { self.new.spare + 1 ≡ self.old.spare }
         ensures fresh { value_of self.old.entries result ≡ None }
         ensures distinct { HasDistinctKeys self.new.entries }
@@ -184,7 +184,7 @@ impl<T> Arena<T> {
         self.links.cut(key, key);
         let value = self.links.free(key);
         self.len -= 1;
-        self.spare += 1; // its key
+        self.spare += 1; // the key
         value
     }
 
@@ -194,6 +194,7 @@ impl<T> Arena<T> {
         requires after { ContainsKey (without_run self.old.entries first last) after }
         ensures entries { self.new.entries ≡ move_run_after self.old.entries first last after }
         ensures spare { self.new.spare ≡ self.old.spare }
+        ensures rest { without_run self.new.entries first last ≡ without_run self.old.entries first last }
         ensures values { KeepsValues self.old.entries self.new.entries }
         ensures distinct { HasDistinctKeys self.new.entries }
     {

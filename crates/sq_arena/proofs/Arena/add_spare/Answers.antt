@@ -1,4 +1,3 @@
-use Rattle.std.proofs.Common.{ap, sym, ◌∙◌, arith}
 use Rattle.sq_arena.proofs.ArenaWrites.{kept_shows, spare_shows}
 use Rattle.sq_arena.proofs.Arena.add_spare.Goals as goal
 

@@ -2,7 +2,7 @@ use Rattle.std.proofs.Common.{arith}
 use Rattle.sq_arena.specs.Entries.{move_run_after}
 use Rattle.sq_arena.specs.Links.{listed}
 use Rattle.sq_arena.proofs.ArenaLemmas.{Shows-distinct}
-use Rattle.sq_arena.proofs.EntriesLaws.{distinct_keys, KeepsValues-move_run_after}
+use Rattle.sq_arena.proofs.EntriesLaws.{distinct_keys, KeepsValues-move_run_after, without_run-move_run_after}
 use Rattle.sq_arena.proofs.Moves.{cut_places, cut_of, at_after, behind_after, moved_shows}
 use Rattle.sq_arena.proofs.Arena.move_range_after.Goals as goal
 
@@ -61,3 +61,10 @@ pub returns-clause-distinct : goal.returns-clause-distinct
 returns-clause-distinct g c =
     let shows = moved_shows c.self.inside.links c.cut.new.self c.splice.new.self c.self.inside.len c.self.inside.spare c.args.first c.args.last c.args.after c.self.invariant (rw (← c.self.view_is) at c.requires.run) (rw (← c.self.view_is) at c.requires.after) c.cut.ensures c.splice.ensures in
     rw shows.list (Shows-distinct c.splice.new.self c.self.inside.len c.self.inside.spare (move_run_after (listed c.self.inside.links c.self.inside.len) c.args.first c.args.last c.args.after) shows)
+
+pub returns-clause-rest : goal.returns-clause-rest
+returns-clause-rest g c =
+    let run = rw (← c.self.view_is) at c.requires.run in
+    let list = (moved_shows c.self.inside.links c.cut.new.self c.splice.new.self c.self.inside.len c.self.inside.spare c.args.first c.args.last c.args.after c.self.invariant run (rw (← c.self.view_is) at c.requires.after) c.cut.ensures c.splice.ensures).list in
+    let distinct = distinct_keys (listed c.self.inside.links c.self.inside.len) (λ p. omega (arith, c.self.invariant.linked.distinct p)) in
+    rw (list, ← c.self.view_is) (without_run-move_run_after (listed c.self.inside.links c.self.inside.len) c.args.first c.args.last c.args.after distinct run)
