@@ -126,7 +126,8 @@ impl<T> Links<T> {
         requires last { HasNode self.old last }
         requires before { IsPlace self.old (previous_at self.old (Some first)) }
         requires behind { IsPlace self.old (next_at self.old (Some last)) }
-        ensures { Joins self.old self.new (previous_at self.old (Some first)) (next_at self.old (Some last)) }
+        ensures { Joins self.old self.new
+            (previous_at self.old (Some first)) (next_at self.old (Some last)) }
     {
         let before = self.previous(Some(first));
         let behind = self.next(Some(last));
