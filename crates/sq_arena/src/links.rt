@@ -3,6 +3,7 @@
 //! A place is a key, or `None`, the end that lies ahead of the first key and behind the last one.
 ghost use Rattle.std.specs.Prelude.{◌≡◌, ℕ, [], IsSome, OnOk, OnErr, IfOk, option_copied, ◌^◌, ◌<◌};
 ghost use Rattle.std.specs.Borrow.{sem};
+ghost use Rattle.slab.specs.Slab.{HasRoomFor};
 ghost use Rattle.sq_arena.specs.Links.{HasNode, IsPlace, next_at, previous_at, value_at, SetsNext, SetsPrevious, Joins, Splices, Fills, Frees, AddsSpare, SameLinks};
 ghost use Rattle.sq_arena.specs.Lends.{lends_content, lends_link_value};
 
@@ -176,7 +177,8 @@ impl<T> Links<T> {
 
     /// Takes the memory for so many more keys at once.
     pub(crate) fn reserve(&mut self, more: u32) -> Result<(), ArenaMemory>
-        ensures { SameLinks self.old self.new }
+        ensures same { SameLinks self.old self.new }
+        ensures room { OnOk result (HasRoomFor self.new.nodes more) }
     {
         self.nodes.reserve(more as usize)?;
         Ok(())
