@@ -1,0 +1,10 @@
+pub mod NodeWrites
+pub mod Paths
+pub mod Pieces
+pub mod Relinks
+pub mod EntriesLemmas
+pub mod EntriesLaws
+pub mod ArenaLemmas
+pub mod ArenaReads
+pub mod ArenaWrites
+pub mod Moves

@@ -1,0 +1,4 @@
+pub mod Entries
+pub mod Arena
+pub mod Links
+pub mod Lends
