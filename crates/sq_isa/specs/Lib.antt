@@ -1,8 +1,11 @@
+pub mod AtomicCodes
 pub mod Atomics
 pub mod Branches
+pub mod Codes
 pub mod Fields
 pub mod Ranges
 pub mod Registers
+pub mod Table
 pub mod Uses
 pub mod Values
 pub mod Words
