@@ -14,7 +14,7 @@ module _ (n s v : ℕ) (T : ℕ) (weight : T ≡ 2 ^ (n - 1)) (whole : 2 ^ n ≡
       let room = mul-le-mul_right {m = suc v} {n = T} (2 ^ s) below in
       let fits : v * 2 ^ s < 2 ^ 31 = omega (arith, pow_pos s) in
       let shifted : int_shr (to_z w32 (v * 2 ^ s)) s ≡ pos v =
-          ap (λ z. int_shr z s) (to_z_pos w32 (v * 2 ^ s) fits) ∙ ap pos (shl-shr v s) in
+      ap (λ z. int_shr z s) (to_z_pos w32 (v * 2 ^ s) fits) ∙ ap pos (shl-shr v s) in
       let test : ltb v (2 ^ (n - 1)) ≡ true = rw (← weight) (lt-ltb v T below) in
       shifted ∙ sym (cond-true (ltb v (2 ^ (n - 1))) (pos v) (pos v -ℤ pos (2 ^ n)) test)
 
@@ -27,7 +27,7 @@ module _ (n s v : ℕ) (T : ℕ) (weight : T ≡ 2 ^ (n - 1)) (whole : 2 ^ n ≡
       let high : 2 ^ 31 ≤ v * 2 ^ s = omega arith in
       let rest : 2 ^ 32 - suc (v * 2 ^ s) ≡ d * 2 ^ s + (2 ^ s - 1) = omega (arith, pow_pos s) in
       let signed : to_z w32 (v * 2 ^ s) ≡ negsuc (2 ^ 32 - suc (v * 2 ^ s)) =
-          cond-false (ltb (v * 2 ^ s) (2 ^ 31)) (pos (v * 2 ^ s)) (negsuc (2 ^ 32 - suc (v * 2 ^ s))) (le-ltb (v * 2 ^ s) (2 ^ 31) high) in
+      cond-false (ltb (v * 2 ^ s) (2 ^ 31)) (pos (v * 2 ^ s)) (negsuc (2 ^ 32 - suc (v * 2 ^ s))) (le-ltb (v * 2 ^ s) (2 ^ 31) high) in
       let low : 2 ^ s - 1 < 2 ^ s = omega (arith, pow_pos s) in
       let back : (2 ^ 32 - suc (v * 2 ^ s)) / 2 ^ s ≡ d = ap (λ k. k / 2 ^ s) rest ∙ shr_high d s (2 ^ s - 1) low in
       let shifted : int_shr (to_z w32 (v * 2 ^ s)) s ≡ negsuc d = ap (λ z. int_shr z s) signed ∙ ap negsuc back in
@@ -42,8 +42,9 @@ extended n s v some total small =
     let sum : (n - 1) + s ≡ 31 = omega arith in
     let top : 2 ^ (n - 1) * 2 ^ s ≡ 2 ^ 31 = sym (pow-add 2 (n - 1) s) ∙ ap (λ k. 2 ^ k) sum in
     elim (cases_lt v (2 ^ (n - 1))) [
-        inl below ↦ extended_positive n s v (2 ^ (n - 1)) refl whole top below
-      | inr above ↦ extended_negative n s v (2 ^ (n - 1)) refl whole top above small ]
+      | inl below ↦ extended_positive n s v (2 ^ (n - 1)) refl whole top below
+      | inr above ↦ extended_negative n s v (2 ^ (n - 1)) refl whole top above small
+    ]
 
 -- nothing is lost on the way up
 pub shifted_up : (n s v : ℕ) → 1 ≤ n → n + s ≡ 32 → v < 2 ^ n → v * 2 ^ s < 2 ^ 32

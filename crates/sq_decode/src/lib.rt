@@ -10,6 +10,8 @@ ghost use Rattle.sq_isa.specs.Ranges.{Fits};
 
 mod fields;
 mod groups;
+#[cfg(test)]
+mod tests;
 
 use fields::{immediate_j, immediate_u, opcode, rd};
 use sq_isa::Insn;

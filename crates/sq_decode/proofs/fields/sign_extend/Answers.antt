@@ -15,7 +15,7 @@ returns c =
     let signed : c.cast_signed.result ≡ to_z w32 (v * 2 ^ (32 - n)) = c.cast_signed.ensures ∙ ap (to_z w32) (mod-eq_of_lt up) in
     let r = c.cast_signed.result in
     let shifted : int_shr r (32 - n) ≡ field.sign_extend n v =
-        ap (λ z. int_shr z (32 - n)) signed ∙ extended n (32 - n) v c.requires.some total c.requires.within in
+    ap (λ z. int_shr z (32 - n)) signed ∙ extended n (32 - n) v c.requires.some total c.requires.within in
     let fits : FitsSigned w32 r = search rules in
     let fits_after : FitsSigned w32 (int_shr r (32 - n)) = search rules in
     let same : to_z w32 (of_z w32 r) ≡ r = to_z-of_z w32 r fits in
