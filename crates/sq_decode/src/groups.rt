@@ -219,17 +219,17 @@ pub(crate) fn amo(word: u32) -> Option<Insn>
     if funct3(word) != 0b010 {
         return None;
     }
-    let op = match word >> 27 {
-        0b00010 if rs2(word).number() != 0 => return None,
-        0b00010 => AtomicOp::Lr,
-        code => atomic_operation(code)?,
-    };
+    let code = word >> 27;
+    let src = rs2(word);
+    if code == 0b00010 && src.number() != 0 {
+        return None;
+    }
     Some(Insn::Atomic {
-        op,
+        op: atomic_operation(code)?,
         order: word >> 25 & 3,
         rd: rd(word),
         rs: rs1(word),
-        src: rs2(word),
+        src,
     })
 }
 
@@ -239,6 +239,7 @@ fn atomic_operation(code: u32) -> Option<AtomicOp>
     match code {
         0b00000 => Some(AtomicOp::Add),
         0b00001 => Some(AtomicOp::Swap),
+        0b00010 => Some(AtomicOp::Lr),
         0b00011 => Some(AtomicOp::Sc),
         0b00100 => Some(AtomicOp::Xor),
         0b01000 => Some(AtomicOp::Or),

@@ -1,1 +1,6 @@
+mod Codes
+mod Immediates
 mod Joining
+mod Reading
+mod Rows
+mod Unique

@@ -1,6 +1,6 @@
 -- The instruction table: the instruction that a word is, by the RISC-V manual's listings of RV32I, RV32M and
 -- RV32A. It has one row an opcode, and a list in `Codes` where instructions share one.
-use Rattle.std.specs.Prelude.{ℕ, ℤ, pos, Option, Some, None, ◌==◌, ◌||◌, if◌then◌else◌}
+use Rattle.std.specs.Prelude.{ℕ, ℤ, pos, Option, Some, None, ◌==◌, ◌||◌, ◌&&◌, not, if◌then◌else◌}
 use Rattle.std.specs.Option.{option_map}
 use Rattle.sq_isa.specs.Fields.{bits, opcode, rd, funct3, rs1, rs2, funct7, immediate_i, immediate_s, immediate_b, immediate_u, immediate_j}
 use Rattle.sq_isa.specs.Codes.{coded_by, conditions, loads, stores, immediate_operations, shifts, arithmetic_shifts, operations, alternate_operations, multiplications}
@@ -9,7 +9,6 @@ use Rattle.sq_isa.specs.declared.instructions.Insn.{Insn}
 use Rattle.sq_isa.specs.declared.instructions.Insn.TheVariants.{Lui, Auipc, Jal, Jalr, Branch, Load, Store, OpImm, Op, Fence, Ecall, Ebreak, Unimp, Atomic}
 use Rattle.sq_isa.specs.declared.instructions.ImmOp.{ImmOp}
 use Rattle.sq_isa.specs.declared.instructions.RegOp.{RegOp}
-use Rattle.sq_isa.specs.declared.instructions.AtomicOp.TheVariants.{Lr}
 
 -- 1100111 JALR
 abbrev pub jalr_of : ℕ → Option Insn
@@ -71,12 +70,11 @@ order_of word = bits word 26 25
 abbrev pub funct5 : ℕ → ℕ
 funct5 word = bits word 31 27
 
--- 0101111 AMO on words. LR has x0 as rs2
+-- 0101111 AMO on words. An LR with another rs2 than x0 has no row
 abbrev pub amo_of : ℕ → Option Insn
 amo_of word =
     if funct3 word == 0b010
-    then (if funct5 word == 0b00010
-        then (if rs2 word == 0 then Some (Atomic Lr (order_of word) (rd word) (rs1 word) 0) else None)
+    then (if funct5 word == 0b00010 && not (rs2 word == 0) then None
         else option_map (λ op. Atomic op (order_of word) (rd word) (rs1 word) (rs2 word)) (coded_by atomic_operations (funct5 word)))
     else None
 
