@@ -1,6 +1,1 @@
-mod Codes
-mod Immediates
-mod Joining
-mod Reading
 mod Rows
-mod Unique

@@ -1,7 +1,7 @@
 -- The other word with this instruction is the one that was made.
 use Rattle.std.proofs.Common.{◌≡◌, Some, rules}
 use Rattle.sq_isa.specs.Table.{insn_of}
-use Rattle.sq_encode.proofs.Unique.{same_word}
+use Rattle.sq_isa.proofs.Unique.{same_word}
 use Rattle.sq_encode.proofs.encode.Goals as goal
 
 pub returns-in-Lui-clause-only : goal.returns-in-Lui-clause-only

@@ -6,7 +6,7 @@ use Rattle.sq_isa.specs.Fields.{opcode, rd, funct3, rs1, rs2, funct7, immediate_
 use Rattle.sq_isa.specs.Codes.{coded_by, conditions, loads, stores, immediate_operations, shifts, arithmetic_shifts, operations, alternate_operations, multiplications}
 use Rattle.sq_isa.specs.AtomicCodes.{atomic_operations}
 use Rattle.sq_isa.specs.Table.{insn_of, jalr_of, branch_of, load_of, store_of, shift_operation_of, op_imm_of, operation_of, op_of, fence_of, system_of, order_of, funct5, amo_of, zero_of}
-use Rattle.sq_encode.proofs.Codes.{some_value, none_is_none, by_test, by_map, by_row}
+use Rattle.sq_isa.proofs.Codes.{some_value, none_is_none, by_test, by_map, by_row}
 use Rattle.sq_isa.specs.declared.instructions.Insn.{Insn}
 use Rattle.sq_isa.specs.declared.instructions.Insn.TheVariants.{Lui, Auipc, Jal, Jalr, Branch, Load, Store, OpImm, Op, Fence, Ecall, Ebreak, Unimp, Atomic}
 use Rattle.sq_isa.specs.declared.instructions.Cond.{Cond}

@@ -1,7 +1,7 @@
 -- A word is its six fields, and the pieces of immediates are parts of them.
 use Rattle.std.proofs.Common.{◌≡◌, ℕ, ◌+◌, ◌*◌, ◌/◌, ◌%◌, ◌^◌, ◌<◌, arith, sym, ◌∙◌}
 use Rattle.sq_isa.specs.Fields.{bits, opcode, rd, funct3, rs1, rs2, funct7, immediate_i, immediate_s, immediate_b, immediate_u, immediate_j}
-use Rattle.sq_encode.proofs.Immediates.{same_bits}
+use Rattle.sq_isa.proofs.Immediates.{same_bits}
 
 -- the word with these fields
 abbrev pub joined : ℕ → ℕ → ℕ → ℕ → ℕ → ℕ → ℕ

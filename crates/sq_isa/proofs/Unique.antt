@@ -4,9 +4,9 @@ use Rattle.sq_isa.specs.Fields.{opcode, rd, rs1, rs2, funct7}
 use Rattle.sq_isa.specs.Codes.{coded_by}
 use Rattle.sq_isa.specs.AtomicCodes.{atomic_operations}
 use Rattle.sq_isa.specs.Table.{insn_of, order_of, funct5}
-use Rattle.sq_encode.proofs.Codes.{by_row}
-use Rattle.sq_encode.proofs.Reading.{IsRow, ImmediateRow, row_from_table}
-use Rattle.sq_encode.proofs.Joining.{same_r, same_i, same_s, same_b, same_u, same_j}
+use Rattle.sq_isa.proofs.Codes.{by_row}
+use Rattle.sq_isa.proofs.Reading.{IsRow, ImmediateRow, row_from_table}
+use Rattle.sq_isa.proofs.Joining.{same_r, same_i, same_s, same_b, same_u, same_j}
 use Rattle.sq_isa.specs.declared.instructions.Insn.{Insn}
 use Rattle.sq_isa.specs.declared.instructions.Insn.TheVariants.{Lui, Auipc, Jal, Jalr, Branch, Load, Store, OpImm, Op, Fence, Ecall, Ebreak, Unimp, Atomic}
 use Rattle.sq_isa.specs.declared.instructions.ImmOp.{ImmOp}
