@@ -17,6 +17,7 @@ use fields::{immediate_j, immediate_u, opcode, rd};
 use sq_isa::Insn;
 
 /// The instruction of a word; None exactly where the table has no row.
+#[tactic(auto, unfolding(sq_isa::specs::Table::insn_of))]
 pub fn decode(word: u32) -> Option<Insn>
     ensures table { result ≡ insn_of word }
     ensures fits { IfSome result Fits }

@@ -1,58 +1,88 @@
 // The instructions that share an opcode.
+#![tactic(auto, unfolding(sq_isa::specs::Encoding::word_of))]
 
-ghost use Rattle.std.specs.Prelude.{◌≡◌, ◌^◌, ◌<◌, pos};
-ghost use Rattle.sq_isa.specs.Fields as field;
-ghost use Rattle.sq_isa.specs.Ranges.{IsSigned, IsEven, IsShift, ImmediateFits, SourceFits};
-ghost use Rattle.sq_isa.specs.Codes.{coded_by, conditions, loads, stores, operations, alternate_operations, multiplications};
-ghost use Rattle.sq_isa.specs.AtomicCodes.{atomic_operations};
-ghost use Rattle.sq_isa.specs.Table.{insn_of, jalr_of, branch_of, load_of, store_of, op_imm_of, op_of, amo_of};
+ghost use Rattle.std.specs.Prelude.{◌≡◌, ◌^◌, ◌<◌};
+ghost use Rattle.sq_isa.specs.Ranges.{Fits, ImmediateFits};
+ghost use Rattle.sq_isa.specs.Encoding as encoding;
+ghost use Rattle.sq_isa.specs.AtomicEncoding as atomic;
 
 use crate::formats::{b_type, i_type, j_type, join, r_type, s_type, u_type};
 use sq_isa::{AtomicOp, Cond, ImmOp, Insn, LoadKind, Reg, RegOp, StoreKind};
 
 const OP_IMM: u32 = 0b0010011;
 
-const OP: u32 = 0b0110011;
+/// The word of an instruction, by its opcode.
+pub(crate) fn by_opcode(insn: &Insn) -> u32
+    requires { Fits insn.now }
+    ensures { result ≡ encoding.word_of insn.now }
+{
+    match *insn {
+        Insn::Lui { rd, upper } => lui(rd, upper),
+        Insn::Auipc { rd, upper } => auipc(rd, upper),
+        Insn::Jal { rd, offset } => jal(rd, offset),
+        Insn::Jalr { rd, rs, offset } => jalr(rd, rs, offset),
+        Insn::Branch { cond, a, b, offset } => branch(cond, a, b, offset),
+        Insn::Load {
+            kind,
+            rd,
+            rs,
+            offset,
+        } => load(kind, rd, rs, offset),
+        Insn::Store {
+            kind,
+            rs,
+            src,
+            offset,
+        } => store(kind, rs, src, offset),
+        Insn::OpImm { op, rd, rs, imm } => immediate_operation(op, rd, rs, imm),
+        Insn::Op { op, rd, a, b } => operation(op, rd, a, b),
+        Insn::Fence { word } | Insn::Unimp { word } => word,
+        Insn::Ecall => 0x00000073,
+        Insn::Ebreak => 0x00100073,
+        Insn::Atomic {
+            op,
+            order,
+            rd,
+            rs,
+            src,
+        } => amo(op, order, rd, rs, src),
+    }
+}
 
-pub(crate) fn lui(rd: Reg, upper: u32) -> u32
+fn lui(rd: Reg, upper: u32) -> u32
     requires { upper < 2 ^ 20 }
-    ensures { insn_of result ≡ Some (Insn.Lui rd upper) }
+    ensures { result ≡ encoding.word_of (Insn.Lui rd upper) }
 {
     u_type(0b0110111, rd, upper)
 }
 
-pub(crate) fn auipc(rd: Reg, upper: u32) -> u32
+fn auipc(rd: Reg, upper: u32) -> u32
     requires { upper < 2 ^ 20 }
-    ensures { insn_of result ≡ Some (Insn.Auipc rd upper) }
+    ensures { result ≡ encoding.word_of (Insn.Auipc rd upper) }
 {
     u_type(0b0010111, rd, upper)
 }
 
-pub(crate) fn jal(rd: Reg, offset: i32) -> u32
-    requires offset_fits { IsSigned 21 offset }
-    requires even { IsEven offset }
-    ensures { insn_of result ≡ Some (Insn.Jal rd offset) }
+fn jal(rd: Reg, offset: i32) -> u32
+    ensures { result ≡ encoding.word_of (Insn.Jal rd offset) }
 {
     j_type(0b1101111, rd, offset)
 }
 
-pub(crate) fn jalr(rd: Reg, rs: Reg, offset: i32) -> u32
-    requires { IsSigned 12 offset }
-    ensures { insn_of result ≡ Some (Insn.Jalr rd rs offset) }
+fn jalr(rd: Reg, rs: Reg, offset: i32) -> u32
+    ensures { result ≡ encoding.word_of (Insn.Jalr rd rs offset) }
 {
     i_type(0b1100111, rd, 0b000, rs, offset)
 }
 
-pub(crate) fn branch(cond: Cond, a: Reg, b: Reg, offset: i32) -> u32
-    requires offset_fits { IsSigned 13 offset }
-    requires even { IsEven offset }
-    ensures { insn_of result ≡ Some (Insn.Branch cond a b offset) }
+fn branch(cond: Cond, a: Reg, b: Reg, offset: i32) -> u32
+    ensures { result ≡ encoding.word_of (Insn.Branch cond a b offset) }
 {
     b_type(0b1100011, condition_code(cond), a, b, offset)
 }
 
 fn condition_code(cond: Cond) -> u32
-    ensures code { coded_by conditions result ≡ Some cond }
+    ensures code { result ≡ encoding.condition_code cond }
     ensures range { result < 8 }
 {
     match cond {
@@ -65,15 +95,14 @@ fn condition_code(cond: Cond) -> u32
     }
 }
 
-pub(crate) fn load(kind: LoadKind, rd: Reg, rs: Reg, offset: i32) -> u32
-    requires { IsSigned 12 offset }
-    ensures { insn_of result ≡ Some (Insn.Load kind rd rs offset) }
+fn load(kind: LoadKind, rd: Reg, rs: Reg, offset: i32) -> u32
+    ensures { result ≡ encoding.word_of (Insn.Load kind rd rs offset) }
 {
     i_type(0b0000011, rd, load_code(kind), rs, offset)
 }
 
 fn load_code(kind: LoadKind) -> u32
-    ensures code { coded_by loads result ≡ Some kind }
+    ensures code { result ≡ encoding.load_code kind }
     ensures range { result < 8 }
 {
     match kind {
@@ -85,15 +114,14 @@ fn load_code(kind: LoadKind) -> u32
     }
 }
 
-pub(crate) fn store(kind: StoreKind, rs: Reg, src: Reg, offset: i32) -> u32
-    requires { IsSigned 12 offset }
-    ensures { insn_of result ≡ Some (Insn.Store kind rs src offset) }
+fn store(kind: StoreKind, rs: Reg, src: Reg, offset: i32) -> u32
+    ensures { result ≡ encoding.word_of (Insn.Store kind rs src offset) }
 {
     s_type(0b0100011, store_code(kind), rs, src, offset)
 }
 
 fn store_code(kind: StoreKind) -> u32
-    ensures code { coded_by stores result ≡ Some kind }
+    ensures code { result ≡ encoding.store_code kind }
     ensures range { result < 8 }
 {
     match kind {
@@ -103,9 +131,9 @@ fn store_code(kind: StoreKind) -> u32
     }
 }
 
-pub(crate) fn op_imm(op: ImmOp, rd: Reg, rs: Reg, imm: i32) -> u32
+fn immediate_operation(op: ImmOp, rd: Reg, rs: Reg, imm: i32) -> u32
     requires { ImmediateFits op imm }
-    ensures { insn_of result ≡ Some (Insn.OpImm op rd rs imm) }
+    ensures { result ≡ encoding.word_of (Insn.OpImm op rd rs imm) }
 {
     match op {
         ImmOp::Addi => i_type(OP_IMM, rd, 0b000, rs, imm),
@@ -114,71 +142,65 @@ pub(crate) fn op_imm(op: ImmOp, rd: Reg, rs: Reg, imm: i32) -> u32
         ImmOp::Xori => i_type(OP_IMM, rd, 0b100, rs, imm),
         ImmOp::Ori => i_type(OP_IMM, rd, 0b110, rs, imm),
         ImmOp::Andi => i_type(OP_IMM, rd, 0b111, rs, imm),
-        ImmOp::Slli => shift(0b0000000, 0b001, rd, rs, imm),
-        ImmOp::Srli => shift(0b0000000, 0b101, rd, rs, imm),
-        ImmOp::Srai => shift(0b0100000, 0b101, rd, rs, imm),
+        ImmOp::Slli => join(OP_IMM, rd.number(), 0b001, rs, imm as u32, 0b0000000),
+        ImmOp::Srli => join(OP_IMM, rd.number(), 0b101, rs, imm as u32, 0b0000000),
+        ImmOp::Srai => join(OP_IMM, rd.number(), 0b101, rs, imm as u32, 0b0100000),
     }
 }
 
-/// A shift, whose distance stands where rs2 stands in other formats.
-fn shift(funct7: u32, funct3: u32, rd: Reg, rs: Reg, distance: i32) -> u32
-    requires funct7_fits { funct7 < 128 }
-    requires funct3_fits { funct3 < 8 }
-    requires distance_fits { IsShift distance }
-    ensures opcode { field.opcode result ≡ OP_IMM }
-    ensures rd { field.rd result ≡ rd }
-    ensures funct3 { field.funct3 result ≡ funct3 }
-    ensures rs1 { field.rs1 result ≡ rs }
-    ensures distance { pos (field.rs2 result) ≡ distance }
-    ensures funct7 { field.funct7 result ≡ funct7 }
+fn operation(op: RegOp, rd: Reg, a: Reg, b: Reg) -> u32
+    ensures { result ≡ encoding.word_of (Insn.Op op rd a b) }
 {
-    join(
-        OP_IMM,
-        rd.number(),
-        funct3,
-        rs.number(),
-        distance as u32,
-        funct7,
-    )
+    let (funct7, funct3) = operation_codes(op);
+    r_type(0b0110011, rd, funct3, a, b, funct7)
 }
 
-pub(crate) fn op(op: RegOp, rd: Reg, a: Reg, b: Reg) -> u32
-    ensures { insn_of result ≡ Some (Insn.Op op rd a b) }
+/// funct7 and funct3.
+fn operation_codes(op: RegOp) -> (u32, u32)
+    ensures codes { result ≡ encoding.operation_codes op }
+    ensures funct7 { result.0 < 128 }
+    ensures funct3 { result.1 < 8 }
 {
     match op {
-        RegOp::Add => r_type(OP, rd, 0b000, a, b, 0b0000000),
-        RegOp::Sll => r_type(OP, rd, 0b001, a, b, 0b0000000),
-        RegOp::Slt => r_type(OP, rd, 0b010, a, b, 0b0000000),
-        RegOp::Sltu => r_type(OP, rd, 0b011, a, b, 0b0000000),
-        RegOp::Xor => r_type(OP, rd, 0b100, a, b, 0b0000000),
-        RegOp::Srl => r_type(OP, rd, 0b101, a, b, 0b0000000),
-        RegOp::Or => r_type(OP, rd, 0b110, a, b, 0b0000000),
-        RegOp::And => r_type(OP, rd, 0b111, a, b, 0b0000000),
-        RegOp::Sub => r_type(OP, rd, 0b000, a, b, 0b0100000),
-        RegOp::Sra => r_type(OP, rd, 0b101, a, b, 0b0100000),
-        RegOp::Mul => r_type(OP, rd, 0b000, a, b, 0b0000001),
-        RegOp::Mulh => r_type(OP, rd, 0b001, a, b, 0b0000001),
-        RegOp::Mulhsu => r_type(OP, rd, 0b010, a, b, 0b0000001),
-        RegOp::Mulhu => r_type(OP, rd, 0b011, a, b, 0b0000001),
-        RegOp::Div => r_type(OP, rd, 0b100, a, b, 0b0000001),
-        RegOp::Divu => r_type(OP, rd, 0b101, a, b, 0b0000001),
-        RegOp::Rem => r_type(OP, rd, 0b110, a, b, 0b0000001),
-        RegOp::Remu => r_type(OP, rd, 0b111, a, b, 0b0000001),
+        RegOp::Add => (0b0000000, 0b000),
+        RegOp::Sub => (0b0100000, 0b000),
+        RegOp::Sll => (0b0000000, 0b001),
+        RegOp::Slt => (0b0000000, 0b010),
+        RegOp::Sltu => (0b0000000, 0b011),
+        RegOp::Xor => (0b0000000, 0b100),
+        RegOp::Srl => (0b0000000, 0b101),
+        RegOp::Sra => (0b0100000, 0b101),
+        RegOp::Or => (0b0000000, 0b110),
+        RegOp::And => (0b0000000, 0b111),
+        RegOp::Mul => (0b0000001, 0b000),
+        RegOp::Mulh => (0b0000001, 0b001),
+        RegOp::Mulhsu => (0b0000001, 0b010),
+        RegOp::Mulhu => (0b0000001, 0b011),
+        RegOp::Div => (0b0000001, 0b100),
+        RegOp::Divu => (0b0000001, 0b101),
+        RegOp::Rem => (0b0000001, 0b110),
+        RegOp::Remu => (0b0000001, 0b111),
     }
 }
 
-pub(crate) fn amo(op: AtomicOp, order: u32, rd: Reg, rs: Reg, src: Reg) -> u32
-    requires order_fits { order < 4 }
-    requires source_fits { SourceFits op src }
-    ensures { insn_of result ≡ Some (Insn.Atomic op order rd rs src) }
+fn amo(op: AtomicOp, order: u32, rd: Reg, rs: Reg, src: Reg) -> u32
+    requires { order < 4 }
+    ensures { result ≡ encoding.word_of (Insn.Atomic op order rd rs src) }
 {
-    r_type(0b0101111, rd, 0b010, rs, src, atomic_code(op) * 4 + order)
+    r_type(
+        0b0101111,
+        rd,
+        0b010,
+        rs,
+        src,
+        (atomic_code(op) << 2) + order,
+    )
 }
 
 /// The upper five bits of an atomic operation.
 fn atomic_code(op: AtomicOp) -> u32
+    ensures code { result ≡ atomic.atomic_code op }
     ensures range { result < 32 }
-    ensures code { coded_by atomic_operations result ≡ Some op }
 {
     match op {
         AtomicOp::Add => 0b00000,

@@ -5,7 +5,7 @@ use Rattle.std.proofs.lemmas.Bool.Decides.{nat_tests}
 use Rattle.std.proofs.lemmas.Nat.{pow-add, pow_pos, mod_low}
 use Rattle.std.proofs.Math.Nat.{mod-eq_of_lt}
 use Rattle.sq_isa.specs.Fields.{sign_extend}
-use Rattle.sq_isa.specs.Ranges.{IsSigned}
+use Rattle.sq_isa.specs.Ranges.{IsSigned, IsEven}
 use Rattle.sq_isa.specs.Words.{unsigned}
 
 -- n bits are twice as many numbers as n - 1 bits
@@ -43,3 +43,12 @@ pub same_bits : (n a b : ℕ) → 1 ≤ n → a < 2 ^ n → b < 2 ^ n → sign_e
 same_bits n a b some p q e =
     let twice = doubled n some in
     grind (arith, ints, nat_tests)
+
+-- the range of n bits
+pub extended_fits : (n v : ℕ) → 1 ≤ n → v < 2 ^ n → IsSigned n (sign_extend n v)
+extended_fits n v some small =
+    let twice = doubled n some in
+    (grind (arith, ints, nat_tests), grind (arith, ints, nat_tests))
+
+pub extended_even : (n v : ℕ) → 1 ≤ n → 2 ^ n % 2 ≡ 0 → v < 2 ^ n → v % 2 ≡ 0 → IsEven (sign_extend n v)
+extended_even n v some even small h = grind (arith, ints, nat_tests)

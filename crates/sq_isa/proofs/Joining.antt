@@ -1,106 +1,92 @@
--- A word is its six fields, and the pieces of immediates are parts of them.
-use Rattle.std.proofs.Common.{◌≡◌, ℕ, ◌+◌, ◌*◌, ◌/◌, ◌%◌, ◌^◌, ◌<◌, arith, sym, ◌∙◌}
-use Rattle.sq_isa.specs.Fields.{bits, opcode, rd, funct3, rs1, rs2, funct7, immediate_i, immediate_s, immediate_b, immediate_u, immediate_j}
-use Rattle.sq_isa.proofs.Immediates.{same_bits}
-
--- the word with these fields
-abbrev pub joined : ℕ → ℕ → ℕ → ℕ → ℕ → ℕ → ℕ
-joined op d f3 a b f7 = op + 2 ^ 7 * d + 2 ^ 12 * f3 + 2 ^ 15 * a + 2 ^ 20 * b + 2 ^ 25 * f7
-
-pub joined-fields : (w : ℕ) → w < 2 ^ 32 → joined (opcode w) (rd w) (funct3 w) (rs1 w) (rs2 w) (funct7 w) ≡ w
-joined-fields w h = omega arith
+-- The fields of a word that was put together from them, in each format.
+use Rattle.std.proofs.Common.{◌≡◌, ℕ, ℤ, pos, negsuc, ◌+◌, ◌*◌, ◌%◌, ◌^◌, ◌<◌, arith, ◌∙◌, ap}
+use Rattle.sq_isa.specs.Words.{unsigned}
+use Rattle.sq_isa.specs.Fields.{bits, opcode, rd, funct3, rs1, rs2, funct7, sign_extend, immediate_i, immediate_s, immediate_b, immediate_u, immediate_j}
+use Rattle.sq_isa.specs.Ranges.{IsSigned, IsEven}
+use Rattle.sq_isa.specs.Encoding.{r_word, i_word, s_word, b_word, u_word, j_word}
+use Rattle.sq_isa.proofs.Immediates.{extended}
 
 module _ (op d f3 a b f7 : ℕ) (p : op < 128) (q : d < 32) (r : f3 < 8) (s : a < 32) (t : b < 32) (u : f7 < 128) where
-  pub joined-lt : joined op d f3 a b f7 < 2 ^ 32
-  joined-lt = omega arith
+  opcode-r_word : opcode (r_word op d f3 a b f7) ≡ op
+  opcode-r_word = omega arith
 
-  pub opcode-joined : opcode (joined op d f3 a b f7) ≡ op
-  opcode-joined = omega arith
+  rd-r_word : rd (r_word op d f3 a b f7) ≡ d
+  rd-r_word = omega arith
 
-  pub rd-joined : rd (joined op d f3 a b f7) ≡ d
-  rd-joined = omega arith
+  funct3-r_word : funct3 (r_word op d f3 a b f7) ≡ f3
+  funct3-r_word = omega arith
 
-  pub funct3-joined : funct3 (joined op d f3 a b f7) ≡ f3
-  funct3-joined = omega arith
+  rs1-r_word : rs1 (r_word op d f3 a b f7) ≡ a
+  rs1-r_word = omega arith
 
-  pub rs1-joined : rs1 (joined op d f3 a b f7) ≡ a
-  rs1-joined = omega arith
+  rs2-r_word : rs2 (r_word op d f3 a b f7) ≡ b
+  rs2-r_word = omega arith
 
-  pub rs2-joined : rs2 (joined op d f3 a b f7) ≡ b
-  rs2-joined = omega arith
+  funct7-r_word : funct7 (r_word op d f3 a b f7) ≡ f7
+  funct7-r_word = omega arith
 
-  pub funct7-joined : funct7 (joined op d f3 a b f7) ≡ f7
-  funct7-joined = omega arith
+  pub r_word_below : r_word op d f3 a b f7 < 2 ^ 32
+  r_word_below = omega arith
 
--- the pieces of immediates
-pub bits-31-20 : (w : ℕ) → bits w 31 20 ≡ funct7 w * 32 + rs2 w
-bits-31-20 w = omega arith
+  pub r_fields : let w = r_word op d f3 a b f7 in
+      (opcode w ≡ op) × (rd w ≡ d) × (funct3 w ≡ f3) × (rs1 w ≡ a) × (rs2 w ≡ b) × (funct7 w ≡ f7)
+  r_fields = (opcode-r_word, rd-r_word, funct3-r_word, rs1-r_word, rs2-r_word, funct7-r_word)
 
-pub bits-31-31 : (w : ℕ) → bits w 31 31 ≡ funct7 w / 64
-bits-31-31 w = omega arith
+-- the pieces of an immediate n, put back together
+module _ (w n : ℕ) where
+  pieces_i : rs2 w ≡ bits n 4 0 → funct7 w ≡ bits n 11 5 → bits w 31 20 ≡ n % 2 ^ 12
+  pieces_i e f = omega arith
 
-pub bits-30-25 : (w : ℕ) → bits w 30 25 ≡ funct7 w % 64
-bits-30-25 w = omega arith
+  pieces_s : rd w ≡ bits n 4 0 → funct7 w ≡ bits n 11 5 → bits w 31 25 * 2 ^ 5 + bits w 11 7 ≡ n % 2 ^ 12
+  pieces_s e f = omega arith
 
-pub bits-11-8 : (w : ℕ) → bits w 11 8 ≡ rd w / 2
-bits-11-8 w = omega arith
+  pieces_b : rd w ≡ bits n 4 1 * 2 + bits n 11 11 → funct7 w ≡ bits n 12 12 * 2 ^ 6 + bits n 10 5 → n % 2 ≡ 0 →
+      bits w 31 31 * 2 ^ 12 + bits w 7 7 * 2 ^ 11 + bits w 30 25 * 2 ^ 5 + bits w 11 8 * 2 ≡ n % 2 ^ 13
+  pieces_b e f g = omega arith
 
-pub bits-7-7 : (w : ℕ) → bits w 7 7 ≡ rd w % 2
-bits-7-7 w = omega arith
+  pieces_j : immediate_u w ≡ bits n 20 20 * 2 ^ 19 + bits n 10 1 * 2 ^ 9 + bits n 11 11 * 2 ^ 8 + bits n 19 12 → n % 2 ≡ 0 →
+      bits w 31 31 * 2 ^ 20 + bits w 19 12 * 2 ^ 12 + bits w 20 20 * 2 ^ 11 + bits w 30 21 * 2 ≡ n % 2 ^ 21
+  pieces_j e g = omega arith
 
-pub bits-31-12 : (w : ℕ) → bits w 31 12 ≡ funct7 w * 2 ^ 13 + rs2 w * 2 ^ 8 + rs1 w * 2 ^ 3 + funct3 w
-bits-31-12 w = omega arith
+even_unsigned : (z : ℤ) → IsEven z → unsigned z % 2 ≡ 0
+even_unsigned (pos k) e = e
+even_unsigned (negsuc k) e = omega arith
 
-pub bits-19-12 : (w : ℕ) → bits w 19 12 ≡ rs1 w * 8 + funct3 w
-bits-19-12 w = omega arith
+module _ (op f3 a : ℕ) (z : ℤ) (p : op < 128) (r : f3 < 8) (s : a < 32) where
+  pub i_fields : (d : ℕ) → d < 32 → IsSigned 12 z → let w = i_word op d f3 a z in
+      (opcode w ≡ op) × (rd w ≡ d) × (funct3 w ≡ f3) × (rs1 w ≡ a) × (immediate_i w ≡ z)
+  i_fields d q h =
+      let n = unsigned z in
+      let w = i_word op d f3 a z in
+      let f = r_fields op d f3 a (bits n 4 0) (bits n 11 5) p q r s (omega arith) (omega arith) in
+      (f.0, f.1, f.2, f.3, ap (sign_extend 12) (pieces_i w n f.4 f.5) ∙ extended 12 z (omega arith) (omega arith) h)
 
-pub bits-20-20 : (w : ℕ) → bits w 20 20 ≡ rs2 w % 2
-bits-20-20 w = omega arith
+  pub s_fields : (b : ℕ) → b < 32 → IsSigned 12 z → let w = s_word op f3 a b z in
+      (opcode w ≡ op) × (funct3 w ≡ f3) × (rs1 w ≡ a) × (rs2 w ≡ b) × (immediate_s w ≡ z)
+  s_fields b t h =
+      let n = unsigned z in
+      let w = s_word op f3 a b z in
+      let f = r_fields op (bits n 4 0) f3 a b (bits n 11 5) p (omega arith) r s t (omega arith) in
+      (f.0, f.2, f.3, f.4, ap (sign_extend 12) (pieces_s w n f.1 f.5) ∙ extended 12 z (omega arith) (omega arith) h)
 
-pub bits-30-21 : (w : ℕ) → bits w 30 21 ≡ (funct7 w % 64) * 16 + rs2 w / 2
-bits-30-21 w = omega arith
+  pub b_fields : (b : ℕ) → b < 32 → IsSigned 13 z → IsEven z → let w = b_word op f3 a b z in
+      (opcode w ≡ op) × (funct3 w ≡ f3) × (rs1 w ≡ a) × (rs2 w ≡ b) × (immediate_b w ≡ z)
+  b_fields b t h e =
+      let n = unsigned z in
+      let w = b_word op f3 a b z in
+      let f = r_fields op (bits n 4 1 * 2 + bits n 11 11) f3 a b (bits n 12 12 * 2 ^ 6 + bits n 10 5) p (omega arith) r s t (omega arith) in
+      (f.0, f.2, f.3, f.4, ap (sign_extend 13) (pieces_b w n f.1 f.5 (even_unsigned z e)) ∙ extended 13 z (omega arith) (omega arith) h)
 
--- rd and funct7 from the pieces of an immediate of format B
-rd-pieces : (w : ℕ) → rd w ≡ bits w 11 8 * 2 + bits w 7 7
-rd-pieces w = omega arith
+module _ (op d : ℕ) (p : op < 128) (q : d < 32) where
+  pub u_fields : (u : ℕ) → u < 2 ^ 20 → let w = u_word op d u in (opcode w ≡ op) × (rd w ≡ d) × (immediate_u w ≡ u)
+  u_fields u h = (omega arith, omega arith, omega arith)
 
-funct7-pieces : (w : ℕ) → funct7 w ≡ bits w 31 31 * 64 + bits w 30 25
-funct7-pieces w = omega arith
+  pub u_word_below : (u : ℕ) → u < 2 ^ 20 → u_word op d u < 2 ^ 32
+  u_word_below u h = omega arith
 
--- the pieces of format B, from their sum
-same_pieces : (a b c d a' b' c' d' : ℕ) → b < 2 → c < 64 → d < 16 → b' < 2 → c' < 64 → d' < 16 →
-    a * 2 ^ 12 + b * 2 ^ 11 + c * 2 ^ 5 + d * 2 ≡ a' * 2 ^ 12 + b' * 2 ^ 11 + c' * 2 ^ 5 + d' * 2 →
-    (d * 2 + b ≡ d' * 2 + b') × (a * 64 + c ≡ a' * 64 + c')
-same_pieces a b c d a' b' c' d' p q r s t u e = (omega arith, omega arith)
-
--- two words with the same fields are equal, in each format
-module _ (v w : ℕ) (p : v < 2 ^ 32) (q : w < 2 ^ 32) (e : opcode v ≡ opcode w) where
-  pub same_r : rd v ≡ rd w → funct3 v ≡ funct3 w → rs1 v ≡ rs1 w → rs2 v ≡ rs2 w → funct7 v ≡ funct7 w → v ≡ w
-  same_r d f a b g = omega arith
-
-  pub same_i : rd v ≡ rd w → funct3 v ≡ funct3 w → rs1 v ≡ rs1 w → immediate_i v ≡ immediate_i w → v ≡ w
-  same_i d f a i =
-      let high = same_bits 12 (bits v 31 20) (bits w 31 20) (omega arith) (omega arith) (omega arith) i in
-      omega arith
-
-  pub same_s : funct3 v ≡ funct3 w → rs1 v ≡ rs1 w → rs2 v ≡ rs2 w → immediate_s v ≡ immediate_s w → v ≡ w
-  same_s f a b i =
-      let whole = same_bits 12 (bits v 31 25 * 2 ^ 5 + bits v 11 7) (bits w 31 25 * 2 ^ 5 + bits w 11 7) (omega arith) (omega arith) (omega arith) i in
-      omega arith
-
-  pub same_b : funct3 v ≡ funct3 w → rs1 v ≡ rs1 w → rs2 v ≡ rs2 w → immediate_b v ≡ immediate_b w → v ≡ w
-  same_b f a b i =
-      let whole = same_bits 13 (bits v 31 31 * 2 ^ 12 + bits v 7 7 * 2 ^ 11 + bits v 30 25 * 2 ^ 5 + bits v 11 8 * 2)
-      (bits w 31 31 * 2 ^ 12 + bits w 7 7 * 2 ^ 11 + bits w 30 25 * 2 ^ 5 + bits w 11 8 * 2) (omega arith) (omega arith) (omega arith) i in
-      let pieces = same_pieces (bits v 31 31) (bits v 7 7) (bits v 30 25) (bits v 11 8) (bits w 31 31) (bits w 7 7) (bits w 30 25) (bits w 11 8)
-      (omega arith) (omega arith) (omega arith) (omega arith) (omega arith) (omega arith) whole in
-      same_r (rd-pieces v ∙ (pieces.0 ∙ sym (rd-pieces w))) f a b (funct7-pieces v ∙ (pieces.1 ∙ sym (funct7-pieces w)))
-
-  pub same_u : rd v ≡ rd w → immediate_u v ≡ immediate_u w → v ≡ w
-  same_u d i = omega arith
-
-  pub same_j : rd v ≡ rd w → immediate_j v ≡ immediate_j w → v ≡ w
-  same_j d i =
-      let whole = same_bits 21 (bits v 31 31 * 2 ^ 20 + bits v 19 12 * 2 ^ 12 + bits v 20 20 * 2 ^ 11 + bits v 30 21 * 2)
-      (bits w 31 31 * 2 ^ 20 + bits w 19 12 * 2 ^ 12 + bits w 20 20 * 2 ^ 11 + bits w 30 21 * 2) (omega arith) (omega arith) (omega arith) i in
-      omega arith
+  pub j_fields : (z : ℤ) → IsSigned 21 z → IsEven z → let w = j_word op d z in (opcode w ≡ op) × (rd w ≡ d) × (immediate_j w ≡ z)
+  j_fields z h e =
+      let n = unsigned z in
+      let w = j_word op d z in
+      let f = u_fields (bits n 20 20 * 2 ^ 19 + bits n 10 1 * 2 ^ 9 + bits n 11 11 * 2 ^ 8 + bits n 19 12) (omega arith) in
+      (f.0, f.1, ap (sign_extend 21) (pieces_j w n f.2 (even_unsigned z e)) ∙ extended 21 z (omega arith) (omega arith) h)

@@ -1,6 +1,9 @@
+mod AtomicRows
 pub mod Codes
+pub mod Encoded
 pub mod Immediates
 pub mod Joining
 pub mod Reading
+mod Same
 mod Sets
 pub mod Unique

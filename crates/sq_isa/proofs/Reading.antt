@@ -1,66 +1,24 @@
 -- What a word is that the table reads as an instruction: the fields, from the instruction's side.
-use Rattle.std.proofs.Common.{◌≡◌, ℕ, ℤ, pos, Option, Some, None, ◌==◌, ◌||◌, ◌&&◌, not, cond, refl, subst, sym}
+use Rattle.std.proofs.Common.{◌≡◌, ℕ, ℤ, pos, ◌<◌, false, inl, inr, arith, Option, Some, None, ◌==◌, ◌||◌, ◌&&◌, not, cond, refl, subst, sym}
 use Rattle.std.proofs.lemmas.Bool.{eqb-true}
+use Rattle.std.proofs.lemmas.Bool.Decides.{nat_tests}
+use Rattle.sq_isa.specs.Ranges.{IsUnimp, SourceFits}
+use Rattle.sq_isa.specs.declared.instructions.AtomicOp.{AtomicOp}
 use Rattle.std.specs.Option.{option_map}
 use Rattle.sq_isa.specs.Fields.{opcode, rd, funct3, rs1, rs2, funct7, immediate_i, immediate_s, immediate_b, immediate_u, immediate_j}
 use Rattle.sq_isa.specs.Codes.{coded_by, conditions, loads, stores, immediate_operations, shifts, arithmetic_shifts, operations, alternate_operations, multiplications}
 use Rattle.sq_isa.specs.AtomicCodes.{atomic_operations}
 use Rattle.sq_isa.specs.Table.{insn_of, jalr_of, branch_of, load_of, store_of, shift_operation_of, op_imm_of, operation_of, op_of, fence_of, system_of, order_of, funct5, amo_of, zero_of}
+use Rattle.sq_isa.specs.Encoding.{condition_code, load_code, store_code, operation_codes}
+use Rattle.sq_isa.specs.AtomicEncoding.{atomic_code}
 use Rattle.sq_isa.proofs.Codes.{some_value, none_is_none, by_test, by_map, by_row}
 use Rattle.sq_isa.specs.declared.instructions.Insn.{Insn}
 use Rattle.sq_isa.specs.declared.instructions.Insn.TheVariants.{Lui, Auipc, Jal, Jalr, Branch, Load, Store, OpImm, Op, Fence, Ecall, Ebreak, Unimp, Atomic}
-use Rattle.sq_isa.specs.declared.instructions.Cond.{Cond}
-use Rattle.sq_isa.specs.declared.instructions.Cond.TheVariants.{Beq, Bne, Blt, Bge, Bltu, Bgeu}
-use Rattle.sq_isa.specs.declared.instructions.LoadKind.{LoadKind}
-use Rattle.sq_isa.specs.declared.instructions.LoadKind.TheVariants.{Lb, Lh, Lw, Lbu, Lhu}
-use Rattle.sq_isa.specs.declared.instructions.StoreKind.{StoreKind}
-use Rattle.sq_isa.specs.declared.instructions.StoreKind.TheVariants.{Sb, Sh, Sw}
 use Rattle.sq_isa.specs.declared.instructions.ImmOp.{ImmOp}
 use Rattle.sq_isa.specs.declared.instructions.ImmOp.TheVariants.{Addi, Slti, Sltiu, Xori, Ori, Andi, Slli, Srli, Srai}
 use Rattle.sq_isa.specs.declared.instructions.RegOp.{RegOp}
-use Rattle.sq_isa.specs.declared.instructions.RegOp.TheVariants.{Add, Sub, Sll, Slt, Sltu, Xor, Srl, Sra, Or, And, Mul, Mulh, Mulhsu, Mulhu, Div, Divu, Rem, Remu}
 
--- codes from the operation's side
-abbrev pub condition_code : Cond → ℕ
-condition_code Beq = 0b000
-condition_code Bne = 0b001
-condition_code Blt = 0b100
-condition_code Bge = 0b101
-condition_code Bltu = 0b110
-condition_code Bgeu = 0b111
-
-abbrev pub load_code : LoadKind → ℕ
-load_code Lb = 0b000
-load_code Lh = 0b001
-load_code Lw = 0b010
-load_code Lbu = 0b100
-load_code Lhu = 0b101
-
-abbrev pub store_code : StoreKind → ℕ
-store_code Sb = 0b000
-store_code Sh = 0b001
-store_code Sw = 0b010
-
-abbrev pub operation_codes : RegOp → ℕ × ℕ
-operation_codes Add = (0b0000000, 0b000)
-operation_codes Sub = (0b0100000, 0b000)
-operation_codes Sll = (0b0000000, 0b001)
-operation_codes Slt = (0b0000000, 0b010)
-operation_codes Sltu = (0b0000000, 0b011)
-operation_codes Xor = (0b0000000, 0b100)
-operation_codes Srl = (0b0000000, 0b101)
-operation_codes Sra = (0b0100000, 0b101)
-operation_codes Or = (0b0000000, 0b110)
-operation_codes And = (0b0000000, 0b111)
-operation_codes Mul = (0b0000001, 0b000)
-operation_codes Mulh = (0b0000001, 0b001)
-operation_codes Mulhsu = (0b0000001, 0b010)
-operation_codes Mulhu = (0b0000001, 0b011)
-operation_codes Div = (0b0000001, 0b100)
-operation_codes Divu = (0b0000001, 0b101)
-operation_codes Rem = (0b0000001, 0b110)
-operation_codes Remu = (0b0000001, 0b111)
-
+-- the codes and the immediate of an operation of OP-IMM
 abbrev pub ImmediateRow : ImmOp → ℕ → ℤ → Type 0
 ImmediateRow Addi w z = (funct3 w ≡ 0b000) × (immediate_i w ≡ z)
 ImmediateRow Slti w z = (funct3 w ≡ 0b010) × (immediate_i w ≡ z)
@@ -83,15 +41,24 @@ IsRow (Load kind d a offset) w = (opcode w ≡ 0b0000011) × (rd w ≡ d) × (fu
 IsRow (Store kind a b offset) w = (opcode w ≡ 0b0100011) × (funct3 w ≡ store_code kind) × (rs1 w ≡ a) × (rs2 w ≡ b) × (immediate_s w ≡ offset)
 IsRow (OpImm op d a imm) w = (opcode w ≡ 0b0010011) × (rd w ≡ d) × (rs1 w ≡ a) × ImmediateRow op w imm
 IsRow (Op op d a b) w = (opcode w ≡ 0b0110011) × (rd w ≡ d) × (funct3 w ≡ (operation_codes op).1) × (rs1 w ≡ a) × (rs2 w ≡ b) × (funct7 w ≡ (operation_codes op).0)
-IsRow (Fence word) w = w ≡ word
+IsRow (Fence word) w = (w ≡ word) × (opcode w ≡ 0b0001111) × (funct3 w ≡ 0b000)
 IsRow Ecall w = w ≡ 0x00000073
 IsRow Ebreak w = w ≡ 0x00100073
-IsRow (Unimp word) w = w ≡ word
-IsRow (Atomic op order d a b) w = (opcode w ≡ 0b0101111) × (rd w ≡ d) × (funct3 w ≡ 0b010) × (rs1 w ≡ a) × (rs2 w ≡ b) × (order_of w ≡ order) × (coded_by atomic_operations (funct5 w) ≡ Some op)
+IsRow (Unimp word) w = (w ≡ word) × IsUnimp word
+IsRow (Atomic op order d a b) w = (opcode w ≡ 0b0101111) × (rd w ≡ d) × (funct3 w ≡ 0b010) × (rs1 w ≡ a) × (rs2 w ≡ b) × (order_of w ≡ order) × (funct5 w ≡ atomic_code op) × SourceFits op b
 
 -- a row that is one instruction
 one_row : (w : ℕ) (x i : Insn) → IsRow x w → Some x ≡ Some i → IsRow i w
 one_row w x i row e = subst (λ k. IsRow k w) (some_value x i e) row
+
+-- where the code is that of LR, the source is x0
+lr_source : (code src : ℕ) → (code == 0b00010 && not (src == 0)) ≡ false → code ≡ 0b00010 → src ≡ 0
+lr_source code src n e = grind (arith, nat_tests)
+
+atomic_code_is : (code : ℕ) (op : AtomicOp) → coded_by atomic_operations code ≡ Some op → code ≡ atomic_code op
+atomic_code_is code op c =
+    by_row (λ k o. k ≡ atomic_code o) atomic_operations code op
+    (refl, (refl, (refl, (refl, (refl, (refl, (refl, (refl, (refl, (refl, (refl, tt))))))))))) c
 
 module _ (w : ℕ) (i : Insn) where
   jalr_row : opcode w ≡ 0b1100111 → jalr_of w ≡ Some i → IsRow i w
@@ -183,10 +150,10 @@ module _ (w : ℕ) (i : Insn) where
       (λ op f. let codes = operation_codes_is op f in (e, refl, codes.0, refl, refl, codes.1))
       h
 
-  fence_row : fence_of w ≡ Some i → IsRow i w
-  fence_row h =
+  fence_row : opcode w ≡ 0b0001111 → fence_of w ≡ Some i → IsRow i w
+  fence_row e h =
       by_test (funct3 w == 0b000) (Some (Fence w)) None i (IsRow i w)
-      (λ t f. one_row w (Fence w) i refl f) (λ _ f. none_is_none (IsRow i w) i f) h
+      (λ t f. one_row w (Fence w) i (refl, e, eqb-true (funct3 w) 0 t) f) (λ _ f. none_is_none (IsRow i w) i f) h
 
   system_row : system_of w ≡ Some i → IsRow i w
   system_row h =
@@ -197,11 +164,18 @@ module _ (w : ℕ) (i : Insn) where
       (λ t f. one_row w Ebreak i (eqb-true w 0x00100073 t) f)
       (λ _ k.
       by_test (w == 0xc0001073) (Some (Unimp 0xc0001073)) None i (IsRow i w)
-      (λ t f. one_row w (Unimp 0xc0001073) i (eqb-true w 0xc0001073 t) f)
+      (λ t f. one_row w (Unimp 0xc0001073) i (eqb-true w 0xc0001073 t, inr refl) f)
       (λ _ f. none_is_none (IsRow i w) i f)
       k)
       g)
       h
+
+  source_fits : (funct5 w == 0b00010 && not (rs2 w == 0)) ≡ false → (op : AtomicOp) → coded_by atomic_operations (funct5 w) ≡ Some op → SourceFits op (rs2 w)
+  source_fits n op c =
+      let below : rs2 w < 32 = omega arith in
+      by_row (λ code o. funct5 w ≡ code → SourceFits o (rs2 w)) atomic_operations (funct5 w) op
+      ((λ _. below), ((λ _. below), ((λ k. lr_source (funct5 w) (rs2 w) n k), ((λ _. below), ((λ _. below), ((λ _. below), ((λ _. below), ((λ _. below), ((λ _. below), ((λ _. below), ((λ _. below), tt)))))))))))
+      c refl
 
   amo_row : opcode w ≡ 0b0101111 → amo_of w ≡ Some i → IsRow i w
   amo_row e h =
@@ -210,9 +184,9 @@ module _ (w : ℕ) (i : Insn) where
       (λ t g.
       by_test (funct5 w == 0b00010 && not (rs2 w == 0)) None all i (IsRow i w)
       (λ _ f. none_is_none (IsRow i w) i f)
-      (λ _ f.
+      (λ n f.
       by_map (λ op. Atomic op (order_of w) (rd w) (rs1 w) (rs2 w)) (λ k. IsRow k w) (coded_by atomic_operations (funct5 w)) i
-      (λ op c. (e, refl, eqb-true (funct3 w) 2 t, refl, refl, refl, c)) f)
+      (λ op c. (e, refl, eqb-true (funct3 w) 2 t, refl, refl, refl, atomic_code_is (funct5 w) op c, source_fits n op c)) f)
       g)
       (λ _ f. none_is_none (IsRow i w) i f)
       h
@@ -220,10 +194,11 @@ module _ (w : ℕ) (i : Insn) where
   zero_row : zero_of w ≡ Some i → IsRow i w
   zero_row h =
       by_test (w == 0x00000000) (Some (Unimp 0)) None i (IsRow i w)
-      (λ t f. one_row w (Unimp 0) i (eqb-true w 0 t) f) (λ _ f. none_is_none (IsRow i w) i f) h
+      (λ t f. one_row w (Unimp 0) i (eqb-true w 0 t, inl refl) f) (λ _ f. none_is_none (IsRow i w) i f) h
 
   -- a word has the fields of the instruction that the table reads in it
   pub row_from_table : insn_of w ≡ Some i → IsRow i w
+  unfolding insn_of
   row_from_table h0 =
       let rest12 : Option Insn = cond (opcode w == 0b0000000) (zero_of w) None in
       let rest11 : Option Insn = cond (opcode w == 0b0101111) (amo_of w) rest12 in
@@ -246,7 +221,7 @@ module _ (w : ℕ) (i : Insn) where
       by_test (opcode w == 0b0100011) (store_of w) rest7 i (IsRow i w) (λ t f. let e = eqb-true (opcode w) 0b0100011 t in store_row e f) (λ _ h7.
       by_test (opcode w == 0b0010011) (op_imm_of w) rest8 i (IsRow i w) (λ t f. let e = eqb-true (opcode w) 0b0010011 t in op_imm_row e f) (λ _ h8.
       by_test (opcode w == 0b0110011) (op_of w) rest9 i (IsRow i w) (λ t f. let e = eqb-true (opcode w) 0b0110011 t in op_row e f) (λ _ h9.
-      by_test (opcode w == 0b0001111) (fence_of w) rest10 i (IsRow i w) (λ _ f. fence_row f) (λ _ h10.
+      by_test (opcode w == 0b0001111) (fence_of w) rest10 i (IsRow i w) (λ t f. fence_row (eqb-true (opcode w) 0b0001111 t) f) (λ _ h10.
       by_test (opcode w == 0b1110011) (system_of w) rest11 i (IsRow i w) (λ _ f. system_row f) (λ _ h11.
       by_test (opcode w == 0b0101111) (amo_of w) rest12 i (IsRow i w) (λ t f. let e = eqb-true (opcode w) 0b0101111 t in amo_row e f) (λ _ h12.
       by_test (opcode w == 0b0000000) (zero_of w) None i (IsRow i w) (λ _ f. zero_row f) (λ _ h13.

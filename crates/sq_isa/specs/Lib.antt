@@ -1,7 +1,9 @@
 pub mod AtomicCodes
+pub mod AtomicEncoding
 pub mod Atomics
 pub mod Branches
 pub mod Codes
+pub mod Encoding
 pub mod Fields
 pub mod Ranges
 pub mod Registers

@@ -1,6 +1,6 @@
 -- The instruction table: the instruction that a word is, by the RISC-V manual's listings of RV32I, RV32M and
 -- RV32A. It has one row an opcode, and a list in `Codes` where instructions share one.
-use Rattle.std.specs.Prelude.{ℕ, ℤ, pos, Option, Some, None, ◌==◌, ◌||◌, ◌&&◌, not, if◌then◌else◌}
+use Rattle.std.specs.Prelude.{ℕ, pos, Option, Some, None, ◌==◌, ◌||◌, ◌&&◌, not, if◌then◌else◌}
 use Rattle.std.specs.Option.{option_map}
 use Rattle.sq_isa.specs.Fields.{bits, opcode, rd, funct3, rs1, rs2, funct7, immediate_i, immediate_s, immediate_b, immediate_u, immediate_j}
 use Rattle.sq_isa.specs.Codes.{coded_by, conditions, loads, stores, immediate_operations, shifts, arithmetic_shifts, operations, alternate_operations, multiplications}
@@ -75,7 +75,7 @@ abbrev pub amo_of : ℕ → Option Insn
 amo_of word =
     if funct3 word == 0b010
     then (if funct5 word == 0b00010 && not (rs2 word == 0) then None
-        else option_map (λ op. Atomic op (order_of word) (rd word) (rs1 word) (rs2 word)) (coded_by atomic_operations (funct5 word)))
+    else option_map (λ op. Atomic op (order_of word) (rd word) (rs1 word) (rs2 word)) (coded_by atomic_operations (funct5 word)))
     else None
 
 -- 0000000: the word 0
@@ -83,7 +83,7 @@ abbrev pub zero_of : ℕ → Option Insn
 zero_of word = if word == 0x00000000 then Some (Unimp 0) else None
 
 -- the instruction of a word, or none
-abbrev pub insn_of : ℕ → Option Insn
+unfoldable pub insn_of : ℕ → Option Insn
 insn_of word =
     if opcode word == 0b0110111 then Some (Lui (rd word) (immediate_u word))
     else (if opcode word == 0b0010111 then Some (Auipc (rd word) (immediate_u word))
