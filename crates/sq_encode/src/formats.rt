@@ -33,14 +33,8 @@ pub(crate) fn i_type(opcode: u32, rd: Reg, funct3: u32, rs1: Reg, immediate: i32
     ensures { result ≡ i_word opcode rd funct3 rs1 immediate }
 {
     let bits = immediate.cast_unsigned();
-    join(
-        opcode,
-        rd.number(),
-        funct3,
-        rs1,
-        bits & 0x1f,
-        bits >> 5 & 0x7f,
-    )
+    let (low, high) = (bits & 0x1f, bits >> 5 & 0x7f);
+    join(opcode, rd.number(), funct3, rs1, low, high)
 }
 
 pub(crate) fn s_type(opcode: u32, funct3: u32, rs1: Reg, rs2: Reg, immediate: i32) -> u32
@@ -49,14 +43,8 @@ pub(crate) fn s_type(opcode: u32, funct3: u32, rs1: Reg, rs2: Reg, immediate: i3
     ensures { result ≡ s_word opcode funct3 rs1 rs2 immediate }
 {
     let bits = immediate.cast_unsigned();
-    join(
-        opcode,
-        bits & 0x1f,
-        funct3,
-        rs1,
-        rs2.number(),
-        bits >> 5 & 0x7f,
-    )
+    let (low, high) = (bits & 0x1f, bits >> 5 & 0x7f);
+    join(opcode, low, funct3, rs1, rs2.number(), high)
 }
 
 pub(crate) fn b_type(opcode: u32, funct3: u32, rs1: Reg, rs2: Reg, immediate: i32) -> u32
@@ -84,9 +72,6 @@ pub(crate) fn j_type(opcode: u32, rd: Reg, immediate: i32) -> u32
 {
     let bits = immediate.cast_unsigned();
     let high = ((bits >> 20 & 1) << 19) + ((bits >> 1 & 0x3ff) << 9);
-    u_type(
-        opcode,
-        rd,
-        high + ((bits >> 11 & 1) << 8) + (bits >> 12 & 0xff),
-    )
+    let low = ((bits >> 11 & 1) << 8) + (bits >> 12 & 0xff);
+    u_type(opcode, rd, high + low)
 }

@@ -9,12 +9,12 @@ ghost use Rattle.sq_isa.specs.Table.{insn_of};
 ghost use Rattle.sq_isa.specs.Ranges.{Fits};
 
 mod formats;
-mod groups;
 #[cfg(test)]
 mod tests;
+mod words;
 
-use groups::by_opcode;
 use sq_isa::Insn;
+use words::assemble;
 
 /// The word of an instruction whose fields are in their ranges.
 pub fn encode(insn: &Insn) -> u32
@@ -23,5 +23,5 @@ pub fn encode(insn: &Insn) -> u32
     ensures read_back { insn_of result ≡ Some insn.now }
     ensures only { (other : ℕ) → other < 2 ^ 32 → insn_of other ≡ Some insn.now → other ≡ result }
 {
-    by_opcode(insn)
+    assemble(insn)
 }

@@ -1,4 +1,4 @@
-// The instructions that share an opcode.
+// The word of an instruction, by its format and its codes.
 #![tactic(auto, unfolding(sq_isa::specs::Encoding::word_of))]
 
 ghost use Rattle.std.specs.Prelude.{◌≡◌, ◌^◌, ◌<◌};
@@ -11,29 +11,35 @@ use sq_isa::{AtomicOp, Cond, ImmOp, Insn, LoadKind, Reg, RegOp, StoreKind};
 
 const OP_IMM: u32 = 0b0010011;
 
-/// The word of an instruction, by its opcode.
-pub(crate) fn by_opcode(insn: &Insn) -> u32
+/// The word of an instruction: its format, with its opcode and its codes.
+pub(crate) fn assemble(insn: &Insn) -> u32
     requires { Fits insn.now }
     ensures { result ≡ encoding.word_of insn.now }
 {
     match *insn {
-        Insn::Lui { rd, upper } => lui(rd, upper),
-        Insn::Auipc { rd, upper } => auipc(rd, upper),
-        Insn::Jal { rd, offset } => jal(rd, offset),
-        Insn::Jalr { rd, rs, offset } => jalr(rd, rs, offset),
-        Insn::Branch { cond, a, b, offset } => branch(cond, a, b, offset),
+        Insn::Lui { rd, upper } => u_type(0b0110111, rd, upper),
+        Insn::Auipc { rd, upper } => u_type(0b0010111, rd, upper),
+        Insn::Jal { rd, offset } => j_type(0b1101111, rd, offset),
+        Insn::Jalr { rd, rs, offset } => i_type(0b1100111, rd, 0b000, rs, offset),
+        Insn::Branch { cond, a, b, offset } => b_type(
+            0b1100011,
+            condition_code(cond),
+            a,
+            b,
+            offset,
+        ),
         Insn::Load {
             kind,
             rd,
             rs,
             offset,
-        } => load(kind, rd, rs, offset),
+        } => i_type(0b0000011, rd, load_code(kind), rs, offset),
         Insn::Store {
             kind,
             rs,
             src,
             offset,
-        } => store(kind, rs, src, offset),
+        } => s_type(0b0100011, store_code(kind), rs, src, offset),
         Insn::OpImm { op, rd, rs, imm } => immediate_operation(op, rd, rs, imm),
         Insn::Op { op, rd, a, b } => operation(op, rd, a, b),
         Insn::Fence { word } | Insn::Unimp { word } => word,
@@ -47,38 +53,6 @@ pub(crate) fn by_opcode(insn: &Insn) -> u32
             src,
         } => amo(op, order, rd, rs, src),
     }
-}
-
-fn lui(rd: Reg, upper: u32) -> u32
-    requires { upper < 2 ^ 20 }
-    ensures { result ≡ encoding.word_of (Insn.Lui rd upper) }
-{
-    u_type(0b0110111, rd, upper)
-}
-
-fn auipc(rd: Reg, upper: u32) -> u32
-    requires { upper < 2 ^ 20 }
-    ensures { result ≡ encoding.word_of (Insn.Auipc rd upper) }
-{
-    u_type(0b0010111, rd, upper)
-}
-
-fn jal(rd: Reg, offset: i32) -> u32
-    ensures { result ≡ encoding.word_of (Insn.Jal rd offset) }
-{
-    j_type(0b1101111, rd, offset)
-}
-
-fn jalr(rd: Reg, rs: Reg, offset: i32) -> u32
-    ensures { result ≡ encoding.word_of (Insn.Jalr rd rs offset) }
-{
-    i_type(0b1100111, rd, 0b000, rs, offset)
-}
-
-fn branch(cond: Cond, a: Reg, b: Reg, offset: i32) -> u32
-    ensures { result ≡ encoding.word_of (Insn.Branch cond a b offset) }
-{
-    b_type(0b1100011, condition_code(cond), a, b, offset)
 }
 
 fn condition_code(cond: Cond) -> u32
@@ -95,12 +69,6 @@ fn condition_code(cond: Cond) -> u32
     }
 }
 
-fn load(kind: LoadKind, rd: Reg, rs: Reg, offset: i32) -> u32
-    ensures { result ≡ encoding.word_of (Insn.Load kind rd rs offset) }
-{
-    i_type(0b0000011, rd, load_code(kind), rs, offset)
-}
-
 fn load_code(kind: LoadKind) -> u32
     ensures code { result ≡ encoding.load_code kind }
     ensures range { result < 8 }
@@ -112,12 +80,6 @@ fn load_code(kind: LoadKind) -> u32
         LoadKind::Lbu => 0b100,
         LoadKind::Lhu => 0b101,
     }
-}
-
-fn store(kind: StoreKind, rs: Reg, src: Reg, offset: i32) -> u32
-    ensures { result ≡ encoding.word_of (Insn.Store kind rs src offset) }
-{
-    s_type(0b0100011, store_code(kind), rs, src, offset)
 }
 
 fn store_code(kind: StoreKind) -> u32
