@@ -5,6 +5,7 @@ pub mod Branches
 pub mod Codes
 pub mod Encoding
 pub mod Fields
+pub mod Forms
 pub mod Ranges
 pub mod Registers
 pub mod Table
