@@ -6,7 +6,7 @@
 
 ghost use Rattle.std.specs.Prelude.{◌≡◌, IfSome};
 ghost use Rattle.sq_isa.specs.Table.{insn_of};
-ghost use Rattle.sq_isa.specs.Ranges.{Fits};
+ghost use Rattle.sq_isa.specs.Ranges.{FieldsFit};
 
 mod fields;
 mod groups;
@@ -16,11 +16,12 @@ mod tests;
 use fields::{immediate_j, immediate_u, opcode, rd};
 use sq_isa::Insn;
 
-/// The instruction of a word; None exactly where the table has no row.
+/// The instruction of a word by the RISC-V manual's listings of RV32I, M and A, where the words 0 and
+/// 0xc0001073 are `Unimp`; None exactly where the table has no row.
 #[tactic(auto, unfolding(sq_isa::specs::Table::insn_of))]
 pub fn decode(word: u32) -> Option<Insn>
     ensures table { result ≡ insn_of word }
-    ensures fits { IfSome result Fits }
+    ensures fits { IfSome result FieldsFit }
 {
     match opcode(word) {
         0b0110111 => Some(Insn::Lui {

@@ -86,6 +86,7 @@ fn upper_immediates_and_jumps(rt: HostRuntime) {
     for (word, insn) in [
         (0xffffffb7, lui(31, 0xfffff)),
         (0x000010b7, lui(1, 1)),
+        (0x00000037, lui(0, 0)),
         (0x80000297, auipc(5, 0x80000)),
         (0x7ffff0ef, jal(1, 1048574)),
         (0x8000006f, jal(0, -1048576)),

@@ -6,7 +6,7 @@
 ghost use Rattle.std.specs.Prelude.{◌≡◌, ℕ, ◌^◌, ◌<◌};
 ghost use Rattle.sq_isa.specs.Encoding.{word_of};
 ghost use Rattle.sq_isa.specs.Table.{insn_of};
-ghost use Rattle.sq_isa.specs.Ranges.{Fits};
+ghost use Rattle.sq_isa.specs.Ranges.{FieldsFit};
 
 mod formats;
 #[cfg(test)]
@@ -16,9 +16,9 @@ mod words;
 use sq_isa::Insn;
 use words::assemble;
 
-/// The word of an instruction whose fields are in their ranges.
+/// The word of an instruction whose fields are in their ranges: the one word that the table reads as it.
 pub fn encode(insn: &Insn) -> u32
-    requires { Fits insn.now }
+    requires { FieldsFit insn.now }
     ensures word { result ≡ word_of insn.now }
     ensures read_back { insn_of result ≡ Some insn.now }
     ensures only { (other : ℕ) → other < 2 ^ 32 → insn_of other ≡ Some insn.now → other ≡ result }

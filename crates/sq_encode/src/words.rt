@@ -2,7 +2,7 @@
 #![tactic(auto, unfolding(sq_isa::specs::Encoding::word_of))]
 
 ghost use Rattle.std.specs.Prelude.{◌≡◌, ◌^◌, ◌<◌};
-ghost use Rattle.sq_isa.specs.Ranges.{Fits, ImmediateFits};
+ghost use Rattle.sq_isa.specs.Ranges.{FieldsFit, ImmediateFits};
 ghost use Rattle.sq_isa.specs.Encoding as encoding;
 ghost use Rattle.sq_isa.specs.AtomicEncoding as atomic;
 
@@ -13,7 +13,7 @@ const OP_IMM: u32 = 0b0010011;
 
 /// The word of an instruction: its format, with its opcode and its codes.
 pub(crate) fn assemble(insn: &Insn) -> u32
-    requires { Fits insn.now }
+    requires { FieldsFit insn.now }
     ensures { result ≡ encoding.word_of insn.now }
 {
     match *insn {

@@ -2,7 +2,7 @@
 use Rattle.std.proofs.Common.{◌≡◌, ℕ, ℤ, pos, negsuc, ap, Some, inl, inr, ◌+◌, ◌*◌, ◌^◌, ◌<◌, refl, subst, arith, rules}
 use Rattle.std.proofs.lemmas.Int.{ints}
 use Rattle.sq_isa.specs.Fields.{bits, opcode, rd, funct3, rs1, rs2, funct7, immediate_i, immediate_s, immediate_b, immediate_j}
-use Rattle.sq_isa.specs.Ranges.{Fits, IsSigned, IsEven, ImmediateFits, IsShift}
+use Rattle.sq_isa.specs.Ranges.{FieldsFit, IsSigned, IsEven, ImmediateFits, IsShift}
 use Rattle.sq_isa.specs.Codes.{coded_by, conditions, loads, stores}
 use Rattle.sq_isa.specs.Words.{unsigned}
 use Rattle.sq_isa.specs.Encoding.{word_of, r_word, i_word, op_imm_word, condition_code, load_code, store_code, operation_codes}
@@ -60,7 +60,7 @@ module _ (w : ℕ) where
   immediate_fits Srli z r = shift_fits z r.2
   immediate_fits Srai z r = shift_fits z r.2
 
-  fits_from_row : (i : Insn) → w < 2 ^ 32 → IsRow i w → Fits i
+  fits_from_row : (i : Insn) → w < 2 ^ 32 → IsRow i w → FieldsFit i
   fits_from_row (Lui d u) h r = (omega arith, omega arith)
   fits_from_row (Auipc d u) h r = (omega arith, omega arith)
   fits_from_row (Jal d o) h r = let s = signed_j o r.2 in (omega arith, s.0, s.1)
@@ -77,8 +77,8 @@ module _ (w : ℕ) where
   fits_from_row (Atomic op o d a b) h r = (omega arith, omega arith, omega arith, r.7)
 
 -- what the table reads in a word fits
-pub Fits-insn_of : (w : ℕ) (i : Insn) → w < 2 ^ 32 → insn_of w ≡ Some i → Fits i
-Fits-insn_of w i h e = fits_from_row w i h (row_from_table w i e)
+pub FieldsFit-insn_of : (w : ℕ) (i : Insn) → w < 2 ^ 32 → insn_of w ≡ Some i → FieldsFit i
+FieldsFit-insn_of w i h e = fits_from_row w i h (row_from_table w i e)
 
 -- ---- a word with the fields of an instruction is read as it
 
@@ -134,7 +134,7 @@ module _ (w : ℕ) where
   op_imm_from_row Srli d a z e f r = rw (e, f, r.0, r.1, r.2) refl
   op_imm_from_row Srai d a z e f r = rw (e, f, r.0, r.1, r.2) refl
 
-  insn_from_row : (i : Insn) → Fits i → IsRow i w → insn_of w ≡ Some i
+  insn_from_row : (i : Insn) → FieldsFit i → IsRow i w → insn_of w ≡ Some i
   unfolding insn_of
   insn_from_row (Lui d u) h r = rw (r.0, r.1, r.2) refl
   insn_from_row (Auipc d u) h r = rw (r.0, r.1, r.2) refl
@@ -220,7 +220,7 @@ op_imm_row_from_word Slli d a z q s h = shift_word 0b001 0b0000000 d a z (omega 
 op_imm_row_from_word Srli d a z q s h = shift_word 0b101 0b0000000 d a z (omega arith) (omega arith) q s h
 op_imm_row_from_word Srai d a z q s h = shift_word 0b101 0b0100000 d a z (omega arith) (omega arith) q s h
 
-row_from_word : (i : Insn) → Fits i → IsRow i (word_of i)
+row_from_word : (i : Insn) → FieldsFit i → IsRow i (word_of i)
 unfolding word_of
 row_from_word (Lui d u) h = u_fields 0b0110111 d (omega arith) h.0 u h.1
 row_from_word (Auipc d u) h = u_fields 0b0010111 d (omega arith) h.0 u h.1
@@ -246,7 +246,7 @@ row_from_word (Atomic op o d a b) h =
     (f.0, f.1, f.2, f.3, f.4, order, code, h.3)
 
 -- the table reads the word of an instruction as it
-pub insn_of-word_of : (i : Insn) → Fits i → insn_of (word_of i) ≡ Some i
+pub insn_of-word_of : (i : Insn) → FieldsFit i → insn_of (word_of i) ≡ Some i
 insn_of-word_of i h = insn_from_row (word_of i) i h (row_from_word i h)
 
 -- it is a word of 32 bits
@@ -264,7 +264,7 @@ op_imm_word_below Srli d a (negsuc n) q s h = absurd (omega (arith, ints))
 op_imm_word_below Srai d a (pos n) q s h = omega (arith, ints)
 op_imm_word_below Srai d a (negsuc n) q s h = absurd (omega (arith, ints))
 
-pub word_of_below : (i : Insn) → Fits i → word_of i < 2 ^ 32
+pub word_of_below : (i : Insn) → FieldsFit i → word_of i < 2 ^ 32
 unfolding word_of
 word_of_below (Lui d u) h = omega arith
 word_of_below (Auipc d u) h = omega arith

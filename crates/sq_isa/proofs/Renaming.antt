@@ -2,7 +2,7 @@
 use Rattle.std.proofs.Common.{◌≡◌, ℕ, ◌<◌, refl, sym, ap, ◌∙◌, map}
 use Rattle.sq_isa.specs.Forms.{renamed, form_of, first_of, second_of}
 use Rattle.sq_isa.specs.Uses.{sources_of, destination_of}
-use Rattle.sq_isa.specs.Ranges.{Fits, SourceFits}
+use Rattle.sq_isa.specs.Ranges.{FieldsFit, SourceFits}
 use Rattle.sq_isa.specs.declared.instructions.Insn.{Insn}
 use Rattle.sq_isa.specs.declared.instructions.Insn.TheVariants.{Lui, Auipc, Jal, Jalr, Branch, Load, Store, OpImm, Op, Fence, Ecall, Ebreak, Unimp, Atomic}
 use Rattle.sq_isa.specs.declared.instructions.AtomicOp.{AtomicOp}
@@ -146,18 +146,18 @@ source_fits_renamed to zero_stays within MinU b s = within b s
 source_fits_renamed to zero_stays within MaxU b s = within b s
 
 -- what fits still fits
-pub Fits-renamed : (to : ℕ → ℕ) → to 0 ≡ 0 → ((r : ℕ) → r < 32 → to r < 32) → (i : Insn) → Fits i → Fits (renamed to i)
-Fits-renamed to zero_stays within (Lui d u) h = (within d h.0, h.1)
-Fits-renamed to zero_stays within (Auipc d u) h = (within d h.0, h.1)
-Fits-renamed to zero_stays within (Jal d o) h = (within d h.0, h.1, h.2)
-Fits-renamed to zero_stays within (Jalr d a o) h = (within d h.0, within a h.1, h.2)
-Fits-renamed to zero_stays within (Branch c a b o) h = (within a h.0, within b h.1, h.2, h.3)
-Fits-renamed to zero_stays within (Load k d a o) h = (within d h.0, within a h.1, h.2)
-Fits-renamed to zero_stays within (Store k a b o) h = (within a h.0, within b h.1, h.2)
-Fits-renamed to zero_stays within (OpImm op d a z) h = (within d h.0, within a h.1, h.2)
-Fits-renamed to zero_stays within (Op op d a b) h = (within d h.0, within a h.1, within b h.2)
-Fits-renamed to zero_stays within (Fence word) h = h
-Fits-renamed to zero_stays within Ecall h = tt
-Fits-renamed to zero_stays within Ebreak h = tt
-Fits-renamed to zero_stays within (Unimp word) h = h
-Fits-renamed to zero_stays within (Atomic op o d a b) h = (h.0, within d h.1, within a h.2, source_fits_renamed to zero_stays within op b h.3)
+pub FieldsFit-renamed : (to : ℕ → ℕ) → to 0 ≡ 0 → ((r : ℕ) → r < 32 → to r < 32) → (i : Insn) → FieldsFit i → FieldsFit (renamed to i)
+FieldsFit-renamed to zero_stays within (Lui d u) h = (within d h.0, h.1)
+FieldsFit-renamed to zero_stays within (Auipc d u) h = (within d h.0, h.1)
+FieldsFit-renamed to zero_stays within (Jal d o) h = (within d h.0, h.1, h.2)
+FieldsFit-renamed to zero_stays within (Jalr d a o) h = (within d h.0, within a h.1, h.2)
+FieldsFit-renamed to zero_stays within (Branch c a b o) h = (within a h.0, within b h.1, h.2, h.3)
+FieldsFit-renamed to zero_stays within (Load k d a o) h = (within d h.0, within a h.1, h.2)
+FieldsFit-renamed to zero_stays within (Store k a b o) h = (within a h.0, within b h.1, h.2)
+FieldsFit-renamed to zero_stays within (OpImm op d a z) h = (within d h.0, within a h.1, h.2)
+FieldsFit-renamed to zero_stays within (Op op d a b) h = (within d h.0, within a h.1, within b h.2)
+FieldsFit-renamed to zero_stays within (Fence word) h = h
+FieldsFit-renamed to zero_stays within Ecall h = tt
+FieldsFit-renamed to zero_stays within Ebreak h = tt
+FieldsFit-renamed to zero_stays within (Unimp word) h = h
+FieldsFit-renamed to zero_stays within (Atomic op o d a b) h = (h.0, within d h.1, within a h.2, source_fits_renamed to zero_stays within op b h.3)

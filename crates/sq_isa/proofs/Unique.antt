@@ -4,7 +4,7 @@ use Rattle.sq_isa.specs.Fields.{opcode, rd, rs1, rs2, funct7}
 use Rattle.sq_isa.specs.Table.{insn_of, order_of, funct5}
 use Rattle.sq_isa.proofs.Reading.{IsRow, ImmediateRow, row_from_table}
 use Rattle.sq_isa.specs.Encoding.{word_of}
-use Rattle.sq_isa.proofs.Encoded.{Fits-insn_of, word_of_below, insn_of-word_of}
+use Rattle.sq_isa.proofs.Encoded.{FieldsFit-insn_of, word_of_below, insn_of-word_of}
 use Rattle.sq_isa.proofs.Same.{same_r, same_i, same_s, same_b, same_u, same_j}
 use Rattle.sq_isa.specs.declared.instructions.Insn.{Insn}
 use Rattle.sq_isa.specs.declared.instructions.Insn.TheVariants.{Lui, Auipc, Jal, Jalr, Branch, Load, Store, OpImm, Op, Fence, Ecall, Ebreak, Unimp, Atomic}
@@ -52,5 +52,5 @@ module _ (v w : ℕ) (p : v < 2 ^ 32) (q : w < 2 ^ 32) where
 -- and that word is `word_of`
 pub word_of-unique : (w : ℕ) (i : Insn) → w < 2 ^ 32 → insn_of w ≡ Some i → w ≡ word_of i
 word_of-unique w i h e =
-    let fits = Fits-insn_of w i h e in
+    let fits = FieldsFit-insn_of w i h e in
     same_word w (word_of i) h (word_of_below i fits) i e (insn_of-word_of i fits)

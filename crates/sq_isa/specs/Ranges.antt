@@ -54,18 +54,18 @@ abbrev pub IsUnimp : ℕ → Type 0
 IsUnimp word = (word ≡ 0) ⊎ (word ≡ 0xc0001073)
 
 -- each field of the instruction is in its range
-abbrev pub Fits : Insn → Type 0
-Fits (Lui rd upper) = IsRegister rd × (upper < 2 ^ 20)
-Fits (Auipc rd upper) = IsRegister rd × (upper < 2 ^ 20)
-Fits (Jal rd offset) = IsRegister rd × IsSigned 21 offset × IsEven offset
-Fits (Jalr rd rs offset) = IsRegister rd × IsRegister rs × IsSigned 12 offset
-Fits (Branch c a b offset) = IsRegister a × IsRegister b × IsSigned 13 offset × IsEven offset
-Fits (Load kind rd rs offset) = IsRegister rd × IsRegister rs × IsSigned 12 offset
-Fits (Store kind rs src offset) = IsRegister rs × IsRegister src × IsSigned 12 offset
-Fits (OpImm op rd rs imm) = IsRegister rd × IsRegister rs × ImmediateFits op imm
-Fits (Op op rd a b) = IsRegister rd × IsRegister a × IsRegister b
-Fits (Fence word) = (word < 2 ^ 32) × (bits word 6 0 ≡ 0b0001111) × (bits word 14 12 ≡ 0)
-Fits Ecall = Unit {0}
-Fits Ebreak = Unit {0}
-Fits (Unimp word) = IsUnimp word
-Fits (Atomic op order rd rs src) = (order < 4) × IsRegister rd × IsRegister rs × SourceFits op src
+abbrev pub FieldsFit : Insn → Type 0
+FieldsFit (Lui rd upper) = IsRegister rd × (upper < 2 ^ 20)
+FieldsFit (Auipc rd upper) = IsRegister rd × (upper < 2 ^ 20)
+FieldsFit (Jal rd offset) = IsRegister rd × IsSigned 21 offset × IsEven offset
+FieldsFit (Jalr rd rs offset) = IsRegister rd × IsRegister rs × IsSigned 12 offset
+FieldsFit (Branch c a b offset) = IsRegister a × IsRegister b × IsSigned 13 offset × IsEven offset
+FieldsFit (Load kind rd rs offset) = IsRegister rd × IsRegister rs × IsSigned 12 offset
+FieldsFit (Store kind rs src offset) = IsRegister rs × IsRegister src × IsSigned 12 offset
+FieldsFit (OpImm op rd rs imm) = IsRegister rd × IsRegister rs × ImmediateFits op imm
+FieldsFit (Op op rd a b) = IsRegister rd × IsRegister a × IsRegister b
+FieldsFit (Fence word) = (word < 2 ^ 32) × (bits word 6 0 ≡ 0b0001111) × (bits word 14 12 ≡ 0)
+FieldsFit Ecall = Unit {0}
+FieldsFit Ebreak = Unit {0}
+FieldsFit (Unimp word) = IsUnimp word
+FieldsFit (Atomic op order rd rs src) = (order < 4) × IsRegister rd × IsRegister rs × SourceFits op src

@@ -1,7 +1,7 @@
 // Whether the fields of an instruction are in their ranges.
 
 ghost use Rattle.std.specs.Prelude.{◌↔◌, ◌≤ℤ◌, ◌<ℤ◌, pos, neg_ℤ, IsTrue};
-ghost use Rattle.sq_isa.specs.Ranges.{Fits, IsRegister, IsEven, ImmediateFits, SourceFits};
+ghost use Rattle.sq_isa.specs.Ranges.{FieldsFit, IsRegister, IsEven, ImmediateFits, SourceFits};
 
 use crate::instructions::{AtomicOp, ImmOp, Insn};
 use crate::registers::Reg;
@@ -11,7 +11,7 @@ use crate::registers::Reg;
 /// a shift 0 to 31, `order` 0 to 3 and x0 as the source of LR; the word of a FENCE is one, and that of an
 /// `Unimp` is 0 or 0xc0001073.
 pub fn fits(insn: &Insn) -> bool
-    ensures { IsTrue result ↔ Fits insn.now }
+    ensures { IsTrue result ↔ FieldsFit insn.now }
 {
     match *insn {
         Insn::Lui { rd, upper } | Insn::Auipc { rd, upper } => is_register(rd) && upper < 1 << 20,

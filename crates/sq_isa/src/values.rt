@@ -8,7 +8,9 @@ ghost use Rattle.sq_isa.specs.Atomics.{atomic_value_of};
 
 use crate::instructions::{AtomicOp, Cond, ImmOp, RegOp};
 
-/// The value of an operation on two words.
+/// The value of an operation on two words, as in the RISC-V manual. Sums and products wrap at 2^32, a shift
+/// goes by the low five bits, and a comparison gives 1 or 0. Division by zero gives all ones and the dividend
+/// as remainder; -2^31 by -1 gives -2^31 and remainder 0.
 pub fn value(op: RegOp, a: u32, b: u32) -> u32
     ensures { result ≡ value_of op a b }
 {
@@ -105,7 +107,7 @@ fn reg_op(op: ImmOp) -> RegOp
     }
 }
 
-/// Whether a branch of this condition is taken.
+/// Whether a branch of this condition is taken at two words.
 pub fn taken(cond: Cond, a: u32, b: u32) -> bool
     ensures { result ≡ taken_of cond a b }
 {
