@@ -1,0 +1,2 @@
+pub use Rattle.sq_isa.specs.Ranges
+pub use Rattle.sq_isa.specs.Table

@@ -1,0 +1,3 @@
+pub use Rattle.sq_isa.specs.Encoding
+pub use Rattle.sq_isa.specs.Ranges
+pub use Rattle.sq_isa.specs.Table

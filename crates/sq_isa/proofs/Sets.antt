@@ -1,0 +1,37 @@
+-- One more register in a set.
+use Rattle.std.proofs.Common.{◌≡◌, ℕ, ◌*◌, ◌%◌, ◌^◌, ◌<◌, ◌==◌, ◌||◌, ◌&&◌, not, bit_or, inl, inr, arith, sym, ◌∙◌, w32}
+use Rattle.std.specs.Int.{bit_at}
+use Rattle.std.proofs.lemmas.Bool.{cases_eq}
+use Rattle.std.proofs.lemmas.Bool.Decides.{nat_tests}
+use Rattle.std.proofs.lemmas.Nat.Bits.{bit_at_set_same, bit_at_set_other, bit_at_lowest, bit_at_or, bit_at-lt}
+use Rattle.sq_isa.specs.Registers.{is_member}
+
+-- the set with r in it
+pub member_with : (m r q : ℕ) → r < 32 → (r ≡ 0 → ⊥) →
+    is_member (bit_or m (1 * 2 ^ r % 2 ^ 32)) q ≡ (is_member m q || (not (q == 0) && r == q))
+member_with m r q h p = elim (cases_eq q r) [
+  | inl e ↦ (let same = bit_at_set_same w32 m r h in let goal_same : bit_at (bit_or m (1 * 2 ^ r % 2 ^ 32)) q ≡ 1 = rw e same in grind (arith, nat_tests))
+  | inr n ↦ (let other = bit_at_set_other w32 m r h q n in grind (arith, nat_tests))
+]
+
+-- x0 stays out
+pub even_with : (m r : ℕ) → r < 32 → (r ≡ 0 → ⊥) → m % 2 ≡ 0 → bit_or m (1 * 2 ^ r % 2 ^ 32) % 2 ≡ 0
+even_with m r h p e =
+    sym (bit_at_lowest (bit_or m (1 * 2 ^ r % 2 ^ 32))) ∙ (bit_at_set_other w32 m r h 0 (λ z. p (sym z)) ∙ (bit_at_lowest m ∙ e))
+
+-- the registers of two sets
+pub member_union : (m n q : ℕ) → is_member (bit_or m n) q ≡ (is_member m q || is_member n q)
+member_union m n q =
+    let joined = bit_at_or m n q in
+    let left = bit_at-lt m q in
+    let right = bit_at-lt n q in
+    grind (arith, nat_tests)
+
+-- x0 is in neither
+pub even_union : (m n : ℕ) → m % 2 ≡ 0 → n % 2 ≡ 0 → bit_or m n % 2 ≡ 0
+even_union m n e f =
+    let joined = bit_at_or m n 0 in
+    let left = bit_at_lowest m in
+    let right = bit_at_lowest n in
+    let both = bit_at_lowest (bit_or m n) in
+    omega arith

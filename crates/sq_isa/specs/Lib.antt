@@ -1,0 +1,14 @@
+pub mod AtomicCodes
+pub mod AtomicEncoding
+pub mod Atomics
+pub mod Branches
+pub mod Codes
+pub mod Encoding
+pub mod Fields
+pub mod Forms
+pub mod Ranges
+pub mod Registers
+pub mod Table
+pub mod Uses
+pub mod Values
+pub mod Words
