@@ -62,11 +62,25 @@ fn lines_hold_texts_and_addresses(rt: HostRuntime) {
 #[test]
 fn refusals_have_their_texts(rt: HostRuntime) {
     let cases: [(Refusal, &str); 13] = [
-        (Refusal::HeaderField { offset: 51 }, "refused 3 0x00000033\n"),
+        (
+            Refusal::HeaderField { offset: 51 },
+            "refused 3 0x00000033\n",
+        ),
         (Refusal::Flags { value: 1 }, "refused 4 0x00000001\n"),
-        (Refusal::TableOutside { table: 1, index: 0 }, "refused 5 1 0\n"),
-        (Refusal::SegmentKind { index: 2, kind: 7 }, "refused 7 2 7\n"),
-        (Refusal::FallsOffText { address: 0x0001_0008 }, "refused 22 0x00010008\n"),
+        (
+            Refusal::TableOutside { table: 1, index: 0 },
+            "refused 5 1 0\n",
+        ),
+        (
+            Refusal::SegmentKind { index: 2, kind: 7 },
+            "refused 7 2 7\n",
+        ),
+        (
+            Refusal::FallsOffText {
+                address: 0x0001_0008,
+            },
+            "refused 22 0x00010008\n",
+        ),
         (Refusal::BadNote { entry: 1 }, "refused 26 1\n"),
         (
             Refusal::TooLarge {

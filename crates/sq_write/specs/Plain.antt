@@ -1,6 +1,6 @@
 -- The plain file of a list of words: one piece, the words as text at 0x00010000 with the entry
 -- there, no relocation entries, and a note without procedures.
-use Rattle.std.specs.Prelude.{◌≡◌, ℕ, ◌*◌, ◌<◌, ◌≤◌, ◌^◌, List, [], ◌∷◌, ◌++◌, length, codes}
+use Rattle.std.specs.Prelude.{◌≡◌, ℕ, ◌<◌, ◌≤◌, ◌^◌, List, [], ◌∷◌, ◌++◌, length, codes}
 use Rattle.std.specs.List.{AllByRecursion}
 use Rattle.sq_write.specs.Output.{words, Output, output_file}
 
