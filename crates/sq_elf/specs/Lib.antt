@@ -1,5 +1,7 @@
 pub mod Fields
 pub mod Headers
+pub mod Images
+pub mod Memory
 pub mod Ranges
 pub mod Reading
 pub mod Refusing

@@ -9,6 +9,7 @@ use Rattle.sq_elf.specs.Fields.{u32_field}
 use Rattle.sq_elf.specs.Headers.{phnum_of, shnum_of, is_load, segment_of, section_of}
 use Rattle.sq_elf.specs.Ranges.{lies_in, bytes_at}
 use Rattle.sq_elf.specs.Text.{text_of}
+use Rattle.sq_elf.specs.Memory.{AreSegments}
 use Rattle.sq_elf.specs.Sizes.{loaded_of}
 use Rattle.sq_elf.specs.Refusing.{file_refusal_of}
 
@@ -39,7 +40,8 @@ abbrev pub contents_of : List ℕ → ℕ → Option (List ℕ)
 contents_of bytes index = contents_in bytes (section_at bytes index)
 
 -- what a reader keeps of an accepted file
-pub record Keeps (bytes : List ℕ) (text : Text) (loaded : ℕ) : Type 0 where
+pub record Keeps (bytes : List ℕ) (text : Text) (loaded : ℕ) (segments : List Segment) : Type 0 where
   pub accepted : file_refusal_of bytes ≡ None
   pub text_is : text ≡ text_of bytes
   pub loaded_is : loaded ≡ loaded_of bytes
+  pub segments_are : AreSegments bytes segments

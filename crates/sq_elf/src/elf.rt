@@ -5,18 +5,22 @@ ghost use Rattle.std.specs.Option.{option_map};
 ghost use Rattle.sq_num.specs.declared.refusal.Refusal.{Refusal};
 ghost use Rattle.sq_elf.specs.Headers.{entry_of, shnum_of};
 ghost use Rattle.sq_elf.specs.Text.{text_of};
+ghost use Rattle.sq_elf.specs.Memory.{image_of, AreSegments};
 ghost use Rattle.sq_elf.specs.Sizes.{loaded_of};
 ghost use Rattle.sq_elf.specs.Refusing.{file_refusal_of};
 ghost use Rattle.sq_elf.specs.Reading.{word_of, section_at, contents_of};
 
 use crate::header::{shnum, u32_field};
+use crate::image::{Image, image_of};
+use crate::loads::sorted_segments;
 use crate::ranges::bytes_at;
 use crate::refusing::file_refusal;
 use crate::section::{Section, section_at};
+use crate::segment::Segment;
 use crate::text::{Text, text_range};
 use crate::totals::loaded;
 use crate::word::word_at;
-use sq_num::Denied;
+use sq_num::{Denied, Memory};
 use std::alloc::Global;
 use std::marker::Model;
 
@@ -26,6 +30,7 @@ pub struct Elf<'a> {
     bytes: &'a [u8],
     text: Text,
     loaded: u32,
+    segments: Vec<Segment>,
 }
 
 impl<'a> Model for Elf<'a> {
@@ -36,12 +41,12 @@ impl<'a> Model for Elf<'a> {
 
     ghost view = { λ e. e.bytes.now };
 
-    ghost invariant = { λ e. Keeps e.bytes.now e.text e.loaded };
+    ghost invariant = { λ e. Keeps e.bytes.now e.text e.loaded e.segments.items };
 }
 
 /// Reads the file, or refuses it by the first row of the table of refusals that fails.
 #[tactic(auto, using(crate::proofs::Accepted::few_loaded))]
-pub fn read_elf<'a>(_alloc: Global, bytes: &'a [u8]) -> Result<Elf<'a>, Denied>
+pub fn read_elf<'a>(alloc: Global, bytes: &'a [u8]) -> Result<Elf<'a>, Denied>
     ensures read { IfOk result (λ elf. elf ≡ bytes.now) }
     ensures accepted { OnOk result (file_refusal_of bytes.now ≡ None) }
     ensures refused { (refusal : Refusal) → result ≡ Err (Denied.Refused refusal) → file_refusal_of bytes.now ≡ Some refusal }
@@ -50,10 +55,12 @@ pub fn read_elf<'a>(_alloc: Global, bytes: &'a [u8]) -> Result<Elf<'a>, Denied>
     if let Some(refusal) = file_refusal(bytes) {
         return Err(Denied::Refused(refusal));
     }
+    let segments = sorted_segments(alloc, bytes)?;
     Ok(Elf {
         bytes,
         text: text_range(bytes),
         loaded: loaded(bytes) as u32,
+        segments,
     })
 }
 
@@ -85,6 +92,20 @@ impl<'a> Elf<'a> {
         ensures { result ≡ loaded_of self.now }
     {
         self.loaded
+    }
+
+    /// The segments with bytes in memory, by address.
+    pub fn segments(&self) -> &[Segment]
+        ensures { AreSegments self.now result.now }
+    {
+        self.segments.as_slice()
+    }
+
+    /// The pieces of memory that the file loads.
+    pub fn image(&self, alloc: Global) -> Result<Image<'a>, Memory>
+        ensures { IfOk result (λ image. image ≡ image_of self.now) }
+    {
+        image_of(alloc, self.bytes)
     }
 
     /// The word at the address, or None where its four bytes are not all file bytes of one segment at

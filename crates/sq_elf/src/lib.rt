@@ -8,6 +8,8 @@ mod elf;
 mod first;
 mod header;
 mod header_rows;
+mod image;
+mod loads;
 mod ranges;
 mod refusing;
 mod section;
@@ -19,6 +21,7 @@ mod totals;
 mod word;
 
 pub use elf::{Elf, read_elf};
+pub use image::{Image, Piece};
 pub use section::Section;
 pub use segment::Segment;
 pub use text::Text;

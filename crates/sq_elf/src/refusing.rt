@@ -10,9 +10,7 @@ use crate::header_rows::{
     HEADER, first_not_elf, first_refused_field, flags, program_headers_leave, section_headers_leave,
 };
 use crate::segment::{kind_at, segment_at};
-use crate::segment_rows::{
-    first_bad_segment, first_outside, first_overlap, first_refused_kind,
-};
+use crate::segment_rows::{first_bad_segment, first_outside, first_overlap, first_refused_kind};
 use crate::text::{first_executable, is_text_word, text_range, text_segment};
 use crate::text_rows::{first_bad_text_section, first_split};
 use crate::totals::{loaded, piece_count};

@@ -39,7 +39,10 @@ fn section_field(bytes: &[u8], index: u32, field: usize) -> u32
     requires { field < 10 }
     ensures { result ≡ section_field bytes.now index field }
 {
-    u32_field(bytes, shoff(bytes) as usize + 40 * index as usize + 4 * field)
+    u32_field(
+        bytes,
+        shoff(bytes) as usize + 40 * index as usize + 4 * field,
+    )
 }
 
 /// What section header `index` says.

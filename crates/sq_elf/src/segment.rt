@@ -28,7 +28,10 @@ fn program_field(bytes: &[u8], index: u32, field: usize) -> u32
     requires { field < 8 }
     ensures { result ≡ program_field bytes.now index field }
 {
-    u32_field(bytes, phoff(bytes) as usize + 32 * index as usize + 4 * field)
+    u32_field(
+        bytes,
+        phoff(bytes) as usize + 32 * index as usize + 4 * field,
+    )
 }
 
 /// The type of program header `index`.
