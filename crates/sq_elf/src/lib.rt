@@ -25,3 +25,6 @@ pub use image::{Image, Piece};
 pub use section::Section;
 pub use segment::Segment;
 pub use text::Text;
+
+#[cfg(test)]
+mod tests;
