@@ -1,0 +1,10 @@
+pub mod Fields
+pub mod Headers
+pub mod Images
+pub mod Memory
+pub mod Ranges
+pub mod Reading
+pub mod Refusing
+pub mod Segments
+pub mod Sizes
+pub mod Text
