@@ -251,6 +251,27 @@ fn statuses_have_their_complaints(rt: HostRuntime) -> Result<(), Fail> {
 }
 
 #[test]
+fn changed_headers_are_refused(rt: HostRuntime) -> Result<(), Fail> {
+    let alloc = rt.alloc();
+    // No program headers in a file that is cut behind its header, and flags that are not 0.
+    for (length, place, value, complained) in [
+        (52, 44, 0, "refused 3 0x0000002c\n"),
+        (464, 36, 1, "refused 4 0x00000001\n"),
+    ] {
+        let mut file = file_of(alloc, &SMALLEST)?.into_vec();
+        if let Some(byte) = file.get_mut(place) {
+            *byte = value;
+        }
+        file.truncate(length);
+        let mut desk = MemoryDesk::new(alloc, &[])?;
+        desk.put("a", file.as_slice())?;
+        assert_eq!(rt; run(&rt, &mut desk, "pack a b")?, 3);
+        assert_eq!(rt; desk.complained(), complained.as_bytes());
+    }
+    Ok(())
+}
+
+#[test]
 fn failed_print_leaves_the_output(rt: HostRuntime) -> Result<(), Fail> {
     let alloc = rt.alloc();
     let smallest = file_of(alloc, &SMALLEST)?;

@@ -1,5 +1,5 @@
 -- one more write appends what it took of the rest
-use Rattle.std.proofs.Common.{◌≡◌, ℕ, List, ◌++◌, length, take, drop, sym, ap, ◌∙◌, append_assoc}
+use Rattle.std.proofs.Common.{◌≡◌, ℕ, List, ◌++◌, take, drop, sym, ap, ◌∙◌, append_assoc}
 use Rattle.std.proofs.lemmas.List.{take-append-drop, take_rest}
 use Rattle.squeeze.proofs.Streams.{appends_more}
 use Rattle.squeeze.proofs.host_desk.write_whole.Goals as goal
