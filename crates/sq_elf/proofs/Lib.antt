@@ -1,2 +1,4 @@
 pub mod Accepted
 pub mod Parts
+pub mod Passing
+pub mod TextFacts
