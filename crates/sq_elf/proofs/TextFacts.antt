@@ -22,15 +22,15 @@ split_if false held other fine is = absurd (cc is)
 split_if true false other fine is = absurd (cc fine)
 split_if true true other fine is = refl
 
-both_true : (x y : Bool) → (x && y) ≡ true → (x ≡ true) × (y ≡ true)
+pub both_true : (x y : Bool) → (x && y) ≡ true → (x ≡ true) × (y ≡ true)
 both_true false y is = absurd (cc is)
 both_true true y is = (refl, is)
 
-neither : (x y : Bool) → (x || y) ≡ false → (x ≡ false) × (y ≡ false)
+pub neither : (x y : Bool) → (x || y) ≡ false → (x ≡ false) × (y ≡ false)
 neither true y is = absurd (cc is)
 neither false y is = (refl, is)
 
-second_false : (x y : Bool) → (x && y) ≡ false → x ≡ true → y ≡ false
+pub second_false : (x y : Bool) → (x && y) ≡ false → x ≡ true → y ≡ false
 second_false false y fine is = absurd (cc is)
 second_false true y fine is = fine
 
@@ -41,7 +41,7 @@ not_false true fine = refl
 le_of : (a b : ℕ) → nat_le a b ≡ true → a ≤ b
 le_of a b is = grind (arith, nat_tests)
 
-lt_of : (a b : ℕ) → nat_lt a b ≡ true → a < b
+pub lt_of : (a b : ℕ) → nat_lt a b ≡ true → a < b
 lt_of a b is = grind (arith, nat_tests)
 
 eq_of : (a b : ℕ) → nat_eq a b ≡ true → a ≡ b

@@ -5,7 +5,7 @@ ghost use Rattle.std.specs.Option.{option_map};
 ghost use Rattle.sq_num.specs.declared.refusal.Refusal.{Refusal};
 ghost use Rattle.sq_elf.specs.Headers.{entry_of, shnum_of, segment_of};
 ghost use Rattle.sq_elf.specs.Text.{text_of, text_segment_of, is_text_word, IsTextIn};
-ghost use Rattle.sq_elf.specs.Memory.{image_of, AreSegments};
+ghost use Rattle.sq_elf.specs.Memory.{image_of, AreApart, AreSegments};
 ghost use Rattle.sq_elf.specs.Sizes.{loaded_of};
 ghost use Rattle.sq_elf.specs.Refusing.{file_refusal_of};
 ghost use Rattle.sq_elf.specs.Reading.{word_of, section_at, contents_of};
@@ -103,9 +103,11 @@ impl<'a> Elf<'a> {
         self.segments.as_slice()
     }
 
-    /// The pieces of memory that the file loads.
+    /// The pieces of memory that the file loads, of which no two meet.
+    #[tactic(auto, using(crate::proofs::Apart::pieces_are_apart))]
     pub fn image(&self, alloc: Global) -> Result<Image<'a>, Memory>
-        ensures { IfOk result (λ image. image ≡ image_of self.now) }
+        ensures value { IfOk result (λ image. image ≡ image_of self.now) }
+        ensures apart { AreApart (image_of self.now) }
     {
         image_of(alloc, self.bytes)
     }
