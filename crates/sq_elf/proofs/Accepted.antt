@@ -1,12 +1,12 @@
 -- What is known of a file that is not refused.
-use Rattle.std.proofs.Common.{◌≡◌, ℕ, ◌≤◌, Bool, true, false, nat_lt, List, [], ◌∷◌, ◌++◌, Option, Some, None, refl, sym, ◌∙◌, arith}
+use Rattle.std.proofs.Common.{◌≡◌, ℕ, ◌<◌, ◌≤◌, length, Bool, true, false, nat_lt, List, [], ◌∷◌, ◌++◌, Option, Some, None, refl, sym, ◌∙◌, arith}
 use Rattle.std.proofs.lemmas.Bool.Decides.{nat_tests}
 use Rattle.sq_num.specs.declared.refusal.Refusal.{Refusal}
-use Rattle.sq_num.specs.declared.refusal.Refusal.TheVariants.{TooLarge}
+use Rattle.sq_num.specs.declared.refusal.Refusal.TheVariants.{FileTooLong, TooLarge}
 use Rattle.sq_num.specs.Refusals.{Row, first_from, first_refusal}
 use Rattle.sq_elf.specs.Sizes.{loaded_of, piece_count_of}
-use Rattle.sq_elf.specs.Refusing.{single, header_rows, table_rows, segment_rows, text_rows, size_rows, bad_entry, too_many_bytes, file_refusal_of}
-use Rattle.sq_elf.proofs.Parts.{or_later, first_of_parts}
+use Rattle.sq_elf.specs.Refusing.{single, not_elf, short_header, header_field, flags, header_rows, table_rows, segment_rows, text_rows, size_rows, bad_entry, too_many_bytes, file_refusal_of}
+use Rattle.sq_elf.proofs.Parts.{or_later, first_of_parts, here_of_parts, single_here}
 
 -- a table that refuses nothing: neither of its parts does
 none_first : (first later : Option Refusal) → or_later first later ≡ None → first ≡ None
@@ -76,3 +76,10 @@ few_loaded bytes accepted =
     let pieces : first_refusal (too_many_bytes bytes ∷ bad_entry bytes ∷ []) ≡ None = behind_single (nat_lt 64 (piece_count_of bytes)) (TooLarge 1 (piece_count_of bytes)) (too_many_bytes bytes ∷ bad_entry bytes ∷ []) (sizes_accepted bytes accepted) in
     let loaded : nat_lt 16777216 (loaded_of bytes) ≡ false = single_passes (nat_lt 16777216 (loaded_of bytes)) (TooLarge 2 (loaded_of bytes)) (bad_entry bytes ∷ []) pieces in
     grind (arith, nat_tests)
+
+-- a file of more than the most bytes is refused so, whatever it holds
+pub too_long_refused : (bytes : List ℕ) → 134217728 < length bytes → file_refusal_of bytes ≡ Some FileTooLong
+unfolding file_refusal_of
+too_long_refused bytes long =
+    let fails : nat_lt 134217728 (length bytes) ≡ true = grind (arith, nat_tests) in
+    sym (here_of_parts (header_rows bytes) (from_tables bytes) FileTooLong (single_here (nat_lt 134217728 (length bytes)) FileTooLong (not_elf bytes ∷ short_header bytes ∷ header_field bytes ∷ flags bytes ∷ []) fails))
