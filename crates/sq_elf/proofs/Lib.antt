@@ -1,2 +1,5 @@
 pub mod Accepted
+pub mod Apart
 pub mod Parts
+pub mod Passing
+pub mod TextFacts

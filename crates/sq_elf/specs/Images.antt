@@ -1,5 +1,4 @@
 -- A piece as contracts see it.
-use Rattle.std.specs.Prelude.{List, map}
 use Rattle.sq_elf.specs.declared.image.Piece.{Piece}
 use Rattle.sq_elf.specs.Memory.{MemoryPiece}
 

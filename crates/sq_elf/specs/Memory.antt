@@ -1,10 +1,11 @@
 -- What a file loads: its segments by address, and the image.
-use Rattle.std.specs.Prelude.{ℕ, zero, suc, Bool, ◌&&◌, nat_lt, if◌then◌else◌, List, [], ◌∷◌, ◌++◌}
+use Rattle.std.specs.Prelude.{◌≡◌, ℕ, zero, suc, Bool, false, ◌&&◌, nat_lt, if◌then◌else◌, List, [], ◌∷◌, ◌++◌}
 use Rattle.std.specs.Option.{unwrap_or}
+use Rattle.std.specs.List.{AllByRecursion}
 use Rattle.std.specs.List.Sorted.{IsPermutation, IsNonDecreasingBy}
 use Rattle.sq_elf.specs.declared.segment.Segment.{Segment}
 use Rattle.sq_elf.specs.Headers.{phnum_of, is_load, segment_of}
-use Rattle.sq_elf.specs.Ranges.{bytes_at}
+use Rattle.sq_elf.specs.Ranges.{meets, bytes_at}
 use Rattle.sq_elf.specs.Segments.{copy_size}
 
 -- a PT_LOAD with memsz above 0
@@ -58,3 +59,12 @@ image_before bytes (suc count) =
 -- THE image of a file, in the order of its program headers
 abbrev pub image_of : List ℕ → List MemoryPiece
 image_of bytes = image_before bytes (phnum_of bytes)
+
+-- two pieces have a byte of memory in common
+abbrev pub pieces_meet : MemoryPiece → MemoryPiece → Bool
+pieces_meet p q = meets p.address p.length q.address q.length
+
+-- no two of the pieces meet
+abbrev pub AreApart : List MemoryPiece → Type 0
+AreApart [] = Unit {0}
+AreApart (p ∷ ps) = AllByRecursion (λ q. pieces_meet p q ≡ false) ps × AreApart ps

@@ -1,5 +1,5 @@
 -- THE table of refusals of a file, in the order that counts.
-use Rattle.std.specs.Prelude.{ℕ, ◌-◌, ◌*◌, Bool, not, ◌&&◌, ◌||◌, nat_eq, nat_lt, nat_le, if◌then◌else◌, true, false, List, [], ◌∷◌, ◌++◌, length, slice_index, Option}
+use Rattle.std.specs.Prelude.{ℕ, ◌-◌, ◌*◌, Bool, not, ◌||◌, nat_eq, nat_lt, nat_le, if◌then◌else◌, false, List, [], ◌∷◌, ◌++◌, length, slice_index, Option}
 use Rattle.std.specs.Option.{is_some}
 use Rattle.sq_num.specs.Refusals.{Row, first_refusal}
 use Rattle.sq_num.specs.declared.refusal.Refusal.{Refusal}

@@ -1,9 +1,9 @@
 -- What is asked of program headers.
-use Rattle.std.specs.Prelude.{ℕ, ◌+◌, ◌*◌, ◌^◌, Bool, not, ◌&&◌, ◌||◌, nat_eq, nat_lt, if◌then◌else◌, List}
+use Rattle.std.specs.Prelude.{ℕ, ◌+◌, ◌^◌, Bool, ◌&&◌, ◌||◌, nat_eq, nat_lt, if◌then◌else◌, List}
 use Rattle.std.specs.Option.{is_some}
 use Rattle.sq_num.specs.Refusals.{first_from}
 use Rattle.sq_elf.specs.declared.segment.Segment.{Segment}
-use Rattle.sq_elf.specs.Headers.{phnum_of, kind_of, is_load, segment_of}
+use Rattle.sq_elf.specs.Headers.{kind_of, is_load, segment_of}
 use Rattle.sq_elf.specs.Ranges.{leaves, meets}
 
 -- the file bytes of a PT_LOAD leave the file

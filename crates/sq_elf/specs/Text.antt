@@ -1,11 +1,11 @@
 -- Text: from the least address of an executable section to the greatest end of one.
-use Rattle.std.specs.Prelude.{ℕ, zero, suc, ◌+◌, ◌-◌, ◌*◌, ◌%◌, Bool, not, ◌&&◌, ◌||◌, nat_eq, nat_lt, nat_le, min, max, bit_and, if◌then◌else◌, List, Option}
+use Rattle.std.specs.Prelude.{◌≡◌, ◌<◌, ◌≤◌, ℕ, zero, suc, ◌+◌, ◌-◌, ◌%◌, Bool, not, ◌&&◌, ◌||◌, nat_eq, nat_lt, nat_le, min, max, bit_and, if◌then◌else◌, List, Option}
 use Rattle.std.specs.Option.{is_some, unwrap_or}
 use Rattle.sq_num.specs.Refusals.{first_from}
 use Rattle.sq_elf.specs.declared.segment.Segment.{Segment}
 use Rattle.sq_elf.specs.declared.section.Section.{Section}
 use Rattle.sq_elf.specs.declared.text.Text.{Text}
-use Rattle.sq_elf.specs.Headers.{entry_of, phnum_of, shnum_of, is_load, segment_of, section_of}
+use Rattle.sq_elf.specs.Headers.{phnum_of, shnum_of, is_load, segment_of, section_of}
 use Rattle.sq_elf.specs.Ranges.{meets, lies_in}
 
 -- flags ALLOC and EXECINSTR, and size above 0
@@ -76,3 +76,11 @@ splits bytes text segment index =
 -- a word of text: an address in it that is a multiple of 4
 abbrev pub is_text_word : Text → ℕ → Bool
 is_text_word text address = is_in_text text address && nat_eq (address % 4) 0
+
+-- the text lies in the file bytes of the segment, in whole words, and is not empty
+pub record IsTextIn (segment : Segment) (text : Text) : Type 0 where
+  pub low : segment.address ≤ text.lo
+  pub high : text.hi ≤ segment.address + segment.filesz
+  pub some : text.lo < text.hi
+  pub low_word : text.lo % 4 ≡ 0
+  pub high_word : text.hi % 4 ≡ 0

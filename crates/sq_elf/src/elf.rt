@@ -1,11 +1,11 @@
 //! An accepted file. Contracts see it as its bytes.
 
-ghost use Rattle.std.specs.Prelude.{◌≡◌, IfOk, OnOk};
+ghost use Rattle.std.specs.Prelude.{◌≡◌, ◌≤◌, ◌^◌, true, IfOk, IsSome, OnOk};
 ghost use Rattle.std.specs.Option.{option_map};
 ghost use Rattle.sq_num.specs.declared.refusal.Refusal.{Refusal};
-ghost use Rattle.sq_elf.specs.Headers.{entry_of, shnum_of};
-ghost use Rattle.sq_elf.specs.Text.{text_of};
-ghost use Rattle.sq_elf.specs.Memory.{image_of, AreSegments};
+ghost use Rattle.sq_elf.specs.Headers.{entry_of, shnum_of, segment_of};
+ghost use Rattle.sq_elf.specs.Text.{text_of, text_segment_of, is_text_word, IsTextIn};
+ghost use Rattle.sq_elf.specs.Memory.{image_of, AreApart, AreSegments};
 ghost use Rattle.sq_elf.specs.Sizes.{loaded_of};
 ghost use Rattle.sq_elf.specs.Refusing.{file_refusal_of};
 ghost use Rattle.sq_elf.specs.Reading.{word_of, section_at, contents_of};
@@ -73,9 +73,11 @@ impl<'a> Elf<'a> {
         self.bytes
     }
 
-    /// The range of text.
+    /// The range of text. It lies in the file bytes of the text segment, in whole words.
     pub fn text(&self) -> Text
-        ensures { result ≡ text_of self.now }
+        ensures value { result ≡ text_of self.now }
+        ensures inside { IsTextIn (segment_of self.now (text_segment_of self.now)) result }
+        ensures high { result.hi ≤ 2 ^ 32 }
     {
         self.text
     }
@@ -101,17 +103,21 @@ impl<'a> Elf<'a> {
         self.segments.as_slice()
     }
 
-    /// The pieces of memory that the file loads.
+    /// The pieces of memory that the file loads, of which no two meet.
+    #[tactic(auto, using(crate::proofs::Apart::pieces_are_apart))]
     pub fn image(&self, alloc: Global) -> Result<Image<'a>, Memory>
-        ensures { IfOk result (λ image. image ≡ image_of self.now) }
+        ensures value { IfOk result (λ image. image ≡ image_of self.now) }
+        ensures apart { AreApart (image_of self.now) }
     {
         image_of(alloc, self.bytes)
     }
 
     /// The word at the address, or None where its four bytes are not all file bytes of one segment at
     /// its virtual address.
+    #[tactic(auto, using(crate::proofs::TextFacts::text_has_words))]
     pub fn word(&self, address: u32) -> Option<u32>
-        ensures { result ≡ word_of self.now address }
+        ensures value { result ≡ word_of self.now address }
+        ensures text { is_text_word (text_of self.now) address ≡ true → IsSome result }
     {
         word_at(self.bytes, address)
     }

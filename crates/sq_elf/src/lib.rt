@@ -22,6 +22,7 @@ mod word;
 
 pub use elf::{Elf, read_elf};
 pub use image::{Image, Piece};
+pub use refusing::LONGEST_FILE;
 pub use section::Section;
 pub use segment::Segment;
 pub use text::Text;

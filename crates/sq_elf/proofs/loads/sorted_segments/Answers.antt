@@ -1,9 +1,8 @@
 -- a sort only moves the segments, and they ascend by the key
-use Rattle.std.proofs.Common.{ℕ, rules, subst, List}
+use Rattle.std.proofs.Common.{rules, subst, List}
 use Rattle.std.specs.List.Sorted.{IsPermutation}
 use Rattle.std.proofs.lemmas.List.Sorted.{IsNonDecreasingBy-from_sort_by_key}
 use Rattle.sq_elf.specs.declared.segment.Segment.{Segment}
-use Rattle.sq_elf.specs.Memory.{segments_of}
 use Rattle.sq_elf.proofs.loads.sorted_segments.Goals as goal
 
 pub returns : goal.returns

@@ -1,6 +1,5 @@
 -- the table's parts, one after the other
-use Rattle.std.proofs.Common.{◌≡◌, ℕ, List, ◌++◌, Option, Some, None, sym, ◌∙◌}
-use Rattle.sq_num.specs.declared.refusal.Refusal.{Refusal}
+use Rattle.std.proofs.Common.{◌≡◌, ℕ, List, ◌++◌, None, ◌∙◌}
 use Rattle.sq_num.specs.Refusals.{Row, first_refusal}
 use Rattle.sq_elf.specs.Refusing.{header_rows, table_rows, segment_rows, text_rows, size_rows, file_refusal_of}
 use Rattle.sq_elf.proofs.Parts.{here_of_parts, later_of_parts}

@@ -1,5 +1,5 @@
 -- the rows of the header, one after the other
-use Rattle.std.proofs.Common.{◌≡◌, ℕ, true, false, not, nat_eq, nat_lt, List, [], ◌∷◌, length, Some, None, sym, ◌∙◌, arith}
+use Rattle.std.proofs.Common.{◌≡◌, ℕ, true, false, not, nat_eq, nat_lt, List, [], ◌∷◌, length, None, sym, ◌∙◌, arith}
 use Rattle.std.proofs.lemmas.Grind.{common_steps}
 use Rattle.sq_num.specs.declared.refusal.Refusal.TheVariants.{FileTooLong, HeaderField, Flags}
 use Rattle.sq_num.specs.Refusals.{Row, first_from, first_refusal}

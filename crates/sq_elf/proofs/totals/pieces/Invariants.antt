@@ -1,4 +1,4 @@
-use Rattle.std.proofs.Common.{◌≡◌, ◌*◌, ◌≤◌, ℕ}
+use Rattle.std.proofs.Common.{◌≡◌, ◌*◌, ◌≤◌}
 use Rattle.sq_elf.specs.Sizes.{total, pieces_at}
 use Rattle.sq_elf.proofs.totals.pieces.Given as goal
 
