@@ -7,7 +7,8 @@ use Rattle.sq_write.specs.Output.{words}
 use Rattle.sq_write.specs.Plain.{plain_file, ArePlainWords, IsPlainFile, HasText, Spells}
 use Rattle.sq_write.proofs.Splitting.{length_words}
 use Rattle.sq_top.specs.Straight.{jump_to_self, IsStraight, reached_words, text_words, straight_part}
-use Rattle.sq_top.specs.Refusing.{refusal_of, IsRefused}
+use Rattle.sq_elf.specs.Refusing.{file_refusal_of}
+use Rattle.sq_top.specs.Refusing.{IsRefused}
 use Rattle.sq_top.proofs.StraightPart.{Keeps, keeps_from_part, part_from_steps}
 
 -- a plain file's text spells its words
@@ -69,6 +70,6 @@ good given packed packs = record {
 }
 
 -- a straight file that the table accepts is not refused
-pub not_refused : (bytes : List ℕ) → refusal_of bytes ≡ None → IsStraight bytes → (refusal : Refusal) → IsRefused bytes refusal → ⊥
+pub not_refused : (bytes : List ℕ) → file_refusal_of bytes ≡ None → IsStraight bytes → (refusal : Refusal) → IsRefused bytes refusal → ⊥
 not_refused bytes accepted straight refusal (inl refused) = absurd (cc (accepted, refused))
 not_refused bytes accepted straight refusal (inr refused) = refused.2 straight

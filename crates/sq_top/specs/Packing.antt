@@ -6,7 +6,7 @@ use Rattle.sq_num.specs.Saved.{words_saved}
 use Rattle.sq_write.specs.Output.{text_size, loaded_size}
 use Rattle.sq_write.specs.Plain.{plain_file, plain_output}
 use Rattle.sq_top.specs.Straight.{IsStraight, reached_words, text_words}
-use Rattle.sq_top.specs.Refusing.{refusal_of}
+use Rattle.sq_elf.specs.Refusing.{file_refusal_of}
 
 -- the bytes of text, and the bytes that are loaded, of the plain file of these words: four for each
 abbrev pub text_bytes : List ℕ → ℕ
@@ -20,7 +20,7 @@ no_savings = record { u = 0; j1 = 0; j2 = 0; j3 = 0; c = 0; t = 0; o1 = 0; o2 = 
 
 -- the packing of a given file: accepted, its reached words alone, and the sizes
 pub record Packs (given : List ℕ) (packed : Packed) : Type 0 where
-  pub accepted : refusal_of given ≡ None
+  pub accepted : file_refusal_of given ≡ None
   pub straight : IsStraight given
   pub output : packed.bytes ≡ plain_file (reached_words straight)
   pub text_before : packed.text_before ≡ text_bytes (text_words straight)
@@ -53,7 +53,7 @@ TellsSizes before after line = line ≡ sizes_text (text_bytes before) (text_byt
 -- what an output is of a given file
 pub record GoodOutput (given output : List ℕ) : Type 0 where
   -- the given file is not refused, and is straight
-  pub accepted : refusal_of given ≡ None
+  pub accepted : file_refusal_of given ≡ None
   pub straight : IsStraight given
   -- the output has the words that a run reaches, and no others
   pub output_is : output ≡ plain_file (reached_words straight)

@@ -11,7 +11,6 @@ mod ending;
 mod lines;
 mod pack_command;
 mod packing;
-mod refusing;
 mod straight;
 mod top;
 

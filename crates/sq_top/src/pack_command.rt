@@ -7,8 +7,8 @@ ghost use Rattle.sq_top.specs.Endings.{PacksFile, LeavesUnpacked, LeavesPrinted,
 use crate::ending::{DeskCall, Ending};
 use crate::lines::packed_line;
 use crate::packing::pack_bytes;
-use crate::refusing::LONGEST_FILE;
 use sq_desk::{Desk, DeskFault, LoadFault};
+use sq_elf::LONGEST_FILE;
 use sq_num::{Denied, Packed, Refusal};
 use std::alloc::Global;
 

@@ -227,7 +227,9 @@ fn statuses_have_their_complaints(rt: HostRuntime) -> Result<(), Fail> {
         case(&[0], 464, "pack a", 1, "", "wor"),
         case(&[0], 464, "pack a b", 2, "", "desk load\n"),
         case(&[1], 464, "pack a b", 2, "", "desk store\n"),
-        case(&[], 51, "pack a b", 3, "", "refused 0\n"),
+        case(&[], 0, "pack a b", 3, "", "refused 2 0x00000000\n"),
+        case(&[], 51, "pack a b", 3, "", "refused 3 0x00000033\n"),
+        case(&[], 52, "pack a b", 3, "", "refused 5 1 0\n"),
         case(&[], 3, "pack a b", 3, "", "refused 2 0x00000003\n"),
     ];
     for case in cases {
