@@ -1,5 +1,4 @@
 pub mod Later
 pub mod PackedFile
 pub mod Promised
-pub mod Refused
 pub mod StraightPart

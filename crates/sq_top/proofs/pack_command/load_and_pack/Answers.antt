@@ -1,7 +1,7 @@
 -- the bytes that were loaded are the held file
 use Rattle.std.proofs.Common.{List, ℕ, subst, ap, ◌∙◌, inl, Err}
 use Rattle.sq_top.specs.Packing.{Packs}
-use Rattle.sq_top.proofs.Refused.{too_long_refused}
+use Rattle.sq_elf.proofs.Accepted.{too_long_refused}
 use Rattle.sq_top.proofs.pack_command.load_and_pack.Goals as goal
 
 pub returns-in-Ok-pack_bytes-clause-packs : goal.returns-in-Ok-pack_bytes-clause-packs
