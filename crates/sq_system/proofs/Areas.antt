@@ -95,10 +95,9 @@ pub area_laid : (start : Start) (room count first : ℕ) (area : List ℕ) → S
     count ≡ length start.arguments → first ≡ start.base + room + 4 * (count + 3) → area ≡ area_parts count first (8 + room % 16) start.arguments →
     (area ≡ argument_area start) × (stack_pointer start + length area ≡ ram_end start)
 area_laid start room count first area fits spare counted placed parts =
-    let at : first ≡ start.base + room + word_room start = rw placed (ap (λ n. start.base + room + 4 * (n + 3)) counted) in
-    (
+    let at : first ≡ start.base + room + word_room start = rw placed (ap (λ n. start.base + room + 4 * (n + 3)) counted) in (
       parts ∙ ap (λ n. area_parts n first (8 + room % 16) start.arguments) counted
-      ∙ ap (λ n. area_parts (length start.arguments) n (8 + room % 16) start.arguments) at ∙ sym (argument_area-parts start room fits spare),
+          ∙ ap (λ n. area_parts (length start.arguments) n (8 + room % 16) start.arguments) at ∙ sym (argument_area-parts start room fits spare),
       rw (parts, length-area_parts count first (8 + room % 16) start.arguments)
-        (end_from_room start.base start.size (length start.arguments) (length (argument_bytes start.arguments)) room (stack_pointer start) spare (stack_pointer-room start room fits spare)),
+          (end_from_room start.base start.size (length start.arguments) (length (argument_bytes start.arguments)) room (stack_pointer start) spare (stack_pointer-room start room fits spare)),
     )

@@ -1,6 +1,6 @@
 -- The system calls of the plain machine. Their numbers and error codes are those of Linux on RISC-V;
 -- what they do is this project's own.
-use Rattle.std.specs.Prelude.{ℕ, ◌+◌, ◌==◌, ◌&&◌, ◌||◌, nat_le, min, not, if◌then◌else◌, List, [], ◌∷◌}
+use Rattle.std.specs.Prelude.{ℕ, ◌+◌, ◌-◌, ◌%◌, ◌^◌, Option, Some, None, ◌==◌, ◌&&◌, ◌||◌, nat_le, min, not, if◌then◌else◌, List, [], ◌∷◌}
 use Rattle.sq_system.specs.declared.call.CallArgs.{CallArgs}
 use Rattle.sq_system.specs.declared.call.Effect.{Effect}
 use Rattle.sq_system.specs.declared.call.Effect.TheVariants.{Exit, Write, Read, Brk, Fail, Ask}
@@ -52,3 +52,16 @@ effect_in (row ∷ rows) call = if call.number == row.number then row.effect cal
 
 abbrev pub effect_of : CallArgs → Effect
 effect_of call = effect_in calls call
+
+-- -n in 32 bits
+abbrev pub negative : ℕ → ℕ
+negative n = (2 ^ 32 - n) % 2 ^ 32
+
+-- what a0 becomes: what was written, the count, the answer, -c for Fail c, -38 for a call that is not known
+abbrev pub answer_of : CallArgs → Effect → Option ℕ
+answer_of call (Exit status) = None
+answer_of call (Write fd) = Some call.a2
+answer_of call (Read count) = Some count
+answer_of call (Brk answer) = Some answer
+answer_of call (Fail code) = Some (negative code)
+answer_of call Ask = Some (negative 38)

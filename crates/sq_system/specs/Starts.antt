@@ -28,7 +28,7 @@ pub record StartFits (base size : ℕ) : Type 0 where
   pub size_multiple : size % 16 ≡ 0
   pub least : 16 ≤ size
   pub most : size ≤ 16777216
-  pub «end» : base + size ≤ 2 ^ 32
+  pub end : base + size ≤ 2 ^ 32
 
 -- the arguments in order, each with a zero byte
 abbrev pub argument_bytes : List (List ℕ) → List ℕ

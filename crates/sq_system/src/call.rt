@@ -1,7 +1,7 @@
 //! System calls (ECALL). Their numbers and error codes are those of Linux on RISC-V.
 
 ghost use Rattle.std.specs.Prelude.{◌≡◌};
-ghost use Rattle.sq_system.specs.Calls.{effect_of, read_effect, write_effect, brk_answer};
+ghost use Rattle.sq_system.specs.Calls.{effect_of, read_effect, write_effect, brk_answer, answer_of};
 
 /// What a call finds.
 #[derive(Clone, Copy, Debug, PartialEq, Eq)]
@@ -40,21 +40,34 @@ pub enum Effect {
     Ask,
 }
 
+const EXIT: u32 = 93;
+
+const EXIT_GROUP: u32 = 94;
+
+const READ: u32 = 63;
+
+const WRITE: u32 = 64;
+
+const BRK: u32 = 214;
+
 /// A bad file descriptor (EBADF).
 const BAD_DESCRIPTOR: u32 = 9;
 
 /// A bad address (EFAULT).
 const BAD_ADDRESS: u32 = 14;
 
+/// No such call (ENOSYS).
+const NO_CALL: u32 = 38;
+
 /// The effect of a call, by its row in the table. It takes no memory.
 pub fn call_effect(call: &CallArgs) -> Effect
     ensures { result ≡ effect_of call.now }
 {
     match call.number {
-        93 | 94 => Effect::Exit { status: call.a0 },
-        63 => read_effect(call),
-        64 => write_effect(call),
-        214 => Effect::Brk {
+        EXIT | EXIT_GROUP => Effect::Exit { status: call.a0 },
+        READ => read_effect(call),
+        WRITE => write_effect(call),
+        BRK => Effect::Brk {
             answer: brk_answer(call),
         },
         _ => Effect::Ask,
@@ -102,5 +115,19 @@ fn brk_answer(call: &CallArgs) -> u32
         call.a0
     } else {
         call.base
+    }
+}
+
+/// What a0 becomes by an effect of a call, or None where the run ends. It takes no memory.
+pub fn call_answer(call: &CallArgs, effect: &Effect) -> Option<u32>
+    ensures { result ≡ answer_of call.now effect.now }
+{
+    match effect {
+        Effect::Exit { .. } => None,
+        Effect::Write { .. } => Some(call.a2),
+        Effect::Read { count } => Some(*count),
+        Effect::Brk { answer } => Some(*answer),
+        Effect::Fail { code } => Some(code.wrapping_neg()),
+        Effect::Ask => Some(NO_CALL.wrapping_neg()),
     }
 }

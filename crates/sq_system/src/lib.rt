@@ -12,8 +12,11 @@ mod line;
 mod log;
 mod start;
 
-pub use call::{CallArgs, Effect, call_effect};
+pub use call::{CallArgs, Effect, call_answer, call_effect};
 pub use event::{Event, Halt};
 pub use line::{end_line, event_lines};
 pub use log::Log;
 pub use start::{Extent, Start, argument_area, is_bad_start, start_fits, start_pointer};
+
+#[cfg(test)]
+mod tests;

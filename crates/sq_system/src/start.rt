@@ -1,9 +1,9 @@
 //! How a run starts.
 
-ghost use Rattle.std.specs.Prelude.{◌≡◌, ◌↔◌, ◌+◌, ◌≤◌, ◌<◌, ◌-◌, ◌^◌, ◌∷◌, ◌++◌, length, drop, replicate, IsTrue, IfOk, OnOk};
+ghost use Rattle.std.specs.Prelude.{◌≡◌, ◌↔◌, ◌+◌, ◌≤◌, ◌<◌, ◌-◌, ◌^◌, ◌∷◌, ◌++◌, length, drop, replicate, false, IsTrue, IfOk, OnOk};
 ghost use Rattle.std.specs.Option.{SomeIff};
 ghost use Rattle.byteorder.specs.Endian.{little_bytes};
-ghost use Rattle.sq_system.specs.Starts.{start_of, StartFits, HasRoom, area_room, argument_bytes, addresses_from, word_bytes, ram_end, stack_pointer, argument_area, meets, Meets, IsBadStart};
+ghost use Rattle.sq_system.specs.Starts.{start_of, StartFits, HasRoom, area_room, argument_bytes, addresses_from, word_bytes, ram_end, stack_pointer, argument_area, meets, Meets, IsBadStart, IsValidStart};
 
 use byteorder::{ByteOrder, LittleEndian};
 use sq_num::{Memory, WordList};
@@ -82,7 +82,9 @@ pub fn start_pointer(start: &Start) -> Option<u32>
 /// piece. It takes no memory.
 pub fn is_bad_start(start: &Start, pieces: &[Extent]) -> bool
     requires { StartFits start.now.base start.now.size }
-    ensures { IsTrue result ↔ IsBadStart pieces.now (start_of start.now) }
+    ensures bad { IsTrue result ↔ IsBadStart pieces.now (start_of start.now) }
+    ensures valid { (result ≡ false) ↔ IsValidStart pieces.now (start_of start.now) }
+    ensures room { result ≡ false → HasRoom (start_of start.now) }
 {
     let end = u64::from(start.base) + u64::from(start.size);
     match start_pointer(start) {

@@ -18,13 +18,13 @@ laid c =
     let counted : count ≡ length start.arguments = rw (length-drop c.args.start.now.skip c.args.start.now.words.now, ← c.len.ensures) c.saturating_sub-count.ensures in
     let placed : first ≡ start.base + room + 4 * (count + 3) = rw (c.from.ensures, c.from-2.ensures) refl in
     area_laid start room count first c.push_arguments.new.area.items c.requires.fits spare counted placed (
-      c.in_ok-push_arguments.ensures
-      ∙ ap (λ area. area ++ argument_bytes start.arguments) (
-        c.in_ok-push_zeros.ensures
-        ∙ ap (λ area. area ++ replicate (8 + room % 16) 0) (
-          c.in_ok-push_addresses.ensures
-          ∙ ap (λ area. area ++ word_bytes (addresses_from first start.arguments)) (
-            c.in_ok-push_word.ensures ∙ ap (λ area. area ++ little_bytes 4 count) c.new-area.ensures.items))))
+    c.in_ok-push_arguments.ensures
+    ∙ ap (λ area. area ++ argument_bytes start.arguments) (
+    c.in_ok-push_zeros.ensures
+    ∙ ap (λ area. area ++ replicate (8 + room % 16) 0) (
+    c.in_ok-push_addresses.ensures
+    ∙ ap (λ area. area ++ word_bytes (addresses_from first start.arguments)) (
+    c.in_ok-push_word.ensures ∙ ap (λ area. area ++ little_bytes 4 count) c.new-area.ensures.items))))
 
 pub returns-clause-bytes : goal.returns-clause-bytes
 returns-clause-bytes c = (laid c).0

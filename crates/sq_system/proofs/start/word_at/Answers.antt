@@ -6,4 +6,4 @@ use Rattle.sq_system.proofs.start.word_at.Goals as goal
 pub returns : goal.returns
 returns c =
     drop_from_get c.args.words.now c.args.index c.unwrap.result.now
-        (sym c.get.ensures ∙ ap (λ found. option_map (λ word. word.now) found) c.unwrap.ensures)
+    (sym c.get.ensures ∙ ap (λ found. option_map (λ word. word.now) found) c.unwrap.ensures)
