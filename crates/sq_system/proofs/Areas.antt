@@ -1,11 +1,11 @@
 -- Where arguments stand, and how much room they take.
-use Rattle.std.proofs.Common.{◌≡◌, ℕ, suc, ◌+◌, ◌-◌, ◌*◌, ◌/◌, ◌%◌, ◌^◌, ◌<◌, ◌≤◌, List, [], ◌∷◌, ◌++◌, length, drop, replicate, Some, refl, ap, ◌∙◌, sym, arith, length-append, append_assoc}
+use Rattle.std.proofs.Common.{◌≡◌, ℕ, suc, ◌+◌, ◌-◌, ◌*◌, ◌/◌, ◌%◌, ◌≤◌, List, [], ◌∷◌, ◌++◌, length, drop, replicate, Some, refl, ap, ◌∙◌, sym, arith, length-append, append_assoc}
 use Rattle.std.specs.List.{slice_get}
 use Rattle.std.proofs.lemmas.List.{drop_more, length-replicate, replicate-append-replicate}
 use Rattle.std.proofs.lemmas.List.Concat.{flat_map-append}
 use Rattle.std.proofs.lemmas.Option.{slice_get_within, get_or_from_slice_get}
 use Rattle.byteorder.specs.Endian.{little_bytes}
-use Rattle.sq_system.specs.Starts.{Start, StartFits, HasRoom, area_room, word_room, argument_bytes, addresses_from, arguments_at, word_bytes, ram_end, stack_pointer, argument_area, argument_words}
+use Rattle.sq_system.specs.Starts.{Start, StartFits, HasRoom, area_room, word_room, argument_bytes, addresses_from, arguments_at, word_bytes, ram_end, stack_pointer, argument_area, argument_words, ram_at_start}
 
 -- the element at a place, and those behind it
 pub drop_from_get : {X : Type 0} (xs : List X) (i : ℕ) (x : X) → slice_get xs i ≡ Some x → drop i xs ≡ x ∷ drop (i + 1) xs
@@ -90,14 +90,46 @@ end_from_room : (base size count bytes room pointer : ℕ) → room + (4 * (coun
     pointer + (4 + 4 * count + (8 + room % 16) + bytes) ≡ base + size
 end_from_room base size count bytes room pointer spare rounded = omega arith
 
--- parts that were appended so are the area, which ends at the end of RAM
-pub area_laid : (start : Start) (room count first : ℕ) (area : List ℕ) → StartFits start.base start.size → room + area_room start ≡ start.size →
-    count ≡ length start.arguments → first ≡ start.base + room + 4 * (count + 3) → area ≡ area_parts count first (8 + room % 16) start.arguments →
-    (area ≡ argument_area start) × (stack_pointer start + length area ≡ ram_end start)
-area_laid start room count first area fits spare counted placed parts =
-    let at : first ≡ start.base + room + word_room start = rw placed (ap (λ n. start.base + room + 4 * (n + 3)) counted) in (
-      parts ∙ ap (λ n. area_parts n first (8 + room % 16) start.arguments) counted
-          ∙ ap (λ n. area_parts (length start.arguments) n (8 + room % 16) start.arguments) at ∙ sym (argument_area-parts start room fits spare),
-      rw (parts, length-area_parts count first (8 + room % 16) start.arguments)
-          (end_from_room start.base start.size (length start.arguments) (length (argument_bytes start.arguments)) room (stack_pointer start) spare (stack_pointer-room start room fits spare)),
-    )
+same_length : (pointer base size area : ℕ) → base ≤ pointer → pointer + area ≡ base + size → pointer - base + area ≡ size
+same_length pointer base size area below ends = omega arith
+
+-- the area ends at the end of RAM
+pub argument_area-ends : (start : Start) → StartFits start.base start.size → HasRoom start → stack_pointer start + length (argument_area start) ≡ ram_end start
+argument_area-ends start fits room =
+    let left = start.size - area_room start in
+    let fit = room_from_start start fits room in
+    let spare : left + area_room start ≡ start.size = omega (arith, fit) in
+    rw (argument_area-parts start left fits spare, length-area_parts (length start.arguments) (start.base + left + word_room start) (8 + left % 16) start.arguments)
+    (end_from_room start.base start.size (length start.arguments) (length (argument_bytes start.arguments)) left (stack_pointer start) spare (stack_pointer-room start left fits spare))
+
+-- RAM at a start has its size
+pub length-ram_at_start : (start : Start) → StartFits start.base start.size → HasRoom start → length (ram_at_start start) ≡ start.size
+length-ram_at_start start fits room =
+    let ends = argument_area-ends start fits room in
+    let below = room.above_base in
+    rw (length-append (replicate {A = ℕ} (stack_pointer start - start.base) 0) (argument_area start), length-replicate {A = ℕ} (stack_pointer start - start.base) 0)
+    (same_length (stack_pointer start) start.base start.size (length (argument_area start)) below ends)
+
+-- the parts that are appended one behind another to what stood there are the area
+pub area_appended : (start : Start) (room count first : ℕ) (old : List ℕ) → StartFits start.base start.size → room + area_room start ≡ start.size →
+    count ≡ length start.arguments → first ≡ start.base + room + 4 * (count + 3) →
+    old ++ little_bytes 4 count ++ word_bytes (addresses_from first start.arguments) ++ replicate (8 + room % 16) 0 ++ argument_bytes start.arguments
+    ≡ old ++ argument_area start
+area_appended start room count first old fits spare counted placed =
+    let at : first ≡ start.base + room + word_room start = rw placed (ap (λ n. start.base + room + 4 * (n + 3)) counted) in
+    let words = word_bytes (addresses_from first start.arguments) in
+    let zeroes : List ℕ = replicate (8 + room % 16) 0 in
+    let bytes = argument_bytes start.arguments in
+    rw (append_assoc old (little_bytes 4 count) words, append_assoc old (little_bytes 4 count ++ words) zeroes, append_assoc old (little_bytes 4 count ++ words ++ zeroes) bytes)
+    (ap (λ area. old ++ area) (
+    ap (λ n. area_parts n first (8 + room % 16) start.arguments) counted
+    ∙ ap (λ n. area_parts (length start.arguments) n (8 + room % 16) start.arguments) at ∙ sym (argument_area-parts start room fits spare)))
+
+below_pointer : (pointer base room : ℕ) → pointer + room % 16 ≡ base + room → room - room % 16 ≡ pointer - base
+below_pointer pointer base room rounded = omega arith
+
+-- the area behind so many zeros is RAM at the start
+pub ram_laid : (start : Start) (room : ℕ) → StartFits start.base start.size → room + area_room start ≡ start.size →
+    replicate (room - room % 16) 0 ++ argument_area start ≡ ram_at_start start
+ram_laid start room fits spare =
+    ap (λ n. replicate n 0 ++ argument_area start) (below_pointer (stack_pointer start) start.base room (stack_pointer-room start room fits spare))

@@ -78,16 +78,20 @@ argument_area start =
     ++ replicate (arguments_at start - (stack_pointer start + word_room start)) 0
     ++ argument_bytes start.arguments
 
+-- RAM as a run starts with it: 0 up to the stack pointer, and then the argument area
+abbrev pub ram_at_start : Start → List ℕ
+ram_at_start start = replicate (stack_pointer start - start.base) 0 ++ argument_area start
+
 -- the byte at x is in the piece
 pub record IsIn (x : ℕ) (piece : Extent) : Type 0 where
   pub from : piece.address ≤ x
   pub below : x < piece.address + piece.length
 
--- a byte from `from` up to, without, `end` is in the piece
+-- a byte from `from` up to, without, `to` is in the piece
 abbrev pub Meets : ℕ → ℕ → Extent → Type 0
 Meets from to piece = (x : ℕ) × (from ≤ x) × (x < to) × IsIn x piece
 
--- whether one is: the first byte of the piece that is not before `from`
+-- whether one is: it can be the first byte of the piece that is not before `from`
 abbrev pub meets : ℕ → ℕ → Extent → Bool
 meets from to piece =
     nat_lt (max piece.address from) to && nat_lt (max piece.address from) (piece.address + piece.length)

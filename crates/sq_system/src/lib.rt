@@ -6,17 +6,19 @@
 //! the list of the events pushed, and that each event and each end has one line.
 #![tactic(auto)]
 
+mod area;
 mod call;
 mod event;
 mod line;
 mod log;
 mod start;
 
+pub use area::{argument_area, ram_at_start};
 pub use call::{CallArgs, Effect, call_answer, call_effect};
 pub use event::{Event, Halt};
 pub use line::{end_line, event_lines};
 pub use log::Log;
-pub use start::{Extent, Start, argument_area, is_bad_start, start_fits, start_pointer};
+pub use start::{Extent, Start, is_bad_start, start_fits, start_pointer};
 
 #[cfg(test)]
 mod tests;

@@ -1,13 +1,10 @@
 //! How a run starts.
 
-ghost use Rattle.std.specs.Prelude.{◌≡◌, ◌↔◌, ◌+◌, ◌≤◌, ◌<◌, ◌-◌, ◌^◌, ◌∷◌, ◌++◌, length, drop, replicate, false, IsTrue, IfOk, OnOk};
+ghost use Rattle.std.specs.Prelude.{◌≡◌, ◌↔◌, ◌+◌, ◌≤◌, ◌<◌, ◌-◌, ◌∷◌, length, drop, false, IsTrue};
 ghost use Rattle.std.specs.Option.{SomeIff};
-ghost use Rattle.byteorder.specs.Endian.{little_bytes};
-ghost use Rattle.sq_system.specs.Starts.{start_of, StartFits, HasRoom, area_room, argument_bytes, addresses_from, word_bytes, ram_end, stack_pointer, argument_area, meets, Meets, IsBadStart, IsValidStart};
+ghost use Rattle.sq_system.specs.Starts.{start_of, StartFits, HasRoom, area_room, stack_pointer, meets, Meets, IsBadStart, IsValidStart};
 
-use byteorder::{ByteOrder, LittleEndian};
-use sq_num::{Memory, WordList};
-use std::alloc::Global;
+use sq_num::WordList;
 
 /// What a run starts with. Its arguments are the words from number `skip` on, counted from 0, and RAM
 /// is `size` bytes from `base` on.
@@ -50,7 +47,7 @@ impl Extent {
 }
 
 /// The word at `index`, behind which the others follow.
-fn word_at(words: &WordList, index: usize) -> &str
+pub fn word_at(words: &WordList, index: usize) -> &str
     requires { index < length words.now }
     ensures { drop index words.now ≡ result.now ∷ drop (index + 1) words.now }
 {
@@ -58,7 +55,7 @@ fn word_at(words: &WordList, index: usize) -> &str
 }
 
 /// How many bytes of RAM the arguments and their words leave, or None where they take more than RAM.
-fn room_left(start: &Start) -> Option<usize>
+pub fn room_left(start: &Start) -> Option<usize>
     ensures { SomeIff result (area_room (start_of start.now) ≤ start.now.size) (start.now.size - area_room (start_of start.now)) }
 {
     let mut room = (start.size as usize).checked_sub(12)?;
@@ -91,67 +88,4 @@ pub fn is_bad_start(start: &Start, pieces: &[Extent]) -> bool
         None => true,
         Some(pointer) => pieces.iter().any(|piece| piece.meets(pointer, end)),
     }
-}
-
-/// The bytes from the stack pointer up to the end of RAM.
-pub fn argument_area(alloc: Global, start: &Start) -> Result<Vec<u8>, Memory>
-    requires fits { StartFits start.now.base start.now.size }
-    requires room { HasRoom (start_of start.now) }
-    ensures bytes { IfOk result (λ area. area.items ≡ argument_area (start_of start.now)) }
-    ensures length { IfOk result (λ area. stack_pointer (start_of start.now) + length area.items ≡ ram_end (start_of start.now)) }
-{
-    let room = room_left(start).unwrap();
-    let count = start.words.len().saturating_sub(start.skip) as u32;
-    let first = u64::from(start.base) + room as u64 + 4 * (u64::from(count) + 3);
-    let mut area = Vec::new(alloc);
-    push_word(&mut area, count)?;
-    push_addresses(&mut area, start, first)?;
-    push_zeros(&mut area, 8 + room % 16)?;
-    push_arguments(&mut area, start)?;
-    Ok(area)
-}
-
-/// Appends four bytes, the least first.
-fn push_word(area: &mut Vec<u8>, word: u32) -> Result<(), Memory>
-    ensures { OnOk result (area.new.items ≡ area.old.items ++ little_bytes 4 word) }
-{
-    let mut field = [0; 4];
-    LittleEndian::write_u32(&mut field, word);
-    area.extend_from_slice(&field)?;
-    Ok(())
-}
-
-/// Appends at most 24 zeros: two zero words, and what rounding leaves.
-fn push_zeros(area: &mut Vec<u8>, count: usize) -> Result<(), Memory>
-    requires { count ≤ 24 }
-    ensures { OnOk result (area.new.items ≡ area.old.items ++ replicate count 0) }
-{
-    let zeros = [0; 24];
-    area.extend_from_slice(&zeros[..count])?;
-    Ok(())
-}
-
-/// Appends the addresses of the arguments, of which the first stands at `first`.
-fn push_addresses(area: &mut Vec<u8>, start: &Start, first: u64) -> Result<(), Memory>
-    requires { first + length (argument_bytes (start_of start.now).arguments) ≤ 2 ^ 32 }
-    ensures { OnOk result (area.new.items ≡ area.old.items ++ word_bytes (addresses_from first (start_of start.now).arguments)) }
-{
-    let mut address = first;
-    for index in start.skip..start.words.len() {
-        let argument = word_at(start.words, index);
-        push_word(area, address as u32)?;
-        address += argument.len() as u64 + 1;
-    }
-    Ok(())
-}
-
-/// Appends the arguments, each with a zero byte.
-fn push_arguments(area: &mut Vec<u8>, start: &Start) -> Result<(), Memory>
-    ensures { OnOk result (area.new.items ≡ area.old.items ++ argument_bytes (start_of start.now).arguments) }
-{
-    for index in start.skip..start.words.len() {
-        area.extend_from_slice(word_at(start.words, index).as_bytes())?;
-        area.push(0)?;
-    }
-    Ok(())
 }

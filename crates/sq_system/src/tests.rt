@@ -31,6 +31,9 @@ fn arguments_stand_at_the_end_of_ram(rt: HostRuntime) -> Result<(), Fail> {
         0, 0, 0, b'x', 0, b'y', b'y', 0,
     ];
     assert_eq!(rt; area.as_slice(), expected);
+    let ram = ram_at_start(rt.alloc(), &start)?;
+    assert_eq!(rt; ram.len(), 0x1_0000);
+    assert_eq!(rt; &ram[0xffe0..], expected);
     Ok(())
 }
 

@@ -1,6 +1,6 @@
 use Rattle.std.proofs.Common.{◌≡◌, ◌+◌, ◌≤◌, ◌^◌, ◌++◌, length, drop}
 use Rattle.sq_system.specs.Starts.{argument_bytes, addresses_from, word_bytes}
-use Rattle.sq_system.proofs.start.push_addresses.Given as goal
+use Rattle.sq_system.proofs.area.push_addresses.Given as goal
 
 -- the addresses from here on are left to append, and all of them stay below 2^32
 abbrev pub invariant-loop-index : goal.invariant-loop-index

@@ -1,6 +1,6 @@
 use Rattle.std.proofs.Common.{◌≡◌, ◌++◌, drop}
 use Rattle.sq_system.specs.Starts.{argument_bytes}
-use Rattle.sq_system.proofs.start.push_arguments.Given as goal
+use Rattle.sq_system.proofs.area.push_arguments.Given as goal
 
 -- the arguments from here on are left to append
 abbrev pub invariant-loop-index : goal.invariant-loop-index
