@@ -274,6 +274,23 @@ fn changed_headers_are_refused(rt: HostRuntime) -> Result<(), Fail> {
 }
 
 #[test]
+fn a_word_more_than_the_most_is_refused(rt: HostRuntime) -> Result<(), Fail> {
+    let alloc = rt.alloc();
+    let mut file = with_zeros(alloc, 262_140)?;
+    // The least bytes of the segment's two sizes and of the size of its section: they take in the word behind.
+    for place in [68, 72, 1_048_804] {
+        if let Some(byte) = file.get_mut(place) {
+            *byte = 4;
+        }
+    }
+    let mut desk = MemoryDesk::new(alloc, &[])?;
+    desk.put("a", file.as_slice())?;
+    assert_eq!(rt; run(&rt, &mut desk, "pack a b")?, 3);
+    assert_eq!(rt; desk.complained(), b"refused 13 1048580\n".as_slice());
+    Ok(())
+}
+
+#[test]
 fn failed_print_leaves_the_output(rt: HostRuntime) -> Result<(), Fail> {
     let alloc = rt.alloc();
     let smallest = file_of(alloc, &SMALLEST)?;
