@@ -4,3 +4,4 @@ pub mod MemoryWrites
 pub mod Effects
 pub mod Moves
 pub mod InputReads
+pub mod FirstStates

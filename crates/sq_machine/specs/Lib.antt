@@ -4,3 +4,4 @@ pub mod Calls
 pub mod Rows
 pub mod Steps
 pub mod Views
+pub mod Starts

@@ -14,10 +14,14 @@ mod moved;
 mod permissions;
 mod registers;
 mod rows;
+mod start;
 mod steps;
+#[cfg(test)]
+mod tests;
 mod world;
 
 pub use hart::Hart;
 pub use machine::Machine;
 pub use moved::{Moved, Outcome};
-pub use world::{Piece, World};
+pub use start::NewFault;
+pub use world::{LoadedPiece, Piece, World};

@@ -21,7 +21,7 @@ pub struct Machine {
 
 impl Machine {
     /// A machine that stands at a state.
-    pub fn from_parts(world: World, hart: Hart) -> Machine
+    pub(crate) fn from_parts(world: World, hart: Hart) -> Machine
         ensures world { machine_world result ≡ world_of world }
         ensures state { machine_state result ≡ state_of hart }
     {

@@ -16,3 +16,10 @@ pub struct World {
     pub base: u32,
     pub size: u32,
 }
+
+/// A piece with the bytes that a file has for it, behind which zeros stand.
+#[derive(Clone, Copy, Debug)]
+pub struct LoadedPiece<'a> {
+    pub piece: Piece,
+    pub bytes: &'a [u8],
+}
