@@ -1,0 +1,8 @@
+use Rattle.std.proofs.Common.{◌≡◌, true}
+use Rattle.sq_machine.specs.World.{are_all}
+use Rattle.sq_machine.specs.State.{is_in_memory}
+use Rattle.sq_machine.specs.Views.{state_of}
+use Rattle.sq_machine.proofs.hart.Hart.are_in_memory.Given as goal
+
+abbrev pub invariant-loop-i : goal.invariant-loop-i
+invariant-loop-i l = are_all (is_in_memory (state_of l.self).memory) l.x l.i ≡ true

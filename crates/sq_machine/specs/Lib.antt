@@ -1,0 +1,7 @@
+pub mod World
+pub mod State
+pub mod Calls
+pub mod Rows
+pub mod Steps
+pub mod Views
+pub mod Starts
