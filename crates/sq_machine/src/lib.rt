@@ -20,8 +20,7 @@ mod steps;
 mod tests;
 mod world;
 
-pub use hart::Hart;
 pub use machine::Machine;
 pub use moved::{Moved, Outcome};
 pub use start::NewFault;
-pub use world::{LoadedPiece, Piece, World};
+pub use world::{LoadedPiece, Piece};
