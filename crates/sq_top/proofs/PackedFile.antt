@@ -1,5 +1,5 @@
 -- What the parts of a packing say together.
-use Rattle.std.proofs.Common.{◌≡◌, ℕ, ◌-◌, ◌*◌, ◌≤◌, List, [], ◌∷◌, ◌++◌, length, Some, None, inl, inr, sym, ap, subst, ◌∙◌, arith, append-nil, length-append, ◌+◌}
+use Rattle.std.proofs.Common.{◌≡◌, ℕ, ◌*◌, ◌≤◌, List, [], ◌∷◌, ◌++◌, length, Some, None, inl, inr, sym, ap, subst, ◌∙◌, arith, append-nil, length-append, ◌+◌}
 use Rattle.sq_num.specs.declared.packed.Packed.{Packed}
 use Rattle.sq_top.specs.Packing.{text_bytes, loaded_bytes, Packs, GoodOutput}
 use Rattle.sq_num.specs.declared.refusal.Refusal.{Refusal}

@@ -1,5 +1,5 @@
 -- How the ending of a call keeps each promise.
-use Rattle.std.proofs.Common.{◌≡◌, ℕ, ◌≤◌, ◌⊎◌, inl, inr, List, [], ◌∷◌, ◌++◌, Option, Some, None, refl, ap, ◌∙◌, arith, length-append}
+use Rattle.std.proofs.Common.{◌≡◌, ℕ, ◌⊎◌, inl, inr, List, ◌++◌, Option, Some, None, refl, ap, ◌∙◌}
 use Rattle.std.specs.Option.{option_map}
 use Rattle.sq_top.proofs.PackedFile.{good}
 use Rattle.sq_num.specs.declared.packed.Packed.{Packed}
@@ -8,8 +8,7 @@ use Rattle.sq_top.specs.declared.ending.Ending.{Ending}
 use Rattle.sq_top.specs.declared.ending.Ending.TheVariants.{Done, Words, Desk, Refused, Memory}
 use Rattle.sq_top.specs.declared.ending.DeskCall.TheVariants.{Load, Store, Print}
 use Rattle.sq_top.specs.Commands.{Form, PackForm, form_of}
-use Rattle.sq_top.specs.Straight.{jump_to_self}
-use Rattle.sq_top.specs.Packing.{Packs, GoodOutput, Headline, packed_text, sizes_text}
+use Rattle.sq_top.specs.Packing.{Packs, Headline, packed_text, sizes_text}
 use Rattle.sq_top.specs.Endings.{status_of, complaint_of, StoresPacked, LeavesPack, Leaves, ComplainsLine}
 use Rattle.sq_top.specs.Promises.{Ends, ForPack, IsDone, HoldsOutput, StayOrHold, HasRefusal, IsComplete}
 
