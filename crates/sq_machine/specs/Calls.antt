@@ -9,7 +9,7 @@ use Rattle.sq_system.specs.declared.event.Event.{Event}
 use Rattle.sq_system.specs.declared.event.Event.TheVariants.{Wrote, Read as WasRead, Brk as WasBrk, Failed, Asked}
 use Rattle.sq_system.specs.declared.event.Halt.{Halt}
 use Rattle.sq_system.specs.declared.event.Halt.TheVariants.{Exit as Exited}
-use Rattle.sq_machine.specs.World.{World, is_writable, is_range}
+use Rattle.sq_system.specs.World.{World, is_writable, is_range}
 use Rattle.sq_machine.specs.State.{State, is_in_memory, bytes_at, with_register, with_bytes, without_input, advance}
 
 -- the registers of Linux's calling convention: the number in a7, the arguments in a0, a1 and a2

@@ -1,4 +1,3 @@
-pub mod World
 pub mod State
 pub mod Calls
 pub mod Rows

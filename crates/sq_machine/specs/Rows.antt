@@ -22,7 +22,7 @@ use Rattle.sq_memory.specs.Cells.{Cells}
 use Rattle.sq_system.specs.declared.event.Event.{Event}
 use Rattle.sq_system.specs.declared.event.Halt.{Halt}
 use Rattle.sq_system.specs.declared.event.Halt.TheVariants.{Illegal, Breakpoint, Load as LoadFault, Store as StoreFault}
-use Rattle.sq_machine.specs.World.{World, is_writable, is_range}
+use Rattle.sq_system.specs.World.{World, is_writable, is_range}
 use Rattle.sq_machine.specs.State.{State, is_aligned, aligned_number, with_register, with_bytes, with_reservation, jump, next_pc, advance, finish, address_of, target_of}
 use Rattle.sq_machine.specs.Calls.{call_row}
 

@@ -3,9 +3,9 @@ use Rattle.std.specs.Prelude.{ℕ, ◌-◌, List, [], ◌∷◌, ◌++◌, lengt
 use Rattle.sq_memory.specs.Regions.{Region, get}
 use Rattle.sq_system.specs.Starts.{Start, stack_pointer, ram_at_start}
 use Rattle.sq_system.specs.declared.start.Extent.{Extent}
-use Rattle.sq_machine.specs.World.{World}
+use Rattle.sq_system.specs.World.{World}
 use Rattle.sq_machine.specs.State.{State, with_register}
-use Rattle.sq_machine.specs.declared.world.Piece.{Piece}
+use Rattle.sq_system.specs.declared.piece.Piece.{Piece}
 use Rattle.sq_machine.specs.declared.world.LoadedPiece.{LoadedPiece}
 
 abbrev pub piece_of : LoadedPiece → Piece

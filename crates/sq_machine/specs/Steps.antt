@@ -6,7 +6,7 @@ use Rattle.sq_runs.specs.Runs.{Next, Went, Ended, Broke, Status, Running, Halted
 use Rattle.sq_system.specs.declared.event.Event.{Event}
 use Rattle.sq_system.specs.declared.event.Halt.{Halt}
 use Rattle.sq_system.specs.declared.event.Halt.TheVariants.{Fetch, Illegal}
-use Rattle.sq_machine.specs.World.{World, is_executable, is_range}
+use Rattle.sq_system.specs.World.{World, is_executable, is_range}
 use Rattle.sq_machine.specs.State.{State, aligned_number}
 use Rattle.sq_machine.specs.Rows.{row_of}
 use Rattle.sq_machine.specs.declared.moved.Moved.{Moved}

@@ -1,7 +1,7 @@
 -- The world and the state that a machine stands for.
 use Rattle.std.specs.Prelude.{ℕ, List, slice_index, drop}
 use Rattle.sq_memory.specs.Regions.{get}
-use Rattle.sq_machine.specs.World.{World}
+use Rattle.sq_system.specs.World.{World}
 use Rattle.sq_machine.specs.State.{State}
 use Rattle.sq_machine.specs.declared.world.World.{World as RustWorld}
 use Rattle.sq_machine.specs.declared.hart.Hart.{Hart}

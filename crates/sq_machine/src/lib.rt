@@ -23,4 +23,4 @@ mod world;
 pub use machine::Machine;
 pub use moved::{Moved, Outcome};
 pub use start::NewFault;
-pub use world::{LoadedPiece, Piece};
+pub use world::LoadedPiece;

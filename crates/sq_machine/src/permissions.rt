@@ -2,10 +2,10 @@
 
 ghost use Rattle.std.specs.Prelude.{◌≡◌, ◌↔◌, ◌+◌, ◌<◌, ◌≤◌, ◌^◌, IsTrue};
 ghost use Rattle.std.specs.List.{list_any};
-ghost use Rattle.sq_machine.specs.World.{PF_X, PF_W, is_in, is_in_with, is_in_ram, is_executable, is_writable, is_range};
+ghost use Rattle.sq_system.specs.World.{PF_X, PF_W, is_in, is_in_with, is_in_ram, is_executable, is_writable, is_range};
 ghost use Rattle.sq_machine.specs.Views.{world_of};
 
-use crate::world::{Piece, World};
+use crate::world::World;
 
 const PF_EXECUTE: u32 = 1;
 
@@ -16,23 +16,6 @@ pub fn passes_end(x: u32, n: u32) -> bool
     ensures { IsTrue result ↔ (2 ^ 32 < x + n) }
 {
     u64::from(x) + u64::from(n) > 1 << 32
-}
-
-impl Piece {
-    /// Whether the byte at `x` is in the piece.
-    fn contains(&self, x: u32) -> bool
-        ensures { result ≡ is_in x self.now }
-    {
-        let end = u64::from(self.extent.address) + u64::from(self.extent.length);
-        self.extent.address <= x && u64::from(x) < end
-    }
-
-    /// Whether it is, and the piece has the permission.
-    fn allows(&self, permission: u32, x: u32) -> bool
-        ensures { result ≡ is_in_with permission x self.now }
-    {
-        self.contains(x) && self.flags & permission != 0
-    }
 }
 
 impl World {
@@ -61,7 +44,7 @@ impl World {
     }
 
     /// Whether the byte at `x` is executable.
-    #[tactic(auto, unfolding(crate::specs::World::is_executable))]
+    #[tactic(auto, unfolding(sq_system::specs::World::is_executable))]
     fn is_executable(&self, x: u32) -> bool
         ensures { result ≡ is_executable (world_of self.now) x }
     {
@@ -69,7 +52,7 @@ impl World {
     }
 
     /// Whether the byte at `x` is writable.
-    #[tactic(auto, unfolding(crate::specs::World::is_writable))]
+    #[tactic(auto, unfolding(sq_system::specs::World::is_writable))]
     fn is_writable(&self, x: u32) -> bool
         ensures { result ≡ is_writable (world_of self.now) x }
     {

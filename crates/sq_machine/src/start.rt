@@ -8,11 +8,11 @@ ghost use Rattle.sq_machine.specs.Views.{state_of, world_of, machine_state, mach
 
 use crate::hart::Hart;
 use crate::machine::Machine;
-use crate::world::{LoadedPiece, Piece, World};
+use crate::world::{LoadedPiece, World};
 use sq_isa::Reg;
 use sq_memory::contents::{Contents, Region};
 use sq_num::Memory;
-use sq_system::{Start, ram_at_start, start_pointer};
+use sq_system::{Piece, Start, ram_at_start, start_pointer};
 use std::alloc::Global;
 
 /// Why there is no new machine.

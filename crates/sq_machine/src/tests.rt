@@ -2,7 +2,7 @@
 
 use crate::*;
 use sq_num::WordList;
-use sq_system::{Extent, Halt, Log, Start, event_lines};
+use sq_system::{Extent, Halt, Log, Piece, Start, event_lines};
 use std::alloc::Global;
 use std::test::Fail;
 

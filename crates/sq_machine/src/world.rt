@@ -1,13 +1,6 @@
 //! What a run never changes.
 
-use sq_system::Extent;
-
-/// A piece of a file in memory, with its permissions (p_flags of the System V gABI).
-#[derive(Clone, Copy, Debug, PartialEq, Eq)]
-pub struct Piece {
-    pub extent: Extent,
-    pub flags: u32,
-}
+use sq_system::Piece;
 
 /// The pieces of a file, and RAM: `size` bytes from `base` on.
 #[derive(Debug, Drop)]

@@ -11,6 +11,7 @@ mod call;
 mod event;
 mod line;
 mod log;
+mod piece;
 mod start;
 
 pub use area::{argument_area, ram_at_start};
@@ -18,6 +19,7 @@ pub use call::{CallArgs, Effect, call_answer, call_effect};
 pub use event::{Event, Halt};
 pub use line::{end_line, event_lines};
 pub use log::Log;
+pub use piece::Piece;
 pub use start::{Extent, Start, is_bad_start, start_fits, start_pointer};
 
 #[cfg(test)]

@@ -1,5 +1,5 @@
 use Rattle.std.proofs.Common.{sym, ◌∙◌}
-use Rattle.sq_machine.specs.World.{is_executable}
+use Rattle.sq_system.specs.World.{is_executable}
 use Rattle.sq_machine.specs.Views.{world_of}
 use Rattle.sq_machine.proofs.Ranges.{is_range-fails}
 use Rattle.sq_machine.proofs.world.World.are_executable.Goals as goal

@@ -1,5 +1,5 @@
 use Rattle.std.proofs.Common.{◌≡◌, true}
-use Rattle.sq_machine.specs.World.{are_all, is_executable}
+use Rattle.sq_system.specs.World.{are_all, is_executable}
 use Rattle.sq_machine.specs.Views.{world_of}
 use Rattle.sq_machine.proofs.world.World.are_executable.Given as goal
 

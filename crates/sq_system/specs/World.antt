@@ -1,7 +1,7 @@
 -- What a run never changes: the pieces of a file in memory with their permissions, and RAM.
 use Rattle.std.specs.Prelude.{ℕ, zero, suc, ◌+◌, ◌^◌, Bool, true, ◌==◌, ◌&&◌, not, nat_le, nat_lt, bit_and, if◌then◌else◌, List}
 use Rattle.std.specs.List.{list_any}
-use Rattle.sq_machine.specs.declared.world.Piece.{Piece}
+use Rattle.sq_system.specs.declared.piece.Piece.{Piece}
 
 -- pieces, and `size` bytes of RAM from `base` on
 pub record World : Type 0 where

@@ -1,0 +1,34 @@
+//! What a block has: items, and a term behind them.
+
+use sq_isa::{Cond, Insn, Reg};
+
+/// One word of a block that goes on to the next word, or a call of a procedure. `to` is the name of a block.
+#[derive(Clone, Copy, Debug, PartialEq, Eq)]
+pub enum Item {
+    /// An instruction that names no block.
+    Op(Insn),
+    /// The upper half of a block's address goes to `rd`.
+    Hi { rd: Reg, to: u32 },
+    /// `rd` becomes the block's address, of which `rs` has the upper half.
+    Lo { rd: Reg, rs: Reg, to: u32 },
+    /// The body of a procedure, by its number, is run here.
+    Out { procedure: u32 },
+}
+
+/// How a block goes on behind its items. `to` is the name of a block, and a link becomes the address
+/// of the next slot.
+#[derive(Clone, Copy, Debug, PartialEq, Eq)]
+pub enum Term {
+    /// The next slot follows, without a word.
+    Fall,
+    Jump { to: u32 },
+    /// `to` where the condition holds of the registers a and b, else the next slot.
+    Branch { cond: Cond, a: Reg, b: Reg, to: u32 },
+    Call { link: Reg, to: u32 },
+    /// A jump to the block, of whose address `part` has the upper half.
+    PartJump { link: Reg, part: Reg, to: u32 },
+    /// A jump to the address in `at` plus the offset.
+    Indirect { link: Reg, at: Reg, offset: i32 },
+    /// EBREAK, or a word that stands for no instruction.
+    Stop { word: u32 },
+}
