@@ -1,3 +1,4 @@
+pub mod Accesses
 pub mod AtomicCodes
 pub mod AtomicEncoding
 pub mod Atomics

@@ -1,5 +1,5 @@
 -- Words of 32 bits read as signed numbers and back, in two's complement.
-use Rattle.std.specs.Prelude.{ℕ, ℤ, Bool, ◌%◌, ◌^◌, if◌then◌else◌}
+use Rattle.std.specs.Prelude.{ℕ, ℤ, Bool, ◌-◌, ◌*◌, ◌%◌, ◌^◌, if◌then◌else◌}
 use Rattle.std.specs.Int.{w32, cast_signed, cast_unsigned}
 
 -- a word as a signed number: words from 2^31 on stand for 2^32 less
@@ -21,3 +21,11 @@ number_of test = if test then 1 else 0
 -- how far a shift goes: the low five bits of its second operand
 abbrev pub shift_of : ℕ → ℕ
 shift_of b = b % 32
+
+-- the upper 20 bits of a word, the others 0
+abbrev pub upper_word : ℕ → ℕ
+upper_word upper = wrapped (upper * 2 ^ 12)
+
+-- an address with bit 0 cleared
+abbrev pub even : ℕ → ℕ
+even x = x - x % 2

@@ -2,7 +2,8 @@
 -- and A. System calls, misaligned accesses and halts are this project's own.
 use Rattle.std.specs.Prelude.{ℕ, ℤ, ◌+◌, ◌*◌, ◌-◌, ◌^◌, ◌%◌, Bool, true, false, ◌==◌, ◌&&◌, nat_lt, Option, Some, None, option_map, if◌then◌else◌}
 use Rattle.byteorder.specs.Endian.{little_bytes}
-use Rattle.sq_isa.specs.Words.{wrapped}
+use Rattle.sq_isa.specs.Words.{wrapped, upper_word, even}
+use Rattle.sq_isa.specs.Accesses.{load_width, store_width, extended}
 use Rattle.sq_isa.specs.Values.{value_of, value_imm_of}
 use Rattle.sq_isa.specs.Branches.{taken_of}
 use Rattle.sq_isa.specs.Atomics.{atomic_value_of}
@@ -12,9 +13,7 @@ use Rattle.sq_isa.specs.declared.instructions.Cond.{Cond}
 use Rattle.sq_isa.specs.declared.instructions.RegOp.{RegOp}
 use Rattle.sq_isa.specs.declared.instructions.ImmOp.{ImmOp}
 use Rattle.sq_isa.specs.declared.instructions.LoadKind.{LoadKind}
-use Rattle.sq_isa.specs.declared.instructions.LoadKind.TheVariants.{Lb, Lh, Lw, Lbu, Lhu}
 use Rattle.sq_isa.specs.declared.instructions.StoreKind.{StoreKind}
-use Rattle.sq_isa.specs.declared.instructions.StoreKind.TheVariants.{Sb, Sh, Sw}
 use Rattle.sq_isa.specs.declared.instructions.AtomicOp.{AtomicOp}
 use Rattle.sq_isa.specs.declared.instructions.AtomicOp.TheVariants.{Lr, Sc, Swap, Add, Xor, And, Or, Min, Max, MinU, MaxU}
 use Rattle.sq_runs.specs.Runs.{Next, Went, Ended}
@@ -26,10 +25,6 @@ use Rattle.sq_system.specs.World.{World, is_writable, is_range}
 use Rattle.sq_machine.specs.State.{State, is_aligned, aligned_number, with_register, with_bytes, with_reservation, jump, next_pc, advance, finish, address_of, target_of}
 use Rattle.sq_machine.specs.Calls.{call_row}
 
--- the upper 20 bits of a word, the others 0
-abbrev pub upper_word : ℕ → ℕ
-upper_word upper = wrapped (upper * 2 ^ 12)
-
 abbrev pub lui_row : ℕ → ℕ → State → Next Event Halt ⊥ State
 lui_row rd upper s = Went None (finish rd (upper_word upper) s)
 
@@ -39,10 +34,6 @@ auipc_row rd upper s = Went None (finish rd (wrapped (s.pc + upper_word upper)) 
 abbrev pub jal_row : ℕ → ℤ → State → Next Event Halt ⊥ State
 jal_row rd offset s = Went None (jump (target_of offset s) (with_register rd (next_pc s) s))
 
--- an address with bit 0 cleared
-abbrev pub even : ℕ → ℕ
-even x = x - x % 2
-
 -- the target is read before the link is written
 abbrev pub jalr_row : ℕ → ℕ → ℤ → State → Next Event Halt ⊥ State
 jalr_row rd rs offset s = Went None (jump (even (address_of rs offset s)) (with_register rd (next_pc s) s))
@@ -50,31 +41,6 @@ jalr_row rd rs offset s = Went None (jump (even (address_of rs offset s)) (with_
 abbrev pub branch_row : Cond → ℕ → ℕ → ℤ → State → Next Event Halt ⊥ State
 branch_row c a b offset s =
     Went None (if taken_of c (s.registers a) (s.registers b) then jump (target_of offset s) s else advance s)
-
--- a number of n bits as a word, its highest bit in each bit above
-abbrev pub sign_extended : ℕ → ℕ → ℕ
-sign_extended n v = if nat_lt v (2 ^ (n - 1)) then v else v + (2 ^ 32 - 2 ^ n)
-
--- how many bytes a load or a store takes
-abbrev pub load_width : LoadKind → ℕ
-load_width Lb = 1
-load_width Lh = 2
-load_width Lw = 4
-load_width Lbu = 1
-load_width Lhu = 2
-
-abbrev pub store_width : StoreKind → ℕ
-store_width Sb = 1
-store_width Sh = 2
-store_width Sw = 4
-
--- what is loaded as a word
-abbrev pub extended : LoadKind → ℕ → ℕ
-extended Lb v = sign_extended 8 v
-extended Lh v = sign_extended 16 v
-extended Lw v = v
-extended Lbu v = v
-extended Lhu v = v
 
 abbrev pub loaded : LoadKind → Cells ℕ → ℕ → Option ℕ
 loaded kind m x = option_map (extended kind) (aligned_number m x (load_width kind))

@@ -3,7 +3,8 @@
 ghost use Rattle.std.specs.Prelude.{◌≡◌, ◌+◌, ◌<◌, ◌≤◌, ◌^◌, IsTrue};
 ghost use Rattle.byteorder.specs.Endian.{little_bytes};
 ghost use Rattle.sq_system.specs.World.{is_writable};
-ghost use Rattle.sq_machine.specs.Rows.{lui_row, auipc_row, jal_row, jalr_row, branch_row, load_row, store_row, store_width, may_store, op_imm_row, op_row};
+ghost use Rattle.sq_isa.specs.Accesses.{store_width};
+ghost use Rattle.sq_machine.specs.Rows.{lui_row, auipc_row, jal_row, jalr_row, branch_row, load_row, store_row, may_store, op_imm_row, op_row};
 ghost use Rattle.sq_machine.specs.State.{with_bytes};
 ghost use Rattle.sq_machine.specs.Steps.{IsQuietStep};
 ghost use Rattle.sq_machine.specs.Views.{state_of, world_of};
