@@ -1,5 +1,6 @@
--- Loads and stores: how many bytes they take, and what a load makes of them, as in the RISC-V manual.
-use Rattle.std.specs.Prelude.{ℕ, ◌+◌, ◌-◌, ◌^◌, nat_lt, if◌then◌else◌}
+-- Loads, stores and atomic operations: how many bytes they take and where, and what a load makes of them, as in
+-- the RISC-V manual.
+use Rattle.std.specs.Prelude.{ℕ, ◌+◌, ◌*◌, ◌-◌, ◌%◌, ◌^◌, Bool, false, List, [], ◌∷◌, Option, Some, None, ◌==◌, nat_lt, if◌then◌else◌}
 use Rattle.sq_isa.specs.declared.instructions.LoadKind.{LoadKind}
 use Rattle.sq_isa.specs.declared.instructions.LoadKind.TheVariants.{Lb, Lh, Lw, Lbu, Lhu}
 use Rattle.sq_isa.specs.declared.instructions.StoreKind.{StoreKind}
@@ -29,3 +30,17 @@ extended Lh v = sign_extended 16 v
 extended Lw v = v
 extended Lbu v = v
 extended Lhu v = v
+
+-- the number of these bytes, the least first
+abbrev pub bytes_number : List ℕ → ℕ
+bytes_number [] = 0
+bytes_number (byte ∷ bytes) = byte + 256 * bytes_number bytes
+
+-- the address is a multiple of the width
+abbrev pub is_aligned : ℕ → ℕ → Bool
+is_aligned x width = x % width == 0
+
+-- the address is the one that is reserved
+abbrev pub is_reserved : ℕ → Option ℕ → Bool
+is_reserved x None = false
+is_reserved x (Some y) = x == y

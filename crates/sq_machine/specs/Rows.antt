@@ -3,7 +3,7 @@
 use Rattle.std.specs.Prelude.{ℕ, ℤ, ◌+◌, ◌*◌, ◌-◌, ◌^◌, ◌%◌, Bool, true, false, ◌==◌, ◌&&◌, nat_lt, Option, Some, None, option_map, if◌then◌else◌}
 use Rattle.byteorder.specs.Endian.{little_bytes}
 use Rattle.sq_isa.specs.Words.{wrapped, upper_word, even}
-use Rattle.sq_isa.specs.Accesses.{load_width, store_width, extended}
+use Rattle.sq_isa.specs.Accesses.{load_width, store_width, extended, is_aligned, is_reserved}
 use Rattle.sq_isa.specs.Values.{value_of, value_imm_of}
 use Rattle.sq_isa.specs.Branches.{taken_of}
 use Rattle.sq_isa.specs.Atomics.{atomic_value_of}
@@ -22,7 +22,7 @@ use Rattle.sq_system.specs.declared.event.Event.{Event}
 use Rattle.sq_system.specs.declared.event.Halt.{Halt}
 use Rattle.sq_system.specs.declared.event.Halt.TheVariants.{Illegal, Breakpoint, Load as LoadFault, Store as StoreFault}
 use Rattle.sq_system.specs.World.{World, is_writable, is_range}
-use Rattle.sq_machine.specs.State.{State, is_aligned, aligned_number, with_register, with_bytes, with_reservation, jump, next_pc, advance, finish, address_of, target_of}
+use Rattle.sq_machine.specs.State.{State, aligned_number, with_register, with_bytes, with_reservation, jump, next_pc, advance, finish, address_of, target_of}
 use Rattle.sq_machine.specs.Calls.{call_row}
 
 abbrev pub lui_row : ℕ → ℕ → State → Next Event Halt ⊥ State
@@ -76,11 +76,6 @@ lr_step x rd s (Some v) = Went None (finish rd v (with_reservation (Some x) s))
 
 abbrev pub lr_row : ℕ → ℕ → State → Next Event Halt ⊥ State
 lr_row rd rs s = lr_step (s.registers rs) rd s (aligned_number s.memory (s.registers rs) 4)
-
--- the address is reserved
-abbrev pub is_reserved : ℕ → Option ℕ → Bool
-is_reserved x None = false
-is_reserved x (Some y) = x == y
 
 -- SC where its address is reserved: src is stored and rd is 0; else nothing is stored and rd is 1. The
 -- reservation is gone

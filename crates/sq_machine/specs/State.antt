@@ -1,6 +1,7 @@
 -- The state of the plain machine, and how it is read and written.
 use Rattle.std.specs.Prelude.{ℕ, ℤ, ◌+◌, ◌*◌, ◌%◌, Bool, ◌==◌, ◌&&◌, not, List, drop, Option, None, is_some, option_map, unwrap_or, if◌then◌else◌, [], ◌∷◌}
 use Rattle.sq_isa.specs.Words.{wrapped, unsigned}
+use Rattle.sq_isa.specs.Accesses.{bytes_number, is_aligned}
 use Rattle.sq_memory.specs.Cells.{Cells, cells_from, with_cells}
 
 -- the program counter, the 32 registers, what stands in memory, the input that is left, and the reservation
@@ -16,22 +17,13 @@ pub record State : Type 0 where
 abbrev pub is_in_memory : Cells ℕ → ℕ → Bool
 is_in_memory m x = is_some (m x)
 
--- the number of these bytes, the least first
-abbrev pub number_of : List ℕ → ℕ
-number_of [] = 0
-number_of (byte ∷ bytes) = byte + 256 * number_of bytes
-
 -- the number in the n bytes from x on, where all of them are in memory
 unfoldable pub number_at : Cells ℕ → ℕ → ℕ → Option ℕ
-number_at m x n = option_map number_of (cells_from m x n)
+number_at m x n = option_map bytes_number (cells_from m x n)
 
 -- the n bytes from x on
 abbrev pub bytes_at : Cells ℕ → ℕ → ℕ → List ℕ
 bytes_at m x n = unwrap_or (cells_from m x n) []
-
--- the address is a multiple of the width
-abbrev pub is_aligned : ℕ → ℕ → Bool
-is_aligned x width = x % width == 0
 
 -- the number at an address that is a multiple of its width, where all of its bytes are in memory
 abbrev pub aligned_number : Cells ℕ → ℕ → ℕ → Option ℕ

@@ -1,7 +1,8 @@
 //! Atomic operations, which are plain where one hart runs.
 
 ghost use Rattle.std.specs.Prelude.{◌≡◌};
-ghost use Rattle.sq_machine.specs.Rows.{lr_row, sc_row, amo_row, atomic_row, is_reserved};
+ghost use Rattle.sq_isa.specs.Accesses.{is_reserved};
+ghost use Rattle.sq_machine.specs.Rows.{lr_row, sc_row, amo_row, atomic_row};
 ghost use Rattle.sq_machine.specs.Steps.{IsQuietStep};
 ghost use Rattle.sq_machine.specs.Views.{state_of, world_of};
 

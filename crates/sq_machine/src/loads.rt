@@ -1,9 +1,9 @@
 //! Numbers in memory.
 
 ghost use Rattle.std.specs.Prelude.{◌≡◌, ◌+◌, ◌*◌, ◌<◌, ◌≤◌, ◌^◌, length, IfSome, IfOk, IsTrue};
-ghost use Rattle.sq_machine.specs.State.{is_aligned, aligned_number, is_in_memory, number_at, bytes_at, with_bytes};
+ghost use Rattle.sq_machine.specs.State.{aligned_number, is_in_memory, number_at, bytes_at, with_bytes};
 ghost use Rattle.sq_system.specs.World.{is_range};
-ghost use Rattle.sq_isa.specs.Accesses.{sign_extended, extended};
+ghost use Rattle.sq_isa.specs.Accesses.{sign_extended, extended, is_aligned};
 ghost use Rattle.sq_machine.specs.Rows.{loaded};
 ghost use Rattle.sq_machine.specs.Views.{state_of};
 

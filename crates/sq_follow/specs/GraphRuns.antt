@@ -1,0 +1,146 @@
+-- The run of a graph: a step is one item, one term other than Fall, or the return of a procedure.
+use Rattle.std.specs.Prelude.{ℕ, zero, suc, pos, Bool, true, false, not, ◌&&◌, List, [], ◌∷◌, Option, Some, None, slice_get, if◌then◌else◌}
+use Rattle.std.specs.List.{list_any}
+use Rattle.sq_isa.specs.Uses.{sources_of, destination_of}
+use Rattle.sq_isa.specs.declared.instructions.Insn.{Insn}
+use Rattle.sq_runs.specs.Runs.{Next, Went, Ended, Broke}
+use Rattle.sq_system.specs.declared.event.Event.{Event}
+use Rattle.sq_system.specs.declared.event.Halt.{Halt}
+use Rattle.sq_system.specs.declared.event.Halt.TheVariants.{Fetch}
+use Rattle.sq_graph.specs.declared.item.Term.{Term}
+use Rattle.sq_graph.specs.declared.item.Term.TheVariants.{Fall, Jump, Branch, Call, PartJump, Indirect, Stop}
+use Rattle.sq_graph.specs.Graph.{Procedure, Graph}
+use Rattle.sq_graph.specs.Lines.{Half, Line, Name, Do, Enter, Return, End, inside, slot_name, block_lines}
+use Rattle.sq_graph.specs.Walks.{term_sources, is_register}
+use Rattle.sq_follow.specs.declared.kind.Kind.{Kind}
+use Rattle.sq_follow.specs.declared.kind.Kind.TheVariants.{Arithmetic}
+use Rattle.sq_follow.specs.Values.{Code, Value, Num, Tagged, Held, Holds, Lost}
+use Rattle.sq_follow.specs.Settings.{Setting, Store, Made}
+use Rattle.sq_follow.specs.Arithmetic.{is_taken}
+use Rattle.sq_follow.specs.Accesses.{Step}
+use Rattle.sq_follow.specs.Rows.{Operands, source, row_of}
+use Rattle.sq_follow.specs.Jumps.{Where, To, Off, Jumped, indirect_jump, part_jump, stop}
+
+-- why a run breaks: by the monitor's table, by reading a register that is lost, or by leaving the graph
+pub data Break : Type 0 where
+  Monitored : Kind → Break
+  ReadsLost : Break
+  LeavesGraph : Break
+
+-- the registers and the store
+pub record Core : Type 0 where
+  pub registers : ℕ → Held
+  pub store : Store
+
+-- a place in the graph, as what stands from it on, or an address at which the next step ends
+pub data State : Type 0 where
+  At : List Line → Core → State
+  Away : ℕ → State
+
+abbrev pub Moves : Type 0
+Moves = Next Event Halt Break State
+
+-- the value that is held; a register that is lost is never read so far
+abbrev pub value_in : Held → Value
+value_in (Holds value) = value
+value_in Lost = Num 0
+
+-- the value of a register, 0 for x0
+abbrev pub get : ℕ → (ℕ → Held) → Value
+get zero registers = Num 0
+get (suc r) registers = value_in (registers (suc r))
+
+-- the registers with this in register r, but for x0
+abbrev pub put : ℕ → Held → (ℕ → Held) → ℕ → Held
+put r held registers x = if is_register r x then held else registers x
+
+abbrev pub is_lost : Held → Bool
+is_lost (Holds value) = false
+is_lost Lost = true
+
+-- one of these registers is lost; x0 never is
+abbrev pub lost_in : (ℕ → Held) → ℕ → Bool
+lost_in registers zero = false
+lost_in registers (suc r) = is_lost (registers (suc r))
+
+abbrev pub reads_lost : List ℕ → Core → Bool
+reads_lost sources core = list_any (lost_in core.registers) sources
+
+abbrev pub with_register : ℕ → Held → Core → Core
+with_register r held core = record core { registers = put r held core.registers }
+
+-- the operands of an instruction
+abbrev pub operands : Insn → (ℕ → Held) → Operands
+operands insn registers i = get (source insn i) registers
+
+-- to the lines behind an instruction with what it made
+abbrev pub finish : ℕ → List Line → Core → Step → Moves
+finish destination rest core (Went event made) =
+    Went event (At rest (record { registers = put destination (Holds made.value) core.registers; store = made.store }))
+finish destination rest core (Ended halt) = Ended halt
+finish destination rest core (Broke kind) = Broke (Monitored kind)
+
+abbrev pub do_line : Setting → Half → Insn → List Line → Core → Moves
+do_line s half insn rest core =
+    if reads_lost (sources_of insn) core then Broke ReadsLost
+    else finish (destination_of insn) rest core (row_of s half insn (operands insn core.registers) core.store)
+
+-- an Out: the link is lost, and the body follows
+abbrev pub enter : Option Procedure → List Line → Core → Moves
+enter None rest core = Broke LeavesGraph
+enter (Some procedure) rest core = Went None (At (inside procedure rest) (with_register procedure.link Lost core))
+
+-- goes on with the name of the next slot in the link; x0 takes none
+abbrev pub link_to : ℕ → Option ℕ → Core → (Core → Moves) → Moves
+link_to link None core go = Broke LeavesGraph
+link_to link (Some n) core go = go (with_register link (Holds (Tagged (Code n))) core)
+
+abbrev pub with_link : ℕ → List Line → Core → (Core → Moves) → Moves
+with_link zero rest core go = go core
+with_link (suc r) rest core go = link_to (suc r) (slot_name rest) core go
+
+abbrev pub to_block : Graph → ℕ → Core → Moves
+to_block g n core = Went None (At (block_lines g n) core)
+
+abbrev pub arrive : Graph → Core → Where → Moves
+arrive g core (To n) = to_block g n core
+arrive g core (Off x) = Went None (Away x)
+
+-- the jump is read before the link is written
+abbrev pub jump : Graph → ℕ → List Line → Core → Jumped → Moves
+jump g link rest core (Went event where_to) = with_link link rest core (λ linked. arrive g linked where_to)
+jump g link rest core (Ended halt) = Ended halt
+jump g link rest core (Broke kind) = Broke (Monitored kind)
+
+abbrev pub branch : Graph → ℕ → List Line → Core → Option Bool → Moves
+branch g n rest core None = Broke (Monitored Arithmetic)
+branch g n rest core (Some true) = to_block g n core
+branch g n rest core (Some false) = Went None (At rest core)
+
+-- what a term does
+abbrev pub turn : Setting → Graph → Term → List Line → Core → Moves
+turn s g Fall rest core = Went None (At rest core)
+turn s g (Jump to) rest core = to_block g to core
+turn s g (Branch cond a b to) rest core = branch g to rest core (is_taken s cond (get a core.registers) (get b core.registers))
+turn s g (Call link to) rest core = with_link link rest core (to_block g to)
+turn s g (PartJump link part to) rest core = jump g link rest core (part_jump s to (pos 0) (get part core.registers))
+turn s g (Indirect link at offset) rest core = jump g link rest core (indirect_jump s offset (get at core.registers))
+turn s g (Stop word) rest core = Ended (stop word)
+
+abbrev pub term_line : Setting → Graph → Term → List Line → Core → Moves
+term_line s g term rest core =
+    if reads_lost (term_sources term) core then Broke ReadsLost else turn s g term rest core
+
+-- what the lines do from here on: a name takes no step
+abbrev pub go : Setting → Graph → List Line → Core → Moves
+go s g [] core = Broke LeavesGraph
+go s g (Name n ∷ rest) core = go s g rest core
+go s g (Do half insn ∷ rest) core = do_line s half insn rest core
+go s g (Enter procedure ∷ rest) core = enter (slice_get g.procedures procedure) rest core
+go s g (Return link ∷ rest) core = Went None (At rest core)
+go s g (End term ∷ rest) core = term_line s g term rest core
+
+-- One step of a graph.
+abbrev pub graph_step : Setting → Graph → State → Moves
+graph_step s g (At lines core) = go s g lines core
+graph_step s g (Away x) = Ended (Fetch x)

@@ -1,0 +1,44 @@
+-- Where jumps go on tagged values.
+use Rattle.std.specs.Prelude.{ℕ, ℤ, ◌+◌, pos, Option, Some, None, ◌==◌, if◌then◌else◌}
+use Rattle.std.specs.Ordering.{int_eq}
+use Rattle.sq_isa.specs.Words.{wrapped, unsigned, even}
+use Rattle.sq_runs.specs.Runs.{Next, Went, Ended, Broke}
+use Rattle.sq_system.specs.World.{is_executable}
+use Rattle.sq_system.specs.declared.event.Event.{Event}
+use Rattle.sq_system.specs.declared.event.Halt.{Halt}
+use Rattle.sq_system.specs.declared.event.Halt.TheVariants.{Illegal, Breakpoint}
+use Rattle.sq_follow.specs.declared.kind.Kind.{Kind}
+use Rattle.sq_follow.specs.declared.kind.Kind.TheVariants.{Arithmetic, Half, Call, Fragment, Stale, Text, Jump, Address}
+use Rattle.sq_follow.specs.Values.{Code, Part, Value, Num, Tagged}
+use Rattle.sq_follow.specs.Settings.{Setting}
+use Rattle.sq_follow.specs.Arithmetic.{is_upper_half}
+
+-- to a name, or to an address outside code, at which the next step ends
+pub data Where : Type 0 where
+  To : ℕ → Where
+  Off : ℕ → Where
+
+abbrev pub Jumped : Type 0
+Jumped = Next Event Halt Kind Where
+
+-- to a number: a break where the byte there is executable
+abbrev pub number_jump : Setting → ℕ → Jumped
+number_jump s x = if is_executable s.world x then Broke Jump else Went None (Off x)
+
+-- `jalr` to what a register holds plus an offset
+abbrev pub indirect_jump : Setting → ℤ → Value → Jumped
+indirect_jump s offset (Num x) = number_jump s (even (wrapped (x + unsigned offset)))
+indirect_jump s offset (Tagged (Code n)) = if int_eq offset (pos 0) then Went None (To n) else Broke Jump
+indirect_jump s offset (Tagged (Part n word)) = Broke Jump
+
+-- to a name; on a file to a number where it isn't in text
+abbrev pub name_jump : Setting → ℕ → Jumped
+name_jump s n = if s.is_code n then Went None (To n) else number_jump s (even n)
+
+-- `jalr` whose offset is the lower half of an address
+abbrev pub part_jump : Setting → ℕ → ℤ → Value → Jumped
+part_jump s n offset value = if is_upper_half n offset value then name_jump s n else Broke Half
+
+-- EBREAK, and the words that stand for no instruction
+abbrev pub stop : ℕ → Halt
+stop word = if word == 0x00100073 then Breakpoint else Illegal

@@ -1,0 +1,10 @@
+pub mod Values
+pub mod Settings
+pub mod Arithmetic
+pub mod Accesses
+pub mod Calls
+pub mod Rows
+pub mod Jumps
+pub mod GraphRuns
+pub mod Worlds
+pub mod Follows
