@@ -1,0 +1,2 @@
+//! Runs of two graphs that agree.
+#![tactic(auto)]
