@@ -17,7 +17,7 @@ use Rattle.sq_graph.specs.declared.item.Item.{Item}
 use Rattle.sq_graph.specs.declared.item.Item.TheVariants.{Op, Hi, Lo, Out}
 use Rattle.sq_graph.specs.declared.item.Term.TheVariants.{Fall, Jump, PartJump, Indirect}
 use Rattle.sq_graph.specs.Graph.{Block, Procedure, Graph}
-use Rattle.sq_follow.specs.Worlds.{World, FirstPiece, OfWord}
+use Rattle.sq_follow.specs.Worlds.{World, StartPiece, OfWord}
 use Rattle.sq_follow.specs.Follows.{graph_run}
 
 empty : World

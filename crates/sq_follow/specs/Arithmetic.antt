@@ -1,4 +1,4 @@
--- Operations and comparisons on tagged values. Where there is no answer, the run breaks.
+-- Operations and comparisons on tagged values. Destination there is no answer, the run breaks.
 use Rattle.std.specs.Prelude.{ℕ, ℤ, pos, ◌+◌, Bool, true, false, not, ◌==◌, ◌&&◌, Option, Some, None, if◌then◌else◌}
 use Rattle.std.specs.Ordering.{int_eq}
 use Rattle.sq_isa.specs.Values.{value_of, value_imm_of}
@@ -17,13 +17,13 @@ use Rattle.sq_follow.specs.Values.{Tag, Code, Part, Value, Num, Tagged}
 use Rattle.sq_follow.specs.Settings.{Setting, is_in_text}
 
 -- no address of code is 0: address 0 isn't in text
-abbrev pub is_zero_free : Setting → Bool
-is_zero_free s = not (is_in_text s 0)
+abbrev pub zero_is_outside_text : Setting → Bool
+zero_is_outside_text s = not (is_in_text s 0)
 
 -- `addi rd,rs,0` copies a tagged value, and `sltiu rd,rs,1` tells that an address isn't 0
 abbrev pub tagged_imm : Setting → ImmOp → ℤ → Tag → Option Value
 tagged_imm s Addi imm tag = if int_eq imm (pos 0) then Some (Tagged tag) else None
-tagged_imm s Sltiu imm (Code n) = if int_eq imm (pos 1) && is_zero_free s then Some (Num 0) else None
+tagged_imm s Sltiu imm (Code n) = if int_eq imm (pos 1) && zero_is_outside_text s then Some (Num 0) else None
 tagged_imm s op imm tag = None
 
 abbrev pub imm_value : Setting → ImmOp → ℤ → Value → Option Value
@@ -32,7 +32,7 @@ imm_value s op imm (Tagged tag) = tagged_imm s op imm tag
 
 -- `sltu rd,x0,rs` tells that an address isn't 0
 abbrev pub tagged_op : Setting → RegOp → ℕ → Tag → Option Value
-tagged_op s Sltu a (Code n) = if a == 0 && is_zero_free s then Some (Num 1) else None
+tagged_op s Sltu a (Code n) = if a == 0 && zero_is_outside_text s then Some (Num 1) else None
 tagged_op s op a tag = None
 
 -- `a` is the first source register
@@ -49,20 +49,20 @@ atomic_result op (Num old) (Tagged tag) = None
 atomic_result op (Tagged tag) src = None
 
 -- an address of code against a number: it isn't equal to 0
-abbrev pub taken_at_code : Setting → Cond → ℕ → Option Bool
-taken_at_code s Beq x = if x == 0 && is_zero_free s then Some false else None
-taken_at_code s Bne x = if x == 0 && is_zero_free s then Some true else None
-taken_at_code s Blt x = None
-taken_at_code s Bge x = None
-taken_at_code s Bltu x = None
-taken_at_code s Bgeu x = None
+abbrev pub taken_against_code : Setting → Cond → ℕ → Option Bool
+taken_against_code s Beq x = if x == 0 && zero_is_outside_text s then Some false else None
+taken_against_code s Bne x = if x == 0 && zero_is_outside_text s then Some true else None
+taken_against_code s Blt x = None
+taken_against_code s Bge x = None
+taken_against_code s Bltu x = None
+taken_against_code s Bgeu x = None
 
 -- whether a branch is taken
 abbrev pub is_taken : Setting → Cond → Value → Value → Option Bool
 is_taken s cond (Num x) (Num y) = Some (taken_of cond x y)
-is_taken s cond (Num x) (Tagged (Code n)) = taken_at_code s cond x
+is_taken s cond (Num x) (Tagged (Code n)) = taken_against_code s cond x
 is_taken s cond (Num x) (Tagged (Part n w)) = None
-is_taken s cond (Tagged (Code n)) (Num y) = taken_at_code s cond y
+is_taken s cond (Tagged (Code n)) (Num y) = taken_against_code s cond y
 is_taken s cond (Tagged (Part n w)) (Num y) = None
 is_taken s cond (Tagged tag) (Tagged other) = None
 

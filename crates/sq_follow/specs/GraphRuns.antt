@@ -2,6 +2,7 @@
 use Rattle.std.specs.Prelude.{ℕ, zero, suc, pos, Bool, true, false, not, ◌&&◌, List, [], ◌∷◌, Option, Some, None, slice_get, if◌then◌else◌}
 use Rattle.std.specs.List.{list_any}
 use Rattle.sq_isa.specs.Uses.{sources_of, destination_of}
+use Rattle.sq_isa.specs.Registers.{written}
 use Rattle.sq_isa.specs.declared.instructions.Insn.{Insn}
 use Rattle.sq_runs.specs.Runs.{Next, Went, Ended, Broke}
 use Rattle.sq_system.specs.declared.event.Event.{Event}
@@ -10,7 +11,7 @@ use Rattle.sq_system.specs.declared.event.Halt.TheVariants.{Fetch}
 use Rattle.sq_graph.specs.declared.item.Term.{Term}
 use Rattle.sq_graph.specs.declared.item.Term.TheVariants.{Fall, Jump, Branch, Call, PartJump, Indirect, Stop}
 use Rattle.sq_graph.specs.Graph.{Procedure, Graph}
-use Rattle.sq_graph.specs.Lines.{Half, Line, Name, Do, Enter, Return, End, inside, slot_name, block_lines}
+use Rattle.sq_graph.specs.Lines.{AddressHalf, Line, Name, Do, Enter, Return, End, inside, slot_name, block_lines}
 use Rattle.sq_graph.specs.Walks.{term_sources, is_register}
 use Rattle.sq_follow.specs.declared.kind.Kind.{Kind}
 use Rattle.sq_follow.specs.declared.kind.Kind.TheVariants.{Arithmetic}
@@ -19,7 +20,7 @@ use Rattle.sq_follow.specs.Settings.{Setting, Store, Made}
 use Rattle.sq_follow.specs.Arithmetic.{is_taken}
 use Rattle.sq_follow.specs.Accesses.{Step}
 use Rattle.sq_follow.specs.Rows.{Operands, source, row_of}
-use Rattle.sq_follow.specs.Jumps.{Where, To, Off, Jumped, indirect_jump, part_jump, stop}
+use Rattle.sq_follow.specs.Jumps.{Destination, ToName, ToNumber, Jumped, indirect_jump, part_jump, stop}
 
 -- why a run breaks: by the monitor's table, by reading a register that is lost, or by leaving the graph
 pub data Break : Type 0 where
@@ -32,27 +33,23 @@ pub record Core : Type 0 where
   pub registers : ℕ → Held
   pub store : Store
 
--- a place in the graph, as what stands from it on, or an address at which the next step ends
+-- a place in the graph, as what stands from it on, or an address at which the next step ends: then nothing else is kept
 pub data State : Type 0 where
   At : List Line → Core → State
-  Away : ℕ → State
+  Fetching : ℕ → State
 
 abbrev pub Moves : Type 0
 Moves = Next Event Halt Break State
 
--- the value that is held; a register that is lost is never read so far
+-- the value that is held; where a register that is lost is read, the step breaks before this value counts
 abbrev pub value_in : Held → Value
 value_in (Holds value) = value
 value_in Lost = Num 0
 
 -- the value of a register, 0 for x0
-abbrev pub get : ℕ → (ℕ → Held) → Value
-get zero registers = Num 0
-get (suc r) registers = value_in (registers (suc r))
-
--- the registers with this in register r, but for x0
-abbrev pub put : ℕ → Held → (ℕ → Held) → ℕ → Held
-put r held registers x = if is_register r x then held else registers x
+abbrev pub register_value : ℕ → (ℕ → Held) → Value
+register_value zero registers = Num 0
+register_value (suc r) registers = value_in (registers (suc r))
 
 abbrev pub is_lost : Held → Bool
 is_lost (Holds value) = false
@@ -67,20 +64,20 @@ abbrev pub reads_lost : List ℕ → Core → Bool
 reads_lost sources core = list_any (lost_in core.registers) sources
 
 abbrev pub with_register : ℕ → Held → Core → Core
-with_register r held core = record core { registers = put r held core.registers }
+with_register r held core = record core { registers = written r held core.registers }
 
 -- the operands of an instruction
 abbrev pub operands : Insn → (ℕ → Held) → Operands
-operands insn registers i = get (source insn i) registers
+operands insn registers i = register_value (source insn i) registers
 
 -- to the lines behind an instruction with what it made
 abbrev pub finish : ℕ → List Line → Core → Step → Moves
 finish destination rest core (Went event made) =
-    Went event (At rest (record { registers = put destination (Holds made.value) core.registers; store = made.store }))
+    Went event (At rest (record { registers = written destination (Holds made.value) core.registers; store = made.store }))
 finish destination rest core (Ended halt) = Ended halt
 finish destination rest core (Broke kind) = Broke (Monitored kind)
 
-abbrev pub do_line : Setting → Half → Insn → List Line → Core → Moves
+abbrev pub do_line : Setting → AddressHalf → Insn → List Line → Core → Moves
 do_line s half insn rest core =
     if reads_lost (sources_of insn) core then Broke ReadsLost
     else finish (destination_of insn) rest core (row_of s half insn (operands insn core.registers) core.store)
@@ -102,13 +99,13 @@ with_link (suc r) rest core go = link_to (suc r) (slot_name rest) core go
 abbrev pub to_block : Graph → ℕ → Core → Moves
 to_block g n core = Went None (At (block_lines g n) core)
 
-abbrev pub arrive : Graph → Core → Where → Moves
-arrive g core (To n) = to_block g n core
-arrive g core (Off x) = Went None (Away x)
+abbrev pub land : Graph → Core → Destination → Moves
+land g core (ToName n) = to_block g n core
+land g core (ToNumber x) = Went None (Fetching x)
 
 -- the jump is read before the link is written
 abbrev pub jump : Graph → ℕ → List Line → Core → Jumped → Moves
-jump g link rest core (Went event where_to) = with_link link rest core (λ linked. arrive g linked where_to)
+jump g link rest core (Went event destination) = with_link link rest core (λ linked. land g linked destination)
 jump g link rest core (Ended halt) = Ended halt
 jump g link rest core (Broke kind) = Broke (Monitored kind)
 
@@ -117,30 +114,31 @@ branch g n rest core None = Broke (Monitored Arithmetic)
 branch g n rest core (Some true) = to_block g n core
 branch g n rest core (Some false) = Went None (At rest core)
 
--- what a term does
-abbrev pub turn : Setting → Graph → Term → List Line → Core → Moves
-turn s g Fall rest core = Went None (At rest core)
-turn s g (Jump to) rest core = to_block g to core
-turn s g (Branch cond a b to) rest core = branch g to rest core (is_taken s cond (get a core.registers) (get b core.registers))
-turn s g (Call link to) rest core = with_link link rest core (to_block g to)
-turn s g (PartJump link part to) rest core = jump g link rest core (part_jump s to (pos 0) (get part core.registers))
-turn s g (Indirect link at offset) rest core = jump g link rest core (indirect_jump s offset (get at core.registers))
-turn s g (Stop word) rest core = Ended (stop word)
+-- what a term does; a Fall takes no step, so it is never asked for
+abbrev pub term_step : Setting → Graph → Term → List Line → Core → Moves
+term_step s g Fall rest core = Went None (At rest core)
+term_step s g (Jump to) rest core = to_block g to core
+term_step s g (Branch cond a b to) rest core = branch g to rest core (is_taken s cond (register_value a core.registers) (register_value b core.registers))
+term_step s g (Call link to) rest core = with_link link rest core (to_block g to)
+term_step s g (PartJump link part to) rest core = jump g link rest core (part_jump s to (pos 0) (register_value part core.registers))
+term_step s g (Indirect link at offset) rest core = jump g link rest core (indirect_jump s offset (register_value at core.registers))
+term_step s g (Stop word) rest core = Ended (stop word)
 
 abbrev pub term_line : Setting → Graph → Term → List Line → Core → Moves
 term_line s g term rest core =
-    if reads_lost (term_sources term) core then Broke ReadsLost else turn s g term rest core
+    if reads_lost (term_sources term) core then Broke ReadsLost else term_step s g term rest core
 
--- what the lines do from here on: a name takes no step
-abbrev pub go : Setting → Graph → List Line → Core → Moves
-go s g [] core = Broke LeavesGraph
-go s g (Name n ∷ rest) core = go s g rest core
-go s g (Do half insn ∷ rest) core = do_line s half insn rest core
-go s g (Enter procedure ∷ rest) core = enter (slice_get g.procedures procedure) rest core
-go s g (Return link ∷ rest) core = Went None (At rest core)
-go s g (End term ∷ rest) core = term_line s g term rest core
+-- what the lines do from here on: a name takes no step, and neither does a Fall
+abbrev pub lines_step : Setting → Graph → List Line → Core → Moves
+lines_step s g [] core = Broke LeavesGraph
+lines_step s g (Name n ∷ rest) core = lines_step s g rest core
+lines_step s g (Do half insn ∷ rest) core = do_line s half insn rest core
+lines_step s g (Enter procedure ∷ rest) core = enter (slice_get g.procedures procedure) rest core
+lines_step s g (Return link ∷ rest) core = Went None (At rest core)
+lines_step s g (End Fall ∷ rest) core = lines_step s g rest core
+lines_step s g (End term ∷ rest) core = term_line s g term rest core
 
 -- One step of a graph.
 abbrev pub graph_step : Setting → Graph → State → Moves
-graph_step s g (At lines core) = go s g lines core
-graph_step s g (Away x) = Ended (Fetch x)
+graph_step s g (At lines core) = lines_step s g lines core
+graph_step s g (Fetching x) = Ended (Fetch x)

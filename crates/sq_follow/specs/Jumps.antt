@@ -1,4 +1,4 @@
--- Where jumps go on tagged values.
+-- Destination jumps go on tagged values.
 use Rattle.std.specs.Prelude.{ℕ, ℤ, ◌+◌, pos, Option, Some, None, ◌==◌, if◌then◌else◌}
 use Rattle.std.specs.Ordering.{int_eq}
 use Rattle.sq_isa.specs.Words.{wrapped, unsigned, even}
@@ -14,26 +14,26 @@ use Rattle.sq_follow.specs.Settings.{Setting}
 use Rattle.sq_follow.specs.Arithmetic.{is_upper_half}
 
 -- to a name, or to an address outside code, at which the next step ends
-pub data Where : Type 0 where
-  To : ℕ → Where
-  Off : ℕ → Where
+pub data Destination : Type 0 where
+  ToName : ℕ → Destination
+  ToNumber : ℕ → Destination
 
 abbrev pub Jumped : Type 0
-Jumped = Next Event Halt Kind Where
+Jumped = Next Event Halt Kind Destination
 
 -- to a number: a break where the byte there is executable
 abbrev pub number_jump : Setting → ℕ → Jumped
-number_jump s x = if is_executable s.world x then Broke Jump else Went None (Off x)
+number_jump s x = if is_executable s.world x then Broke Jump else Went None (ToNumber x)
 
 -- `jalr` to what a register holds plus an offset
 abbrev pub indirect_jump : Setting → ℤ → Value → Jumped
 indirect_jump s offset (Num x) = number_jump s (even (wrapped (x + unsigned offset)))
-indirect_jump s offset (Tagged (Code n)) = if int_eq offset (pos 0) then Went None (To n) else Broke Jump
+indirect_jump s offset (Tagged (Code n)) = if int_eq offset (pos 0) then Went None (ToName n) else Broke Jump
 indirect_jump s offset (Tagged (Part n word)) = Broke Jump
 
 -- to a name; on a file to a number where it isn't in text
 abbrev pub name_jump : Setting → ℕ → Jumped
-name_jump s n = if s.is_code n then Went None (To n) else number_jump s (even n)
+name_jump s n = if s.is_code n then Went None (ToName n) else number_jump s (even n)
 
 -- `jalr` whose offset is the lower half of an address
 abbrev pub part_jump : Setting → ℕ → ℤ → Value → Jumped

@@ -12,14 +12,14 @@ use Rattle.sq_system.specs.World.{is_executable}
 use Rattle.sq_system.specs.declared.event.Event.{Event}
 use Rattle.sq_system.specs.declared.event.Halt.{Halt}
 use Rattle.sq_system.specs.declared.event.Halt.TheVariants.{Illegal, Breakpoint}
-use Rattle.sq_graph.specs.Lines.{Half as HalfOf, Plain, Upper, Lower}
+use Rattle.sq_graph.specs.Lines.{AddressHalf, Plain, Upper, Lower}
 use Rattle.sq_follow.specs.declared.kind.Kind.{Kind}
 use Rattle.sq_follow.specs.declared.kind.Kind.TheVariants.{Arithmetic, Half, Call, Fragment, Stale, Text, Jump, Address}
 use Rattle.sq_follow.specs.Values.{Tag, Code, Part, Value, Num, Tagged}
 use Rattle.sq_follow.specs.Settings.{Setting, Store}
 use Rattle.sq_follow.specs.Arithmetic.{imm_value, op_value, is_upper_half}
 use Rattle.sq_follow.specs.Accesses.{Step, gives, gives_or_breaks, load_at, store_at, atomic_at}
-use Rattle.sq_follow.specs.Calls.{Registers, call_row}
+use Rattle.sq_follow.specs.Calls.{CallOperands, call_row}
 
 -- the values of the source registers, in their order
 abbrev pub Operands : Type 0
@@ -29,7 +29,8 @@ Operands = ℕ → Value
 abbrev pub source : Insn → ℕ → ℕ
 source insn i = slice_index_or (sources_of insn) i 0
 
--- No file without a refusal comes here in a run without a break: no such instruction is reached with such a half.
+-- Never taken: a word with such a half is refused where it is reached, a run that hasn't broken fetches reached words
+-- only, and the rules of a graph exclude such items. An upper half stands in `lui` and `auipc` alone.
 abbrev pub no_row : Step
 no_row = Broke Half
 
@@ -69,7 +70,7 @@ plain_row s (Atomic op order rd rs src) operand store = at_number (operand 0) (�
 plain_row s insn operand store = no_row
 
 -- the table of instructions that go on to the next one: a value for the destination, and the store
-abbrev pub row_of : Setting → HalfOf → Insn → Operands → Store → Step
+abbrev pub row_of : Setting → AddressHalf → Insn → Operands → Store → Step
 row_of s Plain insn operand store = plain_row s insn operand store
 row_of s (Upper n word) insn operand store = gives (Tagged (Part n word)) store
 row_of s (Lower n) insn operand store = lower_row s n insn operand store

@@ -12,15 +12,16 @@ use Rattle.sq_graph.specs.Graph.{Block, Procedure, Graph}
 -- Which half of an address an instruction has in place of its immediate: neither, the upper or the lower. The
 -- address is given by a name: a block of a graph, or on a file the address itself. On a file the instruction
 -- with an upper half also makes a word, which is kept with it.
-pub data Half : Type 0 where
-  Plain : Half
-  Upper : ℕ → Option ℕ → Half
-  Lower : ℕ → Half
+pub data AddressHalf : Type 0 where
+  Plain : AddressHalf
+  Upper : ℕ → Option ℕ → AddressHalf
+  Lower : ℕ → AddressHalf
 
--- a name, an instruction, the entry into a procedure and the return from it, and a term. A Fall is no line.
+-- a name, an instruction, the entry into a procedure and the return from it (through this link, which the writer
+-- needs), and a term. A Fall is no line.
 pub data Line : Type 0 where
   Name : ℕ → Line
-  Do : Half → Insn → Line
+  Do : AddressHalf → Insn → Line
   Enter : ℕ → Line
   Return : ℕ → Line
   End : Term → Line

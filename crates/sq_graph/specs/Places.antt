@@ -31,16 +31,16 @@ address_in [] at n = None
 address_in (block ∷ blocks) at n = if block.name == n then Some at else address_in blocks (at + 4 * block_words block) n
 
 -- the addresses of procedures that stand from `at` on
-abbrev pub addresses_from : List Procedure → ℕ → List ℕ
-addresses_from [] at = []
-addresses_from (procedure ∷ procedures) at = at ∷ addresses_from procedures (at + 4 * procedure_words procedure)
+abbrev pub procedure_addresses : List Procedure → ℕ → List ℕ
+procedure_addresses [] at = []
+procedure_addresses (procedure ∷ procedures) at = at ∷ procedure_addresses procedures (at + 4 * procedure_words procedure)
 
 -- Blocks stand in layout order from `lo` on, and procedures behind them.
 abbrev pub block_address : Graph → ℕ → ℕ → Option ℕ
 block_address g lo n = address_in g.blocks lo n
 
 abbrev pub procedure_address : Graph → ℕ → ℕ → Option ℕ
-procedure_address g lo n = slice_get (addresses_from g.procedures (lo + 4 * sum (map block_words g.blocks))) n
+procedure_address g lo n = slice_get (procedure_addresses g.procedures (lo + 4 * sum (map block_words g.blocks))) n
 
 -- a branch reaches a distance of -4096 to 4094 bytes
 pub record Reaches (distance : ℤ) : Type 0 where

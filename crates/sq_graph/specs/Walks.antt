@@ -39,10 +39,8 @@ procedure_names (Some procedure) = flat_map item_names procedure.body
 
 -- those of an item, and for a call those of its procedure
 abbrev pub called_names : List Procedure → Item → List ℕ
-called_names procedures (Op insn) = []
-called_names procedures (Hi rd to) = to ∷ []
-called_names procedures (Lo rd rs to) = to ∷ []
 called_names procedures (Out procedure) = procedure_names (slice_get procedures procedure)
+called_names procedures item = item_names item
 
 -- the name of the first block
 abbrev pub first_name : List Block → List ℕ

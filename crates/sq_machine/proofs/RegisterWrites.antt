@@ -1,7 +1,8 @@
 -- A list of registers after a write, as a function.
 use Rattle.std.proofs.Common.{◌≡◌, ◌≢◌, ℕ, ◌<◌, length, Bool, true, false, List, nat_eq, not, ◌&&◌, if◌then◌else◌, slice_index, slice_set, refl, ap, ne_eqb, get_or-set_same, get_or-set_other}
 use Rattle.std.proofs.lemmas.Bool.{eqb-true, eqb-false}
-use Rattle.sq_machine.specs.State.{State, with_register, written}
+use Rattle.sq_isa.specs.Registers.{written}
+use Rattle.sq_machine.specs.State.{State, with_register}
 use Rattle.sq_machine.specs.Views.{numbers}
 
 written_at : (xs : List ℕ) (r v x : ℕ) → r < length xs → r ≢ 0 → numbers (slice_set xs r v) x ≡ written r v (numbers xs) x

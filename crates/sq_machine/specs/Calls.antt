@@ -10,7 +10,8 @@ use Rattle.sq_system.specs.declared.event.Event.TheVariants.{Wrote, Read as WasR
 use Rattle.sq_system.specs.declared.event.Halt.{Halt}
 use Rattle.sq_system.specs.declared.event.Halt.TheVariants.{Exit as Exited}
 use Rattle.sq_system.specs.World.{World, is_writable, is_range}
-use Rattle.sq_machine.specs.State.{State, is_in_memory, bytes_at, with_register, with_bytes, without_input, advance}
+use Rattle.sq_memory.specs.Cells.{is_in_memory}
+use Rattle.sq_machine.specs.State.{State, bytes_at, with_register, with_bytes, without_input, advance}
 
 -- the registers of Linux's calling convention: the number in a7, the arguments in a0, a1 and a2
 abbrev pub a0 : State → ℕ

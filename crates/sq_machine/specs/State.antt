@@ -2,6 +2,7 @@
 use Rattle.std.specs.Prelude.{ℕ, ℤ, ◌+◌, ◌*◌, ◌%◌, Bool, ◌==◌, ◌&&◌, not, List, drop, Option, None, is_some, option_map, unwrap_or, if◌then◌else◌, [], ◌∷◌}
 use Rattle.sq_isa.specs.Words.{wrapped, unsigned}
 use Rattle.sq_isa.specs.Accesses.{bytes_number, is_aligned}
+use Rattle.sq_isa.specs.Registers.{written}
 use Rattle.sq_memory.specs.Cells.{Cells, cells_from, with_cells}
 
 -- the program counter, the 32 registers, what stands in memory, the input that is left, and the reservation
@@ -12,10 +13,6 @@ pub record State : Type 0 where
   pub memory : Cells ℕ
   pub input : List ℕ
   pub reservation : Option ℕ
-
--- the byte at x is in memory
-abbrev pub is_in_memory : Cells ℕ → ℕ → Bool
-is_in_memory m x = is_some (m x)
 
 -- the number in the n bytes from x on, where all of them are in memory
 unfoldable pub number_at : Cells ℕ → ℕ → ℕ → Option ℕ
@@ -28,10 +25,6 @@ bytes_at m x n = unwrap_or (cells_from m x n) []
 -- the number at an address that is a multiple of its width, where all of its bytes are in memory
 abbrev pub aligned_number : Cells ℕ → ℕ → ℕ → Option ℕ
 aligned_number m x width = if is_aligned x width then number_at m x width else None
-
--- v in register r; x0 stays as it is
-abbrev pub written : ℕ → ℕ → (ℕ → ℕ) → ℕ → ℕ
-written r v registers x = if x == r && not (r == 0) then v else registers x
 
 unfoldable pub with_register : ℕ → ℕ → State → State
 with_register r v s = record s { registers = written r v s.registers }

@@ -1,7 +1,8 @@
 //! Numbers in memory.
 
 ghost use Rattle.std.specs.Prelude.{◌≡◌, ◌+◌, ◌*◌, ◌<◌, ◌≤◌, ◌^◌, length, IfSome, IfOk, IsTrue};
-ghost use Rattle.sq_machine.specs.State.{aligned_number, is_in_memory, number_at, bytes_at, with_bytes};
+ghost use Rattle.sq_memory.specs.Cells.{is_in_memory};
+ghost use Rattle.sq_machine.specs.State.{aligned_number, number_at, bytes_at, with_bytes};
 ghost use Rattle.sq_system.specs.World.{is_range};
 ghost use Rattle.sq_isa.specs.Accesses.{sign_extended, extended, is_aligned};
 ghost use Rattle.sq_machine.specs.Rows.{loaded};

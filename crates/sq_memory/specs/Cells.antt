@@ -1,9 +1,13 @@
 -- Contents of memory: a map from addresses to cells of any kind.
-use Rattle.std.specs.Prelude.{ℕ, zero, suc, ◌+◌, ◌<◌, List, [], ◌∷◌, Option, Some, None, IsSome, nat_eq, option_map, if◌then◌else◌}
+use Rattle.std.specs.Prelude.{ℕ, zero, suc, ◌+◌, ◌<◌, List, [], ◌∷◌, Option, Some, None, IsSome, Bool, is_some, nat_eq, option_map, if◌then◌else◌}
 
 -- what stands at an address, where something does
 abbrev pub Cells : Type 0 → Type 0
 Cells C = ℕ → Option C
+
+-- whether something stands at x
+abbrev pub is_in_memory : {C : Type 0} → Cells C → ℕ → Bool
+is_in_memory m x = is_some (m x)
 
 -- c in the place of a cell that is there
 abbrev pub replaced : {C : Type 0} → Option C → C → Option C

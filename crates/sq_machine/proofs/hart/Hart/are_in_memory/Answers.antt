@@ -1,5 +1,5 @@
 use Rattle.std.proofs.Common.{sym, ◌∙◌}
-use Rattle.sq_machine.specs.State.{is_in_memory}
+use Rattle.sq_memory.specs.Cells.{is_in_memory}
 use Rattle.sq_machine.specs.Views.{state_of}
 use Rattle.sq_machine.proofs.Ranges.{is_range-fails}
 use Rattle.sq_machine.proofs.hart.Hart.are_in_memory.Goals as goal

@@ -1,6 +1,6 @@
 use Rattle.std.proofs.Common.{◌≡◌, true}
 use Rattle.sq_system.specs.World.{are_all}
-use Rattle.sq_machine.specs.State.{is_in_memory}
+use Rattle.sq_memory.specs.Cells.{is_in_memory}
 use Rattle.sq_machine.specs.Views.{state_of}
 use Rattle.sq_machine.proofs.hart.Hart.are_in_memory.Given as goal
 
