@@ -1,1 +1,3 @@
 mod Memories
+mod Loading
+mod Calling
