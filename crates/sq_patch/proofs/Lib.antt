@@ -1,3 +1,4 @@
 mod Memories
 mod Loading
 mod Calling
+mod Rows
