@@ -2,3 +2,4 @@ mod Memories
 mod Loading
 mod Calling
 mod Rows
+mod Deeds
