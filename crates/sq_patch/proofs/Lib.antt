@@ -3,3 +3,5 @@ mod Loading
 mod Calling
 mod Rows
 mod Deeds
+mod LiveTargets
+mod LiveSteps

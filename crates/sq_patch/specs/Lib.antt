@@ -1,2 +1,3 @@
 pub mod Agreement
 pub mod Registers
+pub mod LiveAgreement

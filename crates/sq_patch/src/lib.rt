@@ -1,2 +1,18 @@
-//! Runs of two graphs that agree.
+//! Runs of graphs that agree: what every proof that one graph follows another rests on.
+//!
+//! To the layers above it promises that two runs of one graph which agree on memory and on the registers
+//! that are live go on to agree: what is dead may differ, and what the first run has lost may be anything.
 #![tactic(auto)]
+
+ghost use Rattle.sq_patch.specs.LiveAgreement.{StepsAgree, PlacesMakeTargets};
+
+/// From states that agree on what is live, a graph steps to such states again, with the same event or to the
+/// same end.
+pub fn live_steps_agree()
+    ensures { StepsAgree }
+{}
+
+/// What stands from a place of a graph on makes addresses of code targets alone, as such states ask.
+pub fn places_make_targets()
+    ensures { PlacesMakeTargets }
+{}
