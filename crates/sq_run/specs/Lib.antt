@@ -1,0 +1,3 @@
+pub mod FileRuns
+pub mod Pieces
+pub mod Transcripts

@@ -1,0 +1,39 @@
+//! The pieces of a file as the machine takes them.
+
+ghost use Rattle.std.specs.Prelude.{◌≡◌, map, IfOk};
+ghost use Rattle.sq_elf.specs.Images.{seen};
+ghost use Rattle.sq_run.specs.Pieces.{held};
+
+use sq_elf::{Image, Piece};
+use sq_machine::{LoadedPiece, Piece as MachinePiece};
+use sq_num::Memory;
+use sq_system::Extent;
+use std::alloc::Global;
+
+/// The piece with its bytes.
+fn loaded_piece<'a>(piece: &Piece<'a>) -> LoadedPiece<'a>
+    ensures { held result ≡ seen piece.now }
+{
+    let extent = Extent {
+        address: piece.address,
+        length: piece.length,
+    };
+    LoadedPiece {
+        piece: MachinePiece {
+            extent,
+            flags: piece.flags,
+        },
+        bytes: piece.bytes,
+    }
+}
+
+/// The pieces of the image in order.
+pub fn loaded_pieces<'a>(alloc: Global, image: &Image<'a>) -> Result<Vec<LoadedPiece<'a>>, Memory>
+    ensures { IfOk result (λ loaded. map held loaded.items ≡ image.now) }
+{
+    let mut loaded = Vec::new(alloc);
+    for piece in image.pieces() {
+        loaded.push(loaded_piece(piece))?;
+    }
+    Ok(loaded)
+}
