@@ -46,13 +46,14 @@ pub unpacked : (T : Type 0) (name : List ℕ) (denied : Denied) (before after : 
 unpacked T name (DeniedFile refusal) before after bytes told refused = λ files held. subst (λ b. IsRefused b refusal) (told files held) (refused refusal refl)
 unpacked T name NoMemory before after bytes told refused = tt
 
--- where FILE is not read
-pub unread : (T : Type 0) (request : RunRequest) (denied : Denied) (before after : Outside) (bytes : List ℕ) → ForFiles before (λ files. bytes ≡ file_of request files) →
-    ((refusal : Cause) → error T Denied denied ≡ Err (DeniedFile refusal) → file_refusal_of bytes ≡ Some refusal) → LeavesUnrun request (denied_ending denied) before after
-unread T request (DeniedFile refusal) before after bytes told refused = λ files held. inl (ap file_refusal_of (sym (told files held)) ∙ refused refusal refl)
-unread T request NoMemory before after bytes told refused = tt
-
--- where there is no run
-pub unstarted : (T : Type 0) (request : RunRequest) (fault : RunFault) (before after : Outside) → (error T RunFault fault ≡ Err NoStart → ForFiles before (HasBadStart request)) → LeavesUnrun request (fault_ending fault) before after
-unstarted T request NoStart before after bad = bad refl
-unstarted T request NoRoom before after bad = tt
+-- where FILE is not loaded
+pub file_unloaded : (request : RunRequest) (ending : Ending) (before after : Outside) → LeavesUnloaded request.file 134217728 ending before after → LeavesUnrun request ending before after
+file_unloaded request Done before after gone = absurd gone
+file_unloaded request Words before after gone = absurd gone
+file_unloaded request (Desk Load) before after rose = inl rose
+file_unloaded request (Desk Store) before after gone = absurd gone
+file_unloaded request (Desk Print) before after gone = absurd gone
+file_unloaded request (Refused refusal) before after gone = λ files told. inl (too_long_refused _ (gone.1 files told) ∙ ap Some (sym gone.0))
+file_unloaded request Memory before after gone = gone
+file_unloaded request Limit before after gone = absurd gone
+file_unloaded request BadStart before after gone = absurd gone

@@ -2,7 +2,6 @@ pub mod EarlyEndings
 pub mod Later
 pub mod PackedFile
 pub mod Promised
-pub mod RunLeaving
 pub mod RunPromised
 pub mod StatusesPromised
 pub mod StraightPart

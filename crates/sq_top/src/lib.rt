@@ -20,4 +20,6 @@ pub use packing::pack_bytes;
 pub use top::squeeze;
 
 #[cfg(test)]
+mod run_tests;
+#[cfg(test)]
 mod tests;

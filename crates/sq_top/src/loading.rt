@@ -10,12 +10,7 @@ use sq_num::Refusal;
 use std::alloc::Global;
 
 /// The file of `name`, which has at most `limit` bytes, or how the command ends without it.
-pub fn load<D: Desk>(
-    alloc: Global,
-    desk: &mut D,
-    name: &str,
-    limit: u32,
-) -> Result<Vec<u8>, Ending>
+pub fn load<D: Desk>(alloc: Global, desk: &mut D, name: &str, limit: u32) -> Result<Vec<u8>, Ending>
     ensures told { IfOk result (λ bytes. ForFiles (D.outside desk.old) (λ files. bytes.items ≡ content_of files name.now)) }
     ensures within { IfOk result (λ bytes. length bytes.items ≤ limit) }
     ensures fails { IfErr result (λ ending. LeavesUnloaded name.now limit ending (D.outside desk.old) (D.outside desk.new)) }
