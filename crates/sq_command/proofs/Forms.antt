@@ -1,5 +1,5 @@
 -- Words have a form exactly where they are those of a command.
-use Rattle.std.proofs.Common.{◌≡◌, ◌↔◌, ℕ, ◌^◌, ◌<◌, ◌≤◌, Bool, true, false, nat_le, ◌&&◌, List, [], ◌∷◌, drop, Option, Some, None, if◌then◌else◌, codes, refl, sym, ap, ◌∙◌, arith}
+use Rattle.std.proofs.Common.{◌≡◌, ◌↔◌, ℕ, ◌≤◌, Bool, true, false, nat_le, ◌&&◌, List, [], ◌∷◌, drop, Option, Some, None, if◌then◌else◌, codes, refl, sym, ap, ◌∙◌, arith}
 use Rattle.std.proofs.lemmas.Bool.Decides.{nat_tests}
 use Rattle.std.proofs.lemmas.Slice.Eq.{bytes_eq-Decides}
 use Rattle.std.specs.Fmt.{decimal}
@@ -7,7 +7,7 @@ use Rattle.std.specs.List.{slice_get}
 use Rattle.std.specs.Str.{bytes_eq}
 use Rattle.sq_system.specs.Starts.{StartFits}
 use Rattle.sq_command.specs.Numbers.{number_of}
-use Rattle.sq_command.specs.Commands.{RunRequest, Form, PackForm, RunForm, most_steps, start_fits, run_of, pack_form, run_form, form_of, IsPack, IsRun}
+use Rattle.sq_command.specs.Commands.{RunRequest, PackForm, RunForm, most_steps, start_fits, run_of, pack_form, run_form, form_of, IsPack, IsRun}
 use Rattle.sq_command.proofs.NumberTexts.{number_is, number_back}
 use Rattle.sq_command.proofs.Words.{dropped}
 

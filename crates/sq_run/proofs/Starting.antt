@@ -2,9 +2,8 @@
 use Rattle.std.proofs.Common.{◌≡◌, ℕ, List, ◌++◌, ◌∷◌, [], map, sym, ap, ◌∙◌, subst}
 use Rattle.std.proofs.lemmas.Simd.{map-map}
 use Rattle.sq_elf.specs.Headers.{entry_of}
-use Rattle.sq_elf.specs.Memory.{MemoryPiece, image_of}
+use Rattle.sq_elf.specs.Memory.{image_of}
 use Rattle.sq_system.specs.Starts.{Start, IsBadStart, stack_pointer}
-use Rattle.sq_system.specs.declared.start.Extent.{Extent}
 use Rattle.sq_machine.specs.World.{World}
 use Rattle.sq_machine.specs.Starts.{piece_of as machine_piece_of, extent_of as machine_extent_of, piece_region, ram_region, world_at_start, state_at, state_at_start}
 use Rattle.sq_machine.specs.declared.world.LoadedPiece.{LoadedPiece}

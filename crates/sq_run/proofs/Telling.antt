@@ -1,10 +1,9 @@
 -- What a machine at the file's start leaves of its run is the file's trace.
 use Rattle.std.proofs.Common.{◌≡◌, ℕ, List, [], ◌++◌, codes, sym, ap, ◌∙◌}
-use Rattle.sq_runs.specs.Runs.{Trace, RunsFor}
+use Rattle.sq_runs.specs.Runs.{RunsFor}
 use Rattle.sq_system.specs.Lines.{events_text, end_text}
 use Rattle.sq_system.specs.Starts.{Start}
 use Rattle.sq_system.specs.declared.event.Event.{Event}
-use Rattle.sq_system.specs.declared.event.Halt.{Halt}
 use Rattle.sq_machine.specs.World.{World}
 use Rattle.sq_machine.specs.State.{State}
 use Rattle.sq_machine.specs.Steps.{step_of, trace_of, status_of}

@@ -1,8 +1,7 @@
 -- what is read is a number where it is printed as it was
-use Rattle.std.proofs.Common.{◌≡◌, ◌<◌, ◌^◌, None, sym, ap, ◌∙◌, arith}
+use Rattle.std.proofs.Common.{◌≡◌, None, sym, ◌∙◌, arith}
 use Rattle.std.proofs.lemmas.Slice.Eq.{bytes_eq-Decides}
 use Rattle.std.specs.Fmt.{decimal}
-use Rattle.std.specs.Str.{bytes_eq}
 use Rattle.sq_command.proofs.NumberTexts.{number_is, unread, unprinted, meaning}
 use Rattle.sq_command.proofs.number.number_of.Goals as goal
 

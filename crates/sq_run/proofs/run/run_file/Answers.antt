@@ -1,5 +1,5 @@
 -- the log is empty at first, so it holds the events of the trace
-use Rattle.std.proofs.Common.{sym, ap, ◌∙◌, ◌++◌, codes}
+use Rattle.std.proofs.Common.{ap, ◌∙◌, ◌++◌, codes}
 use Rattle.sq_system.specs.Lines.{events_text, end_text}
 use Rattle.sq_system.specs.Starts.{start_of}
 use Rattle.sq_machine.specs.Views.{machine_state, machine_world}
