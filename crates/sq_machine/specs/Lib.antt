@@ -1,7 +1,8 @@
-pub mod World
-pub mod State
 pub mod Calls
+pub mod Presence
 pub mod Rows
+pub mod Starts
+pub mod State
 pub mod Steps
 pub mod Views
-pub mod Starts
+pub mod World
