@@ -30,9 +30,8 @@ use Rattle.sq_machine.specs.State.{State, is_in_memory, aligned_number, with_reg
 use Rattle.sq_machine.specs.Calls.{call_of, called, answered, call_row}
 use Rattle.sq_machine.specs.Rows.{load_step, loaded, load_row, store_width, may_store, store_row, lr_step, is_reserved, sc_step, sc_row, amo_step, amo_row, atomic_row, row_of}
 use Rattle.sq_machine.specs.Steps.{fetched, insn_step, word_step, step_of}
-use Rattle.sq_machine.specs.Starts.{piece_of, extent_of, bytes_of, piece_region, ram_region, regions_at_start, world_at_start, state_at_start}
+use Rattle.sq_machine.specs.Starts.{StartPiece, piece_of, extent_of, bytes_of, piece_region, ram_region, regions_at_start, world_at_start, state_at_start}
 use Rattle.sq_machine.specs.Presence.{is_mapped, HasSameBytes, MappedAtStart, KeptByStep, KeptByRun}
-use Rattle.sq_machine.specs.declared.world.LoadedPiece.{LoadedPiece}
 
 -- a place of a list has an element exactly where it is below its length
 present_at : (xs : List ℕ) (i : ℕ) → is_some (slice_get xs i) ≡ nat_lt i (length xs)
@@ -56,11 +55,11 @@ either None p = refl
 either (Some c) p = refl
 
 -- a piece has as many bytes as it is long
-length-bytes_of : (loaded : LoadedPiece) → length (bytes_of loaded) ≡ (extent_of loaded).length
-length-bytes_of loaded = grind (arith, common_steps)
+length-bytes_of : (piece : StartPiece) → length (bytes_of piece) ≡ (extent_of piece).length
+length-bytes_of piece = grind (arith, common_steps)
 
-piece_present : (loaded : LoadedPiece) (x : ℕ) → is_some (region_cell (piece_region loaded) x) ≡ is_in x (piece_of loaded)
-piece_present loaded x = region_present (piece_region loaded) x ∙ ap (λ n. nat_le (extent_of loaded).address x && nat_lt x ((extent_of loaded).address + n)) (length-bytes_of loaded)
+piece_present : (piece : StartPiece) (x : ℕ) → is_some (region_cell (piece_region piece) x) ≡ is_in x (piece_of piece)
+piece_present piece x = region_present (piece_region piece) x ∙ ap (λ n. nat_le (extent_of piece).address x && nat_lt x ((extent_of piece).address + n)) (length-bytes_of piece)
 
 ram_present : (start : Start) → StartFits start.base start.size → HasRoom start → (x : ℕ) → is_some (region_cell (ram_region start) x) ≡ (nat_le start.base x && nat_lt x (start.base + start.size))
 ram_present start fits room x = region_present (ram_region start) x ∙ ap (λ n. nat_le start.base x && nat_lt x (start.base + n)) (length-ram_at_start start fits room)
@@ -69,16 +68,16 @@ behind : (a b c : Bool) → (a || (b || c)) ≡ ((a || b) || c)
 behind true b c = refl
 behind false b c = refl
 
-all_present : (pieces : List LoadedPiece) (r : Region ℕ) (x : ℕ) → is_some (get (map piece_region pieces ++ r ∷ []) x) ≡ (list_any (is_in x) (map piece_of pieces) || is_some (region_cell r x))
+all_present : (pieces : List StartPiece) (r : Region ℕ) (x : ℕ) → is_some (get (map piece_region pieces ++ r ∷ []) x) ≡ (list_any (is_in x) (map piece_of pieces) || is_some (region_cell r x))
 all_present [] r x = either (region_cell r x) None ∙ alone (is_some (region_cell r x))
   where
     alone : (b : Bool) → (b || false) ≡ (false || b)
     alone true = refl
     alone false = refl
-all_present (loaded ∷ pieces) r x =
-    either (region_cell (piece_region loaded) x) (get (map piece_region pieces ++ r ∷ []) x)
-    ∙ (λ i. piece_present loaded x i || all_present pieces r x i)
-    ∙ behind (is_in x (piece_of loaded)) (list_any (is_in x) (map piece_of pieces)) (is_some (region_cell r x))
+all_present (piece ∷ pieces) r x =
+    either (region_cell (piece_region piece) x) (get (map piece_region pieces ++ r ∷ []) x)
+    ∙ (λ i. piece_present piece x i || all_present pieces r x i)
+    ∙ behind (is_in x (piece_of piece)) (list_any (is_in x) (map piece_of pieces)) (is_some (region_cell r x))
 
 pub mapped_at_start : MappedAtStart
 unfolding with_register

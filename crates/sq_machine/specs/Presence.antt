@@ -6,9 +6,8 @@ use Rattle.sq_system.specs.Starts.{Start, StartFits, HasRoom}
 use Rattle.sq_system.specs.declared.event.Event.{Event}
 use Rattle.sq_machine.specs.World.{World, is_in, is_in_ram}
 use Rattle.sq_machine.specs.State.{State, is_in_memory}
-use Rattle.sq_machine.specs.Starts.{world_at_start, state_at_start}
+use Rattle.sq_machine.specs.Starts.{StartPiece, world_at_start, state_at_start}
 use Rattle.sq_machine.specs.Steps.{step_of}
-use Rattle.sq_machine.specs.declared.world.LoadedPiece.{LoadedPiece}
 
 -- the byte at x is in a piece or in RAM
 abbrev pub is_mapped : World → ℕ → Bool
@@ -21,7 +20,7 @@ HasSameBytes s t = (x : ℕ) → is_in_memory t.memory x ≡ is_in_memory s.memo
 -- At a start that fits and has room a byte is in memory exactly where it is in a piece or in RAM.
 abbrev pub MappedAtStart : Type 0
 MappedAtStart =
-    (entry : ℕ) (pieces : List LoadedPiece) (start : Start) → StartFits start.base start.size → HasRoom start
+    (entry : ℕ) (pieces : List StartPiece) (start : Start) → StartFits start.base start.size → HasRoom start
     → (x : ℕ) → is_in_memory (state_at_start entry pieces start).memory x ≡ is_mapped (world_at_start pieces start) x
 
 -- A step that goes on keeps which bytes are in memory.

@@ -1,3 +1,2 @@
 pub mod FileRuns
-pub mod Pieces
 pub mod Transcripts

@@ -1,8 +1,9 @@
 //! The pieces of a file as the machine takes them.
 
 ghost use Rattle.std.specs.Prelude.{◌≡◌, map, IfOk};
-ghost use Rattle.sq_elf.specs.Images.{seen};
-ghost use Rattle.sq_run.specs.Pieces.{held};
+ghost use Rattle.sq_elf.specs.Images.{seen as image_piece};
+ghost use Rattle.sq_machine.specs.Starts.{seen};
+ghost use Rattle.sq_run.specs.FileRuns.{start_piece};
 
 use sq_elf::{Image, Piece};
 use sq_machine::{LoadedPiece, Piece as MachinePiece};
@@ -12,7 +13,7 @@ use std::alloc::Global;
 
 /// The piece with its bytes.
 fn loaded_piece<'a>(piece: &Piece<'a>) -> LoadedPiece<'a>
-    ensures { held result ≡ seen piece.now }
+    ensures { seen result ≡ start_piece (image_piece piece.now) }
 {
     let extent = Extent {
         address: piece.address,
@@ -29,7 +30,7 @@ fn loaded_piece<'a>(piece: &Piece<'a>) -> LoadedPiece<'a>
 
 /// The pieces of the image in order.
 pub fn loaded_pieces<'a>(alloc: Global, image: &Image<'a>) -> Result<Vec<LoadedPiece<'a>>, Memory>
-    ensures { IfOk result (λ loaded. map held loaded.items ≡ image.now) }
+    ensures { IfOk result (λ loaded. map seen loaded.items ≡ map start_piece image.now) }
 {
     let mut loaded = Vec::new(alloc);
     for piece in image.pieces() {
