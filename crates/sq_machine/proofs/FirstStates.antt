@@ -5,7 +5,7 @@ use Rattle.sq_system.specs.Starts.{Start, HasRoom, stack_pointer, ram_end, Meets
 use Rattle.sq_system.specs.declared.start.Extent.{Extent}
 use Rattle.sq_machine.specs.declared.world.LoadedPiece.{LoadedPiece}
 use Rattle.sq_machine.specs.Views.{numbers}
-use Rattle.sq_machine.specs.Starts.{zeros, extent_of}
+use Rattle.sq_machine.specs.Starts.{zeros, seen, extent_of}
 
 zero_at : (n x : ℕ) → numbers (replicate n 0) x ≡ 0
 zero_at zero x = refl
@@ -28,13 +28,15 @@ unmapped P f (x ∷ xs) (suc k) b h e p =
 
 -- what a test of each piece says of a start that has room
 pub bad_by_test : (pieces : List LoadedPiece) (s : Start) (from to : ℕ) (b : Bool) → HasRoom s → from ≡ stack_pointer s → to ≡ ram_end s →
-    IsTrue b ↔ Any (λ loaded. Meets from to (extent_of loaded)) pieces → IsTrue b ↔ IsBadStart (map extent_of pieces) s
+    IsTrue b ↔ Any (λ loaded. Meets from to (extent_of (seen loaded))) pieces → IsTrue b ↔ IsBadStart (map extent_of (map seen pieces)) s
 bad_by_test pieces s from to b room p q h =
     let P : Extent → Type 0 = Meets (stack_pointer s) (ram_end s) in
-    let f : IsTrue b ↔ Any (λ loaded. Meets (stack_pointer s) to (extent_of loaded)) pieces = subst (λ x. IsTrue b ↔ Any (λ loaded. Meets x to (extent_of loaded)) pieces) p h in
-    let g : IsTrue b ↔ Any (λ loaded. P (extent_of loaded)) pieces = subst (λ y. IsTrue b ↔ Any (λ loaded. Meets (stack_pointer s) y (extent_of loaded)) pieces) q f in
-    (λ t. inr (any_mapped P extent_of pieces (g.0 t)), λ bad. g.1 (from_bad bad))
+    let f : IsTrue b ↔ Any (λ loaded. Meets (stack_pointer s) to (extent_of (seen loaded))) pieces = subst (λ x. IsTrue b ↔ Any (λ loaded. Meets x to (extent_of (seen loaded))) pieces) p h in
+    let g : IsTrue b ↔ Any (λ loaded. P (extent_of (seen loaded))) pieces = subst (λ y. IsTrue b ↔ Any (λ loaded. Meets (stack_pointer s) y (extent_of (seen loaded))) pieces) q f in
+    (λ t. inr (any_mapped P extent_of (map seen pieces) (any_mapped (λ piece. P (extent_of piece)) seen pieces (g.0 t))), λ bad. g.1 (from_bad bad))
   where
-    from_bad : IsBadStart (map extent_of pieces) s → Any (λ loaded. Meets (stack_pointer s) (ram_end s) (extent_of loaded)) pieces
+    from_bad : IsBadStart (map extent_of (map seen pieces)) s → Any (λ loaded. Meets (stack_pointer s) (ram_end s) (extent_of (seen loaded))) pieces
     from_bad (inl n) = absurd (n room)
-    from_bad (inr a) = unmapped (Meets (stack_pointer s) (ram_end s)) extent_of pieces a.0 a.1 a.2 a.3 a.4
+    from_bad (inr a) =
+        let here : Any (λ piece. Meets (stack_pointer s) (ram_end s) (extent_of piece)) (map seen pieces) = unmapped (Meets (stack_pointer s) (ram_end s)) extent_of (map seen pieces) a.0 a.1 a.2 a.3 a.4 in
+        unmapped (λ piece. Meets (stack_pointer s) (ram_end s) (extent_of piece)) seen pieces here.0 here.1 here.2 here.3 here.4

@@ -5,3 +5,4 @@ pub mod Effects
 pub mod Moves
 pub mod InputReads
 pub mod FirstStates
+pub mod Presence

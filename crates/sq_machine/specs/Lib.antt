@@ -1,6 +1,7 @@
-pub mod State
 pub mod Calls
+pub mod Presence
 pub mod Rows
+pub mod Starts
+pub mod State
 pub mod Steps
 pub mod Views
-pub mod Starts

@@ -8,6 +8,7 @@
 mod atomics;
 mod calls;
 mod hart;
+pub mod laws;
 mod loads;
 mod machine;
 mod moved;

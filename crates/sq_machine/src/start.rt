@@ -3,7 +3,7 @@
 ghost use Rattle.std.specs.Prelude.{◌≡◌, ◌↔◌, ◌≤◌, map, false, Any, IsTrue, IfOk};
 ghost use Rattle.sq_memory.specs.Contents.{region_of, regions_of};
 ghost use Rattle.sq_system.specs.Starts.{start_of, StartFits, HasRoom, Meets, IsBadStart};
-ghost use Rattle.sq_machine.specs.Starts.{piece_of, extent_of, bytes_of, piece_region, regions_at_start, world_at_start, state_at, state_at_start};
+ghost use Rattle.sq_machine.specs.Starts.{seen, piece_of, extent_of, bytes_of, piece_region, regions_at_start, world_at_start, state_at, state_at_start};
 ghost use Rattle.sq_machine.specs.Views.{state_of, world_of, machine_state, machine_world};
 
 use crate::hart::Hart;
@@ -30,7 +30,7 @@ const STACK_POINTER: u32 = 2;
 /// Whether the stack pointer would be below the base, or a piece meets the argument area.
 fn is_bad(pieces: &[LoadedPiece], start: &Start) -> bool
     requires { StartFits start.now.base start.now.size }
-    ensures bad { IsTrue result ↔ IsBadStart (map extent_of pieces.now) (start_of start.now) }
+    ensures bad { IsTrue result ↔ IsBadStart (map extent_of (map seen pieces.now)) (start_of start.now) }
     ensures room { result ≡ false → HasRoom (start_of start.now) }
 {
     let end = u64::from(start.base) + u64::from(start.size);
@@ -42,7 +42,7 @@ fn is_bad(pieces: &[LoadedPiece], start: &Start) -> bool
 
 /// Whether a byte from `from` up to, without, `end` is in a piece.
 fn meets_any(pieces: &[LoadedPiece], from: u32, end: u64) -> bool
-    ensures { IsTrue result ↔ Any (λ loaded. Meets from end (extent_of loaded)) pieces.now }
+    ensures { IsTrue result ↔ Any (λ loaded. Meets from end (extent_of (seen loaded))) pieces.now }
 {
     pieces
         .iter()
@@ -51,7 +51,7 @@ fn meets_any(pieces: &[LoadedPiece], from: u32, end: u64) -> bool
 
 /// The bytes of a piece.
 fn piece_bytes(alloc: Global, loaded: &LoadedPiece) -> Result<Vec<u8>, Memory>
-    ensures { IfOk result (λ bytes. bytes.items ≡ bytes_of loaded.now) }
+    ensures { IfOk result (λ bytes. bytes.items ≡ bytes_of (seen loaded.now)) }
 {
     let length = loaded.piece.extent.length as usize;
     if length < loaded.bytes.len() {
@@ -65,7 +65,7 @@ fn piece_bytes(alloc: Global, loaded: &LoadedPiece) -> Result<Vec<u8>, Memory>
 
 /// The region of a piece.
 fn region(alloc: Global, loaded: &LoadedPiece) -> Result<Region<u8>, Memory>
-    ensures { IfOk result (λ region. region_of region ≡ piece_region loaded.now) }
+    ensures { IfOk result (λ region. region_of region ≡ piece_region (seen loaded.now)) }
 {
     let bytes = piece_bytes(alloc, loaded)?;
     Ok(Region::new(loaded.piece.extent.address, bytes))
@@ -73,7 +73,7 @@ fn region(alloc: Global, loaded: &LoadedPiece) -> Result<Region<u8>, Memory>
 
 /// The regions of the pieces.
 fn piece_regions(alloc: Global, pieces: &[LoadedPiece]) -> Result<Vec<Region<u8>>, Memory>
-    ensures { IfOk result (λ regions. regions_of regions.items ≡ map piece_region pieces.now) }
+    ensures { IfOk result (λ regions. regions_of regions.items ≡ map piece_region (map seen pieces.now)) }
 {
     let mut regions = Vec::new(alloc);
     for loaded in pieces {
@@ -87,7 +87,7 @@ fn piece_regions(alloc: Global, pieces: &[LoadedPiece]) -> Result<Vec<Region<u8>
 fn memory(alloc: Global, pieces: &[LoadedPiece], start: &Start) -> Result<Contents<u8>, Memory>
     requires fits { StartFits start.now.base start.now.size }
     requires room { HasRoom (start_of start.now) }
-    ensures { IfOk result (λ memory. memory ≡ regions_at_start pieces.now (start_of start.now)) }
+    ensures { IfOk result (λ memory. memory ≡ regions_at_start (map seen pieces.now) (start_of start.now)) }
 {
     let mut regions = piece_regions(alloc, pieces)?;
     let ram = ram_at_start(alloc, start)?;
@@ -97,7 +97,7 @@ fn memory(alloc: Global, pieces: &[LoadedPiece], start: &Start) -> Result<Conten
 
 /// The pieces without their bytes.
 fn kept_pieces(alloc: Global, pieces: &[LoadedPiece]) -> Result<Vec<Piece>, Memory>
-    ensures { IfOk result (λ kept. kept.items ≡ map piece_of pieces.now) }
+    ensures { IfOk result (λ kept. kept.items ≡ map piece_of (map seen pieces.now)) }
 {
     let mut kept = Vec::new(alloc);
     for loaded in pieces {
@@ -109,7 +109,7 @@ fn kept_pieces(alloc: Global, pieces: &[LoadedPiece]) -> Result<Vec<Piece>, Memo
 /// The pieces and RAM.
 #[tactic(auto, unfolding(crate::specs::Views::world_of))]
 fn world(alloc: Global, pieces: &[LoadedPiece], start: &Start) -> Result<World, Memory>
-    ensures { IfOk result (λ world. world_of world ≡ world_at_start pieces.now (start_of start.now)) }
+    ensures { IfOk result (λ world. world_of world ≡ world_at_start (map seen pieces.now) (start_of start.now)) }
 {
     let kept = kept_pieces(alloc, pieces)?;
     Ok(World {
@@ -144,8 +144,8 @@ fn machine(
 ) -> Result<Machine, Memory>
     requires fits { StartFits start.now.base start.now.size }
     requires room { HasRoom (start_of start.now) }
-    ensures world { IfOk result (λ machine. machine_world machine ≡ world_at_start pieces.now (start_of start.now)) }
-    ensures state { IfOk result (λ machine. machine_state machine ≡ state_at_start entry pieces.now (start_of start.now)) }
+    ensures world { IfOk result (λ machine. machine_world machine ≡ world_at_start (map seen pieces.now) (start_of start.now)) }
+    ensures state { IfOk result (λ machine. machine_state machine ≡ state_at_start entry (map seen pieces.now) (start_of start.now)) }
 {
     let world = world(alloc, pieces, start)?;
     let memory = memory(alloc, pieces, start)?;
@@ -163,9 +163,9 @@ impl Machine {
         start: &Start,
     ) -> Result<Machine, NewFault>
         requires { StartFits start.now.base start.now.size }
-        ensures bad { (result ≡ Err NewFault.BadStart) ↔ IsBadStart (map extent_of pieces.now) (start_of start.now) }
-        ensures world { IfOk result (λ machine. machine_world machine ≡ world_at_start pieces.now (start_of start.now)) }
-        ensures state { IfOk result (λ machine. machine_state machine ≡ state_at_start entry pieces.now (start_of start.now)) }
+        ensures bad { (result ≡ Err NewFault.BadStart) ↔ IsBadStart (map extent_of (map seen pieces.now)) (start_of start.now) }
+        ensures world { IfOk result (λ machine. machine_world machine ≡ world_at_start (map seen pieces.now) (start_of start.now)) }
+        ensures state { IfOk result (λ machine. machine_state machine ≡ state_at_start entry (map seen pieces.now) (start_of start.now)) }
     {
         if is_bad(pieces, start) {
             return Err(NewFault::BadStart);

@@ -4,10 +4,12 @@ use Rattle.std.proofs.lemmas.Bool.{cases_lt}
 use Rattle.sq_num.specs.declared.packed.Packed.{Packed}
 use Rattle.sq_desk.specs.Outside.{Outside, Place, Rose, NoneFall, Complaining, KeepsFiles, KeepsPrinted, KeepsComplained, extended_text}
 use Rattle.sq_top.specs.declared.ending.Ending.{Ending}
-use Rattle.sq_top.specs.declared.ending.Ending.TheVariants.{Done, Words, Desk, Refused, Memory}
+use Rattle.sq_top.specs.declared.ending.Ending.TheVariants.{Done, Words, Desk, Refused, Memory, Limit, BadStart}
 use Rattle.sq_top.specs.declared.ending.DeskCall.TheVariants.{Load, Store, Print}
-use Rattle.sq_top.specs.Commands.{Form, PackForm, form_of}
-use Rattle.sq_top.specs.Endings.{complaint_of, StoresPacked, LeavesPack, Leaves, ComplainsLine}
+use Rattle.sq_command.specs.Commands.{RunRequest, Form, PackForm, RunForm, form_of}
+use Rattle.sq_top.specs.Statuses.{complaint_of}
+use Rattle.sq_top.specs.Endings.{StoresPacked, LeavesPack, Leaves, ComplainsLine}
+use Rattle.sq_top.specs.RunEndings.{FailsToLoad, LeavesRun, RunLeft}
 use Rattle.sq_top.specs.Promises.{Ends}
 
 -- a complaint: files and what is printed stay, and no faults fall
@@ -17,13 +19,13 @@ pub record OnlyComplains (before after : Outside) : Type 0 where
   pub faults : NoneFall before after
 
 -- faults that rose before have risen
-rose_on : (place : Place) (before middle after : Outside) → NoneFall before middle → NoneFall middle after → Rose place before middle → Rose place before after
+pub rose_on : (place : Place) (before middle after : Outside) → NoneFall before middle → NoneFall middle after → Rose place before middle → Rose place before after
 rose_on place before middle after first second (inl less) = inl (omega (arith, second place))
 rose_on place before middle after first second (inr last) =
     elim (cases_lt (2 ^ 64 - 1) (after.faults place)) [ inl more ↦ inl (omega (arith, first place)) | inr most ↦ inr (omega (arith, second place)) ]
 
 -- faults that rose later have risen
-rose_then : (place : Place) (before middle after : Outside) → NoneFall before middle → Rose place middle after → Rose place before after
+pub rose_then : (place : Place) (before middle after : Outside) → NoneFall before middle → Rose place middle after → Rose place before after
 rose_then place before middle after first (inl less) = inl (omega (arith, first place))
 rose_then place before middle after first (inr last) = inr last
 
@@ -42,10 +44,29 @@ module _ (before middle after : Outside) (first : NoneFall before middle) (quiet
   pack_on input output (Refused refusal) left = (left.0, quiet.files ∙ left.1, quiet.printed ∙ left.2)
   pack_on input output Memory left =
       (elim left.0 [ inl kept ↦ inl (quiet.files ∙ kept) | inr stored ↦ inr (stored.0, stores_on stored.1) ], quiet.printed ∙ left.1)
+  pack_on input output Limit left = left
+  pack_on input output BadStart left = left
+
+  fails_on : (request : RunRequest) → FailsToLoad request before middle → FailsToLoad request before after
+  fails_on request (inl file) = inl (rose_on _ before middle after first quiet.faults file)
+  fails_on request (inr input) = inr (input.0, rose_on _ before middle after first quiet.faults input.1)
+
+  run_left_on : (request : RunRequest) (ending : Ending) → RunLeft request ending before middle → RunLeft request ending before after
+  run_left_on request Done left = (left.0, left.1, quiet.printed ∙ left.2)
+  run_left_on request Words left = left
+  run_left_on request (Desk Load) left = (quiet.printed ∙ left.0, fails_on request left.1)
+  run_left_on request (Desk Store) left = left
+  run_left_on request (Desk Print) left =
+      (rose_on _ before middle after first quiet.faults left.0, (left.1.0, left.1.1, (left.1.2.0, quiet.printed ∙ left.1.2.1)))
+  run_left_on request (Refused refusal) left = (quiet.printed ∙ left.0, left.1)
+  run_left_on request Memory left = quiet.printed ∙ left
+  run_left_on request Limit left = (left.0, left.1, quiet.printed ∙ left.2)
+  run_left_on request BadStart left = (quiet.printed ∙ left.0, left.1)
 
   leaves_on : (form : Option Form) (ending : Ending) → Leaves form ending before middle → Leaves form ending before after
   leaves_on None ending left = (left.0, quiet.files ∙ left.1, quiet.printed ∙ left.2)
   leaves_on (Some (PackForm input output)) ending left = pack_on input output ending left
+  leaves_on (Some (RunForm request)) ending left = (quiet.files ∙ left.0, run_left_on request ending left.1)
 
   complains_on : (line : Option (List ℕ)) → KeepsComplained before middle → ComplainsLine line middle after → ComplainsLine line before after
   complains_on None silent said = said ∙ silent

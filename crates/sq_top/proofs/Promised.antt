@@ -5,11 +5,12 @@ use Rattle.sq_top.proofs.PackedFile.{good}
 use Rattle.sq_num.specs.declared.packed.Packed.{Packed}
 use Rattle.sq_desk.specs.Outside.{Outside, Files, content_of, with_file}
 use Rattle.sq_top.specs.declared.ending.Ending.{Ending}
-use Rattle.sq_top.specs.declared.ending.Ending.TheVariants.{Done, Words, Desk, Refused, Memory}
+use Rattle.sq_top.specs.declared.ending.Ending.TheVariants.{Done, Words, Desk, Refused, Memory, Limit, BadStart}
 use Rattle.sq_top.specs.declared.ending.DeskCall.TheVariants.{Load, Store, Print}
-use Rattle.sq_top.specs.Commands.{Form, PackForm, form_of}
+use Rattle.sq_command.specs.Commands.{Form, PackForm, RunForm, form_of}
 use Rattle.sq_top.specs.Packing.{Packs, Headline, packed_text, sizes_text}
-use Rattle.sq_top.specs.Endings.{status_of, complaint_of, StoresPacked, LeavesPack, Leaves, ComplainsLine}
+use Rattle.sq_top.specs.Statuses.{status_of, complaint_of}
+use Rattle.sq_top.specs.Endings.{StoresPacked, LeavesPack, Leaves, ComplainsLine}
 use Rattle.sq_top.specs.Promises.{Ends, ForPack, IsDone, HoldsOutput, StayOrHold, HasRefusal, IsComplete}
 
 same_sizes : {a b c d e f g h : ℕ} → a ≡ e → b ≡ f → c ≡ g → d ≡ h → sizes_text a b c d ≡ sizes_text e f g h
@@ -44,6 +45,8 @@ done_promised words ending before after ends input output form status files told
     by_case (Desk call) other gone = absurd (cc other)
     by_case (Refused refusal) other gone = absurd (cc other)
     by_case Memory other gone = absurd (cc other)
+    by_case Limit other gone = absurd gone
+    by_case BadStart other gone = absurd gone
 
 pub refused_promised : (words : List (List ℕ)) (ending : Ending) (before after : Outside) → Ends words ending before after → ForPack words (λ input _. status_of ending ≡ 3 → HasRefusal input before after)
 refused_promised words ending before after ends input output form status = by_case ending status (left words ending before after ends input output form) ends.complains
@@ -54,6 +57,8 @@ refused_promised words ending before after ends input output form status = by_ca
     by_case (Desk call) other gone said = absurd (cc other)
     by_case (Refused refusal) three gone said = (gone.1, gone.2, refusal, gone.0, said)
     by_case Memory other gone said = absurd (cc other)
+    by_case Limit other gone said = absurd gone
+    by_case BadStart other gone said = absurd gone
 
 pub complete_promised : (words : List (List ℕ)) (ending : Ending) (before after : Outside) → Ends words ending before after → ForPack words (λ input output. IsComplete input output (status_of ending) before after)
 complete_promised words ending before after ends input output form no_fault files told accepted = by_case ending (left words ending before after ends input output form)
@@ -66,6 +71,8 @@ complete_promised words ending before after ends input output form no_fault file
     by_case (Desk Print) gone = absurd (no_fault Print gone.2)
     by_case (Refused refusal) gone = absurd (accepted refusal (gone.0 files told))
     by_case Memory gone = inr refl
+    by_case Limit gone = absurd gone
+    by_case BadStart gone = absurd gone
 
 pub files_promised : (words : List (List ℕ)) (ending : Ending) (before after : Outside) → Ends words ending before after → StayOrHold words (status_of ending) before after
 files_promised words ending before after ends = by_form (form_of words) refl ends.leaves
@@ -77,8 +84,11 @@ files_promised words ending before after ends = by_form (form_of words) refl end
     by_case input output form (Desk Store) gone = inr ((λ same. cc same), (λ same. cc same), input, output, form, inr (refl, gone.2, gone.3))
     by_case input output form (Desk Print) gone = inr ((λ same. cc same), (λ same. cc same), input, output, form, inl (holds gone.1))
     by_case input output form (Refused refusal) gone = inl gone.1
+    by_case input output form Limit gone = absurd gone
+    by_case input output form BadStart gone = absurd gone
     by_case input output form Memory gone = elim gone.0 [ inl kept ↦ inl kept | inr stored ↦ inr ((λ same. cc same), (λ same. cc same), input, output, form, inl (holds stored.1)) ]
 
     by_form : (f : Option Form) → form_of words ≡ f → Leaves f ending before after → StayOrHold words (status_of ending) before after
     by_form None form gone = inl gone.1
     by_form (Some (PackForm input output)) form gone = by_case input output form ending gone
+    by_form (Some (RunForm request)) form gone = inl gone.0

@@ -1,35 +1,14 @@
--- How a command ends: its status, its complaint, and what it leaves outside.
-use Rattle.std.specs.Prelude.{◌≡◌, ℕ, ◌⊎◌, List, ◌++◌, codes, Option, Some, None, ⊤}
-use Rattle.sq_num.specs.RefusalTexts.{refusal_text}
+-- What a command leaves outside, by how it ends.
+use Rattle.std.specs.Prelude.{◌≡◌, ℕ, ◌⊎◌, List, Option, Some, None, ⊤}
 use Rattle.sq_num.specs.declared.packed.Packed.{Packed}
 use Rattle.sq_desk.specs.Outside.{Outside, content_of, Rose, Loading, Storing, Printing, Complaining, KeepsFiles, SetsFile, LosesFile, KeepsPrinted, KeepsComplained, Prints, PrintsPrefix, Complains, ComplainsPrefix, ForFiles}
 use Rattle.sq_top.specs.declared.ending.Ending.{Ending}
-use Rattle.sq_top.specs.declared.ending.Ending.TheVariants.{Done, Words, Desk, Refused, Memory}
-use Rattle.sq_top.specs.declared.ending.DeskCall.{DeskCall}
+use Rattle.sq_top.specs.declared.ending.Ending.TheVariants.{Done, Words, Desk, Refused, Memory, Limit, BadStart}
 use Rattle.sq_top.specs.declared.ending.DeskCall.TheVariants.{Load, Store, Print}
-use Rattle.sq_top.specs.Commands.{Form, PackForm}
+use Rattle.sq_command.specs.Commands.{Form, PackForm, RunForm}
 use Rattle.sq_top.specs.Packing.{Packs, packed_text}
 use Rattle.sq_top.specs.Refusing.{IsRefused}
-
-abbrev pub status_of : Ending → ℕ
-status_of Done = 0
-status_of Words = 1
-status_of (Desk call) = 2
-status_of (Refused refusal) = 3
-status_of Memory = 4
-
-abbrev pub call_text : DeskCall → List ℕ
-call_text Load = codes "desk load\n"
-call_text Store = codes "desk store\n"
-call_text Print = codes "desk print\n"
-
--- the line that is complained, where there is one
-abbrev pub complaint_of : Ending → Option (List ℕ)
-complaint_of Done = None
-complaint_of Words = Some (codes "words\n")
-complaint_of (Desk call) = Some (call_text call)
-complaint_of (Refused refusal) = Some (refusal_text refusal ++ codes "\n")
-complaint_of Memory = Some (codes "memory\n")
+use Rattle.sq_top.specs.RunEndings.{LeavesRun}
 
 -- what the named file holds was packed so
 abbrev pub PacksFile : List ℕ → Packed → Outside → Type 0
@@ -42,35 +21,27 @@ pub record StoresPacked (input output : List ℕ) (packed : Packed) (before afte
 
 -- what a load and a packing leave where they give nothing
 abbrev pub LeavesUnpacked : List ℕ → Ending → Outside → Outside → Type 0
-LeavesUnpacked input Done before after = ⊥
-LeavesUnpacked input Words before after = ⊥
 LeavesUnpacked input (Desk Load) before after = Rose (Loading input) before after
-LeavesUnpacked input (Desk Store) before after = ⊥
-LeavesUnpacked input (Desk Print) before after = ⊥
 LeavesUnpacked input (Refused refusal) before after = ForFiles before (λ files. IsRefused (content_of files input) refusal)
 LeavesUnpacked input Memory before after = ⊤
+LeavesUnpacked input other before after = ⊥
 
 -- what the printing of a last line leaves
 abbrev pub LeavesPrinted : List ℕ → Ending → Outside → Outside → Type 0
 LeavesPrinted line Done before after = Prints line before after
-LeavesPrinted line Words before after = ⊥
-LeavesPrinted line (Desk Load) before after = ⊥
-LeavesPrinted line (Desk Store) before after = ⊥
 LeavesPrinted line (Desk Print) before after = PrintsPrefix line before after × Rose Printing before after
-LeavesPrinted line (Refused refusal) before after = ⊥
 LeavesPrinted line Memory before after = KeepsPrinted before after
+LeavesPrinted line other before after = ⊥
 
 -- what the storing of a packing and the printing of its line leave
 abbrev pub LeavesDelivered : List ℕ → Packed → Ending → Outside → Outside → Type 0
 LeavesDelivered output packed Done before after = SetsFile output (Some packed.bytes) before after × Prints (packed_text packed) before after
-LeavesDelivered output packed Words before after = ⊥
-LeavesDelivered output packed (Desk Load) before after = ⊥
 LeavesDelivered output packed (Desk Store) before after = LosesFile output before after × KeepsPrinted before after × Rose (Storing output) before after
 LeavesDelivered output packed (Desk Print) before after =
     SetsFile output (Some packed.bytes) before after × PrintsPrefix (packed_text packed) before after × Rose Printing before after
-LeavesDelivered output packed (Refused refusal) before after = ⊥
 LeavesDelivered output packed Memory before after =
     (KeepsFiles before after ⊎ SetsFile output (Some packed.bytes) before after) × KeepsPrinted before after
+LeavesDelivered output packed other before after = ⊥
 
 -- what `pack` leaves, by how it ends
 abbrev pub LeavesPack : List ℕ → List ℕ → Ending → Outside → Outside → Type 0
@@ -87,11 +58,14 @@ LeavesPack input output (Refused refusal) before after =
     ForFiles before (λ files. IsRefused (content_of files input) refusal) × KeepsFiles before after × KeepsPrinted before after
 LeavesPack input output Memory before after =
     (KeepsFiles before after ⊎ ((packed : Packed) × StoresPacked input output packed before after)) × KeepsPrinted before after
+LeavesPack input output Limit before after = ⊥
+LeavesPack input output BadStart before after = ⊥
 
 -- what a command leaves, by how it ends: words without a form touch nothing
 abbrev pub Leaves : Option Form → Ending → Outside → Outside → Type 0
 Leaves None ending before after = (ending ≡ Words) × KeepsFiles before after × KeepsPrinted before after
 Leaves (Some (PackForm input output)) ending before after = LeavesPack input output ending before after
+Leaves (Some (RunForm request)) ending before after = LeavesRun request ending before after
 
 -- the line was complained, or a prefix of it where complaining failed, or nothing for want of memory
 abbrev pub ComplainsLine : Option (List ℕ) → Outside → Outside → Type 0

@@ -7,10 +7,12 @@ use Rattle.sq_desk.specs.Outside.{Outside, Place, Loading, Storing, Printing, co
 use Rattle.sq_top.specs.declared.ending.Ending.{Ending}
 use Rattle.sq_top.specs.declared.ending.DeskCall.{DeskCall}
 use Rattle.sq_top.specs.declared.ending.DeskCall.TheVariants.{Load, Store, Print}
-use Rattle.sq_top.specs.Commands.{PackForm, form_of}
+use Rattle.sq_command.specs.Commands.{RunRequest, PackForm, RunForm, form_of}
 use Rattle.sq_top.specs.Packing.{GoodOutput, Headline, packed_text}
 use Rattle.sq_top.specs.Refusing.{IsRefused}
-use Rattle.sq_top.specs.Endings.{call_text, complaint_of, PacksFile, Leaves, ComplainsLine}
+use Rattle.sq_top.specs.Statuses.{call_text, complaint_of}
+use Rattle.sq_top.specs.Endings.{PacksFile, Leaves, ComplainsLine}
+use Rattle.sq_top.specs.Running.{HasRun}
 
 -- the call ended so: with what the form leaves, and with the ending's complaint
 pub record Ends (words : List (List ℕ)) (ending : Ending) (before after : Outside) : Type 0 where
@@ -47,12 +49,22 @@ StayOrHold words status before after =
     ⊎ ((status ≢ 1) × (status ≢ 3) × (input : List ℕ) × (output : List ℕ) × (form_of words ≡ Some (PackForm input output))
     × (HoldsOutput input output before after ⊎ ((status ≡ 2) × Rose (Storing output) before after × LosesFile output before after)))
 
--- nothing was printed, but with status 0; or the line of status 0; or a prefix of it, where printing failed
+-- what was printed of a packing: the line with status 0, or a prefix of it where printing failed
+abbrev pub PrintsSizes : List (List ℕ) → ℕ → Outside → Outside → Type 0
+PrintsSizes words status before after =
+    (input : List ℕ) × (output : List ℕ) × (form_of words ≡ Some (PackForm input output)) × (packed : Packed) × PacksFile input packed before
+    × (((status ≡ 0) × Prints (packed_text packed) before after) ⊎ ((status ≡ 2) × Rose Printing before after × PrintsPrefix (packed_text packed) before after))
+
+-- what was printed of a run: the lines with status 0 or 6, or a prefix of them where printing failed
+abbrev pub PrintsLines : List (List ℕ) → ℕ → Outside → Outside → Type 0
+PrintsLines words status before after =
+    (request : RunRequest) × (form_of words ≡ Some (RunForm request)) × (text : List ℕ) × ForFiles before (λ files. HasRun request files text)
+    × ((((status ≡ 0) ⊎ (status ≡ 6)) × Prints text before after) ⊎ ((status ≡ 2) × Rose Printing before after × PrintsPrefix text before after))
+
+-- nothing was printed, but with status 0 or 6; or what a packing or a run prints
 abbrev pub PrintsAsSaid : List (List ℕ) → ℕ → Outside → Outside → Type 0
 PrintsAsSaid words status before after =
-    ((status ≢ 0) × KeepsPrinted before after)
-    ⊎ ((input : List ℕ) × (output : List ℕ) × (form_of words ≡ Some (PackForm input output)) × (packed : Packed) × PacksFile input packed before
-    × (((status ≡ 0) × Prints (packed_text packed) before after) ⊎ ((status ≡ 2) × Rose Printing before after × PrintsPrefix (packed_text packed) before after)))
+    ((status ≢ 0) × (status ≢ 6) × KeepsPrinted before after) ⊎ PrintsSizes words status before after ⊎ PrintsLines words status before after
 
 -- status 2 has its cause, and its line names it
 abbrev pub HasFault : List ℕ → List ℕ → Outside → Outside → Type 0

@@ -2,7 +2,8 @@
 
 ghost use Rattle.std.specs.Prelude.{◌≡◌, ◌≤◌, length};
 ghost use Rattle.sq_desk.specs.Outside.{KeepsFiles, KeepsPrinted, NoneFall};
-ghost use Rattle.sq_top.specs.Endings.{complaint_of, ComplainsLine};
+ghost use Rattle.sq_top.specs.Endings.{ComplainsLine};
+ghost use Rattle.sq_top.specs.Statuses.{complaint_of};
 
 use crate::ending::{DeskCall, Ending};
 use sq_desk::Desk;
@@ -24,13 +25,14 @@ fn complaint_of(ending: &Ending) -> Option<Line>
     ensures { result ≡ complaint_of ending.now }
 {
     match ending {
-        Ending::Done => None,
+        Ending::Done | Ending::Limit => None,
         Ending::Words => Some(line_of("words\n")),
         Ending::Desk(DeskCall::Load) => Some(line_of("desk load\n")),
         Ending::Desk(DeskCall::Store) => Some(line_of("desk store\n")),
         Ending::Desk(DeskCall::Print) => Some(line_of("desk print\n")),
         Ending::Refused(refusal) => Some(refusal.line()),
         Ending::Memory => Some(line_of("memory\n")),
+        Ending::BadStart => Some(line_of("bad start\n")),
     }
 }
 

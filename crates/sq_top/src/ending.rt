@@ -1,9 +1,10 @@
 //! How a command ends.
 
-ghost use Rattle.std.specs.Prelude.{◌≡◌, ◌≤◌};
-ghost use Rattle.sq_top.specs.Endings.{status_of};
+ghost use Rattle.std.specs.Prelude.{◌≡◌};
+ghost use Rattle.sq_top.specs.Statuses.{status_of};
 
-use sq_num::Refusal;
+use sq_num::{Denied, Refusal};
+use sq_run::RunFault;
 
 /// A call on the desk.
 #[derive(Clone, Copy, Debug, PartialEq, Eq)]
@@ -16,7 +17,7 @@ pub enum DeskCall {
 /// How a command ends.
 #[derive(Clone, Copy, Debug, PartialEq, Eq)]
 pub enum Ending {
-    /// All was done.
+    /// All was done; a program that was run ended.
     Done,
     /// The words have no form.
     Words,
@@ -26,13 +27,16 @@ pub enum Ending {
     Refused(Refusal),
     /// Memory ran out.
     Memory,
+    /// The program that was run came to its limit.
+    Limit,
+    /// The program cannot be started so.
+    BadStart,
 }
 
 impl Ending {
     /// The status with which the program ends.
     pub fn status(&self) -> u8
-        ensures value { result ≡ status_of self.now }
-        ensures small { result ≤ 4 }
+        ensures { result ≡ status_of self.now }
     {
         match self {
             Ending::Done => 0,
@@ -40,6 +44,36 @@ impl Ending {
             Ending::Desk(_) => 2,
             Ending::Refused(_) => 3,
             Ending::Memory => 4,
+            Ending::Limit => 6,
+            Ending::BadStart => 7,
+        }
+    }
+}
+
+impl From<Denied> for Ending {
+    ghost use Rattle.std.specs.Prelude.{◌≡◌};
+    ghost use Rattle.sq_top.specs.Denials.{denied_ending};
+
+    ghost from_gives = { λ denied ending. ending ≡ denied_ending denied };
+
+    fn from(denied: Denied) -> Ending {
+        match denied {
+            Denied::Refused(refusal) => Ending::Refused(refusal),
+            Denied::Memory => Ending::Memory,
+        }
+    }
+}
+
+impl From<RunFault> for Ending {
+    ghost use Rattle.std.specs.Prelude.{◌≡◌};
+    ghost use Rattle.sq_top.specs.Denials.{fault_ending};
+
+    ghost from_gives = { λ fault ending. ending ≡ fault_ending fault };
+
+    fn from(fault: RunFault) -> Ending {
+        match fault {
+            RunFault::BadStart => Ending::BadStart,
+            RunFault::Memory => Ending::Memory,
         }
     }
 }

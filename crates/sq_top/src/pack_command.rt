@@ -6,10 +6,11 @@ ghost use Rattle.sq_top.specs.Endings.{PacksFile, LeavesUnpacked, LeavesPrinted,
 
 use crate::ending::{DeskCall, Ending};
 use crate::lines::packed_line;
+use crate::loading::load;
 use crate::packing::pack_bytes;
-use sq_desk::{Desk, DeskFault, LoadFault};
+use sq_desk::{Desk, DeskFault};
 use sq_elf::LONGEST_FILE;
-use sq_num::{Denied, Packed, Refusal};
+use sq_num::Packed;
 use std::alloc::Global;
 
 /// Packs the file of `input` into that of `output`.
@@ -33,16 +34,8 @@ fn load_and_pack<D: Desk>(alloc: Global, desk: &mut D, input: &str) -> Result<Pa
     ensures complained { KeepsComplained (D.outside desk.old) (D.outside desk.new) }
     ensures faults { NoneFall (D.outside desk.old) (D.outside desk.new) }
 {
-    match desk.load(alloc, input, LONGEST_FILE) {
-        Ok(bytes) => match pack_bytes(alloc, bytes.as_slice()) {
-            Ok(packed) => Ok(packed),
-            Err(Denied::Refused(refusal)) => Err(Ending::Refused(refusal)),
-            Err(Denied::Memory) => Err(Ending::Memory),
-        },
-        Err(LoadFault::Failed) => Err(Ending::Desk(DeskCall::Load)),
-        Err(LoadFault::TooLong) => Err(Ending::Refused(Refusal::FileTooLong)),
-        Err(LoadFault::Memory) => Err(Ending::Memory),
-    }
+    let bytes = load(alloc, desk, input, LONGEST_FILE)?;
+    Ok(pack_bytes(alloc, bytes.as_slice())?)
 }
 
 /// Stores the packed file as that of `output`, and prints the line of its sizes. The line is made

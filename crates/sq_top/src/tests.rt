@@ -125,7 +125,7 @@ const SMALLEST: [u32; 116] = [
 ];
 
 /// The file of these words.
-fn file_of(alloc: Global, words: &[u32]) -> Result<Bytes, Memory> {
+pub fn file_of(alloc: Global, words: &[u32]) -> Result<Bytes, Memory> {
     let mut file = Bytes::new(alloc);
     for word in words {
         for byte in word.to_le_bytes() {
@@ -145,7 +145,7 @@ fn words_of(alloc: Global, line: &str) -> Result<WordList, Memory> {
 }
 
 /// The status, what was printed and what was complained of a command line over the desk.
-fn run(rt: &HostRuntime, desk: &mut MemoryDesk, line: &str) -> Result<u8, Memory> {
+pub fn run(rt: &HostRuntime, desk: &mut MemoryDesk, line: &str) -> Result<u8, Memory> {
     let words = words_of(rt.alloc(), line)?;
     Ok(squeeze(rt.alloc(), desk, &words))
 }

@@ -1,35 +1,54 @@
 //! The top call.
 
 ghost use Rattle.std.specs.Prelude.{◌≡◌, ◌≢◌, ◌↔◌, ◌≤◌, None};
-ghost use Rattle.sq_desk.specs.Outside.{Place, KeepsComplained, NoneFall};
+ghost use Rattle.sq_runs.specs.Runs.{HasHalted};
+ghost use Rattle.sq_desk.specs.Outside.{Place, KeepsFiles, KeepsComplained, NoneFall};
+ghost use Rattle.sq_command.specs.Commands.{form_of};
 ghost use Rattle.sq_top.specs.declared.ending.Ending.{Ending};
-ghost use Rattle.sq_top.specs.Commands.{form_of};
-ghost use Rattle.sq_top.specs.Endings.{status_of, Leaves};
+ghost use Rattle.sq_top.specs.Statuses.{status_of, IsStatusOf};
+ghost use Rattle.sq_top.specs.Endings.{Leaves};
 ghost use Rattle.sq_top.specs.Promises.{Ends, ForPack, IsDone, StayOrHold, PrintsAsSaid, HasFault, HasRefusal, RefusesExactly, IsComplete};
+ghost use Rattle.sq_top.specs.Running.{IsAtLimit};
+ghost use Rattle.sq_top.specs.RunEndings.{PrintsRun};
+ghost use Rattle.sq_top.specs.RunPromises.{ForRun, HasRunFault, HasRunRefusal, IsBadRun, RunsExactly, IsRunComplete};
 
-use crate::command::{Command, command_of};
 use crate::complaint::complain;
 use crate::ending::Ending;
-use crate::pack_command::pack;
+use crate::{pack_command, run_command};
+use sq_command::{Command, command_of};
 use sq_desk::Desk;
 use sq_num::WordList;
 use std::alloc::Global;
 
 /// Does what the words of a command line ask for, over a desk, and answers the status: 0 done, 1
-/// words without a form, 2 a fault of the desk, 3 refused, 4 out of memory. The words are those
-/// behind the program's name: `pack IN OUT` loads IN, packs it, stores OUT, and prints the sizes.
+/// words without a form, 2 a fault of the desk, 3 refused, 4 out of memory, 6 a run at its limit, 7 a
+/// bad start. The words are those behind the program's name: `pack IN OUT` loads IN, packs it, stores
+/// OUT, and prints the sizes; `run FILE INPUT LIMIT BASE SIZE ARG*` loads FILE and INPUT, runs FILE
+/// for at most LIMIT steps, and prints the events and the end.
 pub fn squeeze<D: Desk>(alloc: Global, desk: &mut D, words: &WordList) -> u8
     // Status 0: the headline.
     ensures done { ForPack words.now (λ input output. result ≡ 0 → IsDone input output (D.outside desk.old) (D.outside desk.new)) }
 
-    // Each other status has its cause, and comes where it is there.
-    ensures words { (result ≡ 1) ↔ (form_of words.now ≡ None) }
+    // Each other status of `pack` has its cause, and comes where it is there.
     ensures fault { ForPack words.now (λ input output. result ≡ 2 → HasFault input output (D.outside desk.old) (D.outside desk.new)) }
     ensures refused { ForPack words.now (λ input _. result ≡ 3 → HasRefusal input (D.outside desk.old) (D.outside desk.new)) }
     ensures exact { ForPack words.now (λ input _. RefusesExactly input result (D.outside desk.old) (D.outside desk.new)) }
     ensures complete { ForPack words.now (λ input output. IsComplete input output result (D.outside desk.old) (D.outside desk.new)) }
+
+    // `run`: what was printed with 0 and 6, and the cause of each other status.
+    ensures run_done { ForRun words.now (λ request. result ≡ 0 → PrintsRun request HasHalted (D.outside desk.old) (D.outside desk.new)) }
+    ensures run_limit { ForRun words.now (λ request. result ≡ 6 → PrintsRun request IsAtLimit (D.outside desk.old) (D.outside desk.new)) }
+    ensures run_bad { ForRun words.now (λ request. result ≡ 7 → IsBadRun request (D.outside desk.old) (D.outside desk.new)) }
+    ensures run_fault { ForRun words.now (λ request. result ≡ 2 → HasRunFault request (D.outside desk.old) (D.outside desk.new)) }
+    ensures run_refused { ForRun words.now (λ request. result ≡ 3 → HasRunRefusal request (D.outside desk.old) (D.outside desk.new)) }
+    ensures run_exact { ForRun words.now (λ request. RunsExactly request result (D.outside desk.old) (D.outside desk.new)) }
+    ensures run_complete { ForRun words.now (λ request. IsRunComplete request result (D.outside desk.old) (D.outside desk.new)) }
+    ensures run_files { ForRun words.now (λ _. KeepsFiles (D.outside desk.old) (D.outside desk.new)) }
+
+    // Words without a form, and statuses.
+    ensures words { (result ≡ 1) ↔ (form_of words.now ≡ None) }
     ensures sound { ((place : Place) → (D.outside desk.new).faults place ≡ 0) → result ≢ 2 }
-    ensures statuses { result ≤ 4 }
+    ensures statuses { IsStatusOf (form_of words.now) result }
 
     // What is left outside, with every status.
     ensures files { StayOrHold words.now result (D.outside desk.old) (D.outside desk.new) }
@@ -40,7 +59,7 @@ pub fn squeeze<D: Desk>(alloc: Global, desk: &mut D, words: &WordList) -> u8
     ending.status()
 }
 
-/// Runs the command of the words, and complains where it ends so.
+/// Does the command of the words, and complains where it ends so.
 fn run_and_complain<D: Desk>(alloc: Global, desk: &mut D, words: &WordList) -> Ending
     ensures { Ends words.now result (D.outside desk.old) (D.outside desk.new) }
 {
@@ -49,7 +68,7 @@ fn run_and_complain<D: Desk>(alloc: Global, desk: &mut D, words: &WordList) -> E
     ending
 }
 
-/// Runs the command of the words.
+/// Does the command of the words.
 fn run<D: Desk>(alloc: Global, desk: &mut D, words: &WordList) -> Ending
     ensures leaves { Leaves (form_of words.now) result (D.outside desk.old) (D.outside desk.new) }
     ensures complained { KeepsComplained (D.outside desk.old) (D.outside desk.new) }
@@ -57,6 +76,7 @@ fn run<D: Desk>(alloc: Global, desk: &mut D, words: &WordList) -> Ending
 {
     match command_of(words) {
         None => Ending::Words,
-        Some(Command::Pack { input, output }) => pack(alloc, desk, input, output),
+        Some(Command::Pack { input, output }) => pack_command::pack(alloc, desk, input, output),
+        Some(Command::Run(asked)) => run_command::run(alloc, desk, words, &asked),
     }
 }

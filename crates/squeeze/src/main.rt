@@ -7,7 +7,7 @@
 
 ghost use Rattle.std.specs.Prelude.{◌≡◌, IfOk, codes};
 ghost use Rattle.sq_top.specs.declared.ending.Ending.{Ending};
-ghost use Rattle.sq_top.specs.Endings.{status_of};
+ghost use Rattle.sq_top.specs.Statuses.{status_of};
 ghost use Rattle.sq_top.specs.Promises.{Ends};
 ghost use Rattle.squeeze.specs.Complaints.{OnlyComplains};
 

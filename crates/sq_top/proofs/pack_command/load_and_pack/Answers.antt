@@ -1,13 +1,21 @@
 -- the bytes that were loaded are the held file
-use Rattle.std.proofs.Common.{List, ℕ, subst, ap, ◌∙◌, inl, Err}
+use Rattle.std.proofs.Common.{◌≡◌, List, ℕ, subst, ap, sym, ◌∙◌}
+use Rattle.sq_num.specs.declared.packed.Packed.{Packed}
 use Rattle.sq_top.specs.Packing.{Packs}
-use Rattle.sq_elf.proofs.Accepted.{too_long_refused}
+use Rattle.sq_top.specs.Denials.{denied_ending}
+use Rattle.sq_top.proofs.EarlyEndings.{by_residual, unloaded, unpacked}
 use Rattle.sq_top.proofs.pack_command.load_and_pack.Goals as goal
 
-pub returns-in-Ok-pack_bytes-clause-packs : goal.returns-in-Ok-pack_bytes-clause-packs
-returns-in-Ok-pack_bytes-clause-packs g c = λ files told.
-    let P : List ℕ → Type 0 = λ bytes. Packs bytes c.in-Ok-pack_bytes.packed in
-    subst P (c.as_slice.ensures.value ∙ c.in-Ok.ensures.told files told) c.in-Ok-pack_bytes.ensures.packed
+pub returns-in_err-bytes-clause-fails : goal.returns-in_err-bytes-clause-fails
+returns-in_err-bytes-clause-fails g c =
+    by_residual c.from_residual.result c.in_err-bytes.field-0.0 _ c.from_residual.ensures.1 (unloaded c.args.input.now c.in_err-bytes.field-0.0 _ _ c.in_err-bytes.ensures.fails)
 
-pub returns-in-Err-TooLong-clause-fails : goal.returns-in-Err-TooLong-clause-fails
-returns-in-Err-TooLong-clause-fails g c = λ files told. inl (too_long_refused _ (c.in-Err-TooLong.ensures.too_long (ap Err c.in-Err-TooLong.field-0-is) files told))
+pub returns-in_err-pack_bytes-clause-fails : goal.returns-in_err-pack_bytes-clause-fails
+returns-in_err-pack_bytes-clause-fails g c =
+    by_residual c.from_residual-in_err-pack_bytes.result (denied_ending c.in_err-pack_bytes.field-0.0) _ c.from_residual-in_err-pack_bytes.ensures.1
+    (unpacked Packed c.args.input.now c.in_err-pack_bytes.field-0.0 _ _ c.as_slice.result.now (λ files told. c.as_slice.ensures.value ∙ c.in_ok-bytes.ensures.told files told) c.in_err-pack_bytes.ensures.refused)
+
+pub returns-clause-packs : goal.returns-clause-packs
+returns-clause-packs g c = λ files told.
+    let P : List ℕ → Type 0 = λ bytes. Packs bytes c.in_ok-pack_bytes.field-0 in
+    subst P (c.as_slice.ensures.value ∙ c.in_ok-bytes.ensures.told files told) c.in_ok-pack_bytes.ensures.packed

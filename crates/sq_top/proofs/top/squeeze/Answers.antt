@@ -1,28 +1,109 @@
 -- each promise follows from the ending and what it leaves
-use Rattle.std.proofs.Common.{ℕ, sym, subst, ◌∙◌}
-use Rattle.sq_desk.specs.Outside.{Outside}
-use Rattle.sq_top.specs.Promises.{ForPack, IsComplete, StayOrHold}
+use Rattle.std.proofs.Common.{◌≡◌, ◌≢◌, ◌↔◌, ℕ, None, sym, subst, ◌∙◌}
+use Rattle.sq_command.specs.Commands.{form_of}
+use Rattle.sq_desk.specs.Outside.{Outside, Place}
+use Rattle.sq_top.specs.Statuses.{IsStatusOf}
+use Rattle.sq_top.specs.Promises.{ForPack, RefusesExactly, IsComplete, StayOrHold, PrintsAsSaid}
+use Rattle.sq_top.specs.RunPromises.{ForRun, RunsExactly, IsRunComplete}
 use Rattle.sq_top.proofs.Promised.{done_promised, refused_promised, complete_promised, files_promised}
+use Rattle.sq_top.proofs.StatusesPromised.{words_promised, statuses_promised, sound_promised, fault_promised, exact_promised, printed_promised}
+use Rattle.sq_top.proofs.RunPromised.{run_files_promised, run_done_promised, run_limit_promised, run_bad_promised, run_fault_promised, run_refused_promised, run_exact_promised, run_complete_promised}
 use Rattle.sq_top.proofs.top.squeeze.Goals as goal
 
 pub returns-clause-done : goal.returns-clause-done
 returns-clause-done g c = λ input output form status.
-    done_promised c.args.words.now c.run_and_complain-ending.result _ _ c.run_and_complain-ending.ensures input output form (sym c.status.ensures.value ∙ status)
+    done_promised c.args.words.now c.run_and_complain-ending.result _ _ c.run_and_complain-ending.ensures input output form (sym c.status.ensures ∙ status)
+
+pub returns-clause-fault : goal.returns-clause-fault
+returns-clause-fault g c = λ input output form status.
+    fault_promised c.args.words.now c.run_and_complain-ending.result _ _ c.run_and_complain-ending.ensures input output form (sym c.status.ensures ∙ status)
 
 pub returns-clause-refused : goal.returns-clause-refused
 returns-clause-refused g c = λ input output form status.
-    refused_promised c.args.words.now c.run_and_complain-ending.result _ _ c.run_and_complain-ending.ensures input output form (sym c.status.ensures.value ∙ status)
+    refused_promised c.args.words.now c.run_and_complain-ending.result _ _ c.run_and_complain-ending.ensures input output form (sym c.status.ensures ∙ status)
+
+pub returns-clause-exact : goal.returns-clause-exact
+returns-clause-exact g c =
+    let before : Outside = g.D.Desk.outside c.args.desk.now in
+    let after : Outside = g.D.Desk.outside c.run_and_complain-ending.new.desk in
+    let P : ℕ → Type 0 = λ status. ForPack c.args.words.now (λ input _. RefusesExactly input status before after) in
+    subst P (sym c.status.ensures) (exact_promised c.args.words.now c.run_and_complain-ending.result before after c.run_and_complain-ending.ensures)
 
 pub returns-clause-complete : goal.returns-clause-complete
 returns-clause-complete g c =
     let before : Outside = g.D.Desk.outside c.args.desk.now in
     let after : Outside = g.D.Desk.outside c.run_and_complain-ending.new.desk in
     let P : ℕ → Type 0 = λ status. ForPack c.args.words.now (λ input output. IsComplete input output status before after) in
-    subst P (sym c.status.ensures.value) (complete_promised c.args.words.now c.run_and_complain-ending.result before after c.run_and_complain-ending.ensures)
+    subst P (sym c.status.ensures) (complete_promised c.args.words.now c.run_and_complain-ending.result before after c.run_and_complain-ending.ensures)
+
+pub returns-clause-run_done : goal.returns-clause-run_done
+returns-clause-run_done g c = λ request form status.
+    run_done_promised c.args.words.now c.run_and_complain-ending.result _ _ c.run_and_complain-ending.ensures request form (sym c.status.ensures ∙ status)
+
+pub returns-clause-run_limit : goal.returns-clause-run_limit
+returns-clause-run_limit g c = λ request form status.
+    run_limit_promised c.args.words.now c.run_and_complain-ending.result _ _ c.run_and_complain-ending.ensures request form (sym c.status.ensures ∙ status)
+
+pub returns-clause-run_bad : goal.returns-clause-run_bad
+returns-clause-run_bad g c = λ request form status.
+    run_bad_promised c.args.words.now c.run_and_complain-ending.result _ _ c.run_and_complain-ending.ensures request form (sym c.status.ensures ∙ status)
+
+pub returns-clause-run_fault : goal.returns-clause-run_fault
+returns-clause-run_fault g c = λ request form status.
+    run_fault_promised c.args.words.now c.run_and_complain-ending.result _ _ c.run_and_complain-ending.ensures request form (sym c.status.ensures ∙ status)
+
+pub returns-clause-run_refused : goal.returns-clause-run_refused
+returns-clause-run_refused g c = λ request form status.
+    run_refused_promised c.args.words.now c.run_and_complain-ending.result _ _ c.run_and_complain-ending.ensures request form (sym c.status.ensures ∙ status)
+
+pub returns-clause-run_exact : goal.returns-clause-run_exact
+returns-clause-run_exact g c =
+    let before : Outside = g.D.Desk.outside c.args.desk.now in
+    let after : Outside = g.D.Desk.outside c.run_and_complain-ending.new.desk in
+    let P : ℕ → Type 0 = λ status. ForRun c.args.words.now (λ request. RunsExactly request status before after) in
+    subst P (sym c.status.ensures) (run_exact_promised c.args.words.now c.run_and_complain-ending.result before after c.run_and_complain-ending.ensures)
+
+pub returns-clause-run_complete : goal.returns-clause-run_complete
+returns-clause-run_complete g c =
+    let before : Outside = g.D.Desk.outside c.args.desk.now in
+    let after : Outside = g.D.Desk.outside c.run_and_complain-ending.new.desk in
+    let P : ℕ → Type 0 = λ status. ForRun c.args.words.now (λ request. IsRunComplete request status before after) in
+    subst P (sym c.status.ensures) (run_complete_promised c.args.words.now c.run_and_complain-ending.result before after c.run_and_complain-ending.ensures)
+
+pub returns-clause-run_files : goal.returns-clause-run_files
+returns-clause-run_files g c = run_files_promised c.args.words.now c.run_and_complain-ending.result _ _ c.run_and_complain-ending.ensures
+
+pub returns-clause-words : goal.returns-clause-words
+returns-clause-words g c =
+    let before : Outside = g.D.Desk.outside c.args.desk.now in
+    let after : Outside = g.D.Desk.outside c.run_and_complain-ending.new.desk in
+    let P : ℕ → Type 0 = λ status. (status ≡ 1) ↔ (form_of c.args.words.now ≡ None) in
+    subst P (sym c.status.ensures) (words_promised c.args.words.now c.run_and_complain-ending.result before after c.run_and_complain-ending.ensures)
+
+pub returns-clause-sound : goal.returns-clause-sound
+returns-clause-sound g c =
+    let before : Outside = g.D.Desk.outside c.args.desk.now in
+    let after : Outside = g.D.Desk.outside c.run_and_complain-ending.new.desk in
+    let P : ℕ → Type 0 = λ status. ((place : Place) → after.faults place ≡ 0) → status ≢ 2 in
+    subst P (sym c.status.ensures) (sound_promised c.args.words.now c.run_and_complain-ending.result before after c.run_and_complain-ending.ensures)
+
+pub returns-clause-statuses : goal.returns-clause-statuses
+returns-clause-statuses g c =
+    let before : Outside = g.D.Desk.outside c.args.desk.now in
+    let after : Outside = g.D.Desk.outside c.run_and_complain-ending.new.desk in
+    let P : ℕ → Type 0 = λ status. IsStatusOf (form_of c.args.words.now) status in
+    subst P (sym c.status.ensures) (statuses_promised c.args.words.now c.run_and_complain-ending.result before after c.run_and_complain-ending.ensures)
 
 pub returns-clause-files : goal.returns-clause-files
 returns-clause-files g c =
     let before : Outside = g.D.Desk.outside c.args.desk.now in
     let after : Outside = g.D.Desk.outside c.run_and_complain-ending.new.desk in
     let P : ℕ → Type 0 = λ status. StayOrHold c.args.words.now status before after in
-    subst P (sym c.status.ensures.value) (files_promised c.args.words.now c.run_and_complain-ending.result before after c.run_and_complain-ending.ensures)
+    subst P (sym c.status.ensures) (files_promised c.args.words.now c.run_and_complain-ending.result before after c.run_and_complain-ending.ensures)
+
+pub returns-clause-printed : goal.returns-clause-printed
+returns-clause-printed g c =
+    let before : Outside = g.D.Desk.outside c.args.desk.now in
+    let after : Outside = g.D.Desk.outside c.run_and_complain-ending.new.desk in
+    let P : ℕ → Type 0 = λ status. PrintsAsSaid c.args.words.now status before after in
+    subst P (sym c.status.ensures) (printed_promised c.args.words.now c.run_and_complain-ending.result before after c.run_and_complain-ending.ensures)

@@ -1,0 +1,80 @@
+-- The forms of a command line.
+use Rattle.std.specs.Prelude.{◌≡◌, ℕ, ◌+◌, ◌%◌, ◌^◌, ◌≤◌, Bool, ◌==◌, ◌&&◌, nat_le, List, [], ◌∷◌, drop, Option, Some, None, if◌then◌else◌, codes, decimal}
+use Rattle.std.specs.Str.{bytes_eq}
+use Rattle.sq_system.specs.Starts.{StartFits}
+use Rattle.sq_command.specs.Numbers.{number_of}
+use Rattle.sq_command.specs.declared.command.Command.{Command}
+use Rattle.sq_command.specs.declared.command.Command.TheVariants.{Pack, Run}
+use Rattle.sq_command.specs.declared.run_words.RunWords.{RunWords}
+
+-- what `run` asks for
+pub record RunRequest : Type 0 where
+  pub file : List ℕ
+  pub input : List ℕ
+  pub limit : ℕ
+  pub base : ℕ
+  pub size : ℕ
+  pub arguments : List (List ℕ)
+
+-- what the words ask for
+pub data Form : Type 0 where
+  -- pack IN OUT
+  PackForm : List ℕ → List ℕ → Form
+  -- run FILE INPUT LIMIT BASE SIZE ARG*
+  RunForm : RunRequest → Form
+
+-- at most so many steps
+abbrev pub most_steps : ℕ
+most_steps = 10000000
+
+-- whether RAM may be `size` bytes from `base` on
+abbrev pub start_fits : ℕ → ℕ → Bool
+start_fits base size =
+    base % 16 == 0 && size % 16 == 0 && nat_le 16 size && nat_le size 16777216 && nat_le (base + size) (2 ^ 32)
+
+-- `run` with these numbers, where the words have them and they are in their ranges
+abbrev pub run_of : List ℕ → List ℕ → Option ℕ → Option ℕ → Option ℕ → List (List ℕ) → Option Form
+run_of file input (Some limit) (Some base) (Some size) arguments =
+    if nat_le limit most_steps && start_fits base size
+    then Some (RunForm (record { file = file; input = input; limit = limit; base = base; size = size; arguments = arguments }))
+    else None
+run_of file input limit base size arguments = None
+
+-- the words behind `pack`
+abbrev pub pack_form : List (List ℕ) → Option Form
+pack_form (input ∷ output ∷ []) = Some (PackForm input output)
+pack_form words = None
+
+-- the words behind `run`
+abbrev pub run_form : List (List ℕ) → Option Form
+run_form (file ∷ input ∷ limit ∷ base ∷ size ∷ arguments) =
+    run_of file input (number_of limit) (number_of base) (number_of size) arguments
+run_form words = None
+
+-- the form of the words, where they have one
+unfoldable pub form_of : List (List ℕ) → Option Form
+form_of [] = None
+form_of (verb ∷ words) =
+    if bytes_eq verb (codes "pack") then pack_form words
+    else if bytes_eq verb (codes "run") then run_form words
+    else None
+
+-- the words are `run FILE INPUT LIMIT BASE SIZE ARG*`: numbers in decimal, each in its range
+pub record IsRun (words : List (List ℕ)) (request : RunRequest) : Type 0 where
+  pub words_are : words ≡ codes "run" ∷ request.file ∷ request.input ∷ decimal request.limit ∷ decimal request.base ∷ decimal request.size ∷ request.arguments
+  pub limit : request.limit ≤ most_steps
+  pub fits : StartFits request.base request.size
+
+-- the words are `pack IN OUT`
+abbrev pub IsPack : List (List ℕ) → List ℕ → List ℕ → Type 0
+IsPack words input output = words ≡ codes "pack" ∷ input ∷ output ∷ []
+
+-- what the words of a run ask for
+abbrev pub request_of : List (List ℕ) → RunWords → RunRequest
+request_of words run =
+    record { file = run.file.now; input = run.input.now; limit = run.limit; base = run.base; size = run.size; arguments = drop 6 words }
+
+-- the form that a command has
+abbrev pub form : List (List ℕ) → Command → Form
+form words (Pack input output) = PackForm input.now output.now
+form words (Run run) = RunForm (request_of words run)

@@ -1,0 +1,94 @@
+//! The forms of a command line.
+
+ghost use Rattle.std.specs.Prelude.{◌≡◌, ◌↔◌, ℕ, List, drop};
+ghost use Rattle.std.specs.Option.{option_map};
+ghost use Rattle.sq_command.specs.Commands.{Form, PackForm, RunForm, RunRequest, form, form_of, pack_form, run_form, run_of, request_of, IsPack, IsRun};
+
+use crate::number::number_of;
+use crate::run_words::RunWords;
+use sq_num::WordList;
+use sq_system::start_fits;
+
+/// What the words ask for.
+#[derive(Clone, Copy, Debug)]
+pub enum Command<'w> {
+    /// `pack IN OUT`
+    Pack { input: &'w str, output: &'w str },
+    /// `run FILE INPUT LIMIT BASE SIZE ARG*`
+    Run(RunWords<'w>),
+}
+
+/// The most steps that a run is allowed.
+const MOST_STEPS: u32 = 10_000_000;
+
+/// `pack` with the words behind it.
+fn pack_words(words: &WordList) -> Option<Command<'_>>
+    ensures { option_map (form words.now) result ≡ pack_form (drop 1 words.now) }
+{
+    if words.len() != 3 {
+        return None;
+    }
+    let input = words.get(1)?;
+    let output = words.get(2)?;
+    Some(Command::Pack { input, output })
+}
+
+/// `run` with these numbers, where the words have them and they are in their ranges.
+fn run_of<'w>(
+    file: &'w str,
+    input: &'w str,
+    limit: Option<u32>,
+    base: Option<u32>,
+    size: Option<u32>,
+) -> Option<Command<'w>>
+    ensures { (words : List (List ℕ)) → option_map (form words) result ≡ run_of file.now input.now limit base size (drop 6 words) }
+{
+    let limit = limit?;
+    let base = base?;
+    let size = size?;
+    if limit <= MOST_STEPS && start_fits(base, size) {
+        Some(Command::Run(RunWords {
+            file,
+            input,
+            limit,
+            base,
+            size,
+        }))
+    } else {
+        None
+    }
+}
+
+/// `run` with the words behind it.
+fn run_words(words: &WordList) -> Option<Command<'_>>
+    ensures { option_map (form words.now) result ≡ run_form (drop 1 words.now) }
+{
+    let file = words.get(1)?;
+    let input = words.get(2)?;
+    let limit = words.get(3)?;
+    let base = words.get(4)?;
+    let size = words.get(5)?;
+    run_of(
+        file,
+        input,
+        number_of(limit),
+        number_of(base),
+        number_of(size),
+    )
+}
+
+/// The command of the words, or None where they have no form. It takes no memory.
+pub fn command_of(words: &WordList) -> Option<Command<'_>>
+    ensures value { option_map (form words.now) result ≡ form_of words.now }
+    ensures pack { (input output : List ℕ) → (form_of words.now ≡ Some (PackForm input output)) ↔ IsPack words.now input output }
+    ensures run { (request : RunRequest) → (form_of words.now ≡ Some (RunForm request)) ↔ IsRun words.now request }
+{
+    let verb = words.get(0)?;
+    if verb == "pack" {
+        pack_words(words)
+    } else if verb == "run" {
+        run_words(words)
+    } else {
+        None
+    }
+}

@@ -1,0 +1,173 @@
+-- What every command's status says, and what each prints.
+use Rattle.std.proofs.Common.{◌≡◌, ◌≢◌, ◌↔◌, ℕ, ◌≤◌, ◌⊎◌, inl, inr, List, Option, Some, None, refl, sym, subst, ap, ◌∙◌, arith}
+use Rattle.sq_num.specs.declared.packed.Packed.{Packed}
+use Rattle.sq_command.specs.Commands.{RunRequest, Form, PackForm, RunForm, form_of}
+use Rattle.sq_desk.specs.Outside.{Outside, Place, content_of, Loading, Storing, Printing, Rose}
+use Rattle.sq_top.specs.declared.ending.Ending.{Ending}
+use Rattle.sq_top.specs.declared.ending.Ending.TheVariants.{Done, Words, Desk, Refused, Memory, Limit, BadStart}
+use Rattle.sq_top.specs.declared.ending.DeskCall.TheVariants.{Load, Store, Print}
+use Rattle.sq_top.specs.Statuses.{status_of, complaint_of, IsStatusOf}
+use Rattle.sq_top.specs.Endings.{PacksFile, LeavesPack, Leaves, ComplainsLine}
+use Rattle.sq_top.specs.RunEndings.{RunLeft}
+use Rattle.sq_top.proofs.PackedFile.{not_refused}
+use Rattle.sq_top.specs.Promises.{Ends, ForPack, HasFault, RefusesExactly, PrintsAsSaid}
+
+-- where no faults are counted none rose
+none_rose : (place : Place) (before after : Outside) → after.faults place ≡ 0 → Rose place before after → ⊥
+none_rose place before after none (inl more) = omega (arith, none)
+none_rose place before after none (inr last) = omega (arith, none)
+
+module _ (words : List (List ℕ)) (ending : Ending) (before after : Outside) (ends : Ends words ending before after) where
+  -- status 1 is that of words without a form
+  pub words_promised : (status_of ending ≡ 1) ↔ (form_of words ≡ None)
+  words_promised = (λ one. only (form_of words) refl ends.leaves one, λ none. alone (rw none at ends.leaves))
+    where
+      alone : Leaves None ending before after → status_of ending ≡ 1
+      alone gone = ap status_of gone.0
+
+      pack_else : (input output : List ℕ) (e : Ending) → LeavesPack input output e before after → status_of e ≡ 1 → ⊥
+      pack_else input output Done gone one = absurd (cc one)
+      pack_else input output Words gone one = gone
+      pack_else input output (Desk call) gone one = absurd (cc one)
+      pack_else input output (Refused refusal) gone one = absurd (cc one)
+      pack_else input output Memory gone one = absurd (cc one)
+      pack_else input output Limit gone one = absurd (cc one)
+      pack_else input output BadStart gone one = absurd (cc one)
+
+      run_else : (request : RunRequest) (e : Ending) → RunLeft request e before after → status_of e ≡ 1 → ⊥
+      run_else request Done gone one = absurd (cc one)
+      run_else request Words gone one = gone
+      run_else request (Desk call) gone one = absurd (cc one)
+      run_else request (Refused refusal) gone one = absurd (cc one)
+      run_else request Memory gone one = absurd (cc one)
+      run_else request Limit gone one = absurd (cc one)
+      run_else request BadStart gone one = absurd (cc one)
+
+      only : (form : Option Form) → form_of words ≡ form → Leaves form ending before after → status_of ending ≡ 1 → form_of words ≡ None
+      only None is gone one = is
+      only (Some (PackForm input output)) is gone one = absurd (pack_else input output ending gone one)
+      only (Some (RunForm request)) is gone one = absurd (run_else request ending gone.1 one)
+
+  -- each form has its statuses
+  pub statuses_promised : IsStatusOf (form_of words) (status_of ending)
+  statuses_promised = by_form (form_of words) ends.leaves
+    where
+      pack_status : (input output : List ℕ) (e : Ending) → LeavesPack input output e before after → status_of e ≤ 4
+      pack_status input output Done gone = omega arith
+      pack_status input output Words gone = omega arith
+      pack_status input output (Desk call) gone = omega arith
+      pack_status input output (Refused refusal) gone = omega arith
+      pack_status input output Memory gone = omega arith
+      pack_status input output Limit gone = absurd gone
+      pack_status input output BadStart gone = absurd gone
+
+      run_status : (e : Ending) → (status_of e ≤ 4) ⊎ (status_of e ≡ 6) ⊎ (status_of e ≡ 7)
+      run_status Done = inl (omega arith)
+      run_status Words = inl (omega arith)
+      run_status (Desk call) = inl (omega arith)
+      run_status (Refused refusal) = inl (omega arith)
+      run_status Memory = inl (omega arith)
+      run_status Limit = inr (inl refl)
+      run_status BadStart = inr (inr refl)
+
+      by_form : (form : Option Form) → Leaves form ending before after → IsStatusOf form (status_of ending)
+      by_form None gone = ap status_of gone.0
+      by_form (Some (PackForm input output)) gone = pack_status input output ending gone
+      by_form (Some (RunForm request)) gone = run_status ending
+
+  -- without faults the status is not 2
+  pub sound_promised : ((place : Place) → after.faults place ≡ 0) → status_of ending ≢ 2
+  sound_promised none two = by_form (form_of words) ends.leaves
+    where
+      pack_sound : (input output : List ℕ) (e : Ending) → LeavesPack input output e before after → status_of e ≡ 2 → ⊥
+      pack_sound input output Done gone is = absurd (cc is)
+      pack_sound input output Words gone is = gone
+      pack_sound input output (Desk Load) gone is = none_rose (Loading input) before after (none (Loading input)) gone.0
+      pack_sound input output (Desk Store) gone is = none_rose (Storing output) before after (none (Storing output)) gone.2
+      pack_sound input output (Desk Print) gone is = none_rose Printing before after (none Printing) gone.2
+      pack_sound input output (Refused refusal) gone is = absurd (cc is)
+      pack_sound input output Memory gone is = absurd (cc is)
+      pack_sound input output Limit gone is = gone
+      pack_sound input output BadStart gone is = gone
+
+      run_sound : (request : RunRequest) (e : Ending) → RunLeft request e before after → status_of e ≡ 2 → ⊥
+      run_sound request Done gone is = absurd (cc is)
+      run_sound request Words gone is = gone
+      run_sound request (Desk Load) gone is =
+          elim gone.1 [ inl file ↦ none_rose (Loading request.file) before after (none (Loading request.file)) file | inr input ↦ none_rose (Loading request.input) before after (none (Loading request.input)) input.1 ]
+      run_sound request (Desk Store) gone is = gone
+      run_sound request (Desk Print) gone is = none_rose Printing before after (none Printing) gone.0
+      run_sound request (Refused refusal) gone is = absurd (cc is)
+      run_sound request Memory gone is = absurd (cc is)
+      run_sound request Limit gone is = absurd (cc is)
+      run_sound request BadStart gone is = absurd (cc is)
+
+      by_form : (form : Option Form) → Leaves form ending before after → ⊥
+      by_form None gone = absurd (cc (gone.0, two))
+      by_form (Some (PackForm input output)) gone = pack_sound input output ending gone two
+      by_form (Some (RunForm request)) gone = run_sound request ending gone.1 two
+
+  left : (input output : List ℕ) → form_of words ≡ Some (PackForm input output) → LeavesPack input output ending before after
+  left input output form = rw form at ends.leaves
+
+  pub fault_promised : ForPack words (λ input output. status_of ending ≡ 2 → HasFault input output before after)
+  fault_promised input output form status = by_case ending status (left input output form) ends.complains
+    where
+      by_case : (e : Ending) → status_of e ≡ 2 → LeavesPack input output e before after → ComplainsLine (complaint_of e) before after → HasFault input output before after
+      by_case Done is gone said = absurd (cc is)
+      by_case Words is gone said = absurd gone
+      by_case (Desk Load) is gone said = (Load, gone.0, said)
+      by_case (Desk Store) is gone said = (Store, gone.2, said)
+      by_case (Desk Print) is gone said = (Print, gone.2, said)
+      by_case (Refused refusal) is gone said = absurd (cc is)
+      by_case Memory is gone said = absurd (cc is)
+      by_case Limit is gone said = absurd gone
+      by_case BadStart is gone said = absurd gone
+
+  pub exact_promised : ForPack words (λ input _. RefusesExactly input (status_of ending) before after)
+  exact_promised input output form files told refusal refused = by_case ending (left input output form)
+    where
+      packs_not : (packed : Packed) → PacksFile input packed before → ⊥
+      packs_not packed packs = not_refused (content_of files input) (packs files told).accepted (packs files told).straight refusal refused
+
+      by_case : (e : Ending) → LeavesPack input output e before after → (status_of e ≡ 3) ⊎ ((status_of e ≡ 2) × Rose (Loading input) before after) ⊎ (status_of e ≡ 4)
+      by_case Done gone = absurd (packs_not gone.0 gone.1.packs)
+      by_case Words gone = absurd gone
+      by_case (Desk Load) gone = inr (inl (refl, gone.0))
+      by_case (Desk Store) gone = absurd (packs_not gone.0 gone.1)
+      by_case (Desk Print) gone = absurd (packs_not gone.0 gone.1.packs)
+      by_case (Refused more) gone = inl refl
+      by_case Memory gone = inr (inr refl)
+      by_case Limit gone = absurd gone
+      by_case BadStart gone = absurd gone
+
+  -- what each command prints
+  pub printed_promised : PrintsAsSaid words (status_of ending) before after
+  printed_promised = by_form (form_of words) refl ends.leaves
+    where
+      pack_printed : (input output : List ℕ) → form_of words ≡ Some (PackForm input output) → (e : Ending) → LeavesPack input output e before after → PrintsAsSaid words (status_of e) before after
+      pack_printed input output form Done gone = inr (inl (input, output, form, gone.0, gone.1.packs, inl (refl, gone.2)))
+      pack_printed input output form Words gone = absurd gone
+      pack_printed input output form (Desk Load) gone = inl ((λ is. cc is), (λ is. cc is), gone.2)
+      pack_printed input output form (Desk Store) gone = inl ((λ is. cc is), (λ is. cc is), gone.4)
+      pack_printed input output form (Desk Print) gone = inr (inl (input, output, form, gone.0, gone.1.packs, inr (refl, gone.2, gone.3)))
+      pack_printed input output form (Refused refusal) gone = inl ((λ is. cc is), (λ is. cc is), gone.2)
+      pack_printed input output form Memory gone = inl ((λ is. cc is), (λ is. cc is), gone.1)
+      pack_printed input output form Limit gone = absurd gone
+      pack_printed input output form BadStart gone = absurd gone
+
+      run_printed : (request : RunRequest) → form_of words ≡ Some (RunForm request) → (e : Ending) → RunLeft request e before after → PrintsAsSaid words (status_of e) before after
+      run_printed request form Done gone = inr (inr (request, form, gone.0, (λ files told. (gone.1 files told).0), inl (inl refl, gone.2)))
+      run_printed request form Words gone = absurd gone
+      run_printed request form (Desk Load) gone = inl ((λ is. cc is), (λ is. cc is), gone.0)
+      run_printed request form (Desk Store) gone = absurd gone
+      run_printed request form (Desk Print) gone = inr (inr (request, form, gone.1.0, gone.1.1, inr (refl, gone.0, gone.1.2)))
+      run_printed request form (Refused refusal) gone = inl ((λ is. cc is), (λ is. cc is), gone.0)
+      run_printed request form Memory gone = inl ((λ is. cc is), (λ is. cc is), gone)
+      run_printed request form Limit gone = inr (inr (request, form, gone.0, (λ files told. (gone.1 files told).0), inl (inr refl, gone.2)))
+      run_printed request form BadStart gone = inl ((λ is. cc is), (λ is. cc is), gone.0)
+
+      by_form : (form : Option Form) → form_of words ≡ form → Leaves form ending before after → PrintsAsSaid words (status_of ending) before after
+      by_form None is gone = inl ((λ zero. cc (gone.0, zero)), (λ six. cc (gone.0, six)), gone.2)
+      by_form (Some (PackForm input output)) is gone = pack_printed input output is ending gone
+      by_form (Some (RunForm request)) is gone = run_printed request is ending gone.1

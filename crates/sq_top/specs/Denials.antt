@@ -1,0 +1,15 @@
+-- How a command ends where a file is denied, or a run.
+use Rattle.sq_num.specs.declared.refusal.Denied.{Denied}
+use Rattle.sq_num.specs.declared.refusal.Denied.TheVariants.{Refused as DeniedFile, Memory as NoMemory}
+use Rattle.sq_run.specs.declared.fault.RunFault.{RunFault}
+use Rattle.sq_run.specs.declared.fault.RunFault.TheVariants.{BadStart as NoStart, Memory as NoRoom}
+use Rattle.sq_top.specs.declared.ending.Ending.{Ending}
+use Rattle.sq_top.specs.declared.ending.Ending.TheVariants.{Refused, Memory, BadStart}
+
+abbrev pub denied_ending : Denied → Ending
+denied_ending (DeniedFile refusal) = Refused refusal
+denied_ending NoMemory = Memory
+
+abbrev pub fault_ending : RunFault → Ending
+fault_ending NoStart = BadStart
+fault_ending NoRoom = Memory

@@ -1,0 +1,38 @@
+-- The statuses and the complaints of endings.
+use Rattle.std.specs.Prelude.{◌≡◌, ℕ, ◌≤◌, ◌⊎◌, List, ◌++◌, codes, Option, Some, None}
+use Rattle.sq_num.specs.RefusalTexts.{refusal_text}
+use Rattle.sq_command.specs.Commands.{Form, PackForm, RunForm}
+use Rattle.sq_top.specs.declared.ending.Ending.{Ending}
+use Rattle.sq_top.specs.declared.ending.Ending.TheVariants.{Done, Words, Desk, Refused, Memory, Limit, BadStart}
+use Rattle.sq_top.specs.declared.ending.DeskCall.{DeskCall}
+use Rattle.sq_top.specs.declared.ending.DeskCall.TheVariants.{Load, Store, Print}
+
+abbrev pub status_of : Ending → ℕ
+status_of Done = 0
+status_of Words = 1
+status_of (Desk call) = 2
+status_of (Refused refusal) = 3
+status_of Memory = 4
+status_of Limit = 6
+status_of BadStart = 7
+
+abbrev pub call_text : DeskCall → List ℕ
+call_text Load = codes "desk load\n"
+call_text Store = codes "desk store\n"
+call_text Print = codes "desk print\n"
+
+-- the line that is complained, where there is one
+abbrev pub complaint_of : Ending → Option (List ℕ)
+complaint_of Done = None
+complaint_of Words = Some (codes "words\n")
+complaint_of (Desk call) = Some (call_text call)
+complaint_of (Refused refusal) = Some (refusal_text refusal ++ codes "\n")
+complaint_of Memory = Some (codes "memory\n")
+complaint_of Limit = None
+complaint_of BadStart = Some (codes "bad start\n")
+
+-- the statuses that a form can have: 0 to 4, and of a run 6 and 7 too
+abbrev pub IsStatusOf : Option Form → ℕ → Type 0
+IsStatusOf None status = status ≡ 1
+IsStatusOf (Some (PackForm input output)) status = status ≤ 4
+IsStatusOf (Some (RunForm request)) status = (status ≤ 4) ⊎ (status ≡ 6) ⊎ (status ≡ 7)
