@@ -1,23 +1,19 @@
 -- What small graphs do, by computing their runs.
-use Rattle.std.specs.Prelude.{◌≡◌, ℕ, pos, negsuc, List, [], ◌∷◌, Option, Some, None, refl}
-use Rattle.sq_isa.specs.declared.instructions.Insn.{Insn}
+use Rattle.std.specs.Prelude.{◌≡◌, ℕ, pos, List, [], ◌∷◌, refl}
 use Rattle.sq_isa.specs.declared.instructions.Insn.TheVariants.{OpImm, Ecall, Load, Store}
 use Rattle.sq_isa.specs.declared.instructions.ImmOp.TheVariants.{Addi}
 use Rattle.sq_isa.specs.declared.instructions.LoadKind.TheVariants.{Lw, Lbu}
 use Rattle.sq_isa.specs.declared.instructions.StoreKind.TheVariants.{Sw, Sb}
-use Rattle.sq_runs.specs.Runs.{Trace, Running, Halted, Broken}
+use Rattle.sq_runs.specs.Runs.{Halted, Broken}
 use Rattle.sq_system.specs.Starts.{Start, argument_area}
 use Rattle.sq_system.specs.World.{is_writable, is_executable}
-use Rattle.sq_system.specs.declared.piece.Piece.{Piece}
-use Rattle.sq_system.specs.declared.event.Event.{Event}
 use Rattle.sq_system.specs.declared.event.Event.TheVariants.{Wrote, Read}
-use Rattle.sq_system.specs.declared.event.Halt.{Halt}
 use Rattle.sq_system.specs.declared.event.Halt.TheVariants.{Exit}
 use Rattle.sq_graph.specs.declared.item.Item.{Item}
 use Rattle.sq_graph.specs.declared.item.Item.TheVariants.{Op, Hi, Lo, Out}
-use Rattle.sq_graph.specs.declared.item.Term.TheVariants.{Fall, Jump, PartJump, Indirect}
+use Rattle.sq_graph.specs.declared.item.Term.TheVariants.{Fall, Jump, Indirect}
 use Rattle.sq_graph.specs.Graph.{Block, Procedure, Graph}
-use Rattle.sq_follow.specs.Worlds.{World, StartPiece, OfWord}
+use Rattle.sq_follow.specs.Worlds.{World, OfWord}
 use Rattle.sq_follow.specs.Follows.{graph_run}
 
 empty : World

@@ -1,12 +1,12 @@
 -- Following is reflexive and transitive.
-use Rattle.std.specs.Prelude.{◌≡◌, ℕ, List, length, map}
+use Rattle.std.specs.Prelude.{◌≡◌, List, length, map}
 use Rattle.std.proofs.Common.{refl, sym, ◌∙◌, ap}
 use Rattle.std.proofs.lemmas.List.{length-map}
 use Rattle.sq_runs.proofs.Follow.{follows_refl, follows_trans}
 use Rattle.sq_graph.specs.declared.parts.CodeRef.{CodeRef}
 use Rattle.sq_graph.specs.Graph.{Graph}
 use Rattle.sq_follow.specs.GraphRuns.{graph_step}
-use Rattle.sq_follow.specs.Worlds.{World, setting_of}
+use Rattle.sq_follow.specs.Worlds.{setting_of}
 use Rattle.sq_follow.specs.Follows.{Follows, word_address, state_at_start}
 
 same_length : (a b : List CodeRef) → map word_address a ≡ map word_address b → length a ≡ length b

@@ -14,7 +14,7 @@ use Rattle.sq_system.specs.declared.event.Event.{Event}
 use Rattle.sq_system.specs.declared.event.Halt.{Halt}
 use Rattle.sq_system.specs.declared.event.Halt.TheVariants.{Load as LoadFault, Store as StoreFault}
 use Rattle.sq_follow.specs.declared.kind.Kind.{Kind}
-use Rattle.sq_follow.specs.declared.kind.Kind.TheVariants.{Arithmetic, Half, Call, Fragment, Stale as StaleByte, Text, Jump, Address}
+use Rattle.sq_follow.specs.declared.kind.Kind.TheVariants.{Arithmetic, Fragment, Stale as StaleByte, Text}
 use Rattle.sq_follow.specs.Values.{Tag, Value, Num, Tagged, Cell, is_tagged, is_stale, is_fragment, byte_of, whole, cells_of}
 use Rattle.sq_follow.specs.Settings.{Setting, Store, Made, meets_text, may_store}
 use Rattle.sq_follow.specs.Arithmetic.{atomic_result}

@@ -1,7 +1,7 @@
 -- ECALL on tagged values: the number in a7, the arguments in a0, a1 and a2.
-use Rattle.std.specs.Prelude.{ℕ, ◌-◌, ◌^◌, Bool, false, ◌==◌, ◌&&◌, ◌||◌, List, [], Option, Some, None, length, take, drop, map, min, is_some, unwrap_or, if◌then◌else◌}
+use Rattle.std.specs.Prelude.{ℕ, ◌-◌, ◌^◌, Bool, false, ◌==◌, ◌&&◌, ◌||◌, List, [], Some, length, take, drop, map, min, unwrap_or, if◌then◌else◌}
 use Rattle.std.specs.List.{list_any}
-use Rattle.sq_runs.specs.Runs.{Next, Went, Ended, Broke}
+use Rattle.sq_runs.specs.Runs.{Went, Ended, Broke}
 use Rattle.sq_memory.specs.Cells.{is_in_memory, cells_from, with_cells}
 use Rattle.sq_system.specs.World.{is_writable, is_range}
 use Rattle.sq_system.specs.Calls.{effect_of, answer_of}
@@ -11,11 +11,10 @@ use Rattle.sq_system.specs.declared.call.Effect.TheVariants.{Exit, Write, Read, 
 use Rattle.sq_system.specs.declared.event.Event.{Event}
 use Rattle.sq_system.specs.declared.event.Event.TheVariants.{Wrote, Read as WasRead, Brk as WasBrk, Failed, Asked}
 use Rattle.sq_system.specs.declared.event.Halt.TheVariants.{Exit as Exited}
-use Rattle.sq_follow.specs.declared.kind.Kind.{Kind}
-use Rattle.sq_follow.specs.declared.kind.Kind.TheVariants.{Arithmetic, Half, Call, Fragment, Stale as StaleByte, Text, Jump, Address}
+use Rattle.sq_follow.specs.declared.kind.Kind.TheVariants.{Call, Fragment, Stale as StaleByte, Text}
 use Rattle.sq_follow.specs.Values.{Value, Num, Tagged, Cell, Byte, is_tagged, is_stale, is_fragment, byte_of}
 use Rattle.sq_follow.specs.Settings.{Setting, Store, meets_text}
-use Rattle.sq_follow.specs.Accesses.{Step, gives}
+use Rattle.sq_follow.specs.Accesses.{Step}
 
 -- the values of the four registers
 pub record CallOperands : Type 0 where

@@ -1,5 +1,5 @@
 -- Graphs that follow one another.
-use Rattle.std.specs.Prelude.{◌≡◌, ℕ, List, length, map}
+use Rattle.std.specs.Prelude.{◌≡◌, ℕ, length, map}
 use Rattle.sq_runs.specs.Runs.{Trace, trace}
 use Rattle.sq_runs.specs.Follows.{FollowsRuns}
 use Rattle.sq_system.specs.Starts.{Start, IsValidStart}

@@ -1,5 +1,5 @@
 -- The run of a graph: a step is one item, one term other than Fall, or the return of a procedure.
-use Rattle.std.specs.Prelude.{ℕ, zero, suc, pos, Bool, true, false, not, ◌&&◌, List, [], ◌∷◌, Option, Some, None, slice_get, if◌then◌else◌}
+use Rattle.std.specs.Prelude.{ℕ, zero, suc, pos, Bool, true, false, List, [], ◌∷◌, Option, Some, None, slice_get, if◌then◌else◌}
 use Rattle.std.specs.List.{list_any}
 use Rattle.sq_isa.specs.Uses.{sources_of, destination_of}
 use Rattle.sq_isa.specs.Registers.{written}
@@ -12,11 +12,11 @@ use Rattle.sq_graph.specs.declared.item.Term.{Term}
 use Rattle.sq_graph.specs.declared.item.Term.TheVariants.{Fall, Jump, Branch, Call, PartJump, Indirect, Stop}
 use Rattle.sq_graph.specs.Graph.{Procedure, Graph}
 use Rattle.sq_graph.specs.Lines.{AddressHalf, Line, Name, Do, Enter, Return, End, inside, slot_name, block_lines}
-use Rattle.sq_graph.specs.Walks.{term_sources, is_register}
+use Rattle.sq_graph.specs.Walks.{term_sources}
 use Rattle.sq_follow.specs.declared.kind.Kind.{Kind}
 use Rattle.sq_follow.specs.declared.kind.Kind.TheVariants.{Arithmetic}
 use Rattle.sq_follow.specs.Values.{Code, Value, Num, Tagged, Held, Holds, Lost}
-use Rattle.sq_follow.specs.Settings.{Setting, Store, Made}
+use Rattle.sq_follow.specs.Settings.{Setting, Store}
 use Rattle.sq_follow.specs.Arithmetic.{is_taken}
 use Rattle.sq_follow.specs.Accesses.{Step}
 use Rattle.sq_follow.specs.Rows.{Operands, source, row_of}

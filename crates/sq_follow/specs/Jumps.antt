@@ -1,14 +1,14 @@
 -- Destination jumps go on tagged values.
-use Rattle.std.specs.Prelude.{ℕ, ℤ, ◌+◌, pos, Option, Some, None, ◌==◌, if◌then◌else◌}
+use Rattle.std.specs.Prelude.{ℕ, ℤ, ◌+◌, pos, None, ◌==◌, if◌then◌else◌}
 use Rattle.std.specs.Ordering.{int_eq}
 use Rattle.sq_isa.specs.Words.{wrapped, unsigned, even}
-use Rattle.sq_runs.specs.Runs.{Next, Went, Ended, Broke}
+use Rattle.sq_runs.specs.Runs.{Next, Went, Broke}
 use Rattle.sq_system.specs.World.{is_executable}
 use Rattle.sq_system.specs.declared.event.Event.{Event}
 use Rattle.sq_system.specs.declared.event.Halt.{Halt}
 use Rattle.sq_system.specs.declared.event.Halt.TheVariants.{Illegal, Breakpoint}
 use Rattle.sq_follow.specs.declared.kind.Kind.{Kind}
-use Rattle.sq_follow.specs.declared.kind.Kind.TheVariants.{Arithmetic, Half, Call, Fragment, Stale, Text, Jump, Address}
+use Rattle.sq_follow.specs.declared.kind.Kind.TheVariants.{Half, Jump}
 use Rattle.sq_follow.specs.Values.{Code, Part, Value, Num, Tagged}
 use Rattle.sq_follow.specs.Settings.{Setting}
 use Rattle.sq_follow.specs.Arithmetic.{is_upper_half}

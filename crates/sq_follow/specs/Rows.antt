@@ -1,25 +1,19 @@
 -- What each instruction does on tagged values: the monitor's table, a row an instruction, over operands. An operand
 -- is the value of a source register, and no row but that of `sltu rd,x0,rs` sees a register.
-use Rattle.std.specs.Prelude.{ℕ, ℤ, ◌+◌, pos, Option, Some, None, slice_index_or, if◌then◌else◌}
-use Rattle.sq_isa.specs.Words.{wrapped, unsigned, upper_word, even}
+use Rattle.std.specs.Prelude.{ℕ, ℤ, ◌+◌, slice_index_or, if◌then◌else◌}
+use Rattle.sq_isa.specs.Words.{wrapped, unsigned, upper_word}
 use Rattle.sq_isa.specs.Uses.{sources_of}
 use Rattle.sq_isa.specs.declared.instructions.Insn.{Insn}
-use Rattle.sq_isa.specs.declared.instructions.Insn.TheVariants.{Lui, Auipc, Jal, Jalr, Branch, Load, Store as StoreInsn, OpImm, Op, Fence, Ecall, Ebreak, Unimp, Atomic}
+use Rattle.sq_isa.specs.declared.instructions.Insn.TheVariants.{Lui, Load, Store as StoreInsn, OpImm, Op, Fence, Ecall, Atomic}
 use Rattle.sq_isa.specs.declared.instructions.ImmOp.TheVariants.{Addi}
-use Rattle.sq_isa.specs.declared.instructions.Cond.{Cond}
-use Rattle.sq_runs.specs.Runs.{Next, Went, Ended, Broke}
-use Rattle.sq_system.specs.World.{is_executable}
-use Rattle.sq_system.specs.declared.event.Event.{Event}
-use Rattle.sq_system.specs.declared.event.Halt.{Halt}
-use Rattle.sq_system.specs.declared.event.Halt.TheVariants.{Illegal, Breakpoint}
+use Rattle.sq_runs.specs.Runs.{Broke}
 use Rattle.sq_graph.specs.Lines.{AddressHalf, Plain, Upper, Lower}
-use Rattle.sq_follow.specs.declared.kind.Kind.{Kind}
-use Rattle.sq_follow.specs.declared.kind.Kind.TheVariants.{Arithmetic, Half, Call, Fragment, Stale, Text, Jump, Address}
-use Rattle.sq_follow.specs.Values.{Tag, Code, Part, Value, Num, Tagged}
+use Rattle.sq_follow.specs.declared.kind.Kind.TheVariants.{Arithmetic, Half, Address}
+use Rattle.sq_follow.specs.Values.{Code, Part, Value, Num, Tagged}
 use Rattle.sq_follow.specs.Settings.{Setting, Store}
 use Rattle.sq_follow.specs.Arithmetic.{imm_value, op_value, is_upper_half}
 use Rattle.sq_follow.specs.Accesses.{Step, gives, gives_or_breaks, load_at, store_at, atomic_at}
-use Rattle.sq_follow.specs.Calls.{CallOperands, call_row}
+use Rattle.sq_follow.specs.Calls.{call_row}
 
 -- the values of the source registers, in their order
 abbrev pub Operands : Type 0

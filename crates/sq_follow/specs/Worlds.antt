@@ -7,7 +7,7 @@ use Rattle.sq_system.specs.World.{World as Layout}
 use Rattle.sq_system.specs.declared.piece.Piece.{Piece}
 use Rattle.sq_system.specs.declared.start.Extent.{Extent}
 use Rattle.sq_follow.specs.Values.{Code, Num, Cell, Byte, Frag, Stale, Held, Holds}
-use Rattle.sq_follow.specs.Settings.{Setting, Store}
+use Rattle.sq_follow.specs.Settings.{Setting}
 use Rattle.sq_follow.specs.GraphRuns.{Core}
 
 -- what a byte is at the start: a number, byte k of a code word, or what no load may read

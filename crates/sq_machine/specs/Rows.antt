@@ -1,6 +1,6 @@
 -- What each instruction does, one row an instruction, in the terms of the RISC-V manual's chapters on RV32I, M
 -- and A. System calls, misaligned accesses and halts are this project's own.
-use Rattle.std.specs.Prelude.{ℕ, ℤ, ◌+◌, ◌*◌, ◌-◌, ◌^◌, ◌%◌, Bool, true, false, ◌==◌, ◌&&◌, nat_lt, Option, Some, None, option_map, if◌then◌else◌}
+use Rattle.std.specs.Prelude.{ℕ, ℤ, ◌+◌, Bool, true, false, ◌&&◌, Option, Some, None, option_map, if◌then◌else◌}
 use Rattle.byteorder.specs.Endian.{little_bytes}
 use Rattle.sq_isa.specs.Words.{wrapped, upper_word, even}
 use Rattle.sq_isa.specs.Accesses.{load_width, store_width, extended, is_aligned, is_reserved}

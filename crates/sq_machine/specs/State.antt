@@ -1,5 +1,5 @@
 -- The state of the plain machine, and how it is read and written.
-use Rattle.std.specs.Prelude.{ℕ, ℤ, ◌+◌, ◌*◌, ◌%◌, Bool, ◌==◌, ◌&&◌, not, List, drop, Option, None, is_some, option_map, unwrap_or, if◌then◌else◌, [], ◌∷◌}
+use Rattle.std.specs.Prelude.{ℕ, ℤ, ◌+◌, List, drop, Option, None, option_map, unwrap_or, if◌then◌else◌, []}
 use Rattle.sq_isa.specs.Words.{wrapped, unsigned}
 use Rattle.sq_isa.specs.Accesses.{bytes_number, is_aligned}
 use Rattle.sq_isa.specs.Registers.{written}

@@ -1,26 +1,24 @@
 -- System calls of two runs that agree.
-use Rattle.std.proofs.Common.{◌≡◌, ℕ, zero, suc, ◌+◌, ◌-◌, ◌^◌, ◌<◌, Bool, true, false, not, ◌==◌, ◌&&◌, ◌||◌, List, [], ◌∷◌, Option, Some, None, length, take, drop, map, min, is_some, unwrap_or, nat_eq, nat_le, if◌then◌else◌, refl, sym, ap, ap₂, ◌∙◌, subst, arith}
+use Rattle.std.proofs.Common.{◌≡◌, ℕ, zero, suc, ◌+◌, ◌^◌, ◌<◌, Bool, true, false, ◌==◌, ◌&&◌, ◌||◌, List, [], Option, Some, None, take, map, is_some, unwrap_or, nat_le, if◌then◌else◌, refl, sym, ap, ap₂, ◌∙◌, subst, arith}
 use Rattle.std.specs.List.{list_any}
-use Rattle.std.proofs.lemmas.Bool.{and_parts, eqb-true}
-use Rattle.std.proofs.lemmas.Bool.Decides.{nat_tests}
-use Rattle.sq_memory.specs.Cells.{Cells, is_in_memory, cells_from, with_cells, Agree, AllAgree}
+use Rattle.std.proofs.lemmas.Bool.{eqb-true}
+use Rattle.sq_memory.specs.Cells.{is_in_memory, cells_from, Agree, AllAgree}
 use Rattle.sq_memory.proofs.RangeLaws.{cells_from-agree}
-use Rattle.sq_runs.specs.Runs.{Next, Went, Ended, Broke}
+use Rattle.sq_runs.specs.Runs.{Broke}
 use Rattle.sq_runs.specs.Simulation.{Matches}
 use Rattle.sq_system.specs.World.{is_range, are_all}
 use Rattle.sq_system.specs.Calls.{effect_of}
 use Rattle.sq_system.specs.declared.call.CallArgs.{CallArgs}
 use Rattle.sq_system.specs.declared.call.Effect.{Effect}
 use Rattle.sq_system.specs.declared.call.Effect.TheVariants.{Exit, Write, Read, Brk, Fail, Ask}
-use Rattle.sq_system.specs.declared.event.Event.{Event}
 use Rattle.sq_system.specs.declared.event.Event.TheVariants.{Wrote}
 use Rattle.sq_system.specs.declared.event.Halt.TheVariants.{Exit as Exited}
 use Rattle.sq_follow.specs.declared.kind.Kind.TheVariants.{Call, Fragment, Stale as StaleByte, Text}
-use Rattle.sq_follow.specs.Values.{Tag, Value, Num, Tagged, Cell, Byte, is_tagged, is_stale, is_fragment, byte_of}
+use Rattle.sq_follow.specs.Values.{Value, Num, Tagged, Cell, is_tagged, is_stale, is_fragment, byte_of}
 use Rattle.sq_follow.specs.Settings.{Setting, Store, meets_text}
 use Rattle.sq_follow.specs.Accesses.{Step}
 use Rattle.sq_follow.specs.Calls.{CallOperands, has_tagged, number_in, call_of, takes_buffer, with_buffer, answered_with, effect_row, args_row, number_row, call_row}
-use Rattle.sq_patch.specs.Agreement.{Ties, SameValue, SameCell, SameMemory, SameStore, SameMade, IsTied}
+use Rattle.sq_patch.specs.Agreement.{Ties, SameValue, SameCell, SameStore, SameMade, IsTied}
 use Rattle.sq_patch.proofs.Memories.{if_rel, if_broke, same_numbers, bytes_stored_rel, by_test}
 use Rattle.sq_patch.proofs.Loading.{with_code}
 
@@ -75,10 +73,13 @@ module _ (P : ℕ → Type 0) (T : Ties) (s : Setting) (code : ℕ → Bool) (la
       (buffers (cells_from a.memory call.a1 call.a2) (cells_from b.memory call.a1 call.a2) (cells_from-agree P SameCell call.a2 a.memory b.memory call.a1 inside h.memory.cells))
       (λ bytes. (refl, record { value = refl; store = h }))
   effect_rel call (Read count) a b inside h =
-      rw h.input (refl, record {
-        value = refl;
-        store = record { memory = bytes_stored_rel P T a.memory b.memory call.a1 (take count a.input) h.memory; input = refl; reservation = h.reservation };
-      })
+      rw h.input (
+        refl,
+        record {
+          value = refl;
+          store = record { memory = bytes_stored_rel P T a.memory b.memory call.a1 (take count a.input) h.memory; input = refl; reservation = h.reservation };
+        },
+      )
   effect_rel call (Brk brk) a b inside h = (refl, record { value = refl; store = h })
   effect_rel call (Fail code) a b inside h = (refl, record { value = refl; store = h })
   effect_rel call Ask a b inside h = (refl, record { value = refl; store = h })
@@ -134,10 +135,10 @@ module _ (P : ℕ → Type 0) (T : Ties) (s : Setting) (code : ℕ → Bool) (la
   effects_rel call a b readable e own other outside h =
       by_test (takes_buffer call)
       (λ (t : takes_buffer call ≡ true).
-          let apart : meets_text s call.a1 call.a2 ≡ false = subst (λ x. (x && meets_text s call.a1 call.a2) ≡ false) t outside in
-          let same : readable ≡ call.readable = other ∙ readable_same call a b apart h ∙ sym own in
-          let all : seen call readable ≡ call = ap (seen call) same in
-          subst (λ other. Same (effect_row call a (effect_of call)) (effect_row other b (effect_of other))) (sym all) (effect_rel call (effect_of call) a b (laws.outside call.a1 call.a2 apart) h))
+      let apart : meets_text s call.a1 call.a2 ≡ false = subst (λ x. (x && meets_text s call.a1 call.a2) ≡ false) t outside in
+      let same : readable ≡ call.readable = other ∙ readable_same call a b apart h ∙ sym own in
+      let all : seen call readable ≡ call = ap (seen call) same in
+      subst (λ other. Same (effect_row call a (effect_of call)) (effect_row other b (effect_of other))) (sym all) (effect_rel call (effect_of call) a b (laws.outside call.a1 call.a2 apart) h))
       (λ (t : takes_buffer call ≡ false). fail_rel call (seen call readable) a b refl (buffer_fails call e t) (buffer_fails (seen call readable) e t) h)
 
   buffer_call_rel : (number : ℕ) (r t : CallOperands) (a b : Store) → (number == 63 || number == 64) ≡ true → t.a0 ≡ r.a0 → t.a1 ≡ r.a1 → t.a2 ≡ r.a2 → SameStore P T a b → SameCall number r t a b
@@ -164,13 +165,13 @@ module _ (P : ℕ → Type 0) (T : Ties) (s : Setting) (code : ℕ → Bool) (la
       (λ n. let f : is_tagged r.a0 ≡ false = rw n at e in let u = untagged r.a0 t.a0 f o.a0 in (rw n u.1, first_calls number r t a b n u.0 h))
       (λ n. by_test (number == 63 || number == 64)
       (λ m.
-          let f : (is_tagged r.a0 || is_tagged r.a1 || is_tagged r.a2) ≡ false = rw (n, m) at e in
-          let g = or_false (is_tagged r.a0 || is_tagged r.a1) (is_tagged r.a2) f in
-          let i = or_false (is_tagged r.a0) (is_tagged r.a1) g.0 in
-          let x = untagged r.a0 t.a0 i.0 o.a0 in
-          let y = untagged r.a1 t.a1 i.1 o.a1 in
-          let z = untagged r.a2 t.a2 g.1 o.a2 in
-          (rw (n, m, x.1, y.1, z.1) refl, buffer_call_rel number r t a b m x.0 y.0 z.0 h))
+      let f : (is_tagged r.a0 || is_tagged r.a1 || is_tagged r.a2) ≡ false = rw (n, m) at e in
+      let g = or_false (is_tagged r.a0 || is_tagged r.a1) (is_tagged r.a2) f in
+      let i = or_false (is_tagged r.a0) (is_tagged r.a1) g.0 in
+      let x = untagged r.a0 t.a0 i.0 o.a0 in
+      let y = untagged r.a1 t.a1 i.1 o.a1 in
+      let z = untagged r.a2 t.a2 g.1 o.a2 in
+      (rw (n, m, x.1, y.1, z.1) refl, buffer_call_rel number r t a b m x.0 y.0 z.0 h))
       (λ m. (rw (n, m) refl, ask_rel number r t a b n m h)))
 
   numbers_rel : (r t : CallOperands) (a b : Store) (v u : Value) → SameOperands r t → SameValue T v u → SameStore P T a b → Same (number_row s r a v) (number_row (with_code s code) t b u)

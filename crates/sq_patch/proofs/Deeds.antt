@@ -1,5 +1,5 @@
 -- Instructions and jumps with registers around them, on two sides that agree.
-use Rattle.std.proofs.Common.{◌≡◌, ◌≢◌, ◌⊎◌, inl, inr, eq-eqb, ℕ, ◌+◌, zero, suc, ℤ, pos, Bool, true, false, not, ◌==◌, ◌&&◌, ◌||◌, List, [], ◌∷◌, Option, Some, None, nat_eq, slice_index_or, if◌then◌else◌, refl, sym, ap, ap₂, ◌∙◌, subst, arith}
+use Rattle.std.proofs.Common.{◌≡◌, ◌≢◌, ◌⊎◌, inl, inr, eq-eqb, ℕ, ◌+◌, zero, suc, ℤ, pos, Bool, true, false, not, ◌==◌, ◌&&◌, ◌||◌, List, [], ◌∷◌, Some, None, slice_index_or, if◌then◌else◌, refl, sym, ◌∙◌, subst, arith}
 use Rattle.std.specs.Ordering.{int_eq}
 use Rattle.std.specs.List.{list_any}
 use Rattle.std.proofs.lemmas.Bool.{eqb-true, cases_eq}
@@ -10,25 +10,22 @@ use Rattle.sq_isa.specs.Words.{wrapped, unsigned, even}
 use Rattle.sq_isa.specs.declared.instructions.Cond.{Cond}
 use Rattle.sq_isa.specs.declared.instructions.Cond.TheVariants.{Beq, Bne, Blt, Bge, Bltu, Bgeu}
 use Rattle.sq_isa.specs.declared.instructions.Insn.{Insn}
-use Rattle.sq_isa.specs.declared.instructions.Insn.TheVariants.{Lui, Auipc, Jal, Jalr, Branch, Load, Store as StoreInsn, OpImm, Op, Fence, Ecall, Ebreak, Unimp, Atomic}
+use Rattle.sq_isa.specs.declared.instructions.Insn.TheVariants.{OpImm, Op}
 use Rattle.sq_isa.specs.declared.instructions.ImmOp.TheVariants.{Addi}
 use Rattle.sq_runs.specs.Runs.{Next, Went, Ended, Broke}
 use Rattle.sq_runs.specs.Simulation.{Matches}
 use Rattle.sq_system.specs.World.{is_executable}
-use Rattle.sq_system.specs.declared.event.Event.{Event}
-use Rattle.sq_system.specs.declared.event.Halt.{Halt}
 use Rattle.sq_graph.specs.Lines.{AddressHalf, Plain, Upper, Lower, Line}
 use Rattle.sq_graph.specs.Walks.{is_register}
-use Rattle.sq_follow.specs.declared.kind.Kind.{Kind}
 use Rattle.sq_follow.specs.declared.kind.Kind.TheVariants.{Jump}
-use Rattle.sq_follow.specs.Values.{Tag, Code, Part, Value, Num, Tagged, Held, Holds, Lost}
-use Rattle.sq_follow.specs.Settings.{Setting, Store, Made}
-use Rattle.sq_follow.specs.Arithmetic.{zero_is_outside_text, taken_against_code, is_taken}
+use Rattle.sq_follow.specs.Values.{Code, Part, Value, Num, Tagged, Held, Holds, Lost}
+use Rattle.sq_follow.specs.Settings.{Setting, Store}
+use Rattle.sq_follow.specs.Arithmetic.{taken_against_code, is_taken}
 use Rattle.sq_follow.specs.Accesses.{Step}
-use Rattle.sq_follow.specs.Rows.{Operands, source, row_of}
-use Rattle.sq_follow.specs.Jumps.{Destination, ToName, ToNumber, Jumped, number_jump, indirect_jump}
-use Rattle.sq_follow.specs.GraphRuns.{Break, Monitored, ReadsLost, Core, State, At, Moves, value_in, is_lost, register_value, lost_in, reads_lost, operands, finish, do_line}
-use Rattle.sq_patch.specs.Agreement.{Ties, IsCode, SameTag, SameValue, SameHeld, SameStore, SameMade, SameCore, IsTied}
+use Rattle.sq_follow.specs.Rows.{Operands, row_of}
+use Rattle.sq_follow.specs.Jumps.{Destination, ToName, ToNumber, number_jump, indirect_jump}
+use Rattle.sq_follow.specs.GraphRuns.{ReadsLost, Core, State, At, Moves, value_in, is_lost, register_value, lost_in, reads_lost, operands, finish, do_line}
+use Rattle.sq_patch.specs.Agreement.{Ties, SameValue, SameHeld, SameStore, SameMade, SameCore, IsTied}
 use Rattle.sq_patch.specs.Registers.{with_registers, IsSource, AreSources, IsWritten}
 use Rattle.sq_patch.proofs.Memories.{if_rel}
 use Rattle.sq_patch.proofs.Loading.{with_code}
@@ -171,9 +168,11 @@ module _ (P : ℕ → Type 0) (T : Ties) (s : Setting) (code : ℕ → Bool) (la
 
   -- behind an instruction
   finish_rel : (Stands Next : ℕ → ℕ → Type 0) (R : State → State → Type 0) (d e : ℕ) (rest rest' : List Line) (k k' : Core) (x y : Step) → IsWritten Stands d e Next → ((c c' : Core) → SameCore P T Next c c' → R (At rest c) (At rest' c')) → SameCore P T Stands k k' → Matches (SameMade P T) x y → Matches R (finish d rest k x) (finish e rest' k' y)
-  finish_rel Stands Next R d e rest rest' k k' (Went f x) (Went f' y) w go h m =
-      (m.0, go (record { registers = written d (Holds x.value) k.registers; store = x.store }) (record { registers = written e (Holds y.value) k'.registers; store = y.store })
-      (record { registers = registers_rel P T Stands Next d e (Holds x.value) (Holds y.value) k.registers k'.registers w m.1.value h.registers; store = m.1.store }))
+  finish_rel Stands Next R d e rest rest' k k' (Went f x) (Went f' y) w go h m = (
+    m.0,
+    go (record { registers = written d (Holds x.value) k.registers; store = x.store }) (record { registers = written e (Holds y.value) k'.registers; store = y.store })
+        (record { registers = registers_rel P T Stands Next d e (Holds x.value) (Holds y.value) k.registers k'.registers w m.1.value h.registers; store = m.1.store }),
+  )
   finish_rel Stands Next R d e rest rest' k k' (Went f x) (Ended h') w go h m = absurd m
   finish_rel Stands Next R d e rest rest' k k' (Went f x) (Broke c) w go h m = absurd m
   finish_rel Stands Next R d e rest rest' k k' (Ended g) (Went f x) w go h m = absurd m
@@ -191,7 +190,7 @@ module _ (P : ℕ → Type 0) (T : Ties) (s : Setting) (code : ℕ → Bool) (la
   do_rel Stands Next R half half' insn d x y rest rest' k k' t z w go h =
       unless_lost R (reads_lost (sources_of insn) k) (finish (destination_of insn) rest k (row_of s half insn (operands insn k.registers) k.store)) (do_line (with_code s code) half' (with_registers d x y insn) rest' k')
       (λ e.
-          let o = sources_rel P T Stands (sources_of insn) (sources_of (with_registers d x y insn)) k.registers k'.registers z h.registers e in
-          rw o.0
-          (finish_rel Stands Next R (destination_of insn) (destination_of (with_registers d x y insn)) rest rest' k k' (row_of s half insn (operands insn k.registers) k.store) (row_of (with_code s code) half' (with_registers d x y insn) (operands (with_registers d x y insn) k'.registers) k'.store) w go h
-          (row_rel Stands half half' insn d x y (operands insn k.registers) (operands (with_registers d x y insn) k'.registers) k.store k'.store t z o.1 h.store)))
+      let o = sources_rel P T Stands (sources_of insn) (sources_of (with_registers d x y insn)) k.registers k'.registers z h.registers e in
+      rw o.0
+      (finish_rel Stands Next R (destination_of insn) (destination_of (with_registers d x y insn)) rest rest' k k' (row_of s half insn (operands insn k.registers) k.store) (row_of (with_code s code) half' (with_registers d x y insn) (operands (with_registers d x y insn) k'.registers) k'.store) w go h
+      (row_rel Stands half half' insn d x y (operands insn k.registers) (operands (with_registers d x y insn) k'.registers) k.store k'.store t z o.1 h.store)))

@@ -1,16 +1,15 @@
 -- Two runs of one graph that agree on what is live step to states that agree again.
-use Rattle.std.proofs.Common.{◌≡◌, ℕ, zero, suc, ◌+◌, ◌^◌, ◌<◌, ℤ, pos, Bool, true, false, not, ◌==◌, ◌&&◌, ◌||◌, List, [], ◌∷◌, ◌++◌, Option, Some, None, map, nat_eq, slice_get, if◌then◌else◌, refl, sym, ap, ◌∙◌, subst, inl, inr, arith}
-use Rattle.std.specs.List.{Contains, list_any}
-use Rattle.std.proofs.lemmas.Bool.{and_parts, or_left, or_right}
+use Rattle.std.proofs.Common.{◌≡◌, ℕ, zero, suc, ◌+◌, ℤ, pos, Bool, true, false, not, ◌==◌, ◌||◌, List, [], ◌∷◌, Option, Some, None, slice_get, if◌then◌else◌, refl, sym, ap, ◌∙◌, subst, inl, inr, arith}
+use Rattle.std.specs.List.{Contains}
+use Rattle.std.proofs.lemmas.Bool.{and_parts}
 use Rattle.std.proofs.lemmas.Bool.Decides.{nat_tests}
-use Rattle.sq_isa.specs.Registers.{written, is_among, is_among_but_x0}
-use Rattle.sq_isa.specs.Uses.{sources_of, destination_of, is_read, is_written}
+use Rattle.sq_isa.specs.Registers.{is_among, is_among_but_x0}
+use Rattle.sq_isa.specs.Uses.{sources_of, destination_of}
 use Rattle.sq_isa.specs.Forms.{first_of, second_of}
-use Rattle.sq_isa.specs.declared.instructions.Cond.{Cond}
 use Rattle.sq_isa.specs.declared.instructions.Insn.{Insn}
 use Rattle.sq_isa.specs.declared.instructions.Insn.TheVariants.{Lui, Auipc, Jal, Jalr, Branch as BranchInsn, Load, Store as StoreInsn, OpImm, Op, Fence, Ecall, Ebreak, Unimp, Atomic}
-use Rattle.sq_isa.specs.declared.instructions.ImmOp.TheVariants.{Addi, Slti, Sltiu, Xori, Ori, Andi, Slli, Srli, Srai}
-use Rattle.sq_runs.specs.Runs.{Next, Went, Ended, Broke}
+use Rattle.sq_isa.specs.declared.instructions.ImmOp.TheVariants.{Addi}
+use Rattle.sq_runs.specs.Runs.{Went, Ended, Broke}
 use Rattle.sq_runs.specs.Simulation.{Matches}
 use Rattle.sq_system.specs.Starts.{Start}
 use Rattle.sq_graph.specs.declared.item.Term.{Term}
@@ -18,25 +17,22 @@ use Rattle.sq_graph.specs.declared.item.Term.TheVariants.{Fall, Jump, Branch, Ca
 use Rattle.sq_graph.specs.Graph.{Procedure, Graph}
 use Rattle.sq_graph.specs.Terms.{links}
 use Rattle.sq_graph.specs.Lines.{AddressHalf, Plain, Upper, Lower, Line, Name, Do, Enter, Return, End, inside, slot_name, block_lines}
-use Rattle.sq_graph.specs.Walks.{IsLive, read_here, live_behind, Goes, TermGoes, code_targets, is_register, is_link_of, line_reads, line_writes, term_sources, term_link}
-use Rattle.sq_follow.specs.declared.kind.Kind.{Kind}
+use Rattle.sq_graph.specs.Walks.{read_here, live_behind, Goes, code_targets, is_register, is_link_of, line_writes, term_sources, term_link}
 use Rattle.sq_follow.specs.declared.kind.Kind.TheVariants.{Half as HalfBreak, Jump as JumpBreak}
 use Rattle.sq_system.specs.World.{is_executable}
 use Rattle.sq_system.specs.declared.event.Halt.TheVariants.{Fetch}
 use Rattle.sq_isa.specs.Words.{wrapped, unsigned, even}
 use Rattle.std.specs.Ordering.{int_eq}
-use Rattle.sq_follow.specs.Values.{Tag, Code, Part, Value, Num, Tagged, Held, Holds, Lost}
-use Rattle.sq_follow.specs.Settings.{Setting, meets_text}
+use Rattle.sq_follow.specs.Values.{Code, Part, Value, Num, Tagged, Held, Holds, Lost}
+use Rattle.sq_follow.specs.Settings.{Setting}
 use Rattle.sq_follow.specs.Arithmetic.{is_taken, is_upper_half}
-use Rattle.sq_follow.specs.Jumps.{Destination, ToName, ToNumber, Jumped, part_jump, indirect_jump, stop}
-use Rattle.sq_follow.specs.GraphRuns.{Break, Monitored, LeavesGraph, Core, State, At, Fetching, Moves, register_value, lost_in, reads_lost, with_register, do_line, enter, link_to, with_link, to_block, land, jump, branch, term_step, term_line, lines_step, graph_step}
+use Rattle.sq_follow.specs.Jumps.{ToName, ToNumber, Jumped, part_jump, indirect_jump}
+use Rattle.sq_follow.specs.GraphRuns.{Core, State, At, Fetching, Moves, register_value, reads_lost, with_register, do_line, enter, link_to, with_link, jump, branch, term_step, term_line, lines_step, graph_step}
 use Rattle.sq_follow.specs.Worlds.{World, all_names, setting_of}
-use Rattle.sq_patch.specs.Agreement.{Ties, SameValue, SameHeld, SameMemory, SameStore, SameCore, IsTied}
+use Rattle.sq_patch.specs.Agreement.{Ties, SameValue, SameHeld, SameCore, IsTied}
 use Rattle.sq_patch.specs.Registers.{with_registers, IsSource, AreSources, IsWritten}
-use Rattle.sq_patch.specs.LiveAgreement.{own_ties, everywhere, StandsLive, MakesTarget, HalfMakesTarget, SlotIsTarget, MakeTargets, AgreeLive, StepsAgree}
-use Rattle.sq_patch.proofs.Loading.{with_code}
-use Rattle.sq_patch.proofs.Rows.{IsLowerTied}
-use Rattle.sq_patch.proofs.Deeds.{IsTiedHalf, SameDestination, source_rel, sources_rel, operand_at, registers_rel, taken_rel, indirect_rel, do_rel, unless_lost}
+use Rattle.sq_patch.specs.LiveAgreement.{own_ties, everywhere, StandsLive, HalfMakesTarget, SlotIsTarget, MakeTargets, AgreeLive, StepsAgree}
+use Rattle.sq_patch.proofs.Deeds.{IsTiedHalf, sources_rel, operand_at, registers_rel, taken_rel, do_rel, unless_lost}
 use Rattle.sq_patch.proofs.LiveTargets.{block_makes, inside_makes}
 
 -- an instruction has its own registers
@@ -83,9 +79,10 @@ later r rs q e = let p = and_parts (not (q == 0)) (is_among rs q) e in rw (p.0, 
 
 own_sources : (Stands : ℕ → ℕ → Type 0) (rs : List ℕ) → ((r : ℕ) → is_among_but_x0 rs r ≡ true → Stands r r) → AreSources Stands rs rs
 own_sources Stands [] h = tt
-own_sources Stands (r ∷ rs) h =
-    (own_source Stands r (λ q e. h r (rw (same_one r, ap (λ n. n == 0) e ∙ not_zero q) refl)),
-    own_sources Stands rs (λ q e. h q (later r rs q e)))
+own_sources Stands (r ∷ rs) h = (
+  own_source Stands r (λ q e. h r (rw (same_one r, ap (λ n. n == 0) e ∙ not_zero q) refl)),
+  own_sources Stands rs (λ q e. h q (later r rs q e)),
+)
 
 -- no register is x0
 no_link : (r : ℕ) → is_register 0 r ≡ false
@@ -240,9 +237,9 @@ module _ (w : World) (start : Start) (g : Graph) where
   end_step term rest a b t m h =
       unless_lost everywhere T s all_names tied (AgreeLive g) (reads_lost (term_sources term) a) (term_step s g term rest a) (term_line s g term rest b)
       (λ e.
-          let Stands : ℕ → ℕ → Type 0 = StandsLive g (End term ∷ rest) in
-          let o = sources_rel everywhere T Stands (term_sources term) (term_sources term) a.registers b.registers (own_sources Stands (term_sources term) (λ r f. (refl, read_here f))) h.registers e in
-          rw o.0 (term_rel term rest a b t m o.1 h))
+      let Stands : ℕ → ℕ → Type 0 = StandsLive g (End term ∷ rest) in
+      let o = sources_rel everywhere T Stands (term_sources term) (term_sources term) a.registers b.registers (own_sources Stands (term_sources term) (λ r f. (refl, read_here f))) h.registers e in
+      rw o.0 (term_rel term rest a b t m o.1 h))
 
   pub lines_rel : (lines : List Line) (a b : Core) → MakeTargets g lines → Agrees lines a b → Match (lines_step s g lines a) (lines_step s g lines b)
   lines_rel [] a b m h = tt

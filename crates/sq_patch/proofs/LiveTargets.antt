@@ -1,16 +1,14 @@
 -- The addresses that a graph makes are those of its code targets.
-use Rattle.std.proofs.Common.{◌≡◌, ℕ, zero, suc, pos, Bool, true, false, not, ◌==◌, List, [], ◌∷◌, ◌++◌, Option, Some, None, map, drop, slice_get, if◌then◌else◌, refl, sym, ap, ◌∙◌, subst, inl, inr, arith}
+use Rattle.std.proofs.Common.{◌≡◌, ℕ, zero, suc, Bool, true, false, List, [], ◌∷◌, ◌++◌, Option, Some, None, map, drop, slice_get, if◌then◌else◌, refl, sym, subst, arith}
 use Rattle.std.specs.List.{Contains, flat_map}
 use Rattle.std.proofs.lemmas.List.Elements.{Contains-append_left, Contains-append_right}
-use Rattle.sq_isa.specs.declared.instructions.Insn.TheVariants.{Lui, OpImm}
-use Rattle.sq_isa.specs.declared.instructions.ImmOp.TheVariants.{Addi}
 use Rattle.sq_graph.specs.declared.item.Item.{Item}
 use Rattle.sq_graph.specs.declared.item.Item.TheVariants.{Op, Hi, Lo, Out}
 use Rattle.sq_graph.specs.declared.item.Term.{Term}
 use Rattle.sq_graph.specs.declared.item.Term.TheVariants.{Fall, Jump, Branch, Call, PartJump, Indirect, Stop}
 use Rattle.sq_graph.specs.Graph.{Block, Procedure, Graph}
 use Rattle.sq_graph.specs.Terms.{links}
-use Rattle.sq_graph.specs.Lines.{Line, Name, Do, Enter, Return, End, line_of, term_lines, body_lines, lines_of, inside, has_name, behind_name, slot_name, block_lines, place_lines}
+use Rattle.sq_graph.specs.Lines.{Line, Name, Do, Enter, Return, End, line_of, term_lines, lines_of, inside, has_name, behind_name, slot_name, block_lines, place_lines}
 use Rattle.sq_graph.specs.Walks.{word_name, lower_names, link_names, first_name, code_targets}
 use Rattle.sq_patch.specs.LiveAgreement.{SlotIsTarget, MakeTargets}
 

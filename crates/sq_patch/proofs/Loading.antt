@@ -1,31 +1,28 @@
 -- Loads, stores and atomic operations of two runs that agree.
-use Rattle.std.proofs.Common.{◌≡◌, ℕ, zero, suc, ◌+◌, ◌%◌, ◌<◌, Bool, true, false, not, ◌&&◌, List, Option, Some, None, map, nat_eq, if◌then◌else◌, refl, sym, ap, ◌∙◌, subst, arith}
+use Rattle.std.proofs.Common.{◌≡◌, ℕ, ◌%◌, Bool, true, false, not, ◌&&◌, List, Option, Some, None, map, if◌then◌else◌, refl, sym, ap, subst, arith}
 use Rattle.std.proofs.lemmas.Bool.{and_parts}
 use Rattle.std.proofs.lemmas.Bool.Decides.{nat_tests}
 use Rattle.byteorder.specs.Endian.{little_bytes}
 use Rattle.sq_isa.specs.Accesses.{load_width, store_width, is_aligned, is_reserved}
 use Rattle.sq_isa.specs.declared.instructions.LoadKind.{LoadKind}
-use Rattle.sq_isa.specs.declared.instructions.LoadKind.TheVariants.{Lb, Lh, Lw, Lbu, Lhu}
+use Rattle.sq_isa.specs.declared.instructions.LoadKind.TheVariants.{Lw}
 use Rattle.sq_isa.specs.declared.instructions.StoreKind.{StoreKind}
 use Rattle.sq_isa.specs.declared.instructions.StoreKind.TheVariants.{Sb, Sh, Sw}
 use Rattle.sq_isa.specs.declared.instructions.AtomicOp.{AtomicOp}
-use Rattle.sq_isa.specs.declared.instructions.AtomicOp.TheVariants.{Lr, Sc, Swap, Add, Xor, And, Or, Min, Max, MinU, MaxU}
+use Rattle.sq_isa.specs.declared.instructions.AtomicOp.TheVariants.{Lr, Sc, Swap}
 use Rattle.sq_memory.specs.Cells.{Cells, cells_from, with_cells, Agree, AllAgree}
 use Rattle.sq_memory.proofs.RangeLaws.{cells_from-agree}
-use Rattle.sq_runs.specs.Runs.{Next, Went, Ended, Broke}
+use Rattle.sq_runs.specs.Runs.{Ended, Broke}
 use Rattle.sq_runs.specs.Simulation.{Matches}
 use Rattle.sq_system.specs.World.{is_writable, is_range}
-use Rattle.sq_system.specs.declared.event.Event.{Event}
-use Rattle.sq_system.specs.declared.event.Halt.{Halt}
-use Rattle.sq_system.specs.declared.event.Halt.TheVariants.{Load as LoadFault, Store as StoreFault}
-use Rattle.sq_follow.specs.declared.kind.Kind.{Kind}
-use Rattle.sq_follow.specs.declared.kind.Kind.TheVariants.{Arithmetic, Fragment, Text}
-use Rattle.sq_follow.specs.Values.{Tag, Value, Num, Tagged, Cell, Byte, is_tagged, cells_of}
-use Rattle.sq_follow.specs.Settings.{Setting, Store, Made, meets_text, may_store}
+use Rattle.sq_system.specs.declared.event.Halt.TheVariants.{Store as StoreFault}
+use Rattle.sq_follow.specs.declared.kind.Kind.TheVariants.{Fragment, Text}
+use Rattle.sq_follow.specs.Values.{Value, Num, Tagged, Cell, Byte, is_tagged, cells_of}
+use Rattle.sq_follow.specs.Settings.{Setting, Store, meets_text, may_store}
 use Rattle.sq_follow.specs.Arithmetic.{atomic_result}
-use Rattle.sq_follow.specs.Accesses.{Step, gives, aligned_cells, stored, reserved, with_loaded, load_cells, load_at, is_word, store_at, lr_cells, sc_step, update, amo_cells, atomic_row, atomic_at}
-use Rattle.sq_patch.specs.Agreement.{Ties, SameTag, SameValue, SameCell, SameMemory, SameStore, SameMade, IsTied}
-use Rattle.sq_patch.proofs.Memories.{if_rel, if_broke, FindsTied, with_loaded_rel, word_tied, tied_by_kind, bytes_stored_rel, tag_stored_rel}
+use Rattle.sq_follow.specs.Accesses.{Step, gives, aligned_cells, stored, reserved, load_cells, load_at, is_word, store_at, lr_cells, sc_step, update, amo_cells, atomic_row, atomic_at}
+use Rattle.sq_patch.specs.Agreement.{Ties, SameValue, SameCell, SameMemory, SameStore, SameMade, IsTied}
+use Rattle.sq_patch.proofs.Memories.{if_rel, if_broke, with_loaded_rel, word_tied, tied_by_kind, bytes_stored_rel, tag_stored_rel}
 
 -- the same setting but for which names are code
 abbrev pub with_code : Setting → (ℕ → Bool) → Setting

@@ -1,22 +1,21 @@
 -- Loads and stores of memories that agree.
-use Rattle.std.proofs.Common.{◌≡◌, ◌≢◌, ℕ, zero, suc, ◌+◌, ◌-◌, ◌*◌, ◌/◌, ◌%◌, ◌^◌, ◌<◌, ◌≤◌, Bool, true, false, not, ◌&&◌, ◌||◌, ◌⊎◌, inl, inr, List, [], ◌∷◌, length, map, Option, Some, None, IsSome, is_some, slice_get, nat_eq, nat_le, nat_lt, if◌then◌else◌, refl, sym, ap, ap₂, ◌∙◌, subst, ⊎_elim, arith}
+use Rattle.std.proofs.Common.{◌≡◌, ◌≢◌, ℕ, zero, suc, ◌+◌, ◌-◌, ◌%◌, ◌^◌, ◌<◌, ◌≤◌, Bool, true, false, ◌⊎◌, inl, inr, List, [], ◌∷◌, length, map, Option, Some, None, IsSome, slice_get, nat_eq, nat_le, if◌then◌else◌, refl, sym, ap, ap₂, ◌∙◌, subst, ⊎_elim, arith}
 use Rattle.std.specs.List.{list_any}
-use Rattle.std.proofs.lemmas.Bool.{and_parts, cases_eq, eqb-true}
+use Rattle.std.proofs.lemmas.Bool.{and_parts, cases_eq}
 use Rattle.std.proofs.lemmas.Bool.Decides.{nat_tests}
-use Rattle.byteorder.specs.Endian.{little_bytes}
-use Rattle.sq_isa.specs.Accesses.{load_width, store_width, extended, bytes_number, is_aligned}
+use Rattle.sq_isa.specs.Accesses.{load_width, extended, bytes_number}
 use Rattle.sq_isa.specs.declared.instructions.LoadKind.{LoadKind}
 use Rattle.sq_isa.specs.declared.instructions.LoadKind.TheVariants.{Lb, Lh, Lw, Lbu, Lhu}
-use Rattle.sq_memory.specs.Cells.{Cells, cells_from, with_cells, ArePresent, Agree, AllAgree, AgreeOn}
-use Rattle.sq_memory.proofs.RangeLaws.{with_cells-inside, with_cells-present, with_cells-agree, cells_from-agree, cells_from_some, cells_from-apart, cells_from_present, cells_from-with_cells}
-use Rattle.sq_runs.specs.Runs.{Next, Went, Ended, Broke}
+use Rattle.sq_memory.specs.Cells.{Cells, cells_from, with_cells, ArePresent, Agree, AllAgree}
+use Rattle.sq_memory.proofs.RangeLaws.{with_cells-inside, with_cells-present, with_cells-agree, cells_from_some, cells_from-apart, cells_from_present, cells_from-with_cells}
+use Rattle.sq_runs.specs.Runs.{Next, Broke}
 use Rattle.sq_runs.specs.Simulation.{Matches}
 use Rattle.sq_system.specs.declared.event.Event.{Event}
 use Rattle.sq_system.specs.declared.event.Halt.{Halt}
 use Rattle.sq_follow.specs.declared.kind.Kind.{Kind}
 use Rattle.sq_follow.specs.declared.kind.Kind.TheVariants.{Fragment, Stale as StaleByte}
 use Rattle.sq_follow.specs.Values.{Tag, Code, Part, Value, Num, Tagged, Cell, Byte, Frag, Stale, is_stale, is_fragment, byte_of, same_word, same_tag, is_part_of, are_parts_of, whole, cells_of}
-use Rattle.sq_follow.specs.Settings.{Setting, Store, Made}
+use Rattle.sq_follow.specs.Settings.{Setting, Made}
 use Rattle.sq_follow.specs.Accesses.{Step, with_loaded, with_tag_or_number, tag_in}
 use Rattle.sq_patch.specs.Agreement.{Ties, SameTag, SameValue, SameCell, LoadsWord, SameMemory, SameMade, IsTied}
 

@@ -1,31 +1,29 @@
 -- The law of the rows: on values that agree, instructions of one form do the same. It sees no register.
-use Rattle.std.proofs.Common.{◌≡◌, ℕ, zero, suc, ◌+◌, ◌%◌, ◌^◌, ◌<◌, ℤ, pos, Bool, true, false, not, ◌==◌, ◌&&◌, List, [], ◌∷◌, Option, Some, None, nat_eq, if◌then◌else◌, refl, sym, ap, ap₂, ◌∙◌, subst, arith}
+use Rattle.std.proofs.Common.{◌≡◌, ℕ, ◌+◌, ◌^◌, ◌<◌, ℤ, pos, Bool, true, false, ◌==◌, ◌&&◌, Option, Some, None, if◌then◌else◌, refl, arith}
 use Rattle.std.specs.Ordering.{int_eq}
-use Rattle.std.proofs.lemmas.Bool.{and_parts, eqb-true}
 use Rattle.std.proofs.lemmas.Bool.Decides.{Decides-int_eq}
 use Rattle.sq_isa.specs.Words.{wrapped, unsigned, upper_word}
-use Rattle.sq_isa.specs.Values.{value_imm_of, value_of}
+use Rattle.sq_isa.specs.Values.{value_imm_of}
 use Rattle.sq_isa.specs.declared.instructions.Insn.{Insn}
-use Rattle.sq_isa.specs.declared.instructions.Insn.TheVariants.{Lui, Auipc, Jal, Jalr, Branch, Load, Store as StoreInsn, OpImm, Op, Fence, Ecall, Ebreak, Unimp, Atomic}
+use Rattle.sq_isa.specs.declared.instructions.Insn.TheVariants.{Lui, Load, Store as StoreInsn, OpImm, Op, Fence, Ecall, Atomic}
 use Rattle.sq_isa.specs.declared.instructions.ImmOp.{ImmOp}
 use Rattle.sq_isa.specs.declared.instructions.ImmOp.TheVariants.{Addi, Sltiu}
 use Rattle.sq_isa.specs.declared.instructions.RegOp.{RegOp}
 use Rattle.sq_isa.specs.declared.instructions.RegOp.TheVariants.{Sltu}
-use Rattle.sq_runs.specs.Runs.{Next, Went, Ended, Broke}
+use Rattle.sq_runs.specs.Runs.{Broke}
 use Rattle.sq_runs.specs.Simulation.{Matches}
-use Rattle.sq_graph.specs.Lines.{AddressHalf, Plain, Upper, Lower}
+use Rattle.sq_graph.specs.Lines.{Lower}
 use Rattle.sq_follow.specs.declared.kind.Kind.{Kind}
 use Rattle.sq_follow.specs.declared.kind.Kind.TheVariants.{Arithmetic, Half}
 use Rattle.sq_follow.specs.Values.{Tag, Code, Part, Value, Num, Tagged}
 use Rattle.sq_follow.specs.Settings.{Setting, Store}
 use Rattle.sq_follow.specs.Arithmetic.{zero_is_outside_text, tagged_imm, imm_value, tagged_op, op_value, is_upper_half}
 use Rattle.sq_follow.specs.Accesses.{Step, gives, gives_or_breaks, load_at, store_at, atomic_at}
-use Rattle.sq_follow.specs.Rows.{Operands, at_number, at_upper_half, address_value, lower_row, plain_row, row_of}
-use Rattle.sq_patch.specs.Agreement.{Ties, IsCode, SameTag, SameValue, SameStore, SameMade, IsTied}
+use Rattle.sq_follow.specs.Rows.{Operands, at_number, address_value, plain_row, row_of}
+use Rattle.sq_patch.specs.Agreement.{Ties, SameTag, SameValue, SameStore, SameMade, IsTied}
 use Rattle.sq_patch.specs.Registers.{with_registers}
-use Rattle.sq_patch.proofs.Memories.{if_rel}
 use Rattle.sq_patch.proofs.Loading.{with_code, gives_rel, load_rel, store_rel, atomic_rel, SameResult}
-use Rattle.sq_patch.proofs.Calling.{call_rel, SameOperands}
+use Rattle.sq_patch.proofs.Calling.{call_rel}
 
 -- x is the first of two sources
 abbrev pub first_source : Insn → ℕ → Type 0

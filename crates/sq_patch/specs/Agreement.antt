@@ -1,5 +1,5 @@
 -- Two runs that agree: related values, cells, stores and registers.
-use Rattle.std.specs.Prelude.{◌≡◌, ℕ, zero, suc, ◌+◌, ◌%◌, ◌^◌, ◌<◌, Bool, false, List, Option, Some, None}
+use Rattle.std.specs.Prelude.{◌≡◌, ℕ, ◌+◌, ◌%◌, ◌^◌, ◌<◌, false, List, Option, Some}
 use Rattle.sq_isa.specs.declared.instructions.LoadKind.TheVariants.{Lw}
 use Rattle.sq_memory.specs.Cells.{Cells, cells_from, AgreeOn}
 use Rattle.sq_follow.specs.Values.{Tag, Code, Part, Value, Num, Tagged, Cell, Byte, Frag, Stale, Held, Holds, Lost, whole}
