@@ -1,9 +1,7 @@
 -- Which bytes are in memory, at a start and after steps.
-use Rattle.std.proofs.Common.{◌≡◌, ℕ, zero, suc, ◌+◌, ◌-◌, ◌<◌, ◌≤◌, Bool, true, false, ◌||◌, ◌&&◌, nat_le, nat_lt, List, [], ◌∷◌, ◌++◌, length, take, map, replicate, Option, Some, None, is_some, if◌then◌else◌, refl, sym, subst, ap, ◌∙◌, arith, length-append}
+use Rattle.std.proofs.Common.{◌≡◌, ℕ, zero, suc, ◌+◌, ◌-◌, Bool, true, false, ◌||◌, ◌&&◌, nat_le, nat_lt, List, [], ◌∷◌, ◌++◌, length, take, map, Option, Some, None, is_some, if◌then◌else◌, refl, subst, ap, ◌∙◌, arith}
 use Rattle.std.proofs.lemmas.Bool.Decides.{nat_tests}
 use Rattle.std.proofs.lemmas.Grind.{common_steps}
-use Rattle.std.proofs.lemmas.List.{length-replicate}
-use Rattle.std.proofs.lemmas.Option.{slice_get_past}
 use Rattle.std.specs.List.{slice_get, list_any}
 use Rattle.byteorder.specs.Endian.{little_bytes}
 use Rattle.sq_isa.specs.Table.{insn_of}
@@ -14,7 +12,6 @@ use Rattle.sq_isa.specs.declared.instructions.AtomicOp.TheVariants.{Lr, Sc, Swap
 use Rattle.sq_isa.specs.Atomics.{atomic_value_of}
 use Rattle.sq_isa.specs.Branches.{taken_of}
 use Rattle.sq_runs.specs.Runs.{Next, Went, Ended, Broke, state_after, state_from}
-use Rattle.sq_memory.specs.Cells.{Cells, with_cells}
 use Rattle.sq_memory.specs.Regions.{Region, region_cell, or_else, get}
 use Rattle.sq_memory.proofs.RangeLaws.{with_cells-present}
 use Rattle.sq_system.specs.Calls.{effect_of, answer_of}
@@ -25,13 +22,13 @@ use Rattle.sq_system.specs.declared.call.Effect.TheVariants.{Exit, Write, Read, 
 use Rattle.sq_system.specs.declared.event.Event.{Event}
 use Rattle.sq_system.specs.declared.event.Halt.{Halt}
 use Rattle.sq_system.proofs.Areas.{length-ram_at_start}
-use Rattle.sq_machine.specs.World.{World, is_in, is_in_ram}
-use Rattle.sq_machine.specs.State.{State, is_in_memory, aligned_number, with_register, with_bytes, with_reservation, without_input, jump, advance, finish, address_of, target_of}
-use Rattle.sq_machine.specs.Calls.{call_of, called, answered, call_row}
-use Rattle.sq_machine.specs.Rows.{load_step, loaded, load_row, store_width, may_store, store_row, lr_step, is_reserved, sc_step, sc_row, amo_step, amo_row, atomic_row, row_of}
+use Rattle.sq_machine.specs.World.{World, is_in}
+use Rattle.sq_machine.specs.State.{State, aligned_number, with_register, with_bytes, with_reservation, without_input, jump, advance, finish, address_of, target_of}
+use Rattle.sq_machine.specs.Calls.{call_of, called, answered}
+use Rattle.sq_machine.specs.Rows.{load_step, loaded, store_width, may_store, lr_step, is_reserved, sc_step, amo_step, amo_row, atomic_row, row_of}
 use Rattle.sq_machine.specs.Steps.{fetched, insn_step, word_step, step_of}
-use Rattle.sq_machine.specs.Starts.{StartPiece, piece_of, extent_of, bytes_of, piece_region, ram_region, regions_at_start, world_at_start, state_at_start}
-use Rattle.sq_machine.specs.Presence.{is_mapped, HasSameBytes, MappedAtStart, KeptByStep, KeptByRun}
+use Rattle.sq_machine.specs.Starts.{StartPiece, piece_of, extent_of, bytes_of, piece_region, ram_region}
+use Rattle.sq_machine.specs.Presence.{HasSameBytes, MappedAtStart, KeptByStep, KeptByRun}
 
 -- a place of a list has an element exactly where it is below its length
 present_at : (xs : List ℕ) (i : ℕ) → is_some (slice_get xs i) ≡ nat_lt i (length xs)
