@@ -4,19 +4,15 @@ use Rattle.std.specs.Result.{IsErrAnd, IfErr}
 use Rattle.sq_num.specs.declared.refusal.Refusal.{Refusal as Cause}
 use Rattle.sq_num.specs.declared.refusal.Denied.{Denied}
 use Rattle.sq_num.specs.declared.refusal.Denied.TheVariants.{Refused as DeniedFile, Memory as NoMemory}
-use Rattle.sq_elf.specs.Refusing.{file_refusal_of}
 use Rattle.sq_elf.proofs.Accepted.{too_long_refused}
-use Rattle.sq_run.specs.declared.fault.RunFault.{RunFault}
-use Rattle.sq_run.specs.declared.fault.RunFault.TheVariants.{BadStart as NoStart, Memory as NoRoom}
 use Rattle.sq_command.specs.Commands.{RunRequest}
 use Rattle.sq_desk.specs.Outside.{Outside, ForFiles, content_of}
 use Rattle.sq_top.specs.declared.ending.Ending.{Ending}
 use Rattle.sq_top.specs.declared.ending.Ending.TheVariants.{Done, Words, Desk, Refused, Memory, Limit, BadStart}
 use Rattle.sq_top.specs.declared.ending.DeskCall.TheVariants.{Load, Store, Print}
-use Rattle.sq_top.specs.Denials.{denied_ending, fault_ending}
+use Rattle.sq_top.specs.Denials.{denied_ending}
 use Rattle.sq_top.specs.Refusing.{IsRefused}
 use Rattle.sq_top.specs.Endings.{LeavesUnpacked}
-use Rattle.sq_top.specs.Running.{file_of, IsRunRefused, HasBadStart}
 use Rattle.sq_top.specs.RunEndings.{LeavesUnloaded, LeavesUnrun}
 
 -- an answer that is this error

@@ -9,7 +9,7 @@ use Rattle.sq_top.specs.declared.ending.DeskCall.TheVariants.{Load, Store, Print
 use Rattle.sq_command.specs.Commands.{RunRequest, Form, PackForm, RunForm, form_of}
 use Rattle.sq_top.specs.Statuses.{complaint_of}
 use Rattle.sq_top.specs.Endings.{StoresPacked, LeavesPack, Leaves, ComplainsLine}
-use Rattle.sq_top.specs.RunEndings.{FailsToLoad, LeavesRun, RunLeft}
+use Rattle.sq_top.specs.RunEndings.{FailsToLoad, RunLeft}
 use Rattle.sq_top.specs.Promises.{Ends}
 
 -- a complaint: files and what is printed stay, and no faults fall

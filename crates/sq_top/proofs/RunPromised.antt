@@ -1,8 +1,7 @@
 -- How the ending of a run keeps each promise.
-use Rattle.std.proofs.Common.{◌≡◌, ℕ, ◌<◌, ◌⊎◌, inl, inr, List, length, Some, None, refl, sym, subst, ap, ◌∙◌, arith}
+use Rattle.std.proofs.Common.{◌≡◌, ℕ, ◌⊎◌, inl, inr, List, Some, refl, subst, arith}
 use Rattle.sq_num.specs.declared.refusal.Refusal.{Refusal}
-use Rattle.sq_runs.specs.Runs.{Trace, Running, HasHalted, IsHalted}
-use Rattle.sq_elf.specs.Refusing.{file_refusal_of}
+use Rattle.sq_runs.specs.Runs.{Trace, HasHalted, IsHalted}
 use Rattle.sq_system.specs.declared.event.Event.{Event}
 use Rattle.sq_system.specs.declared.event.Halt.{Halt}
 use Rattle.sq_command.specs.Commands.{RunRequest, RunForm, form_of}
@@ -12,7 +11,7 @@ use Rattle.sq_top.specs.declared.ending.Ending.TheVariants.{Done, Words, Desk, R
 use Rattle.sq_top.specs.declared.ending.DeskCall.TheVariants.{Load, Store, Print}
 use Rattle.sq_top.specs.Statuses.{status_of, complaint_of}
 use Rattle.sq_top.specs.Endings.{ComplainsLine}
-use Rattle.sq_top.specs.Running.{file_of, input_of, trace_in, longest_input, IsAtLimit, IsRunRefused, IsAccepted, CanRun}
+use Rattle.sq_top.specs.Running.{trace_in, IsAtLimit, IsRunRefused, IsAccepted}
 use Rattle.sq_top.specs.RunEndings.{PrintsRun, LeavesRun, RunLeft}
 use Rattle.sq_top.specs.RunPromises.{ForRun, HasRunFault, HasRunRefusal, IsBadRun, RunCause, MeetsFault, RunsExactly, IsRunComplete}
 use Rattle.sq_top.specs.Promises.{Ends}

@@ -1,5 +1,5 @@
 -- What every command's status says, and what each prints.
-use Rattle.std.proofs.Common.{◌≡◌, ◌≢◌, ◌↔◌, ℕ, ◌≤◌, ◌⊎◌, inl, inr, List, Option, Some, None, refl, sym, subst, ap, ◌∙◌, arith}
+use Rattle.std.proofs.Common.{◌≡◌, ◌≢◌, ◌↔◌, ℕ, ◌≤◌, ◌⊎◌, inl, inr, List, Option, Some, None, refl, ap, arith}
 use Rattle.sq_num.specs.declared.packed.Packed.{Packed}
 use Rattle.sq_command.specs.Commands.{RunRequest, Form, PackForm, RunForm, form_of}
 use Rattle.sq_desk.specs.Outside.{Outside, Place, content_of, Loading, Storing, Printing, Rose}

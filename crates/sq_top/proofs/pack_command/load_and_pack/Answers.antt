@@ -1,5 +1,5 @@
 -- the bytes that were loaded are the held file
-use Rattle.std.proofs.Common.{◌≡◌, List, ℕ, subst, ap, sym, ◌∙◌}
+use Rattle.std.proofs.Common.{List, ℕ, subst, ◌∙◌}
 use Rattle.sq_num.specs.declared.packed.Packed.{Packed}
 use Rattle.sq_top.specs.Packing.{Packs}
 use Rattle.sq_top.specs.Denials.{denied_ending}

@@ -1,5 +1,4 @@
 -- what was loaded is what the files held, and each part of the run says the rest
-use Rattle.std.proofs.Common.{◌≡◌, List, ℕ, ap, sym, ◌∙◌}
 use Rattle.sq_command.specs.Commands.{request_of}
 use Rattle.sq_top.proofs.EarlyEndings.{by_residual, file_unloaded}
 use Rattle.sq_top.proofs.run_command.load_and_run.Goals as goal
