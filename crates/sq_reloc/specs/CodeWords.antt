@@ -1,0 +1,20 @@
+-- A list of code words.
+use Rattle.std.specs.Prelude.{◌≡◌, ◌<◌, ℕ, nat_eq, List, [], ◌∷◌, Option}
+use Rattle.std.specs.Option.{option_map}
+use Rattle.std.specs.List.{find, AllByRecursion}
+use Rattle.sq_reloc.specs.declared.mark.CodeWord.{CodeWord}
+use Rattle.sq_reloc.specs.Outside.{code_word_at}
+
+-- each stands at a higher address than the one before
+abbrev pub IsAscending : List CodeWord → Type 0
+IsAscending [] = Unit {0}
+IsAscending (word ∷ words) = AllByRecursion (λ other. word.at < other.at) words × IsAscending words
+
+-- what the list has at an address
+abbrev pub listed_at : List CodeWord → ℕ → Option ℕ
+listed_at words address = option_map (λ word. word.to) (find (λ word. nat_eq word.at address) words)
+
+-- the list has exactly the code words of the file, ascending and without repeats
+pub record AreCodeWords (bytes : List ℕ) (words : List CodeWord) : Type 0 where
+  pub ascending : IsAscending words
+  pub exactly : (address : ℕ) → listed_at words address ≡ code_word_at bytes address

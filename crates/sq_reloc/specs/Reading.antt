@@ -1,0 +1,2 @@
+-- What a reader of relocations keeps of an accepted file.
+use Rattle.std.specs.Prelude.{ℕ}
