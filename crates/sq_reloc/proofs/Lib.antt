@@ -1,1 +1,3 @@
 pub mod FirstTargets
+pub mod UnbeatenWords
+pub mod EntryRows

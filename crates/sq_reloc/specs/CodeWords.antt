@@ -1,5 +1,5 @@
 -- A list of code words.
-use Rattle.std.specs.Prelude.{◌≡◌, ◌<◌, ℕ, nat_eq, List, [], ◌∷◌, Option}
+use Rattle.std.specs.Prelude.{◌≡◌, ◌<◌, ℕ, Bool, nat_eq, if◌then◌else◌, List, [], ◌∷◌, Option}
 use Rattle.std.specs.Option.{option_map}
 use Rattle.std.specs.List.{find, AllByRecursion}
 use Rattle.sq_reloc.specs.declared.mark.CodeWord.{CodeWord}
@@ -18,3 +18,9 @@ listed_at words address = option_map (λ word. word.to) (find (λ word. nat_eq w
 pub record AreCodeWords (bytes : List ℕ) (words : List CodeWord) : Type 0 where
   pub ascending : IsAscending words
   pub exactly : (address : ℕ) → listed_at words address ≡ code_word_at bytes address
+
+-- the code words of these pairs of address and target whose address is not beaten
+abbrev pub unbeaten : (ℕ → Bool) → List (ℕ × ℕ) → List CodeWord
+unbeaten beaten [] = []
+unbeaten beaten (pair ∷ pairs) =
+    if beaten pair.0 then unbeaten beaten pairs else record { at = pair.0; to = pair.1 } ∷ unbeaten beaten pairs

@@ -1,6 +1,6 @@
 -- THE table of refusals by relocations, in the order that counts.
 use Rattle.std.specs.Prelude.{ℕ, Bool, not, if◌then◌else◌, List, [], ◌∷◌, length, slice_index_or, Option}
-use Rattle.std.specs.Option.{is_some}
+use Rattle.std.specs.Option.{option_map, is_some}
 use Rattle.sq_num.specs.Refusals.{Row, first_from, first_refusal}
 use Rattle.sq_num.specs.declared.refusal.Refusal.{Refusal}
 use Rattle.sq_num.specs.declared.refusal.Refusal.TheVariants.{NoRelocs, BadRelocTable, BadSymbol, UnsupportedReloc, RelocDisagrees}
@@ -27,6 +27,10 @@ nth_entry entries place = slice_index_or entries place no_entry
 abbrev pub entry_row : List Entry → (Entry → Bool) → (Entry → Refusal) → Row
 entry_row entries fails refusal =
     record { places = length entries; fails = λ place. fails (nth_entry entries place); refusal = λ place. refusal (nth_entry entries place) }
+
+-- the first of the entries that fails
+abbrev pub first_entry : List Entry → (Entry → Bool) → Option Entry
+first_entry entries fails = option_map (nth_entry entries) (first_from (λ place. fails (nth_entry entries place)) 0 (length entries))
 
 -- 16: an entry whose symbol table does not have its symbol
 abbrev pub symbol_refusal : Entry → Refusal

@@ -5,11 +5,14 @@
 //! bytes of a file are exactly those of their definitions.
 #![tactic(auto)]
 
+
 mod entries;
 mod entry;
 mod kinds;
 mod mark;
 mod outside;
+mod outside_text;
+mod refusing;
 mod tables;
 mod targets;
 
