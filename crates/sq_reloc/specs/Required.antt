@@ -88,6 +88,17 @@ abbrev pub meets_ask : (ℤ → Bool) → Option ℤ → Bool
 meets_ask test None = true
 meets_ask test (Some half) = test half
 
+-- PCREL_HI20: an `auipc` with the upper half of T - P, or a `lui` with that of T
+abbrev pub is_upper_half : List ℕ → ℕ → ℕ → Bool
+is_upper_half bytes address target = is_auipc (high_half (distance address target)) (insn_at bytes address) || is_lui (high_half target) (insn_at bytes address)
+
+-- the word of a PCREL_LO12_I, and of a PCREL_LO12_S, is as it asks
+abbrev pub meets_low_i : List ℕ → Option ℕ → Entry → Bool
+meets_low_i bytes upper e = meets_ask (λ half. has_low_i half (insn_at bytes e.offset)) (asked_half bytes e upper)
+
+abbrev pub meets_low_s : List ℕ → Option ℕ → Entry → Bool
+meets_low_s bytes upper e = meets_ask (λ half. has_low_s half (insn_at bytes e.offset)) (asked_half bytes e upper)
+
 -- a `jalr` through this register with this lower half
 abbrev pub jumps_by : ℕ → ℤ → Option Insn → Bool
 jumps_by register half (Some (Jalr rd rs offset)) = nat_eq rs register && int_eq offset half
@@ -131,9 +142,9 @@ unfoldable pub agrees : List ℕ → Option ℕ → Entry → Bool
 agrees bytes upper e =
     if nat_eq e.kind 16 then is_branch_to e.offset (target_of e) (insn_at bytes e.offset) else
     if nat_eq e.kind 17 then is_jal_to e.offset (target_of e) (insn_at bytes e.offset) else
-    if nat_eq e.kind 23 then is_auipc (high_half (distance e.offset (target_of e))) (insn_at bytes e.offset) || is_lui (high_half (target_of e)) (insn_at bytes e.offset) else
-    if nat_eq e.kind 24 then meets_ask (λ half. has_low_i half (insn_at bytes e.offset)) (asked_half bytes e upper) else
-    if nat_eq e.kind 25 then meets_ask (λ half. has_low_s half (insn_at bytes e.offset)) (asked_half bytes e upper) else
+    if nat_eq e.kind 23 then is_upper_half bytes e.offset (target_of e) else
+    if nat_eq e.kind 24 then meets_low_i bytes upper e else
+    if nat_eq e.kind 25 then meets_low_s bytes upper e else
     if nat_eq e.kind 26 then is_lui (high_half (target_of e)) (insn_at bytes e.offset) else
     if nat_eq e.kind 27 then has_low_i (low_half (target_of e)) (insn_at bytes e.offset) else
     if nat_eq e.kind 28 then has_low_s (low_half (target_of e)) (insn_at bytes e.offset) else

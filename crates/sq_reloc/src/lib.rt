@@ -13,6 +13,7 @@ mod mark;
 mod outside;
 mod outside_text;
 mod refusing;
+mod required;
 mod tables;
 mod targets;
 
