@@ -6,4 +6,5 @@ pub mod Outside
 pub mod Reading
 pub mod Refusing
 pub mod Required
+pub mod Seen
 pub mod Tables

@@ -39,13 +39,17 @@ differ (e ∷ others) = list_any (differs e) others
 abbrev pub if_in_text : Text → ℕ → Mark → Mark
 if_in_text text target mark = if is_in_text text target then mark else Plain
 
+-- the mark of a PCREL_LO12
+abbrev pub paired_mark : Entry → Option ℕ → Mark
+paired_mark e upper = option_map_or Lo (paired_target e upper) Lone
+
 -- THE mark of an entry that agrees: `here` at its offset, `behind` at the second word of a call
 unfoldable pub mark_here : Text → Option ℕ → Entry → Mark
 mark_here text upper e =
     if nat_eq e.kind 26 then if_in_text text (target_of e) (Hi (target_of e)) else
     if nat_eq e.kind 27 || nat_eq e.kind 28 then if_in_text text (target_of e) (Lo (target_of e)) else
     if nat_eq e.kind 23 || is_call e.kind then Hi (target_of e) else
-    if is_paired e.kind then option_map_or Lo (paired_target e upper) Lone else
+    if is_paired e.kind then paired_mark e upper else
     Plain
 
 abbrev pub mark_behind : List ℕ → Entry → Mark

@@ -14,7 +14,10 @@ mod outside;
 mod outside_text;
 mod refusing;
 mod required;
+mod seen;
 mod tables;
 mod targets;
+mod verdict;
+mod words;
 
 pub use mark::{CodeWord, Mark};
