@@ -1,3 +1,4 @@
 pub mod FirstTargets
 pub mod UnbeatenWords
 pub mod EntryRows
+pub mod SeenMore

@@ -1,6 +1,6 @@
 //! The words of text, with what the entries say of each.
 
-ghost use Rattle.std.specs.Prelude.{◌≡◌, ◌<◌, ◌≤◌, ◌^◌, ◌+◌, ◌*◌, ℕ, length, if◌then◌else◌, IfOk};
+ghost use Rattle.std.specs.Prelude.{◌≡◌, ◌<◌, ◌≤◌, ◌^◌, ◌+◌, ◌*◌, ℕ, [], filter, length, if◌then◌else◌, IfOk};
 ghost use Rattle.std.specs.Ordering.{nat_cmp};
 ghost use Rattle.std.specs.BTreeMap as tree;
 ghost use Rattle.sq_elf.specs.Text.{text_of};
@@ -47,5 +47,25 @@ fn note(words: &mut [Seen], lo: u32, entry: Entry, verdict: Verdict)
         let at = place as usize;
         let mark = mark_at(entry, verdict, start + 4 * place);
         words[at] = words[at].with(entry, verdict, mark);
+    }
+}
+
+/// Adds each entry to the words that it touches.
+fn note_all(
+    words: &mut [Seen],
+    elf: &Elf<'_>,
+    text: Text,
+    uppers: &BTreeMap<u32, u32>,
+    entries: &[Entry],
+)
+    requires text { text ≡ text_of elf.now }
+    requires uppers { (address : ℕ) → tree.get nat_cmp uppers.now address ≡ first_target is_upper (entries_of elf.now) address }
+    requires few { length words.old < 2 ^ 32 }
+    requires none { AreWordsBy elf.now words.old (λ _. []) }
+    ensures { AreWordsBy elf.now words.new (λ address. filter (λ e. touches_word e address) entries.now) }
+{
+    for entry in entries {
+        let verdict = verdict_on(elf, text, uppers, *entry);
+        note(words, text.lo, *entry, verdict);
     }
 }
