@@ -2,3 +2,5 @@ pub mod FirstTargets
 pub mod UnbeatenWords
 pub mod EntryRows
 pub mod SeenMore
+pub mod Marked
+pub mod Phases

@@ -13,6 +13,7 @@ mod mark;
 mod outside;
 mod outside_text;
 mod refusing;
+mod relocs;
 mod required;
 mod seen;
 mod tables;
@@ -21,3 +22,4 @@ mod verdict;
 mod words;
 
 pub use mark::{CodeWord, Mark};
+pub use relocs::{Relocs, read_relocs};

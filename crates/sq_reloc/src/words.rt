@@ -69,3 +69,16 @@ fn note_all(
         note(words, text.lo, *entry, verdict);
     }
 }
+
+/// The words of text, with what the entries of the file say of each.
+pub fn words_of(alloc: Global, elf: &Elf<'_>, entries: &[Entry]) -> Result<Vec<Seen>, Memory>
+    requires { entries.now ≡ entries_of elf.now }
+    ensures { IfOk result (λ words. AreWordsBy elf.now words.items (touching elf.now)) }
+{
+    let text = elf.text();
+    let uppers = first_targets(alloc, entries, |entry| entry.kind == PCREL_HI20)?;
+    let count = text.hi.saturating_sub(u64::from(text.lo)) / 4;
+    let mut words = vec![in alloc; Seen::NOTHING; count as usize]?;
+    note_all(&mut words, elf, text, &uppers, entries);
+    Ok(words)
+}
