@@ -83,7 +83,7 @@ module _ (bytes : List ℕ) (address : ℕ) where
         ∙ sym (seen_more bytes address (meeting (take i entries)) this) ∙ ap (seen_of bytes address) (sym all)
     noted_by false is kept =
         let all : meeting (take (i + 1) entries) ≡ meeting (take i entries) =
-            met ∙ ap (λ list. meeting (take i entries) ++ list) (one_met false this is) ∙ none_behind (meeting (take i entries)) in
+        met ∙ ap (λ list. meeting (take i entries) ++ list) (one_met false this is) ∙ none_behind (meeting (take i entries)) in
         kept ∙ before ∙ ap (seen_of bytes address) (sym all)
 
     pub noted : new ≡ (if touches_word this address then seen_with old this (verdict_of bytes this) (mark_at this (verdict_of bytes this) address) else old) → new ≡ seen_of bytes address (meeting (take (i + 1) entries))

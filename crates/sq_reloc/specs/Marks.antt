@@ -43,7 +43,7 @@ if_in_text text target mark = if is_in_text text target then mark else Plain
 abbrev pub paired_mark : Entry → Option ℕ → Mark
 paired_mark e upper = option_map_or Lo (paired_target e upper) Lone
 
--- THE mark of an entry that agrees: `here` at its offset, `behind` at the second word of a call
+-- THE mark of an entry that agrees: `here` at the word at its offset, `behind` at the second word of a call
 unfoldable pub mark_here : Text → Option ℕ → Entry → Mark
 mark_here text upper e =
     if nat_eq e.kind 26 then if_in_text text (target_of e) (Hi (target_of e)) else
@@ -53,7 +53,7 @@ mark_here text upper e =
     Plain
 
 abbrev pub mark_behind : List ℕ → Entry → Mark
-mark_behind bytes e = if has_pair bytes e then Lo (target_of e) else Plain
+mark_behind bytes e = if is_call e.kind && has_pair bytes e then Lo (target_of e) else Plain
 
 abbrev pub entry_mark : List ℕ → ℕ → Entry → Mark
 entry_mark bytes address e =

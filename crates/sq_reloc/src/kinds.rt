@@ -6,30 +6,55 @@ ghost use Rattle.sq_reloc.specs.Kinds.{is_ignored, is_data_kind, is_call, is_pai
 use crate::entry::Entry;
 
 pub const NONE: u32 = 0;
+
 pub const ABSOLUTE_32: u32 = 1;
+
 pub const ABSOLUTE_64: u32 = 2;
+
 pub const BRANCH: u32 = 16;
+
 pub const JAL: u32 = 17;
+
 pub const CALL: u32 = 18;
+
 pub const CALL_PLT: u32 = 19;
+
 pub const PCREL_HI20: u32 = 23;
+
 pub const PCREL_LO12_I: u32 = 24;
+
 pub const PCREL_LO12_S: u32 = 25;
+
 pub const HI20: u32 = 26;
+
 pub const LO12_I: u32 = 27;
+
 pub const LO12_S: u32 = 28;
+
 pub const ADD8: u32 = 33;
+
 pub const ADD16: u32 = 34;
+
 pub const ADD32: u32 = 35;
+
 pub const ADD64: u32 = 36;
+
 pub const SUB16: u32 = 38;
+
 pub const SUB32: u32 = 39;
+
 pub const SUB64: u32 = 40;
+
 pub const ALIGN: u32 = 43;
+
 pub const RELAX: u32 = 51;
+
 pub const SUB6: u32 = 52;
+
 pub const SET16: u32 = 55;
+
 pub const SET32: u32 = 56;
+
 pub const PCREL_32: u32 = 57;
 
 /// Whether entries of the type are ignored.

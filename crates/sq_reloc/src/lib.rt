@@ -5,7 +5,6 @@
 //! bytes of a file are exactly those of their definitions.
 #![tactic(auto)]
 
-
 mod entries;
 mod entry;
 mod kinds;
@@ -23,3 +22,6 @@ mod words;
 
 pub use mark::{CodeWord, Mark};
 pub use relocs::{Relocs, read_relocs};
+
+#[cfg(test)]
+mod tests;

@@ -9,9 +9,9 @@ ghost use Rattle.sq_reloc.specs.Outside.{is_touched, is_beaten, is_stale, disagr
 
 use crate::entry::Entry;
 use crate::kinds::is_data_kind;
+use crate::mark::CodeWord;
 use crate::outside::{is_code_entry, is_outside, stale_bytes};
 use crate::targets::first_targets;
-use crate::mark::CodeWord;
 use sq_elf::{Elf, Text};
 use sq_num::Memory;
 use std::alloc::Global;

@@ -71,11 +71,7 @@ fn outside_refusal(entry: Entry) -> Refusal
 }
 
 /// The refusal by the entries: by their symbols, then by those outside text.
-pub fn entry_refusal(
-    elf: &Elf<'_>,
-    outside: &OutsideText<'_>,
-    entries: &[Entry],
-) -> Option<Refusal>
+pub fn entry_refusal(elf: &Elf<'_>, outside: &OutsideText<'_>, entries: &[Entry]) -> Option<Refusal>
     requires same { elf.now ≡ outside.now }
     requires all { entries.now ≡ entries_of elf.now }
     ensures { result ≡ first_refusal (entry_rows elf.now) }

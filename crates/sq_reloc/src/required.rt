@@ -79,11 +79,13 @@ fn has_low_i(half: i32, insn: Option<Insn>) -> bool
     ensures { result ≡ has_low_i half insn }
 {
     match insn {
-        Some(Insn::OpImm {
-            op: ImmOp::Addi,
-            imm,
-            ..
-        }) => imm == half,
+        Some(
+            Insn::OpImm {
+                op: ImmOp::Addi,
+                imm,
+                ..
+            },
+        ) => imm == half,
         Some(Insn::Load { offset, .. }) => offset == half,
         Some(Insn::Jalr { offset, .. }) => offset == half,
         _ => false,

@@ -57,7 +57,9 @@ impl Seen {
         };
         Seen {
             first: self.first.or(Some(first)),
-            unsupported: self.unsupported.or(kind_if(verdict.unsupported, entry.kind)),
+            unsupported: self
+                .unsupported
+                .or(kind_if(verdict.unsupported, entry.kind)),
             disagrees: self.disagrees.or(kind_if(verdict.disagrees, entry.kind)),
             differs: self.differs || self.is_unlike(entry),
             lone: self.lone || verdict.lone,

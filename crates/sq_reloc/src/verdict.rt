@@ -11,9 +11,7 @@ ghost use Rattle.sq_reloc.specs.Marks.{is_unsupported, is_lone, if_in_text, pair
 ghost use Rattle.sq_reloc.specs.Seen.{verdict_of};
 
 use crate::entry::Entry;
-use crate::kinds::{
-    HI20, LO12_I, LO12_S, PCREL_HI20, is_call, is_paired, is_text_kind,
-};
+use crate::kinds::{HI20, LO12_I, LO12_S, PCREL_HI20, is_call, is_paired, is_text_kind};
 use crate::mark::Mark;
 use crate::required::{agrees, has_pair, paired_target};
 use sq_elf::{Elf, Text, is_in_text};
@@ -93,7 +91,7 @@ fn mark_here(text: Text, upper: Option<u32>, entry: Entry) -> Mark
 fn mark_behind(elf: &Elf<'_>, entry: Entry) -> Mark
     ensures { result ≡ mark_behind elf.now entry }
 {
-    if has_pair(elf, entry) {
+    if is_call(entry.kind) && has_pair(elf, entry) {
         Mark::Lo(entry.target())
     } else {
         Mark::Plain

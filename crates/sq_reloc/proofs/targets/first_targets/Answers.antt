@@ -17,12 +17,12 @@ loop-entry-preserved g c = λ holds answers address.
     let before = c.loop-entry.invariant holds answers address in
     let answer : c.test.result ≡ holds e = answers e c.test.result c.test.ensures in
     elim c.if-test.branch [
-      then-test+in_ok-put_first w ↦
-        (let passes : holds e ≡ true = sym answer ∙ w.if-test.true in
-        ap (λ targets. tree.get nat_cmp targets address) w.targets-is ∙ w.in_ok-put_first.ensures address
-        ∙ sym (first_with holds entries c.loop-entry.entry-index no_entry address within old before passes))
-    | else-test w ↦
-        (let fails : holds e ≡ false = sym answer ∙ w.if-test.false in
-        ap (λ targets. tree.get nat_cmp targets address) w.targets-is
-        ∙ sym (first_without holds entries c.loop-entry.entry-index no_entry address within old before fails))
+      | then-test+in_ok-put_first w ↦
+          (let passes : holds e ≡ true = sym answer ∙ w.if-test.true in
+          ap (λ targets. tree.get nat_cmp targets address) w.targets-is ∙ w.in_ok-put_first.ensures address
+          ∙ sym (first_with holds entries c.loop-entry.entry-index no_entry address within old before passes))
+      | else-test w ↦
+          (let fails : holds e ≡ false = sym answer ∙ w.if-test.false in
+          ap (λ targets. tree.get nat_cmp targets address) w.targets-is
+          ∙ sym (first_without holds entries c.loop-entry.entry-index no_entry address within old before fails))
     ]
