@@ -13,6 +13,9 @@ const TEXT: u32 = 0x0001_0000;
 
 const DATA: u32 = 0x0002_0000;
 
+/// Where the contents of a built file begin.
+const CONTENTS: u32 = 396;
+
 /// An entry of a built file: offset, type, symbol and addend.
 #[derive(Clone, Copy, Debug)]
 struct Rela(u32, u32, u32, u32);
@@ -24,26 +27,44 @@ fn push_words(file: &mut Vec<u8>, words: &[u32]) -> Result<(), Memory> {
     Ok(())
 }
 
-fn push_section(
-    file: &mut Vec<u8>,
-    kind: u32,
-    flags: u32,
-    place: [u32; 3],
-    of: [u32; 3],
-) -> Result<(), Memory> {
-    let [address, offset, size] = place;
-    let [link, info, entsize] = of;
-    push_words(
-        file,
-        &[
-            0, kind, flags, address, offset, size, link, info, 0, entsize,
-        ],
-    )
+/// How many bytes so many things of a size have.
+fn size_of(count: usize, each: u32) -> u32 {
+    u32::try_from(count).unwrap_or(0).wrapping_mul(each)
 }
 
-/// A file with this text, writable data with 4 bytes more in memory than in the file, symbols with
-/// these values, and these entries in section 4. Section 5 is not in memory, and section 6 has
-/// relocations of another form for it, which are ignored.
+/// The header of a built file, and those of a text and a writable segment, which has 4 bytes more in
+/// memory than in the file. The contents stand behind seven section headers.
+fn push_headers(file: &mut Vec<u8>, text: u32, data: u32) -> Result<(), Memory> {
+    let data_at = CONTENTS.wrapping_add(text);
+    let memory = data.wrapping_add(4);
+    push_words(file, &[0x464c457f, 0x00010101, 0, 0, 0x00f30002, 1, TEXT])?;
+    push_words(file, &[52, 116, 0, 0x00200034, 0x00280002, 7])?;
+    push_words(file, &[1, CONTENTS, TEXT, TEXT, text, text, 5, 1])?;
+    push_words(file, &[1, data_at, DATA, DATA, data, memory, 6, 1])
+}
+
+/// The section headers of a built file. Section 5 is not in memory, and section 6 has relocations of
+/// another form for it, which are ignored.
+fn push_sections(
+    file: &mut Vec<u8>,
+    text: u32,
+    data: u32,
+    symbols: u32,
+    entries: u32,
+) -> Result<(), Memory> {
+    let data_at = CONTENTS.wrapping_add(text);
+    let symbols_at = data_at.wrapping_add(data);
+    let entries_at = symbols_at.wrapping_add(symbols);
+    push_words(file, &[0; 10])?;
+    push_words(file, &[0, 1, 6, TEXT, CONTENTS, text, 0, 0, 4, 0])?;
+    push_words(file, &[0, 1, 3, DATA, data_at, data, 0, 0, 4, 0])?;
+    push_words(file, &[0, 2, 0, 0, symbols_at, symbols, 0, 0, 4, 16])?;
+    push_words(file, &[0, 4, 0, 0, entries_at, entries, 3, 1, 4, 12])?;
+    push_words(file, &[0, 1, 0, 0, 0, 4, 0, 0, 4, 0])?;
+    push_words(file, &[0, 4, 0, 0, 0, 5, 9, 5, 4, 7])
+}
+
+/// A file with this text and data, symbols with these values, and these entries in section 4.
 fn file_of(
     alloc: Global,
     text: &[u32],
@@ -51,23 +72,16 @@ fn file_of(
     values: &[u32],
     entries: &[Rela],
 ) -> Result<Vec<u8>, Memory> {
-    let text_size = (text.len() as u32).wrapping_mul(4);
-    let data_size = (data.len() as u32).wrapping_mul(4);
-    let symbols_size = (values.len() as u32).wrapping_mul(16);
-    let entries_size = (entries.len() as u32).wrapping_mul(12);
-    let data_at = text_size.wrapping_add(116);
-    let symbols_at = data_at.wrapping_add(data_size);
-    let entries_at = symbols_at.wrapping_add(symbols_size);
-    let sections_at = entries_at.wrapping_add(entries_size);
+    let text_size = size_of(text.len(), 4);
+    let data_size = size_of(data.len(), 4);
     let mut file = Vec::new(alloc);
-    push_words(&mut file, &[0x464c_457f, 0x0001_0101, 0, 0])?;
-    push_words(&mut file, &[0x00f3_0002, 1, TEXT, 52, sections_at, 0])?;
-    push_words(&mut file, &[0x0020_0034, 0x0028_0002, 7])?;
-    push_words(&mut file, &[1, 116, TEXT, TEXT, text_size, text_size, 5, 1])?;
-    let memory_size = data_size.wrapping_add(4);
-    push_words(
+    push_headers(&mut file, text_size, data_size)?;
+    push_sections(
         &mut file,
-        &[1, data_at, DATA, DATA, data_size, memory_size, 6, 1],
+        text_size,
+        data_size,
+        size_of(values.len(), 16),
+        size_of(entries.len(), 12),
     )?;
     push_words(&mut file, text)?;
     push_words(&mut file, data)?;
@@ -78,13 +92,6 @@ fn file_of(
         let info = entry.1 | entry.2 << 8;
         push_words(&mut file, &[entry.0, info, entry.3])?;
     }
-    push_section(&mut file, 0, 0, [0, 0, 0], [0, 0, 0])?;
-    push_section(&mut file, 1, 6, [TEXT, 116, text_size], [0, 0, 0])?;
-    push_section(&mut file, 1, 3, [DATA, data_at, data_size], [0, 0, 0])?;
-    push_section(&mut file, 2, 0, [0, symbols_at, symbols_size], [0, 0, 16])?;
-    push_section(&mut file, 4, 0, [0, entries_at, entries_size], [3, 1, 12])?;
-    push_section(&mut file, 1, 0, [0, 0, 4], [0, 0, 0])?;
-    push_section(&mut file, 4, 0, [0, 0, 5], [9, 5, 7])?;
     Ok(file)
 }
 
@@ -306,109 +313,49 @@ const HALVES: [u32; 8] = [
     0x0000_8067,
 ];
 
+/// The mark of the word at this place of a file with `HALVES` and two entries. Symbol 1 has the value
+/// 0x10000 and symbol 2 the value 0x10008.
+fn mark_of_two(
+    alloc: Global,
+    first: Rela,
+    second: Rela,
+    place: u32,
+) -> Result<Option<Mark>, Denied> {
+    let values = [0, TEXT, 0x0001_0008];
+    let entries = [first, second];
+    let file = file_of(alloc, &HALVES, &[0], &values, &entries)?;
+    mark(alloc, file.as_slice(), TEXT.wrapping_add(place))
+}
+
 #[test]
 fn marks_follow_the_rules(rt: HostRuntime) -> Result<(), Fail> {
     let to = 0x0001_001c;
-    // Two entries, the word that is looked at, and its mark. Symbol 1 has the value 0x10000 and
-    // symbol 2 the value 0x10008.
+    let upper = Rela(0x0001_0000, 23, 0, to);
+    let second_upper = Rela(0x0001_0008, 23, 0, to);
+    let high = Rela(0x0001_0008, 26, 0, to);
+    // Two entries, the word that is looked at, and its mark.
     let cases = [
-        (
-            [Rela(TEXT, 23, 0, to), Rela(TEXT + 4, 24, 1, 0)],
-            4,
-            Mark::Lo(to),
-        ),
-        (
-            [Rela(TEXT + 8, 23, 0, to), Rela(TEXT + 12, 24, 2, 0)],
-            12,
-            Mark::Lo(to),
-        ),
-        (
-            [Rela(TEXT + 8, 23, 0, to), Rela(TEXT + 16, 25, 2, 0)],
-            16,
-            Mark::Lo(to),
-        ),
-        (
-            [Rela(TEXT, 26, 0, to), Rela(TEXT + 4, 24, 1, 0)],
-            4,
-            Mark::Lone,
-        ),
-        (
-            [Rela(TEXT, 23, 0, to), Rela(TEXT + 4, 24, 1, 4)],
-            4,
-            Mark::Lone,
-        ),
-        (
-            [Rela(TEXT + 8, 26, 0, to), Rela(TEXT + 12, 27, 0, to)],
-            8,
-            Mark::Hi(to),
-        ),
-        (
-            [Rela(TEXT + 8, 26, 0, to), Rela(TEXT + 12, 27, 0, to)],
-            12,
-            Mark::Lo(to),
-        ),
-        (
-            [
-                Rela(TEXT + 8, 26, 0, 0x0001_0020),
-                Rela(TEXT + 16, 28, 0, to),
-            ],
-            8,
-            Mark::Plain,
-        ),
-        (
-            [Rela(TEXT + 8, 26, 0, to), Rela(TEXT + 8, 27, 0, to)],
-            8,
-            Mark::Disagrees(27),
-        ),
-        (
-            [
-                Rela(TEXT + 8, 26, 0, to),
-                Rela(TEXT + 8, 26, 0, 0x0001_0018),
-            ],
-            8,
-            Mark::Conflict,
-        ),
-        (
-            [Rela(TEXT + 8, 26, 0, to), Rela(TEXT + 8, 26, 1, 28)],
-            8,
-            Mark::Hi(to),
-        ),
-        (
-            [Rela(TEXT + 20, 16, 0, to), Rela(TEXT + 24, 26, 0, to)],
-            20,
-            Mark::Plain,
-        ),
-        (
-            [Rela(TEXT + 20, 16, 0, TEXT + 24), Rela(TEXT, 23, 0, to)],
-            20,
-            Mark::Disagrees(16),
-        ),
-        (
-            [Rela(TEXT + 24, 19, 0, to), Rela(TEXT, 23, 0, to)],
-            28,
-            Mark::Disagrees(19),
-        ),
-        (
-            [Rela(TEXT + 22, 1, 0, 0), Rela(TEXT + 24, 17, 0, to)],
-            24,
-            Mark::Unsupported(1),
-        ),
-        (
-            [Rela(TEXT + 10, 26, 0, to), Rela(TEXT, 3, 0, 0)],
-            12,
-            Mark::Unsupported(26),
-        ),
-        (
-            [Rela(TEXT + 5, 3, 0, 0), Rela(TEXT, 23, 0, to)],
-            8,
-            Mark::Plain,
-        ),
-        ([Rela(TEXT, 0, 0, 0), Rela(TEXT, 43, 9, 4)], 0, Mark::Plain),
+        (upper, Rela(0x0001_0004, 24, 1, 0), 4, Mark::Lo(to)),
+        (second_upper, Rela(0x0001_000c, 24, 2, 0), 12, Mark::Lo(to)),
+        (second_upper, Rela(0x0001_0010, 25, 2, 0), 16, Mark::Lo(to)),
+        (high, Rela(0x0001_000c, 24, 2, 0), 12, Mark::Lone),
+        (upper, Rela(0x0001_0004, 24, 1, 4), 4, Mark::Lone),
+        (high, Rela(0x0001_000c, 27, 0, to), 8, Mark::Hi(to)),
+        (high, Rela(0x0001_000c, 27, 0, to), 12, Mark::Lo(to)),
+        (Rela(0x0001_0008, 26, 0, 0x0001_0020), upper, 8, Mark::Plain),
+        (high, Rela(0x0001_0008, 27, 0, to), 8, Mark::Disagrees(27)),
+        (high, Rela(0x0001_0008, 26, 0, 0x0001_0018), 8, Mark::Conflict),
+        (high, Rela(0x0001_0008, 26, 1, 28), 8, Mark::Hi(to)),
+        (Rela(0x0001_0014, 16, 0, to), upper, 20, Mark::Plain),
+        (Rela(0x0001_0014, 16, 0, 0x0001_0018), upper, 20, Mark::Disagrees(16)),
+        (Rela(0x0001_0018, 19, 0, to), upper, 28, Mark::Disagrees(19)),
+        (Rela(0x0001_0016, 1, 0, 0), Rela(0x0001_0018, 17, 0, to), 24, Mark::Unsupported(1)),
+        (Rela(0x0001_000a, 26, 0, to), upper, 12, Mark::Unsupported(26)),
+        (Rela(0x0001_0005, 3, 0, 0), upper, 8, Mark::Plain),
+        (Rela(0x0001_0000, 0, 9, 0), Rela(0x0001_0000, 43, 9, 4), 0, Mark::Plain),
     ];
-    for (entries, place, expected) in cases {
-        let values = [0, TEXT, TEXT + 8];
-        let file = file_of(rt.alloc(), &HALVES, &[0], &values, &entries)?;
-        let found = mark(rt.alloc(), file.as_slice(), TEXT + place)?;
+    for (first, second, place, expected) in cases {
+        let found = mark_of_two(rt.alloc(), first, second, place)?;
         assert_eq!(rt; found, Some(expected), "at {place}");
     }
     Ok(())
