@@ -4,3 +4,5 @@ pub mod EntryRows
 pub mod SeenMore
 pub mod Marked
 pub mod Phases
+pub mod CodeWordFacts
+pub mod Found

@@ -1,5 +1,5 @@
 -- The mark that is read off the words of text.
-use Rattle.std.proofs.Common.{◌≡◌, ℕ, ◌+◌, ◌-◌, ◌*◌, ◌/◌, ◌%◌, ◌<◌, ◌≤◌, Bool, true, ◌&&◌, nat_eq, nat_lt, nat_le, List, length, get_or, subst, sym, ap, ◌∙◌, arith}
+use Rattle.std.proofs.Common.{◌≡◌, ℕ, ◌+◌, ◌-◌, ◌*◌, ◌/◌, ◌%◌, ◌<◌, ◌≤◌, true, nat_eq, nat_lt, nat_le, List, length, get_or, subst, sym, ap, ◌∙◌, arith}
 use Rattle.std.proofs.lemmas.Bool.Decides.{nat_tests}
 use Rattle.std.proofs.lemmas.List.{get_or_default}
 use Rattle.sq_elf.specs.declared.text.Text.{Text}
@@ -7,7 +7,7 @@ use Rattle.sq_elf.specs.Text.{text_of, is_in_text, is_text_word}
 use Rattle.sq_elf.proofs.TextFacts.{both_true}
 use Rattle.sq_reloc.specs.declared.seen.Seen.{Seen}
 use Rattle.sq_reloc.specs.Marks.{touching, mark_of}
-use Rattle.sq_reloc.specs.Seen.{seen_of, nothing_seen, nth_seen, mark_seen, word_count, AreWordsBy}
+use Rattle.sq_reloc.specs.Seen.{seen_of, nothing_seen, nth_seen, mark_seen, AreWordsBy}
 use Rattle.sq_reloc.proofs.SeenMore.{seen_mark}
 
 -- what a word of text is

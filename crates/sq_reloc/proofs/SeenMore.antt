@@ -1,5 +1,5 @@
 -- What the entries say of a word, with one entry more.
-use Rattle.std.proofs.Common.{◌≡◌, ℕ, ◌+◌, ◌<◌, Bool, true, false, not, ◌||◌, nat_eq, cond, if◌then◌else◌, List, [], ◌∷◌, ◌++◌, length, get_or, take, Option, Some, None, refl, sym, ap, ◌∙◌}
+use Rattle.std.proofs.Common.{◌≡◌, ℕ, ◌+◌, ◌<◌, Bool, true, false, ◌||◌, cond, if◌then◌else◌, List, [], ◌∷◌, ◌++◌, length, get_or, take, Option, Some, None, refl, sym, ap, ◌∙◌}
 use Rattle.std.specs.Option.{option_map, option_map_or, option_or}
 use Rattle.std.specs.List.{list_any, find, filter}
 use Rattle.std.proofs.lemmas.Grind.{take_at_read}
@@ -7,10 +7,8 @@ use Rattle.std.proofs.lemmas.List.Folds.{find-append, list_any-append}
 use Rattle.sq_elf.specs.Text.{text_of}
 use Rattle.sq_reloc.specs.declared.entry.Entry.{Entry}
 use Rattle.sq_reloc.specs.declared.mark.Mark.{Mark}
-use Rattle.sq_reloc.specs.declared.mark.Mark.TheVariants.{Plain, Unsupported, Disagrees, Conflict, Lone}
-use Rattle.sq_reloc.specs.declared.seen.First.{First}
+use Rattle.sq_reloc.specs.declared.mark.Mark.TheVariants.{Plain, Unsupported, Disagrees}
 use Rattle.sq_reloc.specs.declared.seen.Seen.{Seen}
-use Rattle.sq_reloc.specs.Entries.{target_of}
 use Rattle.sq_reloc.specs.Kinds.{touches_word}
 use Rattle.sq_reloc.specs.Marks.{is_unsupported, is_disagreeing, is_lone_entry, differs, differ, entry_mark, first_mark, faulty, mark_by}
 use Rattle.sq_reloc.specs.Seen.{verdict_of, mark_at, first_of, first_seen, seen_of, is_unlike, kind_if, seen_with, mark_seen}

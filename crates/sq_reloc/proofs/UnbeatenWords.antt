@@ -1,17 +1,16 @@
 -- The unbeaten targets of code entries, by ascending address, are the code words of the file.
-use Rattle.std.proofs.Common.{◌≡◌, ◌<◌, ℕ, Bool, true, false, nat_eq, nat_lt, cond, if◌then◌else◌, List, [], ◌∷◌, map, Option, Some, None, refl, sym, ap, ◌∙◌, arith}
-use Rattle.std.specs.Option.{option_map}
-use Rattle.std.specs.Ordering.{nat_cmp, is_eq}
+use Rattle.std.proofs.Common.{◌≡◌, ◌<◌, ℕ, Bool, true, false, nat_eq, nat_lt, cond, if◌then◌else◌, List, [], ◌∷◌, Option, Some, None, refl, sym, ap, ◌∙◌, arith}
+use Rattle.std.specs.Ordering.{nat_cmp}
 use Rattle.std.specs.declared.cmp.Ordering.TheVariants.{Less, Equal, Greater}
 use Rattle.std.specs.BTreeMap.{BTreeMap, IsOrdered, is_at}
 use Rattle.std.specs.BTreeMap as tree
 use Rattle.std.specs.Map.{lookup, keys_of}
-use Rattle.std.specs.List.{AllByRecursion, find}
+use Rattle.std.specs.List.{AllByRecursion}
 use Rattle.std.specs.List.Sorted.{IsStrictlySortedBy}
 use Rattle.std.proofs.lemmas.Bool.Decides.{nat_tests}
 use Rattle.std.proofs.lemmas.Map.Keys.{sorted_head, sorted_tail}
 use Rattle.sq_reloc.specs.declared.mark.CodeWord.{CodeWord}
-use Rattle.sq_reloc.specs.Outside.{is_beaten, code_target, code_word_at}
+use Rattle.sq_reloc.specs.Outside.{is_beaten, code_target}
 use Rattle.sq_reloc.specs.CodeWords.{IsAscending, listed_at, unbeaten, AreCodeWords}
 
 -- of the order of numbers

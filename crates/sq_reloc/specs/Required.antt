@@ -1,13 +1,12 @@
 -- What an entry in text asks of its instruction, by the relocation types of the RISC-V ELF psABI. P is the entry's
 -- offset, S its symbol's value, A its addend, T = S + A.
 use Rattle.std.specs.Prelude.{ℕ, ℤ, ◌+◌, ◌-◌, ◌%◌, ◌^◌, Bool, true, false, ◌&&◌, ◌||◌, nat_eq, if◌then◌else◌, List, Option, Some, None}
-use Rattle.std.specs.Option.{option_map, option_and_then, is_some}
+use Rattle.std.specs.Option.{option_map, option_and_then}
 use Rattle.std.specs.Ordering.{int_eq}
 use Rattle.std.specs.Int.{cast_unsigned, w32}
 use Rattle.sq_num.specs.Halves.{high_half, low_half}
 use Rattle.sq_isa.specs.declared.instructions.Insn.{Insn}
 use Rattle.sq_isa.specs.declared.instructions.Insn.TheVariants.{Lui, Auipc, Jal, Jalr, Branch, Load, Store, OpImm}
-use Rattle.sq_isa.specs.declared.instructions.ImmOp.{ImmOp}
 use Rattle.sq_isa.specs.declared.instructions.ImmOp.TheVariants.{Addi}
 use Rattle.sq_isa.specs.Table.{insn_of}
 use Rattle.sq_elf.specs.Reading.{word_of}

@@ -9,10 +9,9 @@ use Rattle.sq_reloc.specs.declared.mark.Mark.TheVariants.{Plain, Unsupported, Di
 use Rattle.sq_reloc.specs.declared.verdict.Verdict.{Verdict}
 use Rattle.sq_reloc.specs.declared.seen.First.{First}
 use Rattle.sq_reloc.specs.declared.seen.Seen.{Seen}
-use Rattle.sq_reloc.specs.Kinds.{touches_word}
 use Rattle.sq_reloc.specs.Entries.{target_of}
 use Rattle.sq_reloc.specs.Required.{upper_target}
-use Rattle.sq_reloc.specs.Marks.{is_unsupported, is_disagreeing, is_lone_entry, differ, mark_here, mark_behind, entry_mark, touching}
+use Rattle.sq_reloc.specs.Marks.{is_unsupported, is_disagreeing, is_lone_entry, differ, mark_here, mark_behind, entry_mark}
 
 -- what an entry says of the words that it touches
 abbrev pub verdict_of : List ℕ → Entry → Verdict

@@ -1,10 +1,10 @@
 //! The relocations of an accepted file. Contracts see them as the bytes of the file.
 
-ghost use Rattle.std.specs.Prelude.{◌≡◌, true, ◌⊎◌, IfOk, OnOk, Some, None};
+ghost use Rattle.std.specs.Prelude.{◌≡◌, ℕ, true, ◌⊎◌, IfOk, OnOk, Some, None};
 ghost use Rattle.sq_num.specs.declared.refusal.Refusal.{Refusal};
 ghost use Rattle.sq_elf.specs.Text.{text_of, is_text_word};
-ghost use Rattle.sq_reloc.specs.Outside.{is_stale};
-ghost use Rattle.sq_reloc.specs.CodeWords.{AreCodeWords};
+ghost use Rattle.sq_reloc.specs.Outside.{code_word_at, is_stale};
+ghost use Rattle.sq_reloc.specs.CodeWords.{AreCodeWords, IsCodeWord};
 ghost use Rattle.sq_reloc.specs.Marks.{mark_of};
 ghost use Rattle.sq_reloc.specs.Refusing.{reloc_refusal_of};
 
@@ -79,6 +79,7 @@ impl<'a> Relocs<'a> {
     /// The code words of the file, ascending by address and without repeats.
     pub fn code_words(&self) -> &[CodeWord]
         ensures value { AreCodeWords self.now result.now }
+        ensures each { (address target : ℕ) → code_word_at self.now address ≡ Some target → IsCodeWord self.now address target }
         ensures accepted { reloc_refusal_of self.now ≡ None }
     {
         self.code_words.as_slice()

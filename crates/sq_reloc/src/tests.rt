@@ -344,15 +344,40 @@ fn marks_follow_the_rules(rt: HostRuntime) -> Result<(), Fail> {
         (high, Rela(0x0001_000c, 27, 0, to), 12, Mark::Lo(to)),
         (Rela(0x0001_0008, 26, 0, 0x0001_0020), upper, 8, Mark::Plain),
         (high, Rela(0x0001_0008, 27, 0, to), 8, Mark::Disagrees(27)),
-        (high, Rela(0x0001_0008, 26, 0, 0x0001_0018), 8, Mark::Conflict),
+        (
+            high,
+            Rela(0x0001_0008, 26, 0, 0x0001_0018),
+            8,
+            Mark::Conflict,
+        ),
         (high, Rela(0x0001_0008, 26, 1, 28), 8, Mark::Hi(to)),
         (Rela(0x0001_0014, 16, 0, to), upper, 20, Mark::Plain),
-        (Rela(0x0001_0014, 16, 0, 0x0001_0018), upper, 20, Mark::Disagrees(16)),
+        (
+            Rela(0x0001_0014, 16, 0, 0x0001_0018),
+            upper,
+            20,
+            Mark::Disagrees(16),
+        ),
         (Rela(0x0001_0018, 19, 0, to), upper, 28, Mark::Disagrees(19)),
-        (Rela(0x0001_0016, 1, 0, 0), Rela(0x0001_0018, 17, 0, to), 24, Mark::Unsupported(1)),
-        (Rela(0x0001_000a, 26, 0, to), upper, 12, Mark::Unsupported(26)),
+        (
+            Rela(0x0001_0016, 1, 0, 0),
+            Rela(0x0001_0018, 17, 0, to),
+            24,
+            Mark::Unsupported(1),
+        ),
+        (
+            Rela(0x0001_000a, 26, 0, to),
+            upper,
+            12,
+            Mark::Unsupported(26),
+        ),
         (Rela(0x0001_0005, 3, 0, 0), upper, 8, Mark::Plain),
-        (Rela(0x0001_0000, 0, 9, 0), Rela(0x0001_0000, 43, 9, 4), 0, Mark::Plain),
+        (
+            Rela(0x0001_0000, 0, 9, 0),
+            Rela(0x0001_0000, 43, 9, 4),
+            0,
+            Mark::Plain,
+        ),
     ];
     for (first, second, place, expected) in cases {
         let found = mark_of_two(rt.alloc(), first, second, place)?;

@@ -1,5 +1,5 @@
 -- the symbols first, then what is outside text
-use Rattle.std.proofs.Common.{◌≡◌, ℕ, List, [], ◌∷◌, Option, Some, None, subst, ap, sym, ◌∙◌}
+use Rattle.std.proofs.Common.{◌≡◌, ℕ, List, [], ◌∷◌, Some, None, subst, ap, ◌∙◌}
 use Rattle.sq_num.specs.Refusals.{first_refusal}
 use Rattle.sq_reloc.specs.declared.entry.Entry.{Entry}
 use Rattle.sq_reloc.specs.Entries.{entries_of}

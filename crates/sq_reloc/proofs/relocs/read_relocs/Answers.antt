@@ -1,7 +1,5 @@
 -- the phases one after the other; what is kept is that of the file
-use Rattle.std.proofs.Common.{◌≡◌, ◌⊎◌, inl, inr, ℕ, List, Option, Some, None, refl, subst, sym, ap, ◌∙◌}
-use Rattle.sq_num.specs.declared.refusal.Refusal.{Refusal}
-use Rattle.sq_reloc.specs.declared.mark.CodeWord.{CodeWord}
+use Rattle.std.proofs.Common.{◌≡◌, inl, ℕ, List, Some, None, refl, subst, sym, ap, ◌∙◌}
 use Rattle.sq_reloc.specs.CodeWords.{AreCodeWords}
 use Rattle.sq_reloc.specs.Reading.{Keeps}
 use Rattle.sq_reloc.specs.Refusing.{reloc_refusal_of}

@@ -1,5 +1,5 @@
 -- an entry that passes gives its target to its address, where that has none
-use Rattle.std.proofs.Common.{◌≡◌, ◌<◌, Bool, true, false, List, Option, ℕ, length, get_or, sym, ap, ◌∙◌, arith}
+use Rattle.std.proofs.Common.{◌≡◌, ◌<◌, true, false, List, Option, ℕ, length, get_or, sym, ap, ◌∙◌, arith}
 use Rattle.std.specs.Ordering.{nat_cmp}
 use Rattle.std.specs.BTreeMap as tree
 use Rattle.sq_reloc.specs.declared.entry.Entry.{Entry}

@@ -2,7 +2,6 @@
 use Rattle.std.proofs.Common.{◌≡◌, ℕ, List, true, subst, sym, ◌∙◌, ap}
 use Rattle.sq_elf.specs.Text.{text_of, is_text_word}
 use Rattle.sq_reloc.specs.Marks.{mark_of}
-use Rattle.sq_reloc.specs.Seen.{mark_seen}
 use Rattle.sq_reloc.proofs.Marked.{marked}
 use Rattle.sq_reloc.proofs.relocs.Relocs.mark.Goals as goal
 
