@@ -21,11 +21,13 @@ mod totals;
 mod word;
 
 pub use elf::{Elf, read_elf};
+pub use first::first_where;
+pub use header::u32_field;
 pub use image::{Image, Piece};
 pub use refusing::LONGEST_FILE;
 pub use section::Section;
 pub use segment::Segment;
-pub use text::Text;
+pub use text::{Text, is_in_text, is_text_word};
 
 #[cfg(test)]
 mod tests;

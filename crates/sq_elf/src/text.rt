@@ -125,7 +125,7 @@ pub fn text_segment(bytes: &[u8]) -> u32
 }
 
 /// Whether the address is in text.
-fn is_in_text(text: Text, address: u32) -> bool
+pub fn is_in_text(text: Text, address: u32) -> bool
     ensures { result ≡ is_in_text text address }
 {
     text.lo <= address && u64::from(address) < text.hi

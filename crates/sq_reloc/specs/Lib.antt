@@ -1,0 +1,10 @@
+pub mod CodeWords
+pub mod Entries
+pub mod Kinds
+pub mod Marks
+pub mod Outside
+pub mod Reading
+pub mod Refusing
+pub mod Required
+pub mod Seen
+pub mod Tables

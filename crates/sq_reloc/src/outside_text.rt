@@ -1,0 +1,130 @@
+//! What the entries outside text say together.
+
+ghost use Rattle.std.specs.Prelude.{◌≡◌, IfOk};
+ghost use Rattle.std.specs.Ordering.{nat_cmp};
+ghost use Rattle.std.specs.BTreeMap.{IsOrdered};
+ghost use Rattle.sq_reloc.specs.CodeWords.{unbeaten, AreCodeWords};
+ghost use Rattle.sq_reloc.specs.Entries.{entries_of};
+ghost use Rattle.sq_reloc.specs.Outside.{is_touched, is_beaten, is_stale, disagrees_outside, is_refused_outside};
+
+use crate::entry::Entry;
+use crate::kinds::is_data_kind;
+use crate::mark::CodeWord;
+use crate::outside::{is_code_entry, is_outside, stale_bytes};
+use crate::targets::first_targets;
+use sq_elf::{Elf, Text};
+use sq_num::Memory;
+use std::alloc::Global;
+use std::collections::{BTreeMap, HashSet};
+use std::marker::Model;
+
+/// The bytes that entries make stale, and the targets of code entries. Contracts see it as the bytes
+/// of the file.
+#[derive(Drop)]
+pub struct OutsideText<'a> {
+    bytes: &'a [u8],
+    text: Text,
+    stale: HashSet<u64>,
+    targets: BTreeMap<u32, u32>,
+}
+
+impl<'a> Model for OutsideText<'a> {
+    ghost use Rattle.std.specs.Prelude.{List, ℕ};
+    ghost use Rattle.sq_reloc.specs.Reading.{KeepsOutside};
+
+    ghost Value = { List ℕ };
+
+    ghost view = { λ o. o.bytes.now };
+
+    ghost invariant = { λ o. KeepsOutside o.bytes.now o.text o.stale o.targets };
+}
+
+impl<'a> OutsideText<'a> {
+    /// What the entries of the file say of what is outside text.
+    pub fn new(alloc: Global, elf: &Elf<'a>, entries: &[Entry]) -> Result<OutsideText<'a>, Memory>
+        requires { entries.now ≡ entries_of elf.now }
+        ensures { IfOk result (λ o. o ≡ elf.now) }
+    {
+        let text = elf.text();
+        let stale = stale_bytes(alloc, text, entries)?;
+        let targets = first_targets(alloc, entries, |entry| is_code_entry(text, entry))?;
+        Ok(OutsideText {
+            bytes: elf.bytes(),
+            text,
+            stale,
+            targets,
+        })
+    }
+
+    /// Whether an entry makes the byte stale.
+    fn is_touched(&self, address: u64) -> bool
+        ensures { result ≡ is_touched self.now address }
+    {
+        let in_text = u64::from(self.text.lo) <= address && address < self.text.hi;
+        !in_text && self.stale.contains(&address)
+    }
+
+    /// Whether one of the four bytes from the address on is made stale.
+    fn is_beaten(&self, address: u32) -> bool
+        ensures { result ≡ is_beaten self.now address }
+    {
+        let start = u64::from(address);
+        self.is_touched(start)
+            || self.is_touched(start + 1)
+            || self.is_touched(start + 2)
+            || self.is_touched(start + 3)
+    }
+
+    /// The code words of the file, ascending.
+    pub fn code_words(&self, alloc: Global) -> Result<Vec<CodeWord>, Memory>
+        ensures { IfOk result (λ words. AreCodeWords self.now words.items) }
+    {
+        let words = unbeaten_words(alloc, self, &self.targets)?;
+        Ok(words)
+    }
+
+    /// Whether the byte is stale.
+    pub fn is_stale(&self, address: u32) -> bool
+        ensures { result ≡ is_stale self.now address }
+    {
+        let start = address - address % 4;
+        self.is_touched(u64::from(address))
+            || self.targets.contains_key(&start) && self.is_beaten(start)
+    }
+
+    /// Whether the word in the file is not the one that a code entry asks for, which counts.
+    fn disagrees(&self, elf: &Elf<'_>, entry: Entry) -> bool
+        requires { elf.now ≡ self.now }
+        ensures { result ≡ disagrees_outside self.now entry }
+    {
+        is_code_entry(self.text, entry)
+            && !self.is_beaten(entry.offset)
+            && elf.word(entry.offset) != Some(entry.target())
+    }
+
+    /// Whether the entry stands outside text and is refused, by its type or by the word in the file.
+    pub fn is_refused(&self, elf: &Elf<'_>, entry: Entry) -> bool
+        requires { elf.now ≡ self.now }
+        ensures { result ≡ is_refused_outside self.now entry }
+    {
+        is_outside(self.text, entry) && (!is_data_kind(entry.kind) || self.disagrees(elf, entry))
+    }
+}
+
+/// The code words of those targets whose address is not beaten.
+fn unbeaten_words(
+    alloc: Global,
+    outside: &OutsideText<'_>,
+    targets: &BTreeMap<u32, u32>,
+) -> Result<Vec<CodeWord>, Memory>
+    ensures value { IfOk result (λ words. words.items ≡ unbeaten (is_beaten outside.now) targets.now.entries) }
+    ensures ordered { IsOrdered nat_cmp targets.now }
+{
+    let mut words = Vec::new(alloc);
+    for (at, to) in targets {
+        if !outside.is_beaten(*at) {
+            words.push(CodeWord { at: *at, to: *to })?;
+        }
+    }
+    Ok(words)
+}

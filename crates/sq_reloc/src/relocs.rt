@@ -1,0 +1,95 @@
+//! The relocations of an accepted file. Contracts see them as the bytes of the file.
+
+ghost use Rattle.std.specs.Prelude.{◌≡◌, ℕ, true, ◌⊎◌, IfOk, OnOk, Some, None};
+ghost use Rattle.sq_num.specs.declared.refusal.Refusal.{Refusal};
+ghost use Rattle.sq_elf.specs.Text.{text_of, is_text_word};
+ghost use Rattle.sq_reloc.specs.Outside.{code_word_at, is_stale};
+ghost use Rattle.sq_reloc.specs.CodeWords.{AreCodeWords, IsCodeWord};
+ghost use Rattle.sq_reloc.specs.Marks.{mark_of};
+ghost use Rattle.sq_reloc.specs.Refusing.{reloc_refusal_of};
+
+use crate::entries::entries_of;
+use crate::mark::{CodeWord, Mark};
+use crate::outside_text::OutsideText;
+use crate::refusing::{entry_refusal, table_refusal};
+use crate::seen::Seen;
+use crate::words::words_of;
+use sq_elf::{Elf, Text};
+use sq_num::Denied;
+use std::alloc::Global;
+use std::marker::Model;
+
+/// What the relocations say of a file that is not refused.
+#[derive(Drop)]
+pub struct Relocs<'a> {
+    outside: OutsideText<'a>,
+    text: Text,
+    words: Vec<Seen>,
+    code_words: Vec<CodeWord>,
+}
+
+impl<'a> Model for Relocs<'a> {
+    ghost use Rattle.std.specs.Prelude.{List, ℕ};
+    ghost use Rattle.sq_reloc.specs.Reading.{Keeps};
+
+    ghost Value = { List ℕ };
+
+    ghost view = { λ r. r.outside };
+
+    ghost invariant = { λ r. Keeps r.outside r.text r.words.items r.code_words.items };
+}
+
+/// Reads the relocations of the file, or refuses it by the first row of their table that fails. Beside
+/// the sorting by addresses it takes a time that is linear in the entries and in the words of text.
+pub fn read_relocs<'a>(alloc: Global, elf: &Elf<'a>) -> Result<Relocs<'a>, Denied>
+    ensures read { IfOk result (λ relocs. relocs ≡ elf.now) }
+    ensures accepted { OnOk result (reloc_refusal_of elf.now ≡ None) }
+    ensures refused { (refusal : Refusal) → result ≡ Err (Denied.Refused refusal) → reloc_refusal_of elf.now ≡ Some refusal }
+    ensures exact { (refusal : Refusal) → reloc_refusal_of elf.now ≡ Some refusal → (result ≡ Err (Denied.Refused refusal)) ⊎ (result ≡ Err Denied.Memory) }
+{
+    if let Some(refusal) = table_refusal(elf) {
+        return Err(Denied::Refused(refusal));
+    }
+    let entries = entries_of(alloc, elf)?;
+    let outside = OutsideText::new(alloc, elf, &entries)?;
+    if let Some(refusal) = entry_refusal(elf, &outside, &entries) {
+        return Err(Denied::Refused(refusal));
+    }
+    let words = words_of(alloc, elf, &entries)?;
+    let code_words = outside.code_words(alloc)?;
+    Ok(Relocs {
+        outside,
+        text: elf.text(),
+        words,
+        code_words,
+    })
+}
+
+impl<'a> Relocs<'a> {
+    /// What the relocations say of the word of text at the address. It takes no memory, and always the
+    /// same time.
+    pub fn mark(&self, address: u32) -> Mark
+        requires { is_text_word (text_of self.now) address ≡ true }
+        ensures { result ≡ mark_of self.now address }
+    {
+        let place = (address - self.text.lo) / 4;
+        self.words[place as usize].mark()
+    }
+
+    /// The code words of the file, ascending by address and without repeats.
+    pub fn code_words(&self) -> &[CodeWord]
+        ensures value { AreCodeWords self.now result.now }
+        ensures each { (address target : ℕ) → code_word_at self.now address ≡ Some target → IsCodeWord self.now address target }
+        ensures accepted { reloc_refusal_of self.now ≡ None }
+    {
+        self.code_words.as_slice()
+    }
+
+    /// Whether the byte at the address is stale: it stands outside text and holds part of an address
+    /// of text that is no code word.
+    pub fn stale(&self, address: u32) -> bool
+        ensures { result ≡ is_stale self.now address }
+    {
+        self.outside.is_stale(address)
+    }
+}
