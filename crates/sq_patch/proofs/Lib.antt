@@ -5,3 +5,4 @@ mod Rows
 mod Deeds
 mod LiveTargets
 mod LiveSteps
+mod Starts
