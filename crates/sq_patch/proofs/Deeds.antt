@@ -53,7 +53,7 @@ written_cases r x (inr e) f (inl g) = rw (no_ x r e, yes x 0 g) refl
 written_cases r x (inr e) f (inr g) = rw (no_ x r e, no_ x 0 g, no_ r x (λ h. e (sym h))) refl
 
 -- whether x is the register that is written, by either test
-written_test : (r x : ℕ) → (x == r && not (r == 0)) ≡ is_register r x
+pub written_test : (r x : ℕ) → (x == r && not (r == 0)) ≡ is_register r x
 written_test r x = written_cases r x (cases_eq x r) (cases_eq r 0) (cases_eq x 0)
 
 module _ (P : ℕ → Type 0) (T : Ties) where

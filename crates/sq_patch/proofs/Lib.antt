@@ -6,3 +6,4 @@ mod Deeds
 mod LiveTargets
 mod LiveSteps
 mod Starts
+mod Patch

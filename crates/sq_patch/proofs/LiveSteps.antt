@@ -67,7 +67,7 @@ upper_same g n imm (Num x) u h e = absurd (cc)
 upper_same g n imm (Tagged (Code m)) u h e = absurd (cc)
 upper_same g n imm (Tagged (Part m word)) u h e = subst (λ v. is_upper_half n imm v ≡ true) (sym h) e
 
-not_zero : (q : ℕ) → (suc q == 0) ≡ false
+pub not_zero : (q : ℕ) → (suc q == 0) ≡ false
 not_zero q = grind (arith, nat_tests)
 
 same_one : (r : ℕ) → (r == r) ≡ true
@@ -77,7 +77,7 @@ same_one r = grind (arith, nat_tests)
 later : (r : ℕ) (rs : List ℕ) (q : ℕ) → is_among_but_x0 rs q ≡ true → is_among_but_x0 (r ∷ rs) q ≡ true
 later r rs q e = let p = and_parts (not (q == 0)) (is_among rs q) e in rw (p.0, p.1) (true_right (r == q))
 
-own_sources : (Stands : ℕ → ℕ → Type 0) (rs : List ℕ) → ((r : ℕ) → is_among_but_x0 rs r ≡ true → Stands r r) → AreSources Stands rs rs
+pub own_sources : (Stands : ℕ → ℕ → Type 0) (rs : List ℕ) → ((r : ℕ) → is_among_but_x0 rs r ≡ true → Stands r r) → AreSources Stands rs rs
 own_sources Stands [] h = tt
 own_sources Stands (r ∷ rs) h = (
   own_source Stands r (λ q e. h r (rw (same_one r, ap (λ n. n == 0) e ∙ not_zero q) refl)),
@@ -85,7 +85,7 @@ own_sources Stands (r ∷ rs) h = (
 )
 
 -- no register is x0
-no_link : (r : ℕ) → is_register 0 r ≡ false
+pub no_link : (r : ℕ) → is_register 0 r ≡ false
 no_link r = grind (arith, nat_tests)
 
 module _ (w : World) (start : Start) (g : Graph) where

@@ -1,3 +1,4 @@
 pub mod Agreement
 pub mod Registers
 pub mod LiveAgreement
+pub mod Changes
