@@ -17,7 +17,8 @@ use Rattle.sq_isa.specs.declared.instructions.ImmOp.TheVariants.{Addi}
 use Rattle.sq_runs.specs.Runs.{Next, Went, Ended, Broke}
 use Rattle.sq_runs.specs.Simulation.{Matches, Meets, Simulates}
 use Rattle.sq_runs.proofs.Simulate.{follows_by, meets_now, meets_skip, meets_wait, meets_broke}
-use Rattle.sq_system.specs.Starts.{Start}
+use Rattle.sq_memory.specs.Regions.{get}
+use Rattle.sq_system.specs.Starts.{Start, stack_pointer}
 use Rattle.sq_system.specs.World.{is_executable}
 use Rattle.sq_system.specs.declared.event.Halt.TheVariants.{Fetch}
 use Rattle.sq_graph.specs.declared.item.Term.{Term}
@@ -30,12 +31,12 @@ use Rattle.sq_follow.specs.declared.kind.Kind.{Kind}
 use Rattle.sq_follow.specs.declared.kind.Kind.TheVariants.{Half as HalfBreak, Jump as JumpBreak}
 use Rattle.sq_follow.specs.Values.{Tag, Code, Part, Value, Num, Tagged, Held, Holds, Lost}
 use Rattle.sq_follow.specs.Settings.{Setting}
-use Rattle.sq_follow.specs.Arithmetic.{is_taken, is_upper_half, word_fits}
+use Rattle.sq_follow.specs.Arithmetic.{zero_is_outside_text, taken_against_code, is_taken, is_upper_half, word_fits}
 use Rattle.sq_follow.specs.Jumps.{Destination, ToName, ToNumber, Jumped, part_jump, indirect_jump, stop}
-use Rattle.sq_follow.specs.GraphRuns.{Break, Core, State, At, Fetching, Moves, register_value, lost_in, reads_lost, with_register, do_line, enter, link_to, with_link, to_block, land, jump, branch, term_step, term_line, lines_step, graph_step}
-use Rattle.sq_follow.specs.Worlds.{World, all_names, setting_of}
+use Rattle.sq_follow.specs.GraphRuns.{Break, LeavesGraph, Core, State, At, Fetching, Moves, register_value, lost_in, reads_lost, with_register, do_line, enter, link_to, with_link, to_block, land, jump, branch, term_step, term_line, lines_step, graph_step}
+use Rattle.sq_follow.specs.Worlds.{World, all_names, setting_of, first_registers, regions_at_start}
 use Rattle.sq_follow.specs.Follows.{Follows, word_address, state_at_start}
-use Rattle.sq_patch.specs.Agreement.{Ties, SameValue, SameHeld, SameStore, SameCore, IsTied}
+use Rattle.sq_patch.specs.Agreement.{Ties, SameValue, SameHeld, SameMemory, SameStore, SameCore, IsTied}
 use Rattle.sq_patch.specs.Registers.{with_registers, IsSource, AreSources, IsWritten}
 use Rattle.sq_patch.specs.LiveAgreement.{everywhere}
 use Rattle.sq_patch.specs.Changes.{Change, IsCarrier, Stands, IsNamedHalf, term_named, MayGoTo, falls, SameSlot, Alike, ends, promised, guarded, shift, name_before, name_after, jump_before, jump_after, return_before, return_after, enter_before, enter_after, dead_before, both_do, both_enter, both_return, both_end, both_turned, both_hastened, both_jumped, IsSteady}
@@ -193,14 +194,14 @@ module _ (C : Change) (w : World) (start : Start) (steady : IsSteady C) where
   turned_step n n' rest rest' a b (Some true) p e h k = rw (e true refl) (refl, h)
   turned_step n n' rest rest' a b (Some false) p e h k = rw (e false refl) (refl, k)
 
-  -- an upper half, and what serves as it
-  upper_image : (n m : ℕ) (v u : Value) → m ≡ C.renamed n → SameValue T v u → is_upper_half n (pos 0) v ≡ true → is_upper_half m (pos 0) u ≡ true
-  upper_image n m (Num x) u e h k = absurd (cc)
-  upper_image n m (Tagged (Code q)) u e h k = absurd (cc)
-  upper_image n m (Tagged (Part q None)) u e h k =
+  -- an upper half, and what serves as it; in a graph the immediate isn't looked at
+  upper_image_at : (n m : ℕ) (imm : ℤ) (v u : Value) → m ≡ C.renamed n → SameValue T v u → is_upper_half n imm v ≡ true → is_upper_half m imm u ≡ true
+  upper_image_at n m imm (Num x) u e h k = absurd (cc)
+  upper_image_at n m imm (Tagged (Code q)) u e h k = absurd (cc)
+  upper_image_at n m imm (Tagged (Part q None)) u e h k =
       let same : q ≡ n = eqb-true q n (and_parts (q == n) true k).0 in
-      subst (λ x. is_upper_half m (pos 0) x ≡ true) (sym h.1) (and_from (C.renamed q == m) true (eq-eqb (C.renamed q) m (ap C.renamed same ∙ sym e)) refl)
-  upper_image n m (Tagged (Part q (Some word))) u e h k = absurd (let f : Some word ≡ None = h.0 in cc)
+      subst (λ x. is_upper_half m imm x ≡ true) (sym h.1) (and_from (C.renamed q == m) true (eq-eqb (C.renamed q) m (ap C.renamed same ∙ sym e)) refl)
+  upper_image_at n m imm (Tagged (Part q (Some word))) u e h k = absurd (let f : Some word ≡ None = h.0 in cc)
 
   abbrev Led : Term → List Line → Jumped → Jumped → Type 0
   Led term rest = Matches (IsLed term rest)
@@ -210,10 +211,229 @@ module _ (C : Change) (w : World) (start : Start) (steady : IsSteady C) where
   half_led true t' link part n n' rest j e = rw (e refl) (refl, (j, refl))
 
   part_led : (link part n n' : ℕ) (rest : List Line) (v u : Value) → C.MayGo n n' → n' ≡ C.renamed n → SameValue T v u → Matches (IsLed (PartJump link part n) rest) (part_jump s n (pos 0) v) (part_jump s n' (pos 0) u)
-  part_led link part n n' rest v u j e h = half_led (is_upper_half n (pos 0) v) (is_upper_half n' (pos 0) u) link part n n' rest j (upper_image n n' v u e h)
+  part_led link part n n' rest v u j e h = half_led (is_upper_half n (pos 0) v) (is_upper_half n' (pos 0) u) link part n n' rest j (upper_image_at n n' (pos 0) v u e h)
 
   indirect_led : (link at : ℕ) (offset : ℤ) (rest : List Line) (x y : Destination) → SameDestination everywhere T x y → IsLed (Indirect link at offset) rest x y
   indirect_led link at offset rest (ToName n) (ToName n') h = let v = steady.values n n' h in (v.1, (n, v.0, refl))
   indirect_led link at offset rest (ToName n) (ToNumber x) h = absurd h
   indirect_led link at offset rest (ToNumber x) (ToName n) h = absurd h
   indirect_led link at offset rest (ToNumber x) (ToNumber y) h = h
+
+  -- a wider relation of destinations
+  wider : (link at : ℕ) (offset : ℤ) (rest : List Line) (x y : Jumped) → Matches (SameDestination everywhere T) x y → Led (Indirect link at offset) rest x y
+  wider link at offset rest (Went f x) (Went f' y) m = (m.0, indirect_led link at offset rest x y m.1)
+  wider link at offset rest (Went f x) (Ended g) m = m
+  wider link at offset rest (Went f x) (Broke c) m = m
+  wider link at offset rest (Ended g) (Went f x) m = m
+  wider link at offset rest (Ended g) (Ended g') m = m
+  wider link at offset rest (Ended g) (Broke c) m = m
+  wider link at offset rest (Broke c) y m = tt
+
+  -- the operands of a term stand for themselves
+  operands_known : (t : Term) (xs : List Line) (a b : Core) → Agrees None (End t ∷ xs) a b → list_any (lost_in a.registers) (term_sources t) ≡ false → (list_any (lost_in b.registers) (term_sources t) ≡ false) × ((i : ℕ) → SameValue T (operand_at everywhere T (term_sources t) a.registers i) (operand_at everywhere T (term_sources t) b.registers i))
+  operands_known t xs a b h e =
+      let P : ℕ → ℕ → Type 0 = Known C None (End t ∷ xs) in
+      sources_rel everywhere T P (term_sources t) (term_sources t) a.registers b.registers (own_sources P (term_sources t) (λ r f. (steady.carrier.read (End t) xs r f, refl))) h.registers e
+
+  linking : (r link : ℕ) → link ≡ suc r → not (link == 0) ≡ true
+  linking r link e = ap (λ n. not (n == 0)) e ∙ ap not (not_zero r)
+
+  term_rel : (t : Term) (g : ℕ → ℕ) (xs ys : List Line) (a b : Core) → MayGoTo C g t → (falls t ≡ true → Alike C true None xs ys) → (links t ≡ true → SameSlot C.MayHold (slot_name xs) (slot_name ys)) → ((i : ℕ) → SameValue T (operand_at everywhere T (term_sources t) a.registers i) (operand_at everywhere T (term_sources t) b.registers i)) → Agrees None (End t ∷ xs) a b → Match (term_step s C.before t xs a) (term_step s C.after (term_named g t) ys b)
+  term_rel Fall g xs ys a b j f l v h = absurd j
+  term_rel (Jump to) g xs ys a b j f l v h = (refl, (None, (promised j, behind None (End (Jump to)) xs (block_lines C.before to) a b no_link refl h)))
+  term_rel (Branch cond x y to) g xs ys a b j f l v h =
+      branch_step to (g to) xs ys a b (is_taken s cond (register_value x a.registers) (register_value y a.registers)) (is_taken s cond (register_value x b.registers) (register_value y b.registers))
+      (λ c e. taken_rel everywhere T s all_names cond (register_value x a.registers) (register_value y a.registers) (register_value x b.registers) (register_value y b.registers) c (v 0) (v 1) e)
+      (None, (promised j, behind None (End (Branch cond x y to)) xs (block_lines C.before to) a b no_link (inl refl) h))
+      (None, (f refl, behind None (End (Branch cond x y to)) xs xs a b no_link (inr refl) h))
+  term_rel (Call link to) g xs ys a b j f l v h = link_step link (Call link to) xs ys to (g to) a b refl l (λ r e. linking r link e) j refl h
+  term_rel (PartJump link part to) g xs ys a b j f l v h =
+      jump_step link (PartJump link part to) xs ys a b (part_jump s to (pos 0) (register_value part a.registers)) (part_jump s (g to) (pos 0) (register_value part b.registers)) refl l (λ r e. linking r link e)
+      (part_led link part to (g to) xs (register_value part a.registers) (register_value part b.registers) j.0 j.1 (v 0)) h
+  term_rel (Indirect link at offset) g xs ys a b j f l v h =
+      jump_step link (Indirect link at offset) xs ys a b (indirect_jump s offset (register_value at a.registers)) (indirect_jump s offset (register_value at b.registers)) refl l (λ r e. linking r link e)
+      (wider link at offset xs (indirect_jump s offset (register_value at a.registers)) (indirect_jump s offset (register_value at b.registers)) (indirect_rel everywhere T s all_names offset (register_value at a.registers) (register_value at b.registers) (v 0))) h
+  term_rel (Stop word) g xs ys a b j f l v h = refl
+
+  -- a term and its counterpart with the same sources, where no source is lost
+  with_operands : (t t' : Term) (xs ys : List Line) (a b : Core) → term_sources t' ≡ term_sources t → Agrees None (End t ∷ xs) a b → (((i : ℕ) → SameValue T (operand_at everywhere T (term_sources t) a.registers i) (operand_at everywhere T (term_sources t) b.registers i)) → Match (term_step s C.before t xs a) (term_step s C.after t' ys b)) → Match (term_line s C.before t xs a) (term_line s C.after t' ys b)
+  with_operands t t' xs ys a b e h k =
+      unless_lost everywhere T s all_names tied PatchState (reads_lost (term_sources t) a) (term_step s C.before t xs a) (term_line s C.after t' ys b)
+      (λ f. let o = operands_known t xs a b h f in
+      let none : reads_lost (term_sources t') b ≡ false = ap (λ sources. reads_lost sources b) e ∙ o.0 in
+      rw none (k o.1))
+
+  same_sources : (g : ℕ → ℕ) (t : Term) → term_sources (term_named g t) ≡ term_sources t
+  same_sources g Fall = refl
+  same_sources g (Jump to) = refl
+  same_sources g (Branch cond x y to) = refl
+  same_sources g (Call link to) = refl
+  same_sources g (PartJump link part to) = refl
+  same_sources g (Indirect link at offset) = refl
+  same_sources g (Stop word) = refl
+
+  -- what an instruction asks
+  half_tied : (half half' : AddressHalf) (insn : Insn) → IsNamedHalf C half half' insn → IsTiedHalf everywhere T s all_names tied half half' insn
+  half_tied Plain Plain insn h = tt
+  half_tied (Upper n None) (Upper m None) insn h = (refl, ap (λ k. Tagged (Part k None)) h)
+  half_tied (Lower n) (Lower m) (OpImm Addi rd rs imm) h = record { address = h.1; upper = λ v u k e. upper_image_at n m imm v u h.0 k e }
+  half_tied (Lower n) (Lower m) insn h = absurd h
+  half_tied half half' insn h = absurd h
+
+  -- one side's registers where a link is lost, or one that doesn't matter is written
+  if_held : (t : Bool) (x h h' : Held) → (t ≡ true → SameHeld T x h') → (t ≡ false → SameHeld T h h') → SameHeld T (if t then x else h) h'
+  if_held true x h h' e f = e refl
+  if_held false x h h' e f = f refl
+
+  lost_rel : (link r : ℕ) (h h' : Held) → (is_register link r ≡ false → SameHeld T h h') → SameHeld T (if r == link && not (link == 0) then Lost else h) h'
+  lost_rel link r h h' k = if_held (r == link && not (link == 0)) Lost h h' (λ e. tt) (λ e. k (sym (written_test link r) ∙ e))
+
+  dead_rel : (d r : ℕ) (h h' x : Held) → is_register d r ≡ false → SameHeld T h h' → SameHeld T (if r == d && not (d == 0) then x else h) h'
+  dead_rel d r h h' x e k = if_held (r == d && not (d == 0)) x h h' (λ f. absurd (let g : true ≡ false = sym f ∙ written_test d r ∙ e in cc)) (λ f. k)
+
+  unwritten_rel : (link t : ℕ) (h h' : Held) → is_register link t ≡ false → SameHeld T h h' → SameHeld T h (if t == link && not (link == 0) then Lost else h')
+  unwritten_rel link t h h' e k = let f : (t == link && not (link == 0)) ≡ false = written_test link t ∙ e in rw f k
+
+  some_turned : (c v t : Bool) → (if c then Some v else None) ≡ Some t → (if c then Some (not v) else None) ≡ Some (not t)
+  some_turned true v t e = let f : Some v ≡ Some t = e in ap (λ x. Some (not x)) (let g : v ≡ t = cc in g)
+  some_turned false v t e = absurd (cc)
+
+  -- a comparison and its inverse
+  inverse_code : (cond : Cond) (x : ℕ) (t : Bool) → taken_against_code s cond x ≡ Some t → taken_against_code s (inverse_of cond) x ≡ Some (not t)
+  inverse_code Beq x t e = some_turned (x == 0 && zero_is_outside_text s) false t e
+  inverse_code Bne x t e = some_turned (x == 0 && zero_is_outside_text s) true t e
+  inverse_code Blt x t e = absurd (cc)
+  inverse_code Bge x t e = absurd (cc)
+  inverse_code Bltu x t e = absurd (cc)
+  inverse_code Bgeu x t e = absurd (cc)
+
+  inverse_rel : (cond : Cond) (v u : Value) (t : Bool) → is_taken s cond v u ≡ Some t → is_taken s (inverse_of cond) v u ≡ Some (not t)
+  inverse_rel cond (Num x) (Num y) t e = let f : taken_of cond x y ≡ t = let g : Some (taken_of cond x y) ≡ Some t = e in cc in ap Some (inverse_taken cond x y ∙ ap not f)
+  inverse_rel cond (Num x) (Tagged (Code n)) t e = inverse_code cond x t e
+  inverse_rel cond (Num x) (Tagged (Part n word)) t e = absurd (cc)
+  inverse_rel cond (Tagged (Code n)) (Num y) t e = inverse_code cond y t e
+  inverse_rel cond (Tagged (Part n word)) (Num y) t e = absurd (cc)
+  inverse_rel cond (Tagged tag) (Tagged other) t e = absurd (cc)
+
+  -- a PartJump against a jump or a call
+  part_rel : (t : Bool) (link n : ℕ) (xs : List Line) (a : Core) (y : Moves) → Match (with_link link xs a (to_block C.before n)) y → Match (jump C.before link xs a (if t then Went None (ToName n) else Broke HalfBreak)) y
+  part_rel true link n xs a y h = h
+  part_rel false link n xs a y h = tt
+
+  hastened_step : (link part n n' : ℕ) (xs ys : List Line) (a b : Core) (t' : Term) → Match (with_link link xs a (to_block C.before n)) (term_step s C.after t' ys b) → Agrees None (End (PartJump link part n) ∷ xs) a b → (term_sources t' ≡ []) → Match (term_line s C.before (PartJump link part n) xs a) (term_line s C.after t' ys b)
+  hastened_step link part n n' xs ys a b t' m h none =
+      unless_lost everywhere T s all_names tied PatchState (reads_lost (part ∷ []) a) (term_step s C.before (PartJump link part n) xs a) (term_line s C.after t' ys b)
+      (λ e. rw none (part_rel (is_upper_half n (pos 0) (register_value part a.registers)) link n xs a (term_step s C.after t' ys b) m))
+
+  end_now : (t : Term) (g : ℕ → ℕ) (xs ys : List Line) (k k' : Core) → MayGoTo C g t → (falls t ≡ true → Alike C true None xs ys) → (links t ≡ true → SameSlot C.MayHold (slot_name xs) (slot_name ys)) → Agrees None (End t ∷ xs) k k' → Meet (term_line s C.before t xs k) (term_line s C.after (term_named g t) ys k')
+  end_now t g xs ys k k' j f l c =
+      meets_now step_before step_after PatchState (term_line s C.before t xs k) (term_line s C.after (term_named g t) ys k')
+      (with_operands t (term_named g t) xs ys k k' (same_sources g t) c (λ v. term_rel t g xs ys k k' j f l v c))
+
+  end_meets : (t : Term) (g : ℕ → ℕ) (xs ys : List Line) (k k' : Core) → MayGoTo C g t → (falls t ≡ true → Alike C true None xs ys) → (links t ≡ true → SameSlot C.MayHold (slot_name xs) (slot_name ys)) → Agrees None (End t ∷ xs) k k' → Meet (lines_step s C.before (End t ∷ xs) k) (lines_step s C.after (End (term_named g t) ∷ ys) k')
+  end_meets Fall g xs ys k k' j f l c = absurd j
+  end_meets (Jump to) g xs ys k k' j f l c = end_now (Jump to) g xs ys k k' j f l c
+  end_meets (Branch cond x y to) g xs ys k k' j f l c = end_now (Branch cond x y to) g xs ys k k' j f l c
+  end_meets (Call link to) g xs ys k k' j f l c = end_now (Call link to) g xs ys k k' j f l c
+  end_meets (PartJump link part to) g xs ys k k' j f l c = end_now (PartJump link part to) g xs ys k k' j f l c
+  end_meets (Indirect link at offset) g xs ys k k' j f l c = end_now (Indirect link at offset) g xs ys k k' j f l c
+  end_meets (Stop word) g xs ys k k' j f l c = end_now (Stop word) g xs ys k k' j f l c
+
+  piece_meets : (b : Bool) → ((n n' : ℕ) (k k' : Core) → b ≡ true → C.MayGo n n' → Agrees None (block_lines C.before n) k k' → Meet (lines_step s C.before (block_lines C.before n) k) (lines_step s C.after (block_lines C.after n') k')) → {m : Option C.Mode} {xs ys : List Line} (k k' : Core) → Alike C b m xs ys → Agrees m xs k k' → Meet (lines_step s C.before xs k) (lines_step s C.after ys k')
+  piece_meets b pr k k' ends c = meets_broke step_before step_after PatchState LeavesGraph (lines_step s C.after [] k')
+  piece_meets b pr k k' (promised {n = n} {n' = n'} j) c = pr n n' k k' refl j c
+  piece_meets b pr k k' (guarded p) c = piece_meets false (λ n n' k k' e j c. absurd (cc)) k k' p c
+  piece_meets b pr k k' (shift {m = m} {m' = m'} {xs = xs} h p) c = piece_meets b pr k k' p (known_less (Known C m xs) (Known C m' xs) k k' (λ r q n. (n.0, h r q n.0 n.1)) c)
+  piece_meets b pr k k' (name_before {m = m} {n = n} {xs = xs} p) c = piece_meets b pr k k' p (behind m (Name n) xs xs k k' (λ r. refl) refl c)
+  piece_meets b pr k k' (name_after p) c = piece_meets b pr k k' p c
+  piece_meets b pr k k' (jump_before {m = m} {n = n} {xs = xs} {ys = ys} p) c =
+      meets_skip step_before step_after PatchState (At (block_lines C.before n) k) (lines_step s C.after ys k') (piece_meets b pr k k' p (behind m (End (Jump n)) xs (block_lines C.before n) k k' no_link refl c))
+  piece_meets b pr k k' (jump_after {n = n} {xs = xs} p) c =
+      meets_wait step_before step_after PatchState (lines_step s C.before xs k) (At (block_lines C.after n) k') (piece_meets b pr k k' p c)
+  piece_meets b pr k k' (return_before {m = m} {l = l} {xs = xs} {ys = ys} p) c =
+      meets_skip step_before step_after PatchState (At xs k) (lines_step s C.after ys k') (piece_meets b pr k k' p (behind m (Return l) xs xs k k' (λ r. refl) refl c))
+  piece_meets b pr k k' (return_after {xs = xs} {ys = ys} p) c =
+      meets_wait step_before step_after PatchState (lines_step s C.before xs k) (At ys k') (piece_meets b pr k k' p c)
+  piece_meets b pr k k' (enter_before {m = m} {m' = m'} {q = q} {xs = xs} {ys = ys} d e h z p) c =
+      let lost : Core = with_register d.link Lost k in
+      let at : Agrees m' (inside d xs) lost k' = record {
+        registers = λ r t n. lost_rel d.link r (k.registers r) (k'.registers t) (λ f. c.registers r t (steady.carrier.kept (Enter q) xs (inside d xs) r (ap (λ o. is_link_of o r) e ∙ f) (d, e, refl) n.0, h r t n.0 n.1 f));
+        store = c.store;
+      } in
+      rw e (meets_skip step_before step_after PatchState (At (inside d xs) lost) (lines_step s C.after ys k') (piece_meets b pr lost k' p at))
+  piece_meets b pr k k' (enter_after {m = m} {m' = m'} {q = q} {xs = xs} {ys = ys} d e h p) c =
+      let lost : Core = with_register d.link Lost k' in
+      let at : Agrees m' xs k lost = record {
+        registers = λ r t n. let x = h r t n.0 n.1 in unwritten_rel d.link t (k.registers r) (k'.registers t) x.0 (c.registers r t (n.0, x.1));
+        store = c.store;
+      } in
+      rw e (meets_wait step_before step_after PatchState (lines_step s C.before xs k) (At (inside d ys) lost) (piece_meets b pr k lost p at))
+  piece_meets b pr k k' (dead_before {m = m} {n = n} {word = word} {insn = insn} {xs = xs} {ys = ys} none d p) c =
+      let made : Core = with_register (destination_of insn) (Holds (Tagged (Part n word))) k in
+      let at : Agrees m xs made k' = record {
+        registers = λ r t q. dead_rel (destination_of insn) r (k.registers r) (k'.registers t) (Holds (Tagged (Part n word))) (d r q.0) (c.registers r t (steady.carrier.kept (Do (Upper n word) insn) xs xs r (d r q.0) refl q.0, q.1));
+        store = c.store;
+      } in
+      rw none (meets_skip step_before step_after PatchState (At xs made) (lines_step s C.after ys k') (piece_meets b pr made k' p at))
+  piece_meets b pr k k' (both_do {m = m} {m' = m'} {half = half} {half' = half'} {xs = xs} {ys = ys} insn d x y nm src h p) c =
+      meets_now step_before step_after PatchState (do_line s half insn xs k) (do_line s half' (with_registers d x y insn) ys k')
+      (do_rel everywhere T s all_names tied (Known C m (Do half insn ∷ xs)) (Known C m' xs) PatchState half half' insn d x y xs ys k k' (half_tied half half' insn nm)
+      (known_sources (Stands C m) (Known C m (Do half insn ∷ xs)) (sources_of insn) (sources_of (with_registers d x y insn)) src (λ r t e st. (steady.carrier.read (Do half insn) xs r e, st)))
+      (λ r t n. let v = h r t n.0 n.1 in (v.0, λ e. (steady.carrier.kept (Do half insn) xs xs r e refl n.0, v.1 e)))
+      (λ a b agree. (m', (p, agree))) c)
+  piece_meets b pr k k' (both_enter {m = m} {m' = m'} {q = q} {q' = q'} {xs = xs} {ys = ys} d d' e e' h p) c =
+      let at : Agrees m' (inside d xs) (with_register d.link Lost k) (with_register d'.link Lost k') = record {
+        registers = registers_rel everywhere T (Known C m (Enter q ∷ xs)) (Known C m' (inside d xs)) d.link d'.link Lost Lost k.registers k'.registers
+            (λ r t n. let v = h r t n.0 n.1 in (v.0, λ f. (steady.carrier.kept (Enter q) xs (inside d xs) r (ap (λ o. is_link_of o r) e ∙ f) (d, e, refl) n.0, v.1 f))) tt c.registers;
+        store = c.store;
+      } in
+      rw (e, e') (meets_now step_before step_after PatchState (Went None (At (inside d xs) (with_register d.link Lost k))) (Went None (At (inside d' ys) (with_register d'.link Lost k'))) (refl, (m', (p, at))))
+  piece_meets b pr k k' (both_return {m = m} {l = l} {xs = xs} {ys = ys} p) c =
+      meets_now step_before step_after PatchState (Went None (At xs k)) (Went None (At ys k')) (refl, (m, (p, behind m (Return l) xs xs k k' (λ r. refl) refl c)))
+  piece_meets b pr k k' (both_end {xs = xs} {ys = ys} t g j f l) c = end_meets t g xs ys k k' j f l c
+  piece_meets b pr k k' (both_turned {xs = xs} {ys = ys} cond x y n n' p q) c =
+      meets_now step_before step_after PatchState (term_line s C.before (Branch cond x y n) xs k) (term_line s C.after (Branch (inverse_of cond) x y n') ys k')
+      (with_operands (Branch cond x y n) (Branch (inverse_of cond) x y n') xs ys k k' refl c
+      (λ v. turned_step n n' xs ys k k' (is_taken s cond (register_value x k.registers) (register_value y k.registers)) (is_taken s (inverse_of cond) (register_value x k'.registers) (register_value y k'.registers))
+      (λ t e. inverse_rel cond (register_value x k'.registers) (register_value y k'.registers) t (taken_rel everywhere T s all_names cond (register_value x k.registers) (register_value y k.registers) (register_value x k'.registers) (register_value y k'.registers) t (v 0) (v 1) e))
+      (None, (p, behind None (End (Branch cond x y n)) xs (block_lines C.before n) k k' no_link (inl refl) c))
+      (None, (q, behind None (End (Branch cond x y n)) xs xs k k' no_link (inr refl) c))))
+  piece_meets b pr k k' (both_hastened {xs = xs} {ys = ys} link part n n' j l) c =
+      meets_now step_before step_after PatchState (term_line s C.before (PartJump link part n) xs k) (term_line s C.after (Call link n') ys k')
+      (hastened_step link part n n' xs ys k k' (Call link n') (link_step link (PartJump link part n) xs ys n n' k k' refl l (λ r e. linking r link e) j refl c) c refl)
+  piece_meets b pr k k' (both_jumped {xs = xs} {ys = ys} part n n' j) c =
+      meets_now step_before step_after PatchState (term_line s C.before (PartJump 0 part n) xs k) (term_line s C.after (Jump n') ys k')
+      (hastened_step 0 part n n' xs ys k k' (Jump n') (refl, (None, (promised j, behind None (End (PartJump 0 part n)) xs (block_lines C.before n) k k' no_link refl c))) c refl)
+
+  meets_false : {m : Option C.Mode} {xs ys : List Line} (k k' : Core) → Alike C false m xs ys → Agrees m xs k k' → Meet (lines_step s C.before xs k) (lines_step s C.after ys k')
+  meets_false k k' p c = piece_meets false (λ n n' k k' e j c. absurd (cc)) k k' p c
+
+  pub patch_simulates : Simulates step_before step_after PatchState
+  patch_simulates (At xs k) (At ys k') r = piece_meets true (λ n n' k k' e j c. meets_false k k' (steady.names n n' j) c) k k' r.1.0 r.1.1
+  patch_simulates (Fetching x) (Fetching y) r = meets_now step_before step_after PatchState (Ended (Fetch x)) (Ended (Fetch y)) (ap Fetch r)
+  patch_simulates (At xs k) (Fetching y) r = absurd r
+  patch_simulates (Fetching x) (At ys k') r = absurd r
+
+-- the same numbers at the start
+start_held : (T : Ties) (t : Bool) (x : ℕ) → SameHeld T (if t then Holds (Num x) else Holds (Num 0)) (if t then Holds (Num x) else Holds (Num 0))
+start_held T true x = refl
+start_held T false x = refl
+
+first_held : (T : Ties) (start : Start) (r q : ℕ) → q ≡ r → SameHeld T (first_registers start r) (first_registers start q)
+first_held T start r q e = subst (λ q. SameHeld T (first_registers start r) (first_registers start q)) (sym e) (start_held T (r == 2 && not (2 == 0)) (stack_pointer start))
+
+-- THE THEOREM
+pub change_follows : (C : Change) → IsSteady C → C.MayGo C.before.entry C.after.entry → map word_address C.after.code_words ≡ map word_address C.before.code_words → map word_name C.after.code_words ≡ map C.renamed (map word_name C.before.code_words) → ((i n : ℕ) → slice_get (map word_name C.before.code_words) i ≡ Some n → C.MayHold n (C.renamed n)) → Follows C.before C.after
+change_follows C steady j addresses names held = record {
+  addresses = addresses;
+  runs = λ w world count start valid.
+      follows_by (graph_step (setting_of w start) C.before) (graph_step (setting_of w start) C.after) (PatchState C w start steady) (patch_simulates C w start steady) (state_at_start w C.before start) (state_at_start w C.after start)
+      (None, (promised j, record {
+        registers = λ r q n. first_held (ties_of C) start r q n.1;
+        store = record {
+          memory = subst (λ words. SameMemory everywhere (ties_of C) (get (regions_at_start w (map word_name C.before.code_words) start)) (get (regions_at_start w words start))) (sym names) (start_memory_rel (ties_of C) C.renamed w (map word_name C.before.code_words) start held);
+          input = refl;
+          reservation = refl;
+        };
+      }));
+}

@@ -60,9 +60,9 @@ term_named g (PartJump link part to) = PartJump link part (g to)
 term_named g (Indirect link at offset) = Indirect link at offset
 term_named g (Stop word) = Stop word
 
--- the two may go to the target, which a PartJump's upper half belongs to
+-- the two may go to the target, which a PartJump's upper half belongs to. A Fall is no line, so no step
 abbrev pub MayGoTo : Change → (ℕ → ℕ) → Term → Type 0
-MayGoTo C g Fall = Unit {0}
+MayGoTo C g Fall = ⊥
 MayGoTo C g (Jump to) = C.MayGo to (g to)
 MayGoTo C g (Branch cond a b to) = C.MayGo to (g to)
 MayGoTo C g (Call link to) = C.MayGo to (g to)
