@@ -40,8 +40,8 @@ impl<'a> Model for Relocs<'a> {
     ghost invariant = { λ r. Keeps r.outside r.text r.words.items r.code_words.items };
 }
 
-/// Reads the relocations of the file, or refuses it by the first row of their table that fails. Beside
-/// the sorting by addresses it takes a time that is linear in the entries and in the words of text.
+/// Reads the relocations of the file, or refuses it by the first row of their table that fails. Each
+/// entry is read once, and looked up by its address.
 pub fn read_relocs<'a>(alloc: Global, elf: &Elf<'a>) -> Result<Relocs<'a>, Denied>
     ensures read { IfOk result (λ relocs. relocs ≡ elf.now) }
     ensures accepted { OnOk result (reloc_refusal_of elf.now ≡ None) }
