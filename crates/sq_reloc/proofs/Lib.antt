@@ -6,3 +6,5 @@ pub mod Marked
 pub mod Phases
 pub mod CodeWordFacts
 pub mod Found
+pub mod MarkedInsns
+pub mod MarkFacts

@@ -11,12 +11,12 @@ use Rattle.sq_reloc.specs.Seen.{seen_of, nothing_seen, nth_seen, mark_seen, AreW
 use Rattle.sq_reloc.proofs.SeenMore.{seen_mark}
 
 -- what a word of text is
-record IsWordOf (text : Text) (address : ℕ) : Type 0 where
-  low : text.lo ≤ address
-  high : address < text.hi
-  word : address % 4 ≡ 0
+pub record IsWordOf (text : Text) (address : ℕ) : Type 0 where
+  pub low : text.lo ≤ address
+  pub high : address < text.hi
+  pub word : address % 4 ≡ 0
 
-word_facts : (text : Text) (address : ℕ) → is_text_word text address ≡ true → IsWordOf text address
+pub word_facts : (text : Text) (address : ℕ) → is_text_word text address ≡ true → IsWordOf text address
 word_facts text address is =
     let parts = both_true (is_in_text text address) (nat_eq (address % 4) 0) is in
     let ends = both_true (nat_le text.lo address) (nat_lt address text.hi) parts.0 in

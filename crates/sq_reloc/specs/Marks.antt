@@ -1,5 +1,5 @@
 -- What the entries say of a word of text.
-use Rattle.std.specs.Prelude.{ℕ, ◌%◌, Bool, false, not, ◌&&◌, ◌||◌, nat_eq, if◌then◌else◌, List, [], ◌∷◌, Option, Some, None}
+use Rattle.std.specs.Prelude.{◌≡◌, ℕ, true, ◌%◌, Bool, false, not, ◌&&◌, ◌||◌, nat_eq, if◌then◌else◌, List, [], ◌∷◌, Option, Some, None}
 use Rattle.std.specs.Option.{option_map_or, is_some}
 use Rattle.std.specs.List.{list_any, find, filter}
 use Rattle.sq_elf.specs.declared.text.Text.{Text}
@@ -9,7 +9,8 @@ use Rattle.sq_reloc.specs.declared.mark.Mark.{Mark}
 use Rattle.sq_reloc.specs.declared.mark.Mark.TheVariants.{Plain, Hi, Lo, Unsupported, Disagrees, Conflict, Lone}
 use Rattle.sq_reloc.specs.Kinds.{is_call, is_paired, is_text_kind, touches_word}
 use Rattle.sq_reloc.specs.Entries.{target_of, entries_of}
-use Rattle.sq_reloc.specs.Required.{upper_target, paired_target, has_pair, agrees}
+use Rattle.sq_isa.specs.declared.instructions.Insn.{Insn}
+use Rattle.sq_reloc.specs.Required.{upper_target, paired_target, loads_upper, takes_low, has_pair, agrees}
 
 -- an entry outside text, of a type that is not supported in text, or at an offset that is not a multiple of 4
 abbrev pub is_unsupported : Text → Entry → Bool
@@ -85,3 +86,10 @@ touching bytes address = filter (λ e. touches_word e address) (entries_of bytes
 -- THE mark of the word of text at an address
 unfoldable pub mark_of : List ℕ → ℕ → Mark
 mark_of bytes address = mark_by bytes address (touching bytes address)
+
+-- what a mark says of the instruction at its word: an upper half stands in an `auipc` or a `lui`, a lower half in an
+-- `addi`, a load, a `jalr` or a store
+abbrev pub IsMarked : Option Insn → Mark → Type 0
+IsMarked insn (Hi target) = loads_upper insn ≡ true
+IsMarked insn (Lo target) = takes_low insn ≡ true
+IsMarked insn other = Unit {0}

@@ -121,6 +121,14 @@ loads_upper (Some (Auipc rd upper)) = true
 loads_upper (Some (Lui rd upper)) = true
 loads_upper other = false
 
+-- an instruction with a lower half: an `addi`, a load, a `jalr` or a store
+abbrev pub takes_low : Option Insn → Bool
+takes_low (Some (OpImm Addi rd rs imm)) = true
+takes_low (Some (Load kind rd rs offset)) = true
+takes_low (Some (Jalr rd rs offset)) = true
+takes_low (Some (Store kind rs src offset)) = true
+takes_low other = false
+
 -- the call of an undefined weak symbol, whose value is 0: any `auipc` or `lui`, and `jalr` through x0
 abbrev pub is_call_of_none : ℕ → Option Insn → Option Insn → Bool
 is_call_of_none target first second = nat_eq target 0 && loads_upper first && jumps_through_zero second

@@ -5,7 +5,8 @@ ghost use Rattle.sq_num.specs.declared.refusal.Refusal.{Refusal};
 ghost use Rattle.sq_elf.specs.Text.{text_of, is_text_word};
 ghost use Rattle.sq_reloc.specs.Outside.{code_word_at, is_stale};
 ghost use Rattle.sq_reloc.specs.CodeWords.{AreCodeWords, IsCodeWord};
-ghost use Rattle.sq_reloc.specs.Marks.{mark_of};
+ghost use Rattle.sq_reloc.specs.Marks.{mark_of, IsMarked};
+ghost use Rattle.sq_reloc.specs.Required.{insn_at};
 ghost use Rattle.sq_reloc.specs.Refusing.{reloc_refusal_of};
 
 use crate::entries::entries_of;
@@ -39,8 +40,8 @@ impl<'a> Model for Relocs<'a> {
     ghost invariant = { λ r. Keeps r.outside r.text r.words.items r.code_words.items };
 }
 
-/// Reads the relocations of the file, or refuses it by the first row of their table that fails. Beside
-/// the sorting by addresses it takes a time that is linear in the entries and in the words of text.
+/// Reads the relocations of the file, or refuses it by the first row of their table that fails. Each
+/// entry is read once, and looked up by its address.
 pub fn read_relocs<'a>(alloc: Global, elf: &Elf<'a>) -> Result<Relocs<'a>, Denied>
     ensures read { IfOk result (λ relocs. relocs ≡ elf.now) }
     ensures accepted { OnOk result (reloc_refusal_of elf.now ≡ None) }
@@ -66,11 +67,12 @@ pub fn read_relocs<'a>(alloc: Global, elf: &Elf<'a>) -> Result<Relocs<'a>, Denie
 }
 
 impl<'a> Relocs<'a> {
-    /// What the relocations say of the word of text at the address. It takes no memory, and always the
-    /// same time.
+    /// What the relocations say of the word of text at the address. It takes no memory: it reads one
+    /// row of a table.
     pub fn mark(&self, address: u32) -> Mark
         requires { is_text_word (text_of self.now) address ≡ true }
-        ensures { result ≡ mark_of self.now address }
+        ensures value { result ≡ mark_of self.now address }
+        ensures instruction { IsMarked (insn_at self.now address) result }
     {
         let place = (address - self.text.lo) / 4;
         self.words[place as usize].mark()
