@@ -7,3 +7,4 @@ mod LiveTargets
 mod LiveSteps
 mod Starts
 mod Patch
+mod Shrink

@@ -71,7 +71,7 @@ same_one : (r : ℕ) → (r == r) ≡ true
 same_one r = eq-eqb r r refl
 
 -- what is among the later registers is among all
-later : (r : ℕ) (rs : List ℕ) (q : ℕ) → is_among_but_x0 rs q ≡ true → is_among_but_x0 (r ∷ rs) q ≡ true
+pub later : (r : ℕ) (rs : List ℕ) (q : ℕ) → is_among_but_x0 rs q ≡ true → is_among_but_x0 (r ∷ rs) q ≡ true
 later r rs q e = let p = and_parts (not (q == 0)) (is_among rs q) e in rw (p.0, p.1) (true_right (r == q))
 
 known_sources : (P Q : ℕ → ℕ → Type 0) (rs ss : List ℕ) → AreSources P rs ss → ((r s : ℕ) → is_among_but_x0 rs r ≡ true → P r s → Q r s) → AreSources Q rs ss
