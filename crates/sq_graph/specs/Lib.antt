@@ -1,2 +1,13 @@
 pub mod Graph
 pub mod Terms
+pub mod Blocks
+pub mod Uses
+pub mod Rules
+pub mod Room
+pub mod Renames
+pub mod Operations
+pub mod Words
+pub mod Leaders
+pub mod Canonical
+pub mod Resolve
+pub mod Parts
