@@ -1,0 +1,4 @@
+pub mod Located
+pub mod SlotReads
+pub mod BodyReads
+pub mod Sizes

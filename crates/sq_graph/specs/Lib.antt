@@ -11,3 +11,5 @@ pub mod Leaders
 pub mod Canonical
 pub mod Resolve
 pub mod Parts
+pub mod Slots
+pub mod Layout
