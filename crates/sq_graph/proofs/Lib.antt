@@ -2,3 +2,4 @@ pub mod Located
 pub mod SlotReads
 pub mod BodyReads
 pub mod Sizes
+pub mod Held

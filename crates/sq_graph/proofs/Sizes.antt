@@ -21,6 +21,8 @@ pub record HasSizes (inside : Inside) : Type 0 where
   pub item_room : inside.item_room < 2 ^ 29
   pub bodies : length inside.bodies.items ≤ inside.body_room
   pub body_room : inside.body_room < 2 ^ 29
+  pub block_count : length (graph_of inside).blocks ≡ length inside.slots.entries
+  pub item_count : length (all_items (graph_of inside)) ≡ length inside.items.items
   pub counted : length (graph_of inside).procedures ≡ length inside.bodies.items
   pub block_items : inside.block_items ≤ length inside.items.items
 
@@ -29,7 +31,7 @@ sizes inside sound =
     let g = graph_of inside in
     let counted : length g.procedures ≡ length inside.bodies.items = sym (length-bodies_from 0 g.procedures) ∙ ap (λ bs. length bs) (sym sound.holds.bodies) in
     let blocks : length inside.slots.entries ≡ length g.blocks = ap (λ es. length es) sound.holds.slots ∙ length-slots_from 0 g.blocks in
-    let items = ap (λ is. length is) sound.holds.items in
+    let items : length inside.items.items ≡ length (all_items g) = ap (λ is. length is) sound.holds.items in
     let small = sound.small in
     let room = sound.room in
     record {
@@ -38,6 +40,8 @@ sizes inside sound =
       item_room = omega (arith, items, small.items, room.items);
       bodies = room.bodies;
       body_room = omega (arith, counted, small.procedures, room.bodies);
+      block_count = sym blocks;
+      item_count = sym items;
       counted = counted;
       block_items = omega (arith, sound.holds.block_items, items, length-append (items_of_blocks g.blocks) (items_of_bodies g.procedures));
     }

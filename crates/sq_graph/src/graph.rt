@@ -1,15 +1,19 @@
 //! A graph and what it has.
 
-ghost use Rattle.std.specs.Prelude.{◌≡◌, ℕ, ◌+◌, ◌<◌, ◌≤◌, Some, None, length, take, drop};
+ghost use Rattle.std.specs.Prelude.{◌≡◌, ℕ, ◌+◌, ◌<◌, ◌≤◌, Some, None, length, take, drop, OnOk, IfOk};
 ghost use Rattle.sq_graph.specs.Blocks.{HasBlock, HasProcedure, first_of, next_of, items_of, term_of, body_of, link_of};
+ghost use Rattle.sq_graph.specs.Room.{IsSmall, sum_of, count_of, Covers};
 ghost use Rattle.sq_graph.specs.Slots.{slots_from};
 
 use crate::item::{Item, Term};
 use crate::parts::{CodeRef, Room};
 use crate::slot::{Body, Slot};
 use crate::slots;
+use crate::vectors;
 use sq_arena::Arena;
 use sq_isa::Reg;
+use sq_num::Memory;
+use std::alloc::Global;
 use std::marker::Model;
 
 /// A program as blocks in layout order, each a name, items and a term; the name of the entry; the words of
@@ -121,6 +125,40 @@ impl Graph {
             items: self.item_room - self.items.len() as u32,
             procedures: self.body_room - self.bodies.len() as u32,
         }
+    }
+
+    /// Makes room, so that at least so many blocks, items and procedures can be added.
+    ///
+    /// After an error there may be room for some of them.
+    pub fn reserve(&mut self, room: Room) -> Result<(), Memory>
+        requires { IsSmall (sum_of (count_of self.old.graph) room) }
+        ensures graph { self.new.graph ≡ self.old.graph }
+        ensures ok { OnOk result (Covers self.new.spare room) }
+        ensures kept { Covers self.new.spare self.old.spare }
+    {
+        self.slots.reserve(room.blocks).map_err(|_| Memory)?;
+        self.item_room = vectors::reserve(&mut self.items, self.item_room, room.items)?;
+        self.body_room = vectors::reserve(&mut self.bodies, self.body_room, room.procedures)?;
+        Ok(())
+    }
+
+    /// A graph with the same four parts, and as much to spare.
+    pub fn copy(&self, alloc: Global) -> Result<Graph, Memory>
+        ensures { IfOk result (λ copy. copy ≡ self.now) }
+    {
+        let Ok(slots) = self.slots.copy(alloc) else {
+            return Err(Memory);
+        };
+        Ok(Graph {
+            slots,
+            items: vectors::copy(alloc, &self.items, self.item_room)?,
+            block_items: self.block_items,
+            entry: self.entry,
+            code_words: vectors::copy(alloc, &self.code_words, 0)?,
+            bodies: vectors::copy(alloc, &self.bodies, self.body_room)?,
+            item_room: self.item_room,
+            body_room: self.body_room,
+        })
     }
 
     /// The arena in which the blocks stand, one pair for each block, in layout order: the key is its name.

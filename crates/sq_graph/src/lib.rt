@@ -11,6 +11,7 @@ mod item;
 mod parts;
 mod slot;
 mod slots;
+mod vectors;
 
 pub use graph::Graph;
 pub use item::{Item, Term};
