@@ -3,3 +3,5 @@ pub mod SlotReads
 pub mod BodyReads
 pub mod Sizes
 pub mod Held
+pub mod Eachs
+pub mod Mapped

@@ -35,12 +35,15 @@ retargeted_procedure f p = record p { body = retargeted_items f p.body }
 abbrev pub retargeted_word : (ℕ → ℕ) → CodeRef → CodeRef
 retargeted_word f w = record w { block = f w.block }
 
+abbrev pub retargeted_words : (ℕ → ℕ) → List CodeRef → List CodeRef
+retargeted_words f words = map (retargeted_word f) words
+
 abbrev pub retargeted : (ℕ → ℕ) → Graph → Graph
 retargeted f g =
     record {
       blocks = map (retargeted_block f) g.blocks;
       entry = f g.entry;
-      code_words = map (retargeted_word f) g.code_words;
+      code_words = retargeted_words f g.code_words;
       procedures = map (retargeted_procedure f) g.procedures;
     }
 

@@ -9,6 +9,7 @@
 mod graph;
 mod item;
 mod parts;
+mod rename;
 mod slot;
 mod slots;
 mod vectors;
