@@ -5,3 +5,5 @@ pub mod Sizes
 pub mod Held
 pub mod Eachs
 pub mod Mapped
+pub mod CursorLaws
+pub mod SlotWalks

@@ -13,3 +13,4 @@ pub mod Resolve
 pub mod Parts
 pub mod Slots
 pub mod Layout
+pub mod Cursor

@@ -1,8 +1,11 @@
 //! Reads and writes of the slots in the arena of a graph.
 
-ghost use Rattle.std.specs.Prelude.{◌≡◌, Some};
-ghost use Rattle.sq_arena.specs.Entries.{ContainsKey, value_of, with_value};
+ghost use Rattle.std.specs.Prelude.{◌≡◌, ◌+◌, ◌<◌, ◌^◌, ◌++◌, Some};
+ghost use Rattle.std.specs.List.{All};
+ghost use Rattle.sq_arena.specs.Entries.{HasDistinctKeys, ContainsKey, value_of, with_value};
+ghost use Rattle.sq_graph.specs.Cursor.{IsPlace, ahead_of, rest_from, retargeted_slots, slot_uses, renumbered, length_of_slots};
 
+use crate::rename::{Rename, retarget_term};
 use crate::slot::Slot;
 use sq_arena::Arena;
 
@@ -25,5 +28,39 @@ pub(crate) fn set(slots: &mut Arena<Slot>, name: u32, slot: Slot)
 {
     if let Some(place) = slots.get_mut(name) {
         *place = slot;
+    }
+}
+
+/// Makes each use of a name in a term one of another.
+pub(crate) fn retarget<R: Rename>(slots: &mut Arena<Slot>, by: &R)
+    requires distinct { HasDistinctKeys slots.old.entries }
+    requires known { All (R.Knows by.now) (slot_uses slots.old.entries) }
+    ensures entries { slots.new.entries ≡ retargeted_slots (R.name_of by.now) slots.old.entries }
+    ensures spare { slots.new.spare ≡ slots.old.spare }
+{
+    let mut place = slots.first();
+    while let Some(name) = place {
+        let found = slot(slots, name);
+        let term = retarget_term(found.term, by);
+        set(slots, name, Slot { term, ..found });
+        place = slots.next(name);
+    }
+}
+
+/// Gives each slot from this place on its start, where the first of them has this one.
+pub(crate) fn renumber(slots: &mut Arena<Slot>, from: Option<u32>, start: u32)
+    requires distinct { HasDistinctKeys slots.old.entries }
+    requires place { IsPlace slots.old.entries from }
+    requires fits { start + length_of_slots (rest_from slots.old.entries from) < 2 ^ 32 }
+    ensures entries { slots.new.entries ≡ ahead_of slots.old.entries from ++ renumbered start (rest_from slots.old.entries from) }
+    ensures spare { slots.new.spare ≡ slots.old.spare }
+{
+    let mut start = start;
+    let mut place = from;
+    while let Some(name) = place {
+        let found = slot(slots, name);
+        set(slots, name, Slot { start, ..found });
+        start += found.length;
+        place = slots.next(name);
     }
 }
