@@ -83,3 +83,8 @@ module _ {T : Type 0} where
   pub value_of-with_value : (es : List (ℕ × T)) (key : ℕ) (old new : T) → value_of es key ≡ Some old → value_of (with_value es key new) key ≡ Some new
   value_of-with_value es key old new found =
       rw (with_value-split es key old new found) (value_of-at (before es key) (behind es key) key new (value_of-before es key))
+
+  pub length-with_value : (es : List (ℕ × T)) (key : ℕ) (new : T) → length (with_value es key new) ≡ length es
+  length-with_value [] key new = refl
+  length-with_value (e ∷ rest) key new =
+      elim (cases_Bool (e.0 == key)) [ inl here ↦ rw here | inr apart ↦ rw apart (ap suc (length-with_value rest key new)) ]

@@ -12,6 +12,8 @@ use Rattle.sq_graph.specs.Blocks.{items_of_blocks, items_of_bodies, all_items}
 use Rattle.sq_graph.specs.Rules.{IsGraph}
 use Rattle.sq_graph.specs.Room.{GraphAndRoom, IsSmall, count_of, sum_of, total_of}
 use Rattle.sq_graph.specs.Slots.{slot_of, slots_from, bodies_from}
+use Rattle.sq_graph.proofs.BodyReads.{length-bodies_from}
+use Rattle.sq_graph.proofs.Sizes.{sizes, length-slots_from}
 use Rattle.sq_graph.specs.Layout.{blocks_of, procedures_of, graph_of, spare_of, shown, Holds, HasRoom, IsSound}
 
 blocks_of-slots : (n : ℕ) (bs : List Block) (rest : List Item) → blocks_of (slots_from n bs) (items_of_blocks bs ++ rest) ≡ bs
@@ -60,9 +62,23 @@ pub record Shows (inside : Inside) (g : Graph) : Type 0 where
   pub is : graph_of inside ≡ g
   pub sound : IsSound inside
 
-pub shows : (inside : Inside) (g : Graph) → Holds inside g → IsGraph g → HasRoom inside → IsSmall (sum_of (count_of g) (spare_of inside)) → Shows inside g
-shows inside g holds rules room small =
+-- the rooms are below their limits
+pub record IsLimited (inside : Inside) : Type 0 where
+  pub blocks : length inside.slots.entries + inside.slots.spare < 2 ^ 29
+  pub item_room : inside.item_room < 2 ^ 29
+  pub body_room : inside.body_room < 2 ^ 29
+
+pub shows : (inside : Inside) (g : Graph) → Holds inside g → IsGraph g → HasRoom inside → IsLimited inside → Shows inside g
+shows inside g holds rules room limits =
     let is = graph_of-held inside g holds in
+    let blocks : length inside.slots.entries ≡ length g.blocks = ap (λ es. length es) holds.slots ∙ length-slots_from 0 g.blocks in
+    let items : length inside.items.items ≡ length (all_items g) = ap (λ xs. length xs) holds.items in
+    let bodies : length inside.bodies.items ≡ length g.procedures = ap (λ bs. length bs) holds.bodies ∙ length-bodies_from 0 g.procedures in
+    let small : IsSmall (sum_of (count_of g) (spare_of inside)) = record {
+      blocks = omega (arith, blocks, limits.blocks);
+      items = omega (arith, items, room.items, limits.item_room);
+      procedures = omega (arith, bodies, room.bodies, limits.body_room);
+    } in
     record {
       is = is;
       sound =
@@ -74,6 +90,11 @@ shows inside g holds rules room small =
         };
     }
 
+pub limited : (inside : Inside) → IsSound inside → IsLimited inside
+limited inside sound =
+    let size = sizes inside sound in
+    record { blocks = size.blocks; item_room = size.item_room; body_room = size.body_room }
+
 -- fields with the same lists
 pub record SameLists (old new : Inside) : Type 0 where
   pub slots : new.slots.entries ≡ old.slots.entries
@@ -83,8 +104,8 @@ pub record SameLists (old new : Inside) : Type 0 where
   pub code_words : new.code_words.items ≡ old.code_words.items
   pub bodies : new.bodies.items ≡ old.bodies.items
 
-pub kept : (old new : Inside) → IsSound old → SameLists old new → HasRoom new → IsSmall (sum_of (count_of (graph_of old)) (spare_of new)) → Shows new (graph_of old)
-kept old new sound same room small =
+pub kept : (old new : Inside) → IsSound old → SameLists old new → HasRoom new → IsLimited new → Shows new (graph_of old)
+kept old new sound same room limits =
     let holds = sound.holds in
     shows new (graph_of old)
     (record {
@@ -95,4 +116,4 @@ kept old new sound same room small =
       code_words = same.code_words ∙ holds.code_words;
       bodies = same.bodies ∙ holds.bodies;
     })
-    sound.rules room small
+    sound.rules room limits

@@ -7,3 +7,6 @@ pub mod Eachs
 pub mod Mapped
 pub mod CursorLaws
 pub mod SlotWalks
+pub mod Changes
+pub mod BlockWrites
+pub mod MapWrites

@@ -1,13 +1,17 @@
 -- What each call makes of a graph. A call that makes a block is given the block's name.
-use Rattle.std.specs.Prelude.{ℕ, ◌+◌, ◌==◌, if◌then◌else◌, List, [], ◌∷◌, ◌++◌, map, take, drop, Option, None, Some, slice_get, slice_range, remove}
+use Rattle.std.specs.Prelude.{◌≡◌, ℕ, ◌+◌, ◌==◌, if◌then◌else◌, List, [], ◌∷◌, ◌++◌, map, take, drop, Option, None, Some, slice_get, slice_range, remove}
 use Rattle.sq_arena.specs.Entries.{move_run_after}
 use Rattle.sq_graph.specs.declared.item.Item.{Item}
 use Rattle.sq_graph.specs.declared.item.Item.TheVariants.{Op, Hi, Lo, Out}
 use Rattle.sq_graph.specs.declared.item.Term.{Term}
 use Rattle.sq_graph.specs.declared.item.Term.TheVariants.{Fall}
 use Rattle.sq_graph.specs.Graph.{Block, Procedure, Graph}
-use Rattle.sq_graph.specs.Blocks.{named, items_of, body_of}
+use Rattle.sq_graph.specs.Blocks.{named, block_of, items_of, body_of}
 use Rattle.sq_graph.specs.Renames.{retargeted, recalled, swapped, lowered}
+
+-- no block has the name
+abbrev pub IsNew : Graph → ℕ → Type 0
+IsNew g name = block_of g name ≡ None
 
 -- the block of the name is replaced by a list of blocks
 abbrev pub with_blocks : (Block → List Block) → List Block → ℕ → List Block

@@ -6,6 +6,7 @@
 //! `specs/`, and a call that has room takes no memory.
 #![tactic(auto)]
 
+mod blocks;
 mod graph;
 mod item;
 mod parts;

@@ -20,6 +20,7 @@ pub(crate) trait Rename {
 }
 
 /// One name in place of another.
+#[derive(Drop)]
 pub(crate) struct Swap {
     pub from: u32,
     pub to: u32,
@@ -36,6 +37,7 @@ impl Rename for Swap {
 }
 
 /// The numbers above `gone`, each lower by one.
+#[derive(Drop)]
 pub(crate) struct Lower {
     pub gone: u32,
 }

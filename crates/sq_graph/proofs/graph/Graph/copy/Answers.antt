@@ -1,11 +1,12 @@
 use Rattle.std.proofs.Common.{◌∙◌, length, refl, ap, sym, arith}
 use Rattle.sq_graph.specs.declared.graph.Graph.TheInside.{Inside}
-use Rattle.sq_graph.proofs.Held.{kept}
+use Rattle.sq_graph.proofs.Held.{kept, limited}
 use Rattle.sq_graph.proofs.graph.Graph.copy.Goals as goal
 
 pub invariant_of-result : goal.invariant_of-result
 invariant_of-result c =
     let old = c.self.invariant in
+    let limits = limited c.self.inside c.self.invariant in
     let items = c.in_ok-copy.ensures.items ∙ c.deref.ensures.value in
     let bodies = c.in_ok-copy-3.ensures.items ∙ c.deref-3.ensures.value in
     let spare = ap (λ slots. slots.spare) c.in-Ok.ensures in
@@ -35,7 +36,7 @@ invariant_of-result c =
        body_room = c.in_ok-copy-3.ensures.room;
      })
      (record {
-       blocks = omega (arith, spare, old.small.blocks);
-       items = omega (arith, ap (λ is. length is) items, old.small.items);
-       procedures = omega (arith, ap (λ bs. length bs) bodies, old.small.procedures);
+       blocks = omega (arith, spare, ap (λ es. length es) (ap (λ slots. slots.entries) c.in-Ok.ensures), limits.blocks);
+       item_room = limits.item_room;
+       body_room = limits.body_room;
      })).sound
