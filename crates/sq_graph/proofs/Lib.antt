@@ -10,3 +10,4 @@ pub mod SlotWalks
 pub mod Changes
 pub mod BlockWrites
 pub mod MapWrites
+pub mod SplitRules
