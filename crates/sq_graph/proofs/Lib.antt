@@ -11,3 +11,4 @@ pub mod Changes
 pub mod BlockWrites
 pub mod MapWrites
 pub mod SplitRules
+pub mod PieceLaws

@@ -1,12 +1,13 @@
 //! A graph and what it has.
 
-ghost use Rattle.std.specs.Prelude.{◌≡◌, ℕ, ◌+◌, ◌<◌, ◌≤◌, Some, None, length, take, drop, OnOk, IfOk};
+ghost use Rattle.std.specs.Prelude.{◌≡◌, ℕ, ◌+◌, ◌<◌, ◌≤◌, Some, None, length, OnOk, IfOk};
 ghost use Rattle.sq_graph.specs.Blocks.{HasBlock, HasProcedure, first_of, next_of, items_of, term_of, body_of, link_of};
 ghost use Rattle.sq_graph.specs.Room.{IsSmall, sum_of, count_of, Covers};
 ghost use Rattle.sq_graph.specs.Slots.{slots_from};
 
 use crate::item::{Item, Term};
 use crate::parts::{CodeRef, Room};
+use crate::pieces::piece;
 use crate::slot::{Body, Slot};
 use crate::slots;
 use crate::vectors;
@@ -168,13 +169,4 @@ impl Graph {
     {
         &self.slots
     }
-}
-
-// So many items from this place on.
-fn piece(items: &[Item], start: u32, count: u32) -> &[Item]
-    requires { start + count ≤ length items.now }
-    ensures { result.now ≡ take count (drop start items.now) }
-{
-    let start = start as usize;
-    &items[start..start + count as usize]
 }

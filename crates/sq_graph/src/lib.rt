@@ -10,6 +10,7 @@ mod blocks;
 mod graph;
 mod item;
 mod parts;
+mod pieces;
 mod rename;
 mod slot;
 mod slots;
