@@ -88,3 +88,19 @@ module _ {T : Type 0} where
   length-with_value [] key new = refl
   length-with_value (e ∷ rest) key new =
       elim (cases_Bool (e.0 == key)) [ inl here ↦ rw here | inr apart ↦ rw apart (ap suc (length-with_value rest key new)) ]
+
+  -- the place between two parts of a list
+  pub record IsBetween (entries front back : List (ℕ × T)) : Type 0 where
+    pub place : IsPlace entries (first_key back)
+    pub ahead : ahead_of entries (first_key back) ≡ front
+    pub rest : rest_from entries (first_key back) ≡ back
+
+  pub between_parts : (front back : List (ℕ × T)) → HasDistinctKeys (front ++ back) → IsBetween (front ++ back) front back
+  between_parts front [] distinct = record { place = tt; ahead = append-nil front; rest = refl }
+  between_parts front (e ∷ back) distinct =
+      let apart : value_of front e.0 ≡ None = absent_ahead front back e.0 e.1 distinct in
+      record {
+        place = ap is_some (value_of-at front back e.0 e.1 apart);
+        ahead = before-append front back e.0 e.1 apart;
+        rest = starting_at-append front back e.0 e.1 apart;
+      }

@@ -12,3 +12,5 @@ pub mod BlockWrites
 pub mod MapWrites
 pub mod SplitRules
 pub mod PieceLaws
+pub mod ItemWrites
+pub mod BodyLowers

@@ -3,6 +3,7 @@ use Rattle.std.proofs.Common.{◌≡◌, ℕ, suc, ◌+◌, ◌-◌, ◌≤◌, 
 use Rattle.sq_arena.specs.Entries.{value_of, first_key}
 use Rattle.std.proofs.lemmas.List.Elements.{All-head}
 use Rattle.sq_graph.specs.declared.graph.Graph.TheInside.{Inside}
+use Rattle.sq_graph.specs.declared.parts.Room.{Room}
 use Rattle.sq_graph.specs.Graph.{Block, Graph}
 use Rattle.sq_graph.specs.Blocks.{named, HasBlock, first_of, items_of_blocks, items_of_bodies, all_items}
 use Rattle.sq_graph.specs.Uses.{code_word_uses, terms_uses, items_uses}
@@ -54,3 +55,7 @@ first_some (b ∷ rest) name some = (b.name, refl)
 pub has_first : (g : Graph) → IsGraph g → (first : ℕ) × (first_of g ≡ Some first)
 has_first g rules =
     first_some g.blocks g.entry (All-head (HasBlock g) g.entry (code_word_uses g.code_words ++ (terms_uses g.blocks ++ items_uses (all_items g))) rules.named_all)
+
+pub same_room : (a b : Room) → a.blocks ≡ b.blocks → a.items ≡ b.items → a.procedures ≡ b.procedures → a ≡ b
+same_room a b blocks items procedures =
+    ap (λ n. record a { blocks = n }) blocks ∙ ap (λ n. record b { items = n; procedures = a.procedures }) items ∙ ap (λ n. record b { procedures = n }) procedures

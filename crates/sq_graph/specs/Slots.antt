@@ -1,5 +1,5 @@
 -- How the blocks and procedures of a graph stand in its arena and its vectors.
-use Rattle.std.specs.Prelude.{ℕ, ◌+◌, List, [], ◌∷◌, length}
+use Rattle.std.specs.Prelude.{ℕ, ◌+◌, ◌-◌, List, [], ◌∷◌, length}
 use Rattle.sq_graph.specs.declared.item.Item.{Item}
 use Rattle.sq_graph.specs.declared.slot.Slot.{Slot}
 use Rattle.sq_graph.specs.declared.slot.Body.{Body}
@@ -18,3 +18,7 @@ abbrev pub bodies_from : ℕ → List Procedure → List Body
 bodies_from start [] = []
 bodies_from start (p ∷ rest) =
     record { link = p.link; start = start; length = length p.body } ∷ bodies_from (start + length p.body) rest
+
+-- a body that starts earlier
+abbrev pub lowered_body : ℕ → Body → Body
+lowered_body by body = record body { start = body.start - by }

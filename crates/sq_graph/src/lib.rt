@@ -7,6 +7,7 @@
 #![tactic(auto)]
 
 mod blocks;
+mod edits;
 mod graph;
 mod item;
 mod parts;

@@ -1,8 +1,8 @@
 //! Reads and writes of the slots in the arena of a graph.
 
-ghost use Rattle.std.specs.Prelude.{◌≡◌, ◌+◌, ◌<◌, ◌^◌, ◌++◌, Some};
+ghost use Rattle.std.specs.Prelude.{◌≡◌, ◌+◌, ◌<◌, ◌^◌, ◌∷◌, ◌++◌, Some};
 ghost use Rattle.std.specs.List.{All};
-ghost use Rattle.sq_arena.specs.Entries.{HasDistinctKeys, ContainsKey, value_of, with_value};
+ghost use Rattle.sq_arena.specs.Entries.{HasDistinctKeys, ContainsKey, value_of, with_value, before, behind};
 ghost use Rattle.sq_graph.specs.Cursor.{IsPlace, ahead_of, rest_from, retargeted_slots, slot_uses, renumbered, length_of_slots};
 
 use crate::rename::{Rename, retarget_term};
@@ -62,5 +62,37 @@ pub(crate) fn renumber(slots: &mut Arena<Slot>, from: Option<u32>, start: u32)
         set(slots, name, Slot { start, ..found });
         start += found.length;
         place = slots.next(name);
+    }
+}
+
+/// Gives the slot of a block another length, and those behind it their starts.
+pub(crate) fn resize(slots: &mut Arena<Slot>, name: u32, slot: Slot, length: u32)
+    requires distinct { HasDistinctKeys slots.old.entries }
+    requires slot { value_of slots.old.entries name ≡ Some slot }
+    requires numbered { renumbered (slot.start + slot.length) (behind slots.old.entries name) ≡ behind slots.old.entries name }
+    requires fits { slot.start + length + length_of_slots (behind slots.old.entries name) < 2 ^ 32 }
+    ensures entries { slots.new.entries ≡ before slots.old.entries name ++ (name, record slot { length = length }) ∷ renumbered (slot.start + length) (behind slots.old.entries name) }
+    ensures spare { slots.new.spare ≡ slots.old.spare }
+{
+    set(slots, name, Slot { length, ..slot });
+    if length != slot.length {
+        let next = slots.next(name);
+        renumber(slots, next, slot.start + length);
+    }
+}
+
+/// Takes out a block with its slot, and gives those behind it their starts.
+pub(crate) fn remove(slots: &mut Arena<Slot>, name: u32, slot: Slot)
+    requires distinct { HasDistinctKeys slots.old.entries }
+    requires slot { value_of slots.old.entries name ≡ Some slot }
+    requires numbered { renumbered (slot.start + slot.length) (behind slots.old.entries name) ≡ behind slots.old.entries name }
+    requires fits { slot.start + length_of_slots (behind slots.old.entries name) < 2 ^ 32 }
+    ensures entries { slots.new.entries ≡ before slots.old.entries name ++ renumbered slot.start (behind slots.old.entries name) }
+    ensures spare { slots.new.spare ≡ slots.old.spare + 1 }
+{
+    let next = slots.next(name);
+    slots.unlink(name);
+    if slot.length != 0 {
+        renumber(slots, next, slot.start);
     }
 }
