@@ -14,3 +14,4 @@ pub mod SplitRules
 pub mod PieceLaws
 pub mod ItemWrites
 pub mod BodyLowers
+pub mod BlockRemoval
