@@ -15,3 +15,4 @@ pub mod PieceLaws
 pub mod ItemWrites
 pub mod BodyLowers
 pub mod BlockRemoval
+pub mod ProcedureWrites

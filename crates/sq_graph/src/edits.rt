@@ -1,12 +1,12 @@
 //! The calls that move items.
 
-ghost use Rattle.std.specs.Prelude.{◌≡◌, ◌≢◌, ℕ, ◌+◌, ◌-◌, ◌<◌, ◌≤◌, length, IsSome, take, drop, map, ◌++◌, vec_capacity};
+ghost use Rattle.std.specs.Prelude.{◌≡◌, ◌≢◌, ℕ, ◌+◌, ◌-◌, ◌<◌, ◌≤◌, length, Some, IsSome, take, drop, map, ◌++◌, vec_capacity};
 ghost use Rattle.std.specs.List.{All};
 ghost use Rattle.sq_graph.specs.Slots.{lowered_body};
 ghost use Rattle.sq_graph.specs.Blocks.{HasBlock, HasProcedure, items_of, body_of};
 ghost use Rattle.sq_graph.specs.Uses.{calls};
 ghost use Rattle.sq_graph.specs.Rules.{IsGraph};
-ghost use Rattle.sq_graph.specs.Operations.{replaced, called_at, called_body, inlined, outlined, without_block, without_procedure};
+ghost use Rattle.sq_graph.specs.Operations.{replaced, call_of, called_at, called_body, inlined, outlined, without_block, without_procedure};
 
 use crate::graph::Graph;
 use crate::item::Item;
@@ -45,18 +45,13 @@ impl Graph {
     {
         let slot = slots::slot(&self.slots, block);
         let place = slot.start + at;
-        let Item::Out { procedure } = self.items[place as usize] else {
-            unreachable!()
-        };
+        let procedure = called(self.items[place as usize]).unwrap();
         let body = self.bodies[procedure as usize];
-        pieces::replace_by_copy(
-            &mut self.items,
-            place,
-            self.block_items + body.start,
-            body.length,
-        );
+        let from = self.block_items + body.start;
+        pieces::replace_by_copy(&mut self.items, place, from, body.length);
         slots::resize(&mut self.slots, block, slot, slot.length - 1 + body.length);
-        self.block_items = self.block_items - 1 + body.length;
+        let others = self.block_items - 1;
+        self.block_items = others + body.length;
     }
 
     /// Makes a copy of the `count` items from place `at` on the last procedure, and returns its number. The
@@ -107,13 +102,20 @@ impl Graph {
         ensures spare { self.new.spare ≡ record self.old.spare { items = self.old.spare.items + length (body_of self.old.graph procedure); procedures = self.old.spare.procedures + 1 } }
     {
         let body = self.bodies.remove(procedure as usize);
-        pieces::cut(
-            &mut self.items,
-            self.block_items + body.start,
-            body.length,
-        );
+        let from = self.block_items + body.start;
+        pieces::cut(&mut self.items, from, body.length);
         lower_starts(&mut self.bodies, procedure, body.length);
         rename::recall_items(&mut self.items, &Lower { gone: procedure });
+    }
+}
+
+// The procedure that an item calls.
+fn called(item: Item) -> Option<u32>
+    ensures { result ≡ call_of (Some item) }
+{
+    match item {
+        Item::Out { procedure } => Some(procedure),
+        Item::Op(_) | Item::Hi { .. } | Item::Lo { .. } => None,
     }
 }
 
