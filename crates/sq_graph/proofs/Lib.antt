@@ -16,3 +16,4 @@ pub mod ItemWrites
 pub mod BodyLowers
 pub mod BlockRemoval
 pub mod ProcedureWrites
+pub mod ProcedureRemoval

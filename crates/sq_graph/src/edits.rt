@@ -1,6 +1,6 @@
 //! The calls that move items.
 
-ghost use Rattle.std.specs.Prelude.{◌≡◌, ◌≢◌, ℕ, ◌+◌, ◌-◌, ◌<◌, ◌≤◌, length, Some, IsSome, take, drop, map, ◌++◌, vec_capacity};
+ghost use Rattle.std.specs.Prelude.{◌≡◌, ◌≢◌, ℕ, ◌+◌, ◌-◌, ◌<◌, ◌≤◌, length, Some, IsSome, take, drop, map, ◌++◌, vec_len, vec_capacity};
 ghost use Rattle.std.specs.List.{All};
 ghost use Rattle.sq_graph.specs.Slots.{lowered_body};
 ghost use Rattle.sq_graph.specs.Blocks.{HasBlock, HasProcedure, items_of, body_of};
@@ -121,7 +121,8 @@ fn called(item: Item) -> Option<u32>
 
 // The bodies from this number on start earlier by so many items.
 fn lower_starts(bodies: &mut Vec<Body>, from: u32, by: u32)
-    requires { All (λ body. by ≤ body.start) (drop from bodies.old.items) }
+    requires from { from ≤ vec_len bodies.old }
+    requires fits { All (λ body. by ≤ body.start) (drop from bodies.old.items) }
     ensures items { bodies.new.items ≡ take from bodies.old.items ++ map (lowered_body by) (drop from bodies.old.items) }
     ensures capacity { vec_capacity bodies.new ≡ vec_capacity bodies.old }
 {
