@@ -17,3 +17,6 @@ pub mod BodyLowers
 pub mod BlockRemoval
 pub mod ProcedureWrites
 pub mod ProcedureRemoval
+pub mod PartLoops
+pub mod RetargetRules
+pub mod FromParts

@@ -14,3 +14,4 @@ pub mod Parts
 pub mod Slots
 pub mod Layout
 pub mod Cursor
+pub mod PartSlots

@@ -36,3 +36,6 @@ pub record Covers (room needed : Room) : Type 0 where
 -- what is spare falls by what is added, and rises by what is taken away
 abbrev pub KeepsTotal : GraphAndRoom → GraphAndRoom → Type 0
 KeepsTotal old new = total_of new ≡ total_of old
+
+abbrev pub no_room : Room
+no_room = record { blocks = 0; items = 0; procedures = 0 }

@@ -7,6 +7,7 @@
 #![tactic(auto)]
 
 mod blocks;
+mod build;
 mod edits;
 mod graph;
 mod item;
