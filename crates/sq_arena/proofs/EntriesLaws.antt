@@ -248,11 +248,11 @@ module _ {T : Type 0} where
       without-insert (through xs key) (behind xs key) new value (ap (λ ps. value_of ps new) (through-behind xs key) ∙ fresh) ∙ through-behind xs key
 
   -- a key that stands behind has no value ahead
-  absent_ahead : (front back : List (ℕ × T)) (key : ℕ) (value : T) → HasDistinctKeys (front ++ (key, value) ∷ back) → value_of front key ≡ None
+  pub absent_ahead : (front back : List (ℕ × T)) (key : ℕ) (value : T) → HasDistinctKeys (front ++ (key, value) ∷ back) → value_of front key ≡ None
   absent_ahead front back key value distinct =
       value_of-absent front key (omega (arith, times_at_most_once (front ++ (key, value) ∷ back) distinct (Some key), times-places-append (Some key) front ((key, value) ∷ back), once_same (Some key)))
 
-  distinct_back : (front back : List (ℕ × T)) → HasDistinctKeys (front ++ back) → HasDistinctKeys back
+  pub distinct_back : (front back : List (ℕ × T)) → HasDistinctKeys (front ++ back) → HasDistinctKeys back
   distinct_back front back distinct = distinct_keys back (λ p. omega (arith, times_at_most_once (front ++ back) distinct p, times-places-append p front back))
 
   -- the pairs around a run that begins and ends with these keys

@@ -90,6 +90,7 @@ impl<T> Arena<T> {
         ensures ok { OnOk result (self.new.spare ≡ max self.old.spare n) }
         ensures enough { n ≤ self.old.spare → IsOk result }
         ensures err { OnErr result (self.old.spare ≤ self.new.spare) }
+        ensures bound { self.new.spare ≤ max self.old.spare n }
     {
         if n <= self.spare {
             return Ok(());

@@ -1,29 +1,9 @@
 -- Places: the addresses of blocks and procedures in text, and whether branches reach their targets.
-use Rattle.std.specs.Prelude.{◌≡◌, ℕ, ℤ, pos, neg_ℤ, ◌+◌, ◌*◌, ◌-ℤ◌, ◌≤ℤ◌, List, [], ◌∷◌, Option, Some, None, All, ◌==◌, length, map, sum, slice_get, if◌then◌else◌}
+use Rattle.std.specs.Prelude.{◌≡◌, ℕ, ℤ, pos, neg_ℤ, ◌+◌, ◌*◌, ◌-ℤ◌, ◌≤ℤ◌, List, [], ◌∷◌, Option, Some, None, All, ◌==◌, length, sum_by, slice_get, if◌then◌else◌}
 use Rattle.sq_graph.specs.declared.item.Term.{Term}
 use Rattle.sq_graph.specs.declared.item.Term.TheVariants.{Fall, Jump, Branch, Call, PartJump, Indirect, Stop}
 use Rattle.sq_graph.specs.Graph.{Block, Procedure, Graph}
-
--- the words of a term: a Fall has none
-abbrev pub term_words : Term → ℕ
-term_words Fall = 0
-term_words (Jump to) = 1
-term_words (Branch cond a b to) = 1
-term_words (Call link to) = 1
-term_words (PartJump link part to) = 1
-term_words (Indirect link at offset) = 1
-term_words (Stop word) = 1
-
--- an item has one word, and a procedure its body and its return
-abbrev pub block_words : Block → ℕ
-block_words block = length block.items + term_words block.term
-
-abbrev pub procedure_words : Procedure → ℕ
-procedure_words procedure = length procedure.body + 1
-
--- The words of a graph.
-abbrev pub words_of : Graph → ℕ
-words_of g = sum (map block_words g.blocks) + sum (map procedure_words g.procedures)
+use Rattle.sq_graph.specs.Words.{block_words, procedure_words}
 
 -- the address of the block of a name, where these blocks stand from `at` on
 abbrev pub address_in : List Block → ℕ → ℕ → Option ℕ
@@ -40,7 +20,7 @@ abbrev pub block_address : Graph → ℕ → ℕ → Option ℕ
 block_address g lo n = address_in g.blocks lo n
 
 abbrev pub procedure_address : Graph → ℕ → ℕ → Option ℕ
-procedure_address g lo n = slice_get (procedure_addresses g.procedures (lo + 4 * sum (map block_words g.blocks))) n
+procedure_address g lo n = slice_get (procedure_addresses g.procedures (lo + 4 * sum_by block_words g.blocks)) n
 
 -- a branch reaches a distance of -4096 to 4094 bytes
 pub record Reaches (distance : ℤ) : Type 0 where

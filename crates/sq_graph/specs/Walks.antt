@@ -11,36 +11,20 @@ use Rattle.sq_graph.specs.declared.item.Term.TheVariants.{Fall, Jump, Branch, Ca
 use Rattle.sq_graph.specs.declared.parts.CodeRef.{CodeRef}
 use Rattle.sq_graph.specs.Graph.{Block, Procedure, Graph}
 use Rattle.sq_graph.specs.Terms.{goes_on, links}
+use Rattle.sq_graph.specs.Uses.{item_uses, items_uses, term_uses}
 use Rattle.sq_graph.specs.Lines.{Line, Name, Do, Enter, Return, End, lines_of, inside, block_lines}
 
 -- Reached blocks
 
--- the target of a term
-abbrev pub term_names : Term → List ℕ
-term_names Fall = []
-term_names (Jump to) = to ∷ []
-term_names (Branch cond a b to) = to ∷ []
-term_names (Call link to) = to ∷ []
-term_names (PartJump link part to) = to ∷ []
-term_names (Indirect link at offset) = []
-term_names (Stop word) = []
-
--- the target of a Hi or a Lo
-abbrev pub item_names : Item → List ℕ
-item_names (Op insn) = []
-item_names (Hi rd to) = to ∷ []
-item_names (Lo rd rs to) = to ∷ []
-item_names (Out procedure) = []
-
--- those in the body of a procedure that is there
+-- the targets of Hi and Lo in the body of a procedure that is there
 abbrev pub procedure_names : Option Procedure → List ℕ
 procedure_names None = []
-procedure_names (Some procedure) = flat_map item_names procedure.body
+procedure_names (Some procedure) = items_uses procedure.body
 
 -- those of an item, and for a call those of its procedure
 abbrev pub called_names : List Procedure → Item → List ℕ
 called_names procedures (Out procedure) = procedure_names (slice_get procedures procedure)
-called_names procedures item = item_names item
+called_names procedures item = item_uses item
 
 -- the name of the first block
 abbrev pub first_name : List Block → List ℕ
@@ -49,9 +33,9 @@ first_name (block ∷ blocks) = block.name ∷ []
 
 -- where a block leads that has these blocks behind it: the targets of its term, its next slot where the term goes
 -- on, and the targets of Hi and Lo in it and in the procedures that it calls
-abbrev pub leads_to : List Procedure → Block → List Block → List ℕ
-leads_to procedures block blocks =
-    term_names block.term
+abbrev pub block_successors : List Procedure → Block → List Block → List ℕ
+block_successors procedures block blocks =
+    term_uses block.term
     ++ (if goes_on block.term then first_name blocks else [])
     ++ flat_map (called_names procedures) block.items
 
@@ -59,7 +43,7 @@ leads_to procedures block blocks =
 abbrev pub successors_in : List Procedure → List Block → ℕ → List ℕ
 successors_in procedures [] n = []
 successors_in procedures (block ∷ blocks) n =
-    if block.name == n then leads_to procedures block blocks else successors_in procedures blocks n
+    if block.name == n then block_successors procedures block blocks else successors_in procedures blocks n
 
 abbrev pub successors : Graph → ℕ → List ℕ
 successors g n = successors_in g.procedures g.blocks n

@@ -1,9 +1,24 @@
 //! The graph of a program: blocks in layout order, the entry, the words of data that hold addresses of
 //! blocks, and procedures.
+//!
+//! To the layer above a `Graph` is these four parts, which always meet the rules of a graph, and beside them
+//! how much more fits with no memory. Each call changes the four parts by one plain function of its name in
+//! `specs/`, and a call that has room takes no memory.
 #![tactic(auto)]
 
+mod blocks;
+mod build;
+mod edits;
+mod graph;
 mod item;
 mod parts;
+mod pieces;
+mod rename;
+mod slot;
+mod slots;
+mod vectors;
 
+pub use graph::Graph;
 pub use item::{Item, Term};
 pub use parts::{BlockPart, CodeRef, Parts, ProcedurePart, Room};
+pub use slot::Slot;

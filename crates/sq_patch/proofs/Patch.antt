@@ -78,9 +78,10 @@ known_sources : (P Q : ℕ → ℕ → Type 0) (rs ss : List ℕ) → AreSources
 known_sources P Q [] [] p h = tt
 known_sources P Q [] (s ∷ ss) p h = p
 known_sources P Q (r ∷ rs) [] p h = p
-known_sources P Q (r ∷ rs) (s ∷ ss) p h =
-    (known_source P Q r s p.0 (λ q e x. h r s (rw (same_one r, ap (λ n. n == 0) e ∙ not_zero q) refl) x),
-    known_sources P Q rs ss p.1 (λ q t e x. h q t (later r rs q e) x))
+known_sources P Q (r ∷ rs) (s ∷ ss) p h = (
+  known_source P Q r s p.0 (λ q e x. h r s (rw (same_one r, ap (λ n. n == 0) e ∙ not_zero q) refl) x),
+  known_sources P Q rs ss p.1 (λ q t e x. h q t (later r rs q e) x),
+)
 
 not_twice : (t : Bool) → t ≡ not (not t)
 not_twice true = refl
@@ -427,13 +428,18 @@ pub change_follows : (C : Change) → IsSteady C → C.MayGo C.before.entry C.af
 change_follows C steady j addresses names held = record {
   addresses = addresses;
   runs = λ w world count start valid.
-      follows_by (graph_step (setting_of w start) C.before) (graph_step (setting_of w start) C.after) (PatchState C w start steady) (patch_simulates C w start steady) (state_at_start w C.before start) (state_at_start w C.after start)
-      (None, (promised j, record {
-        registers = λ r q n. first_held (ties_of C) start r q n.1;
-        store = record {
-          memory = subst (λ words. SameMemory everywhere (ties_of C) (get (regions_at_start w (map word_name C.before.code_words) start)) (get (regions_at_start w words start))) (sym names) (start_memory_rel (ties_of C) C.renamed w (map word_name C.before.code_words) start held);
-          input = refl;
-          reservation = refl;
-        };
-      }));
+      follows_by (graph_step (setting_of w start) C.before) (graph_step (setting_of w start) C.after) (PatchState C w start steady) (patch_simulates C w start steady) (state_at_start w C.before start) (state_at_start w C.after start) (
+        None,
+        (
+          promised j,
+          record {
+            registers = λ r q n. first_held (ties_of C) start r q n.1;
+            store = record {
+              memory = subst (λ words. SameMemory everywhere (ties_of C) (get (regions_at_start w (map word_name C.before.code_words) start)) (get (regions_at_start w words start))) (sym names) (start_memory_rel (ties_of C) C.renamed w (map word_name C.before.code_words) start held);
+              input = refl;
+              reservation = refl;
+            };
+          },
+        ),
+      );
 }

@@ -182,10 +182,13 @@ module _ (T : Ties) (f : ℕ → ℕ) where
             let first = whole_first cs tag whole_is in
             let at : m (x + 0) ≡ Some (Frag tag first.0) = (cells_from_some 4 m x cs e).1 0 (omega arith) ∙ first.1 in
             let tied = code_tied names tag first.0 h (got_is names (regions_at_start w names start) (x + 0) (Frag tag first.0) (pieces_have names w.pieces start) at) in
-            let mapped = whole_map f cs tag whole_is in
-            (Tagged (tag_map f tag), tied, record {
-              cells = map (cell_map f) cs;
-              there = cells_from-map_cells (cell_map f) 4 m x ∙ ap (option_map (map (cell_map f))) e;
-              loads = λ go. loads_whole (map (cell_map f) cs) (tag_map f tag) mapped go (no_stale_whole (map (cell_map f) cs) (tag_map f tag) mapped);
-            });
+            let mapped = whole_map f cs tag whole_is in (
+              Tagged (tag_map f tag),
+              tied,
+              record {
+                cells = map (cell_map f) cs;
+                there = cells_from-map_cells (cell_map f) 4 m x ∙ ap (option_map (map (cell_map f))) e;
+                loads = λ go. loads_whole (map (cell_map f) cs) (tag_map f tag) mapped go (no_stale_whole (map (cell_map f) cs) (tag_map f tag) mapped);
+              },
+            );
       })

@@ -1,0 +1,42 @@
+use Rattle.std.proofs.Common.{◌∙◌, length, refl, ap, sym, arith}
+use Rattle.sq_graph.specs.declared.graph.Graph.TheInside.{Inside}
+use Rattle.sq_graph.proofs.Held.{kept, limited}
+use Rattle.sq_graph.proofs.graph.Graph.copy.Goals as goal
+
+pub invariant_of-result : goal.invariant_of-result
+invariant_of-result c =
+    let old = c.self.invariant in
+    let limits = limited c.self.inside c.self.invariant in
+    let items = c.in_ok-copy.ensures.items ∙ c.deref.ensures.value in
+    let bodies = c.in_ok-copy-3.ensures.items ∙ c.deref-3.ensures.value in
+    let spare = ap (λ slots. slots.spare) c.in-Ok.ensures in
+    let new : Inside = record {
+      slots = c.in-Ok.slots;
+      items = c.in_ok-copy.field-0;
+      block_items = c.self.inside.block_items;
+      entry = c.self.inside.entry;
+      code_words = c.in_ok-copy-2.field-0;
+      bodies = c.in_ok-copy-3.field-0;
+      item_room = c.self.inside.item_room;
+      body_room = c.self.inside.body_room;
+    } in
+    (kept c.self.inside new old
+    (record {
+      slots = ap (λ slots. slots.entries) c.in-Ok.ensures;
+      items = items;
+      block_items = refl;
+      entry = refl;
+      code_words = c.in_ok-copy-2.ensures.items ∙ c.deref-2.ensures.value;
+      bodies = bodies;
+    })
+    (record {
+      items = omega (arith, ap (λ is. length is) items, old.room.items);
+      item_room = c.in_ok-copy.ensures.room;
+      bodies = omega (arith, ap (λ bs. length bs) bodies, old.room.bodies);
+      body_room = c.in_ok-copy-3.ensures.room;
+    })
+    (record {
+      blocks = omega (arith, spare, ap (λ es. length es) (ap (λ slots. slots.entries) c.in-Ok.ensures), limits.blocks);
+      item_room = limits.item_room;
+      body_room = limits.body_room;
+    })).sound

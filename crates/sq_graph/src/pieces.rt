@@ -1,0 +1,88 @@
+//! Pieces of the vector of items, cut, copied and moved.
+
+ghost use Rattle.std.specs.Prelude.{◌≡◌, ◌+◌, ◌-◌, ◌≤◌, ◌++◌, ◌<◌, ◌^◌, length, take, drop, vec_len, vec_capacity};
+ghost use Rattle.sq_graph.specs.Operations.{replaced_items};
+
+use crate::item::Item;
+
+/// So many items from this place on.
+pub(crate) fn piece(items: &[Item], start: u32, count: u32) -> &[Item]
+    requires { start + count ≤ length items.now }
+    ensures { result.now ≡ take count (drop start items.now) }
+{
+    let start = start as usize;
+    &items[start..start + count as usize]
+}
+
+// The items from this place on, with the first `count` of them behind the others.
+fn rotate(items: &mut [Item], at: usize, count: usize)
+    requires { at + count ≤ length items.old }
+    ensures { items.new ≡ take at items.old ++ (drop (at + count) items.old ++ take count (drop at items.old)) }
+{
+    let rest = &mut items[at..];
+    rest.rotate_left(count);
+}
+
+/// Takes the items out.
+pub(crate) fn cut(items: &mut Vec<Item>, at: u32, count: u32)
+    requires { at + count ≤ vec_len items.old }
+    ensures items { items.new.items ≡ take at items.old.items ++ drop (at + count) items.old.items }
+    ensures capacity { vec_capacity items.new ≡ vec_capacity items.old }
+{
+    rotate(items, at as usize, count as usize);
+    let left = items.len() - count as usize;
+    items.truncate(left);
+}
+
+// Moves the last items to this place.
+fn raise(items: &mut Vec<Item>, at: u32, count: u32)
+    requires { at + count ≤ vec_len items.old }
+    ensures items { items.new.items ≡ take at items.old.items ++ (drop (length items.old.items - count) items.old.items ++ take (length items.old.items - count - at) (drop at items.old.items)) }
+    ensures capacity { vec_capacity items.new ≡ vec_capacity items.old }
+{
+    let left = items.len() - count as usize - at as usize;
+    rotate(items, at as usize, left);
+}
+
+/// Puts other items in the place of some.
+pub(crate) fn replace(items: &mut Vec<Item>, at: u32, count: u32, by: &[Item])
+    requires there { at + count ≤ vec_len items.old }
+    requires room { vec_len items.old + length by.now ≤ count + vec_capacity items.old }
+    requires small { length by.now < 2 ^ 32 }
+    ensures items { items.new.items ≡ replaced_items items.old.items at count by.now }
+    ensures capacity { vec_capacity items.old ≤ vec_capacity items.new }
+{
+    cut(items, at, count);
+    if items.extend_from_slice(by).is_err() {
+        unreachable!();
+    }
+    raise(items, at, by.len() as u32);
+}
+
+/// Appends a copy of so many items from this place on.
+pub(crate) fn append_copy(items: &mut Vec<Item>, from: u32, count: u32)
+    requires there { from + count ≤ vec_len items.old }
+    requires room { vec_len items.old + count ≤ vec_capacity items.old }
+    ensures items { items.new.items ≡ items.old.items ++ take count (drop from items.old.items) }
+    ensures capacity { vec_capacity items.old ≤ vec_capacity items.new }
+{
+    let from = from as usize;
+    let copied = items.extend_from_within(from..from + count as usize);
+    if copied.is_err() {
+        unreachable!();
+    }
+}
+
+/// Puts a copy of so many items in the place of one.
+pub(crate) fn replace_by_copy(items: &mut Vec<Item>, at: u32, from: u32, count: u32)
+    requires at { at + 1 ≤ vec_len items.old }
+    requires from { from + count ≤ vec_len items.old }
+    requires room { vec_len items.old + count ≤ vec_capacity items.old }
+    requires small { at + count < 2 ^ 32 }
+    ensures items { items.new.items ≡ replaced_items items.old.items at 1 (take count (drop from items.old.items)) }
+    ensures capacity { vec_capacity items.old ≤ vec_capacity items.new }
+{
+    append_copy(items, from, count);
+    raise(items, at, count);
+    cut(items, at + count, 1);
+}

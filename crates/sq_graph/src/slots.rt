@@ -1,0 +1,98 @@
+//! Reads and writes of the slots in the arena of a graph.
+
+ghost use Rattle.std.specs.Prelude.{◌≡◌, ◌+◌, ◌<◌, ◌^◌, ◌∷◌, ◌++◌, Some};
+ghost use Rattle.std.specs.List.{All};
+ghost use Rattle.sq_arena.specs.Entries.{HasDistinctKeys, ContainsKey, value_of, with_value, before, behind};
+ghost use Rattle.sq_graph.specs.Cursor.{IsPlace, ahead_of, rest_from, retargeted_slots, slot_uses, renumbered, length_of_slots};
+
+use crate::rename::{Rename, retarget_term};
+use crate::slot::Slot;
+use sq_arena::Arena;
+
+/// The slot of a block.
+pub(crate) fn slot(slots: &Arena<Slot>, name: u32) -> Slot
+    requires { ContainsKey slots.now.entries name }
+    ensures { value_of slots.now.entries name ≡ Some result }
+{
+    match slots.get(name) {
+        Some(slot) => *slot,
+        None => unreachable!(),
+    }
+}
+
+/// Writes the slot of a block.
+pub(crate) fn set(slots: &mut Arena<Slot>, name: u32, slot: Slot)
+    requires { ContainsKey slots.old.entries name }
+    ensures entries { slots.new.entries ≡ with_value slots.old.entries name slot }
+    ensures spare { slots.new.spare ≡ slots.old.spare }
+{
+    if let Some(place) = slots.get_mut(name) {
+        *place = slot;
+    }
+}
+
+/// Makes each use of a name in a term one of another.
+pub(crate) fn retarget<R: Rename>(slots: &mut Arena<Slot>, by: &R)
+    requires distinct { HasDistinctKeys slots.old.entries }
+    requires known { All (R.Knows by.now) (slot_uses slots.old.entries) }
+    ensures entries { slots.new.entries ≡ retargeted_slots (R.name_of by.now) slots.old.entries }
+    ensures spare { slots.new.spare ≡ slots.old.spare }
+{
+    let mut place = slots.first();
+    while let Some(name) = place {
+        let found = slot(slots, name);
+        let term = retarget_term(found.term, by);
+        set(slots, name, Slot { term, ..found });
+        place = slots.next(name);
+    }
+}
+
+/// Gives each slot from this place on its start, where the first of them has this one.
+pub(crate) fn renumber(slots: &mut Arena<Slot>, from: Option<u32>, start: u32)
+    requires distinct { HasDistinctKeys slots.old.entries }
+    requires place { IsPlace slots.old.entries from }
+    requires fits { start + length_of_slots (rest_from slots.old.entries from) < 2 ^ 32 }
+    ensures entries { slots.new.entries ≡ ahead_of slots.old.entries from ++ renumbered start (rest_from slots.old.entries from) }
+    ensures spare { slots.new.spare ≡ slots.old.spare }
+{
+    let mut start = start;
+    let mut place = from;
+    while let Some(name) = place {
+        let found = slot(slots, name);
+        set(slots, name, Slot { start, ..found });
+        start += found.length;
+        place = slots.next(name);
+    }
+}
+
+/// Gives the slot of a block another length, and those behind it their starts.
+pub(crate) fn resize(slots: &mut Arena<Slot>, name: u32, slot: Slot, length: u32)
+    requires distinct { HasDistinctKeys slots.old.entries }
+    requires slot { value_of slots.old.entries name ≡ Some slot }
+    requires numbered { renumbered (slot.start + slot.length) (behind slots.old.entries name) ≡ behind slots.old.entries name }
+    requires fits { slot.start + length + length_of_slots (behind slots.old.entries name) < 2 ^ 32 }
+    ensures entries { slots.new.entries ≡ before slots.old.entries name ++ (name, record slot { length = length }) ∷ renumbered (slot.start + length) (behind slots.old.entries name) }
+    ensures spare { slots.new.spare ≡ slots.old.spare }
+{
+    set(slots, name, Slot { length, ..slot });
+    if length != slot.length {
+        let next = slots.next(name);
+        renumber(slots, next, slot.start + length);
+    }
+}
+
+/// Takes out a block with its slot, and gives those behind it their starts.
+pub(crate) fn remove(slots: &mut Arena<Slot>, name: u32, slot: Slot)
+    requires distinct { HasDistinctKeys slots.old.entries }
+    requires slot { value_of slots.old.entries name ≡ Some slot }
+    requires numbered { renumbered (slot.start + slot.length) (behind slots.old.entries name) ≡ behind slots.old.entries name }
+    requires fits { slot.start + length_of_slots (behind slots.old.entries name) < 2 ^ 32 }
+    ensures entries { slots.new.entries ≡ before slots.old.entries name ++ renumbered slot.start (behind slots.old.entries name) }
+    ensures spare { slots.new.spare ≡ slots.old.spare + 1 }
+{
+    let next = slots.next(name);
+    slots.unlink(name);
+    if slot.length != 0 {
+        renumber(slots, next, slot.start);
+    }
+}
