@@ -1,12 +1,11 @@
 -- The instruction at a word of text is one at which its mark can stand.
-use Rattle.std.proofs.Common.{◌≡◌, ◌≢◌, ◌⊎◌, inl, inr, ℕ, ◌+◌, ◌%◌, ◌^◌, ◌<◌, ◌≤◌, ℤ, Bool, true, false, not, ◌&&◌, ◌||◌, nat_eq, nat_lt, nat_le, cond, if◌then◌else◌, List, [], ◌∷◌, Option, Some, None, refl, sym, subst, ap, ◌∙◌, arith}
+use Rattle.std.proofs.Common.{◌≡◌, ◌≢◌, inl, inr, ℕ, ◌+◌, ◌%◌, ◌^◌, ◌<◌, ◌≤◌, Bool, true, false, not, ◌&&◌, ◌||◌, nat_eq, nat_lt, nat_le, cond, if◌then◌else◌, List, [], ◌∷◌, Option, Some, None, refl, sym, subst, ap, ◌∙◌, arith}
 use Rattle.std.specs.Option.{option_map, option_map_or}
 use Rattle.std.specs.List.{find, filter, list_any}
 use Rattle.std.proofs.lemmas.Bool.{cases_eq}
 use Rattle.std.proofs.lemmas.Bool.Decides.{nat_tests}
 use Rattle.sq_num.specs.Halves.{high_half, low_half}
 use Rattle.sq_isa.specs.declared.instructions.Insn.{Insn}
-use Rattle.sq_elf.specs.Ranges.{meets}
 use Rattle.sq_elf.specs.Text.{text_of, is_in_text}
 use Rattle.sq_elf.proofs.TextFacts.{both_true, neither, second_false}
 use Rattle.sq_reloc.specs.declared.entry.Entry.{Entry}
@@ -15,7 +14,7 @@ use Rattle.sq_reloc.specs.declared.mark.Mark.TheVariants.{Plain, Hi, Lo, Unsuppo
 use Rattle.sq_reloc.specs.Kinds.{is_call, is_text_kind, width_of, touches_word}
 use Rattle.sq_reloc.specs.Entries.{target_of, entries_of}
 use Rattle.sq_reloc.specs.Required.{insn_at, distance, is_lui, is_auipc, has_low_i, has_low_s, is_upper_half, upper_target, paired_target, paired_half, meets_ask, meets_low_i, meets_low_s, loads_upper, takes_low, next_of, has_pair, has_call_of_none, agrees}
-use Rattle.sq_reloc.specs.Marks.{is_unsupported, is_disagreeing, is_lone_entry, differ, paired_mark, if_in_text, mark_here, mark_behind, entry_mark, first_mark, faulty, mark_by, touching, mark_of, IsMarked}
+use Rattle.sq_reloc.specs.Marks.{is_unsupported, is_disagreeing, is_lone_entry, differ, paired_mark, mark_here, mark_behind, entry_mark, first_mark, faulty, mark_by, touching, mark_of, IsMarked}
 use Rattle.sq_reloc.proofs.MarkedInsns.{either_true, lui_loads, auipc_loads, low_i_takes, low_s_takes, pair_loads, pair_takes, none_loads}
 
 fact_of : (b : Bool) → not b ≡ false → b ≡ true

@@ -2,9 +2,9 @@
 use Rattle.std.specs.Prelude.{◌≡◌, ◌<◌, ◌%◌, ℕ, Bool, true, false, nat_eq, if◌then◌else◌, List, [], ◌∷◌, Option, Some}
 use Rattle.std.specs.Option.{option_map}
 use Rattle.std.specs.List.{find, AllByRecursion}
-use Rattle.sq_reloc.specs.declared.mark.CodeWord.{CodeWord}
 use Rattle.sq_elf.specs.Text.{text_of, is_in_text, is_text_word}
 use Rattle.sq_elf.specs.Reading.{word_of}
+use Rattle.sq_reloc.specs.declared.mark.CodeWord.{CodeWord}
 use Rattle.sq_reloc.specs.Outside.{is_beaten, code_word_at}
 
 -- each stands at a higher address than the one before

@@ -2,6 +2,7 @@
 use Rattle.std.specs.Prelude.{◌≡◌, ℕ, true, ◌%◌, Bool, false, not, ◌&&◌, ◌||◌, nat_eq, if◌then◌else◌, List, [], ◌∷◌, Option, Some, None}
 use Rattle.std.specs.Option.{option_map_or, is_some}
 use Rattle.std.specs.List.{list_any, find, filter}
+use Rattle.sq_isa.specs.declared.instructions.Insn.{Insn}
 use Rattle.sq_elf.specs.declared.text.Text.{Text}
 use Rattle.sq_elf.specs.Text.{text_of, is_in_text}
 use Rattle.sq_reloc.specs.declared.entry.Entry.{Entry}
@@ -9,7 +10,6 @@ use Rattle.sq_reloc.specs.declared.mark.Mark.{Mark}
 use Rattle.sq_reloc.specs.declared.mark.Mark.TheVariants.{Plain, Hi, Lo, Unsupported, Disagrees, Conflict, Lone}
 use Rattle.sq_reloc.specs.Kinds.{is_call, is_paired, is_text_kind, touches_word}
 use Rattle.sq_reloc.specs.Entries.{target_of, entries_of}
-use Rattle.sq_isa.specs.declared.instructions.Insn.{Insn}
 use Rattle.sq_reloc.specs.Required.{upper_target, paired_target, loads_upper, takes_low, has_pair, agrees}
 
 -- an entry outside text, of a type that is not supported in text, or at an offset that is not a multiple of 4
