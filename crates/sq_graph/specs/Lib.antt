@@ -15,3 +15,4 @@ pub mod Slots
 pub mod Layout
 pub mod Cursor
 pub mod PartSlots
+pub mod Pieces
