@@ -20,3 +20,5 @@ pub mod ProcedureRemoval
 pub mod PartLoops
 pub mod RetargetRules
 pub mod FromParts
+pub mod BlockMoves
+pub mod MoveShows

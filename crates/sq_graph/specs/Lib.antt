@@ -15,7 +15,4 @@ pub mod Slots
 pub mod Layout
 pub mod Cursor
 pub mod PartSlots
-pub mod Lines
-pub mod Walks
-pub mod Soundness
-pub mod Places
+pub mod Pieces

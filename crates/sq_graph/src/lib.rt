@@ -11,6 +11,7 @@ mod build;
 mod edits;
 mod graph;
 mod item;
+mod moves;
 mod parts;
 mod pieces;
 mod rename;

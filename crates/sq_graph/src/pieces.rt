@@ -2,6 +2,7 @@
 
 ghost use Rattle.std.specs.Prelude.{◌≡◌, ◌+◌, ◌-◌, ◌≤◌, ◌++◌, ◌<◌, ◌^◌, length, take, drop, vec_len, vec_capacity};
 ghost use Rattle.sq_graph.specs.Operations.{replaced_items};
+ghost use Rattle.sq_graph.specs.Pieces.{exchanged, moved_piece};
 
 use crate::item::Item;
 
@@ -85,4 +86,32 @@ pub(crate) fn replace_by_copy(items: &mut Vec<Item>, at: u32, from: u32, count: 
     append_copy(items, from, count);
     raise(items, at, count);
     cut(items, at + count, 1);
+}
+
+// Exchanges two pieces that follow each other: the first from `from` up to `mid`, the second up to `to`.
+fn exchange(items: &mut [Item], from: usize, mid: usize, to: usize)
+    requires first { from ≤ mid }
+    requires second { mid ≤ to }
+    requires there { to ≤ length items.old }
+    ensures { items.new ≡ exchanged items.old from mid to }
+{
+    let part = &mut items[from..to];
+    part.rotate_left(mid - from);
+}
+
+/// Moves the items from `start` up to `end` to a place outside of them.
+pub(crate) fn move_piece(items: &mut Vec<Item>, start: u32, end: u32, place: u32)
+    requires piece { start ≤ end }
+    requires outside { start < place → end ≤ place }
+    requires end { end ≤ vec_len items.old }
+    requires place { place ≤ vec_len items.old }
+    ensures items { items.new.items ≡ moved_piece items.old.items start end place }
+    ensures len { vec_len items.new ≡ vec_len items.old }
+    ensures capacity { vec_capacity items.new ≡ vec_capacity items.old }
+{
+    if place <= start {
+        exchange(items, place as usize, start as usize, end as usize);
+    } else {
+        exchange(items, start as usize, end as usize, place as usize);
+    }
 }
