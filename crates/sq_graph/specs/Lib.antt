@@ -16,3 +16,7 @@ pub mod Layout
 pub mod Cursor
 pub mod PartSlots
 pub mod Pieces
+pub mod Lines
+pub mod Walks
+pub mod Soundness
+pub mod Places
