@@ -8,3 +8,6 @@ mod LiveSteps
 mod Starts
 mod Patch
 mod Shrink
+mod Keeping
+mod Used
+mod Splitting

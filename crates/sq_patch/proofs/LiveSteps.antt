@@ -36,7 +36,7 @@ use Rattle.sq_patch.proofs.Deeds.{IsTiedHalf, sources_rel, operand_at, registers
 use Rattle.sq_patch.proofs.LiveTargets.{block_makes, inside_makes}
 
 -- an instruction has its own registers
-own_registers : (insn : Insn) → with_registers (destination_of insn) (first_of insn) (second_of insn) insn ≡ insn
+pub own_registers : (insn : Insn) → with_registers (destination_of insn) (first_of insn) (second_of insn) insn ≡ insn
 own_registers (Lui rd upper) = refl
 own_registers (Auipc rd upper) = refl
 own_registers (Jal rd offset) = refl

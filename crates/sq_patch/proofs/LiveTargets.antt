@@ -89,6 +89,10 @@ module _ (g : Graph) where
   ahead_of_links : AreTargets ((words_part ++ blocks_part) ++ procedures_part)
   ahead_of_links = left_targets ((words_part ++ blocks_part) ++ procedures_part) (link_names g.blocks) all_parts
 
+  -- the names of code words are code targets
+  pub word_target : (n : ℕ) → Contains (map word_name g.code_words) n → Contains (code_targets g) n
+  word_target = left_targets words_part blocks_part (left_targets (words_part ++ blocks_part) procedures_part ahead_of_links)
+
   block_part : AreTargets blocks_part
   block_part = right_targets words_part blocks_part (left_targets (words_part ++ blocks_part) procedures_part ahead_of_links)
 

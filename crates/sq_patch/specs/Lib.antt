@@ -2,3 +2,4 @@ pub mod Agreement
 pub mod Registers
 pub mod LiveAgreement
 pub mod Changes
+pub mod Operations

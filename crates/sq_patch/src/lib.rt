@@ -1,10 +1,12 @@
 //! Runs of graphs that agree: what every proof that one graph follows another rests on.
 //!
 //! To the layers above it promises that two runs of one graph which agree on memory and on the registers
-//! that are live go on to agree: what is dead may differ, and what the first run has lost may be anything.
+//! that are live go on to agree: what is dead may differ, and what the first run has lost may be anything; and
+//! that a graph with one block split follows it.
 #![tactic(auto)]
 
 ghost use Rattle.sq_patch.specs.LiveAgreement.{StepsAgree, PlacesMakeTargets};
+ghost use Rattle.sq_patch.specs.Operations.{SplitFollows};
 
 /// From states that agree on what is live, a graph steps to such states again, with the same event or to the
 /// same end.
@@ -15,4 +17,9 @@ pub fn live_steps_agree()
 /// What stands from a place of a graph on makes addresses of code targets alone, as such states ask.
 pub fn places_make_targets()
     ensures { PlacesMakeTargets }
+{}
+
+/// A graph in which a block is split in two follows it.
+pub fn split_keeps_runs()
+    ensures { SplitFollows }
 {}

@@ -1,0 +1,5 @@
+use Rattle.sq_patch.proofs.Splitting.{split_follows}
+use Rattle.sq_patch.proofs.split_keeps_runs.Goals as goal
+
+pub returns : goal.returns
+returns c = λ g new block at rules fresh. split_follows g new block at rules fresh
