@@ -92,8 +92,8 @@ like_moved f l a es ps like =
     like_append (through (without_run es f l) a) (run es f l ++ behind (without_run es f l) a) (through (without_run ps f l) a) (run ps f l ++ behind (without_run ps f l) a)
     (like_through a (without_run es f l) (without_run ps f l) rest)
     (like_append (run es f l) (behind (without_run es f l) a) (run ps f l) (behind (without_run ps f l) a)
-     (like_through l (starting_at es f) (starting_at ps f) (like_starting_at f es ps like))
-     (like_behind a (without_run es f l) (without_run ps f l) rest))
+    (like_through l (starting_at es f) (starting_at ps f) (like_starting_at f es ps like))
+    (like_behind a (without_run es f l) (without_run ps f l) rest))
 
 pub like_run : (f l : ℕ) (es : List (ℕ × Slot)) (ps : List (ℕ × Block)) → IsLike es ps → IsRun ps f l → IsRun es f l
 like_run f l es ps like is_run =

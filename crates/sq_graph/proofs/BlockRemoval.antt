@@ -25,7 +25,7 @@ cut_items old name slot p =
     let front = items_of_blocks p.at.front in
     let xs = p.at.block.items in
     let apart : old.items.items ≡ (items_of_blocks p.at.front ++ p.at.block.items) ++ (items_of_blocks p.at.back ++ items_of_bodies (graph_of old).procedures) =
-      p.whole ∙ sym (append_assoc (items_of_blocks p.at.front) p.at.block.items (items_of_blocks p.at.back ++ items_of_bodies (graph_of old).procedures)) in
+    p.whole ∙ sym (append_assoc (items_of_blocks p.at.front) p.at.block.items (items_of_blocks p.at.back ++ items_of_bodies (graph_of old).procedures)) in
     ap (λ ys. ys ++ drop (slot.start + slot.length) old.items.items) (ap (take slot.start) p.whole ∙ take_at front (xs ++ rest) slot.start (sym p.start_is))
     ∙ ap (λ ys. front ++ ys) (ap (drop (slot.start + slot.length)) apart ∙ drop_at (front ++ xs) rest (slot.start + slot.length) (omega (arith, p.start_is, p.length_is, length-append (items_of_blocks p.at.front) p.at.block.items)))
 
@@ -55,10 +55,10 @@ remove_shows old name slot slots items n sound has found entries spare is capaci
     shows (record old { slots = slots; items = items; block_items = n }) (without_block g name)
     (record {
       slots =
-        entries
-        ∙ ap (λ es. es ++ renumbered slot.start (behind old.slots.entries name)) p.front_is
-        ∙ ap (λ es. slots_from 0 at.front ++ es) (ap (renumbered slot.start) p.back_is ∙ renumbered-slots slot.start (slot.start + slot.length) at.back ∙ ap (λ k. slots_from k at.back) start)
-        ∙ sym (slots_from-changed f g.blocks name at);
+          entries
+          ∙ ap (λ es. es ++ renumbered slot.start (behind old.slots.entries name)) p.front_is
+          ∙ ap (λ es. slots_from 0 at.front ++ es) (ap (renumbered slot.start) p.back_is ∙ renumbered-slots slot.start (slot.start + slot.length) at.back ∙ ap (λ k. slots_from k at.back) start)
+          ∙ sym (slots_from-changed f g.blocks name at);
       items = all ∙ sym (append_assoc (items_of_blocks at.front) (items_of_blocks at.back) (items_of_bodies g.procedures)) ∙ ap (λ ys. ys ++ items_of_bodies g.procedures) (sym total);
       block_items = omega (arith, blocks, p.block_items, p.start_is, ap (λ ys. length ys) total, length-append (items_of_blocks at.front) (items_of_blocks at.back));
       entry = sound.holds.entry;

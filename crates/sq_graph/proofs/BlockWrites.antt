@@ -29,7 +29,7 @@ some_same a b same = cc
 pub new_name : (inside : Inside) (name : ℕ) → IsSound inside → value_of inside.slots.entries name ≡ None → IsNew (graph_of inside) name
 new_name inside name sound none =
     let none_there : is_some (value_of (named (graph_of inside).blocks) name) ≡ false =
-      sym (value_of-slots 0 (graph_of inside).blocks name) ∙ ap (λ es. is_some (value_of es name)) (sym sound.holds.slots) ∙ ap is_some none in
+    sym (value_of-slots 0 (graph_of inside).blocks name) ∙ ap (λ es. is_some (value_of es name)) (sym sound.holds.slots) ∙ ap is_some none in
     absent (value_of (named (graph_of inside).blocks) name) none_there
   where
     absent : {T : Type 0} (o : Option T) → is_some o ≡ false → o ≡ None
@@ -51,20 +51,20 @@ set_term_shows inside name slot term slots sound has found is spare rules =
     let there = around inside.slots.entries bs name at sound.holds.slots in
     let same = slot_is inside name slot at sound found in
     let whole : slots.entries ≡ slots_from 0 at.front ++ (name, record slot { term = term }) ∷ slots_from (m + length at.block.items) at.back =
-      is ∙ with_value-split inside.slots.entries name slot (record slot { term = term }) found
-      ∙ ap (λ es. es ++ (name, record slot { term = term }) ∷ behind inside.slots.entries name) there.front
-      ∙ ap (λ es. slots_from 0 at.front ++ (name, record slot { term = term }) ∷ es) there.back in
+    is ∙ with_value-split inside.slots.entries name slot (record slot { term = term }) found
+    ∙ ap (λ es. es ++ (name, record slot { term = term }) ∷ behind inside.slots.entries name) there.front
+    ∙ ap (λ es. slots_from 0 at.front ++ (name, record slot { term = term }) ∷ es) there.back in
     let e : length (at.block.items ++ []) ≡ length at.block.items = ap (λ is. length is) (append-nil at.block.items) in
     let target = slots_from-changed f bs name at in
     reslotted inside slots (with_blocks f bs name) sound
     (whole
-     ∙ ap (λ s. slots_from 0 at.front ++ (name, record s { term = term }) ∷ slots_from (m + length at.block.items) at.back) same
-     ∙ ap (λ k. slots_from 0 at.front ++ (k, record { start = m; length = length at.block.items; term = term }) ∷ slots_from (m + length at.block.items) at.back) (sym at.has_name)
-     ∙ ap (λ n. slots_from 0 at.front ++ (at.block.name, record { start = m; length = length at.block.items; term = term }) ∷ slots_from (m + n) at.back) (sym e)
-     ∙ sym target)
+    ∙ ap (λ s. slots_from 0 at.front ++ (name, record s { term = term }) ∷ slots_from (m + length at.block.items) at.back) same
+    ∙ ap (λ k. slots_from 0 at.front ++ (k, record { start = m; length = length at.block.items; term = term }) ∷ slots_from (m + length at.block.items) at.back) (sym at.has_name)
+    ∙ ap (λ n. slots_from 0 at.front ++ (at.block.name, record { start = m; length = length at.block.items; term = term }) ∷ slots_from (m + n) at.back) (sym e)
+    ∙ sym target)
     (items_of_blocks-kept f bs name at (append-nil at.block.items))
     (let limits = limited inside sound in
-     omega (arith, limits.blocks, spare, ap (λ es. length es) is, length-with_value inside.slots.entries name (record slot { term = term })))
+    omega (arith, limits.blocks, spare, ap (λ es. length es) is, length-with_value inside.slots.entries name (record slot { term = term })))
     rules
 
 -- the slots with one more right behind a block's
@@ -82,13 +82,15 @@ length-insert entries blocks name at slot new v is found =
     let m = start_at blocks name at in
     let there = around entries blocks name at is in
     let old : entries ≡ before entries name ++ (name, slot) ∷ behind entries name = split_at_key entries name slot found in
-    omega (arith,
+    omega (
+      arith,
       ap (λ es. length es) (insert_slots entries blocks name at slot new v is found),
       ap (λ es. length es) old,
       ap (λ es. length es) there.front,
       ap (λ es. length es) there.back,
       length-append (slots_from 0 at.front) ((name, slot) ∷ (new, v) ∷ slots_from (m + length at.block.items) at.back),
-      length-append (before entries name) ((name, slot) ∷ behind entries name))
+      length-append (before entries name) ((name, slot) ∷ behind entries name),
+    )
 
 -- the slot of a block without items behind this one
 abbrev pub slot_behind : Slot → Term → Slot
@@ -105,10 +107,10 @@ insert_shows inside name slot term new slots sound has found is spare rules =
     let e : length (at.block.items ++ []) ≡ length at.block.items = ap (λ is. length is) (append-nil at.block.items) in
     reslotted inside slots (with_blocks f bs name) sound
     (is ∙ insert_slots inside.slots.entries bs name at slot new (slot_behind slot term) sound.holds.slots found
-     ∙ ap (λ s. slots_from 0 at.front ++ (name, s) ∷ (new, slot_behind s term) ∷ slots_from (m + length at.block.items) at.back) same
-     ∙ ap (λ k. slots_from 0 at.front ++ (k, slot_of m at.block) ∷ (new, slot_behind (slot_of m at.block) term) ∷ slots_from (m + length at.block.items) at.back) (sym at.has_name)
-     ∙ ap (λ n. slots_from 0 at.front ++ (at.block.name, slot_of m at.block) ∷ (new, slot_behind (slot_of m at.block) term) ∷ slots_from (m + n) at.back) (sym e)
-     ∙ sym (slots_from-changed f bs name at))
+    ∙ ap (λ s. slots_from 0 at.front ++ (name, s) ∷ (new, slot_behind s term) ∷ slots_from (m + length at.block.items) at.back) same
+    ∙ ap (λ k. slots_from 0 at.front ++ (k, slot_of m at.block) ∷ (new, slot_behind (slot_of m at.block) term) ∷ slots_from (m + length at.block.items) at.back) (sym at.has_name)
+    ∙ ap (λ n. slots_from 0 at.front ++ (at.block.name, slot_of m at.block) ∷ (new, slot_behind (slot_of m at.block) term) ∷ slots_from (m + n) at.back) (sym e)
+    ∙ sym (slots_from-changed f bs name at))
     (items_of_blocks-kept f bs name at (append-nil at.block.items))
     (omega (arith, limits.blocks, spare, ap (λ es. length es) is, length-insert inside.slots.entries bs name at slot new (slot_behind slot term) sound.holds.slots found))
     rules
@@ -149,14 +151,14 @@ split_shows inside name place slot new mid slots sound has fits found mid_is mid
     let inserted = mid_is ∙ insert_slots inside.slots.entries bs name at slot new (second_half slot place) sound.holds.slots found in
     reslotted inside slots (with_blocks (halves new place) bs name) sound
     (is
-     ∙ ap (λ es. with_value es name (first_half slot place)) inserted
-     ∙ with_value-at (slots_from 0 at.front) ((new, second_half slot place) ∷ slots_from (m + length at.block.items) at.back) name slot (first_half slot place) (value_of-slots-none 0 at.front name at.ahead)
-     ∙ ap (λ s. slots_from 0 at.front ++ (name, first_half s place) ∷ (new, second_half s place) ∷ slots_from (m + length at.block.items) at.back) same
-     ∙ ap (λ k. slots_from 0 at.front ++ (k, first_half (slot_of m at.block) place) ∷ (new, second_half (slot_of m at.block) place) ∷ slots_from (m + length at.block.items) at.back) (sym at.has_name)
-     ∙ ap (λ n. slots_from 0 at.front ++ (at.block.name, record { start = m; length = n; term = Fall }) ∷ (new, record { start = m + n; length = length at.block.items - place; term = at.block.term }) ∷ slots_from (m + length at.block.items) at.back) (sym taken)
-     ∙ ap (λ n. slots_from 0 at.front ++ (at.block.name, record { start = m; length = length (take place at.block.items); term = Fall }) ∷ (new, record { start = m + length (take place at.block.items); length = n; term = at.block.term }) ∷ slots_from (m + length at.block.items) at.back) (sym left)
-     ∙ ap (λ n. slots_from 0 at.front ++ (at.block.name, record { start = m; length = length (take place at.block.items); term = Fall }) ∷ (new, record { start = m + length (take place at.block.items); length = length (drop place at.block.items); term = at.block.term }) ∷ slots_from (m + n) at.back) (sym e)
-     ∙ sym (slots_from-changed (halves new place) bs name at))
+    ∙ ap (λ es. with_value es name (first_half slot place)) inserted
+    ∙ with_value-at (slots_from 0 at.front) ((new, second_half slot place) ∷ slots_from (m + length at.block.items) at.back) name slot (first_half slot place) (value_of-slots-none 0 at.front name at.ahead)
+    ∙ ap (λ s. slots_from 0 at.front ++ (name, first_half s place) ∷ (new, second_half s place) ∷ slots_from (m + length at.block.items) at.back) same
+    ∙ ap (λ k. slots_from 0 at.front ++ (k, first_half (slot_of m at.block) place) ∷ (new, second_half (slot_of m at.block) place) ∷ slots_from (m + length at.block.items) at.back) (sym at.has_name)
+    ∙ ap (λ n. slots_from 0 at.front ++ (at.block.name, record { start = m; length = n; term = Fall }) ∷ (new, record { start = m + n; length = length at.block.items - place; term = at.block.term }) ∷ slots_from (m + length at.block.items) at.back) (sym taken)
+    ∙ ap (λ n. slots_from 0 at.front ++ (at.block.name, record { start = m; length = length (take place at.block.items); term = Fall }) ∷ (new, record { start = m + length (take place at.block.items); length = n; term = at.block.term }) ∷ slots_from (m + length at.block.items) at.back) (sym left)
+    ∙ ap (λ n. slots_from 0 at.front ++ (at.block.name, record { start = m; length = length (take place at.block.items); term = Fall }) ∷ (new, record { start = m + length (take place at.block.items); length = length (drop place at.block.items); term = at.block.term }) ∷ slots_from (m + n) at.back) (sym e)
+    ∙ sym (slots_from-changed (halves new place) bs name at))
     (items_of_blocks-kept (halves new place) bs name at (split_items new place at.block))
     (omega (arith, limits.blocks, spare, mid_spare, ap (λ es. length es) is, length-with_value mid.entries name (first_half slot place), ap (λ es. length es) mid_is, length-insert inside.slots.entries bs name at slot new (second_half slot place) sound.holds.slots found))
     rules

@@ -51,7 +51,7 @@ lowered_step by from i d y old new lowered inside counted is =
       rest = set lowered.rest (i - from) y;
       whole = ap (λ bs. set bs i y) lowered.whole ∙ set-append_right (take from old) lowered.rest from i y size lowered.above;
       mapped = mapped_step (lowered_body by) (drop from old) lowered.rest (i - from) d y there there' lowered.mapped (is ∙ ap (lowered_body by) read)
-        ∙ ap (λ n. map (lowered_body by) (take n (drop from old)) ++ drop n (drop from old)) next;
+          ∙ ap (λ n. map (lowered_body by) (take n (drop from old)) ++ drop n (drop from old)) next;
       inside = lowered.inside;
       above = omega (arith, lowered.above);
     }
@@ -60,6 +60,6 @@ pub lowered_all : (by from i : ℕ) (old new : List Body) → LoweredUpTo by fro
 lowered_all by from i old new lowered past =
     let over : length (drop from old) ≤ i - from = omega (arith, past, length-drop from old) in
     lowered.whole ∙ ap (λ bs. take from old ++ bs) (lowered.mapped
-      ∙ ap (λ bs. map (lowered_body by) bs ++ drop (i - from) (drop from old)) (take_all (i - from) (drop from old) over)
-      ∙ ap (λ bs. map (lowered_body by) (drop from old) ++ bs) (drop_all (i - from) (drop from old) over)
-      ∙ append-nil (map (lowered_body by) (drop from old)))
+    ∙ ap (λ bs. map (lowered_body by) bs ++ drop (i - from) (drop from old)) (take_all (i - from) (drop from old) over)
+    ∙ ap (λ bs. map (lowered_body by) (drop from old) ++ bs) (drop_all (i - from) (drop from old) over)
+    ∙ append-nil (map (lowered_body by) (drop from old)))

@@ -72,12 +72,12 @@ reads_body inside number body sound found =
     let front : List Item = items_of_bodies at.front in
     let back : List Item = items_of_bodies at.back in
     let whole : inside.items.items ≡ (items_of_blocks g.blocks ++ items_of_bodies at.front) ++ (at.procedure.body ++ items_of_bodies at.back) =
-      sound.holds.items
-      ∙ ap (λ ps. items_of_blocks g.blocks ++ items_of_bodies ps) at.whole
-      ∙ ap (λ is. items_of_blocks g.blocks ++ is) (flat_map-append (λ p. p.body) at.front (at.procedure ∷ at.back))
-      ∙ sym (append_assoc (items_of_blocks g.blocks) (items_of_bodies at.front) (at.procedure.body ++ items_of_bodies at.back)) in
+    sound.holds.items
+    ∙ ap (λ ps. items_of_blocks g.blocks ++ items_of_bodies ps) at.whole
+    ∙ ap (λ is. items_of_blocks g.blocks ++ is) (flat_map-append (λ p. p.body) at.front (at.procedure ∷ at.back))
+    ∙ sym (append_assoc (items_of_blocks g.blocks) (items_of_bodies at.front) (at.procedure.body ++ items_of_bodies at.back)) in
     let start : inside.block_items + body.start ≡ length (items_of_blocks g.blocks ++ items_of_bodies at.front) =
-      omega (arith, sound.holds.block_items, at.start_is, length-append (items_of_blocks g.blocks) (items_of_bodies at.front)) in
+    omega (arith, sound.holds.block_items, at.start_is, length-append (items_of_blocks g.blocks) (items_of_bodies at.front)) in
     record {
       procedure = at.procedure;
       is = at.is;
@@ -85,8 +85,8 @@ reads_body inside number body sound found =
       length_is = at.length_is;
       within = omega (arith, start, at.length_is, ap (λ is. length is) whole, length-append (items_of_blocks g.blocks ++ items_of_bodies at.front) (at.procedure.body ++ items_of_bodies at.back), length-append at.procedure.body (items_of_bodies at.back));
       slice =
-        ap (λ is. take body.length (drop (inside.block_items + body.start) is)) whole
-        ∙ ap (λ n. take n (drop (inside.block_items + body.start) ((items_of_blocks g.blocks ++ items_of_bodies at.front) ++ (at.procedure.body ++ items_of_bodies at.back)))) at.length_is
-        ∙ ap (λ n. take (length at.procedure.body) (drop n ((items_of_blocks g.blocks ++ items_of_bodies at.front) ++ (at.procedure.body ++ items_of_bodies at.back)))) start
-        ∙ middle (items_of_blocks g.blocks ++ items_of_bodies at.front) at.procedure.body (items_of_bodies at.back);
+          ap (λ is. take body.length (drop (inside.block_items + body.start) is)) whole
+          ∙ ap (λ n. take n (drop (inside.block_items + body.start) ((items_of_blocks g.blocks ++ items_of_bodies at.front) ++ (at.procedure.body ++ items_of_bodies at.back)))) at.length_is
+          ∙ ap (λ n. take (length at.procedure.body) (drop n ((items_of_blocks g.blocks ++ items_of_bodies at.front) ++ (at.procedure.body ++ items_of_bodies at.back)))) start
+          ∙ middle (items_of_blocks g.blocks ++ items_of_bodies at.front) at.procedure.body (items_of_bodies at.back);
     }

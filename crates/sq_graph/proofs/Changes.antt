@@ -77,9 +77,9 @@ around entries blocks name at is =
     let m = start_at blocks name at in
     let zero_left : 0 + start_at blocks name at ≡ start_at blocks name at = omega arith in
     let whole : entries ≡ slots_from 0 at.front ++ (name, slot_of (start_at blocks name at) at.block) ∷ slots_from (start_at blocks name at + length at.block.items) at.back =
-      is ∙ ap (slots_from 0) at.whole ∙ slots_from-append 0 at.front (at.block ∷ at.back)
-      ∙ ap (λ n. slots_from 0 at.front ++ slots_from n (at.block ∷ at.back)) zero_left
-      ∙ ap (λ k. slots_from 0 at.front ++ (k, slot_of (start_at blocks name at) at.block) ∷ slots_from (start_at blocks name at + length at.block.items) at.back) at.has_name in
+    is ∙ ap (slots_from 0) at.whole ∙ slots_from-append 0 at.front (at.block ∷ at.back)
+    ∙ ap (λ n. slots_from 0 at.front ++ slots_from n (at.block ∷ at.back)) zero_left
+    ∙ ap (λ k. slots_from 0 at.front ++ (k, slot_of (start_at blocks name at) at.block) ∷ slots_from (start_at blocks name at + length at.block.items) at.back) at.has_name in
     let absent = value_of-slots-none 0 at.front name at.ahead in
     record {
       slot = rw whole (value_of-at (slots_from 0 at.front) (slots_from (m + length at.block.items) at.back) name (slot_of m at.block) absent);

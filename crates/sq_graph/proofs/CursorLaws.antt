@@ -64,7 +64,7 @@ module _ {T : Type 0} where
       let parts = with_value-split es key old new found in
       let still = distinct-with_value es key new distinct in
       let next : next_key (with_value es key new) key ≡ first_key (behind es key) =
-        ap (λ ps. first_key (behind ps key)) parts ∙ ap (λ ps. first_key ps) (behind-append (before es key) (behind es key) key new (value_of-before es key)) in
+      ap (λ ps. first_key (behind ps key)) parts ∙ ap (λ ps. first_key ps) (behind-append (before es key) (behind es key) key new (value_of-before es key)) in
       let there = behind_parts (before es key) (behind es key) (key, new) (subst HasDistinctKeys parts still) in
       record {
         is_place = rw next (rw parts there.place);

@@ -195,13 +195,13 @@ parts_show ps items entry ws qs entries names new pushed fits rules small slots 
     let rest : length_of_bodies qs ≡ length (drop (length_of_blocks ps) items) = omega (arith, fits, length-drop (length_of_blocks ps) items) in
     let all = all_items_of_parts ps items entry ws qs fits in
     let named_are : (k : ℕ) → k < length ps → get_or (keys entries) k 0 ≡ slice_index names (0 + k) = λ k there.
-      ap (λ ns. get_or ns k 0) (sym pushed.names_are) ∙ ap (λ n. get_or names n 0) (zero_left k) in
+    ap (λ ns. get_or ns k 0) (sym pushed.names_are) ∙ ap (λ n. get_or names n 0) (zero_left k) in
     let entries_are : new.slots.entries ≡ slots_from 0 (map (renamed_block (slice_index names)) (blocks_of_parts 0 ps items)) =
-      slots ∙ named_slots (slice_index names) 0 0 ps items entries pushed.values_are named_are enough in
+    slots ∙ named_slots (slice_index names) 0 0 ps items entries pushed.values_are named_are enough in
     let distinct : HasDistinctKeys (named (map (renamed_block (slice_index names)) (blocks_of_parts 0 ps items))) =
-      distinct_named (slice_index names) entries (map (renamed_block (slice_index names)) (blocks_of_parts 0 ps items)) pushed.distinct (sym slots ∙ entries_are) in
+    distinct_named (slice_index names) entries (map (renamed_block (slice_index names)) (blocks_of_parts 0 ps items)) pushed.distinct (sym slots ∙ entries_are) in
     let blocks_long : length (items_of_blocks (blocks_of_parts 0 ps items)) ≡ length_of_blocks ps =
-      omega (arith, ap (λ is. length is) (items_of_parts 0 ps items enough), length-append (items_of_blocks (blocks_of_parts 0 ps items)) (drop (length_of_blocks ps) items), length-drop (length_of_blocks ps) items, fits) in
+    omega (arith, ap (λ is. length is) (items_of_parts 0 ps items enough), length-append (items_of_blocks (blocks_of_parts 0 ps items)) (drop (length_of_blocks ps) items), length-drop (length_of_blocks ps) items, fits) in
     shows new (renamed f g)
     (record {
       slots = entries_are;
@@ -226,6 +226,7 @@ parts_show ps items entry ws qs entries names new pushed fits rules small slots 
   where
     zero_left : (n : ℕ) → n ≡ 0 + n
     zero_left n = omega arith
+
     distinct_named : (f : ℕ → ℕ) (es : List (ℕ × Slot)) (cs : List Block) → HasDistinctKeys es → retargeted_slots f es ≡ slots_from 0 cs → HasDistinctKeys (named cs)
     distinct_named f es cs distinct same = rw (sym (keys-slots 0 cs) ∙ ap keys (sym same) ∙ keys-retargeted f es) distinct
 
@@ -233,13 +234,14 @@ parts_show ps items entry ws qs entries names new pushed fits rules small slots 
 pub names_are_those : (ps : List BlockPart) (items : List Item) (entry : ℕ) (ws : List CodeRef) (qs : List ProcedurePart) (entries : List (ℕ × Slot)) (names : List ℕ) → IsPushed ps entries names → LengthsFit ps items qs → names_of (renamed (slice_index names) (graph_of_parts ps items entry ws qs)) ≡ names
 names_are_those ps items entry ws qs entries names pushed fits =
     let named_are : (k : ℕ) → k < length ps → get_or (keys entries) k 0 ≡ slice_index names (0 + k) = λ k there.
-      ap (λ ns. get_or ns k 0) (sym pushed.names_are) ∙ ap (λ n. get_or names n 0) (zero_left k) in
+    ap (λ ns. get_or ns k 0) (sym pushed.names_are) ∙ ap (λ n. get_or names n 0) (zero_left k) in
     let cs = map (renamed_block (slice_index names)) (blocks_of_parts 0 ps items) in
     sym (names-keys cs) ∙ sym (keys-slots 0 cs) ∙ ap keys (sym (named_slots (slice_index names) 0 0 ps items entries pushed.values_are named_are (omega (arith, fits))))
     ∙ keys-retargeted (slice_index names) entries ∙ sym pushed.names_are
   where
     zero_left : (n : ℕ) → n ≡ 0 + n
     zero_left n = omega arith
+
     names-keys : (cs : List Block) → keys (named cs) ≡ map (λ b. b.name) cs
     names-keys [] = refl
     names-keys (c ∷ cs) = ap (λ ks. c.name ∷ ks) (names-keys cs)

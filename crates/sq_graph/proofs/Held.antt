@@ -44,18 +44,18 @@ same_graph g h blocks entry code_words procedures =
 pub graph_of-held : (inside : Inside) (g : Graph) → Holds inside g → graph_of inside ≡ g
 graph_of-held inside g holds =
     let bodies : drop inside.block_items inside.items.items ≡ items_of_bodies g.procedures =
-      ap (λ is. drop inside.block_items is) holds.items
-      ∙ ap (λ n. drop n (all_items g)) holds.block_items
-      ∙ drop_at (items_of_blocks g.blocks) (items_of_bodies g.procedures) (length (items_of_blocks g.blocks)) refl in
+    ap (λ is. drop inside.block_items is) holds.items
+    ∙ ap (λ n. drop n (all_items g)) holds.block_items
+    ∙ drop_at (items_of_blocks g.blocks) (items_of_bodies g.procedures) (length (items_of_blocks g.blocks)) refl in
     same_graph (graph_of inside) g
     (ap (λ es. blocks_of es inside.items.items) holds.slots
-     ∙ ap (λ is. blocks_of (slots_from 0 g.blocks) is) holds.items
-     ∙ blocks_of-slots 0 g.blocks (items_of_bodies g.procedures))
+    ∙ ap (λ is. blocks_of (slots_from 0 g.blocks) is) holds.items
+    ∙ blocks_of-slots 0 g.blocks (items_of_bodies g.procedures))
     holds.entry
     holds.code_words
     (ap (λ bs. procedures_of bs (drop inside.block_items inside.items.items)) holds.bodies
-     ∙ ap (λ is. procedures_of (bodies_from 0 g.procedures) is) bodies
-     ∙ procedures_of-bodies 0 g.procedures)
+    ∙ ap (λ is. procedures_of (bodies_from 0 g.procedures) is) bodies
+    ∙ procedures_of-bodies 0 g.procedures)
 
 -- the fields show this graph, and meet the invariant
 pub record Shows (inside : Inside) (g : Graph) : Type 0 where
@@ -82,12 +82,12 @@ shows inside g holds rules room limits =
     record {
       is = is;
       sound =
-        record {
-          holds = rw is holds;
-          rules = rw is rules;
-          room = room;
-          small = subst (λ (h : Graph). IsSmall (sum_of (count_of h) (spare_of inside))) (sym is) small;
-        };
+          record {
+            holds = rw is holds;
+            rules = rw is rules;
+            room = room;
+            small = subst (λ (h : Graph). IsSmall (sum_of (count_of h) (spare_of inside))) (sym is) small;
+          };
     }
 
 pub limited : (inside : Inside) → IsSound inside → IsLimited inside

@@ -58,7 +58,7 @@ placed inside name slot sound has found =
     let whole = sound.holds.items ∙ items_around bs name at (items_of_bodies ps) in
     let blocks = items_around bs name at [] in
     let back : behind inside.slots.entries name ≡ slots_from (slot.start + slot.length) at.back =
-      there.back ∙ ap (λ s. slots_from (s.start + s.length) at.back) (sym same) in
+    there.back ∙ ap (λ s. slots_from (s.start + s.length) at.back) (sym same) in
     let items = ap (λ o. block_items o) (block_at bs name at) in
     record {
       at = at;
@@ -81,17 +81,17 @@ pub replaced_middle : (front xs rest by : List Item) (start at count : ℕ) → 
 replaced_middle front xs rest by start at count is fits =
     let m = length front in
     let whole : front ++ (xs ++ rest) ≡ (front ++ take at xs) ++ (drop at xs ++ rest) =
-      ap (λ ys. front ++ (ys ++ rest)) (sym (take-append-drop at xs))
-      ∙ ap (λ ys. front ++ ys) (append_assoc (take at xs) (drop at xs) rest)
-      ∙ sym (append_assoc front (take at xs) (drop at xs ++ rest)) in
+    ap (λ ys. front ++ (ys ++ rest)) (sym (take-append-drop at xs))
+    ∙ ap (λ ys. front ++ ys) (append_assoc (take at xs) (drop at xs) rest)
+    ∙ sym (append_assoc front (take at xs) (drop at xs ++ rest)) in
     let size : length (front ++ take at xs) ≡ start + at = omega (arith, is, length-append front (take at xs), length-take-le at xs (omega (arith, fits))) in
     let upto : take (start + at) (front ++ (xs ++ rest)) ≡ front ++ take at xs =
-      ap (take (start + at)) whole ∙ take_at (front ++ take at xs) (drop at xs ++ rest) (start + at) size in
+    ap (take (start + at)) whole ∙ take_at (front ++ take at xs) (drop at xs ++ rest) (start + at) size in
     let from : drop (start + at + count) (front ++ (xs ++ rest)) ≡ drop (at + count) xs ++ rest =
-      sym (drop-drop count (start + at) (front ++ (xs ++ rest)))
-      ∙ ap (drop count) (ap (drop (start + at)) whole ∙ drop_at (front ++ take at xs) (drop at xs ++ rest) (start + at) size)
-      ∙ drop-append-le count (drop at xs) rest (omega (arith, fits, length-drop at xs))
-      ∙ ap (λ ys. ys ++ rest) (drop-drop count at xs) in
+    sym (drop-drop count (start + at) (front ++ (xs ++ rest)))
+    ∙ ap (drop count) (ap (drop (start + at)) whole ∙ drop_at (front ++ take at xs) (drop at xs ++ rest) (start + at) size)
+    ∙ drop-append-le count (drop at xs) rest (omega (arith, fits, length-drop at xs))
+    ∙ ap (λ ys. ys ++ rest) (drop-drop count at xs) in
     ap (λ ys. ys ++ (by ++ drop (start + at + count) (front ++ (xs ++ rest)))) upto
     ∙ ap (λ ys. (front ++ take at xs) ++ (by ++ ys)) from
     ∙ append_assoc front (take at xs) (by ++ (drop (at + count) xs ++ rest))
@@ -126,23 +126,23 @@ resized_shows old new name slot f items p sound found is change rules =
     let limits = limited old sound in
     let e : items_of_blocks (f at.block) ≡ items = ap items_of_blocks is ∙ append-nil items in
     let total : items_of_blocks (with_blocks f bs name) ≡ items_of_blocks at.front ++ (items ++ items_of_blocks at.back) =
-      items_of_blocks-changed f bs name at ∙ ap (λ xs. items_of_blocks at.front ++ (xs ++ items_of_blocks at.back)) e in
+    items_of_blocks-changed f bs name at ∙ ap (λ xs. items_of_blocks at.front ++ (xs ++ items_of_blocks at.back)) e in
     let entries : new.slots.entries ≡ slots_from 0 (with_blocks f bs name) =
-      change.slots
-      ∙ ap (λ es. es ++ (name, record slot { length = length items }) ∷ renumbered (slot.start + length items) (behind old.slots.entries name)) p.front_is
-      ∙ ap (λ es. slots_from 0 at.front ++ (name, record slot { length = length items }) ∷ es) (ap (renumbered (slot.start + length items)) p.back_is ∙ renumbered-slots (slot.start + length items) (slot.start + slot.length) at.back)
-      ∙ ap (λ s. slots_from 0 at.front ++ (name, record s { length = length items }) ∷ slots_from (s.start + length items) at.back) (slot_is old name slot at sound found)
-      ∙ ap (λ k. slots_from 0 at.front ++ (k, slot_of m b') ∷ slots_from (m + length items) at.back) (sym at.has_name)
-      ∙ sym (slots_from-changed f bs name at
-        ∙ ap (λ cs. slots_from 0 at.front ++ (slots_from m cs ++ slots_from (m + length (items_of_blocks (f at.block))) at.back)) is
-        ∙ ap (λ xs. slots_from 0 at.front ++ (slots_from m (b' ∷ []) ++ slots_from (m + length xs) at.back)) e) in
+    change.slots
+    ∙ ap (λ es. es ++ (name, record slot { length = length items }) ∷ renumbered (slot.start + length items) (behind old.slots.entries name)) p.front_is
+    ∙ ap (λ es. slots_from 0 at.front ++ (name, record slot { length = length items }) ∷ es) (ap (renumbered (slot.start + length items)) p.back_is ∙ renumbered-slots (slot.start + length items) (slot.start + slot.length) at.back)
+    ∙ ap (λ s. slots_from 0 at.front ++ (name, record s { length = length items }) ∷ slots_from (s.start + length items) at.back) (slot_is old name slot at sound found)
+    ∙ ap (λ k. slots_from 0 at.front ++ (k, slot_of m b') ∷ slots_from (m + length items) at.back) (sym at.has_name)
+    ∙ sym (slots_from-changed f bs name at
+    ∙ ap (λ cs. slots_from 0 at.front ++ (slots_from m cs ++ slots_from (m + length (items_of_blocks (f at.block))) at.back)) is
+    ∙ ap (λ xs. slots_from 0 at.front ++ (slots_from m (b' ∷ []) ++ slots_from (m + length xs) at.back)) e) in
     shows new (changed f g name)
     (record {
       slots = entries;
       items = change.items_are
-        ∙ ap (λ xs. items_of_blocks at.front ++ xs) (sym (append_assoc items (items_of_blocks at.back) (items_of_bodies g.procedures)))
-        ∙ sym (append_assoc (items_of_blocks at.front) (items ++ items_of_blocks at.back) (items_of_bodies g.procedures))
-        ∙ ap (λ xs. xs ++ items_of_bodies g.procedures) (sym total);
+          ∙ ap (λ xs. items_of_blocks at.front ++ xs) (sym (append_assoc items (items_of_blocks at.back) (items_of_bodies g.procedures)))
+          ∙ sym (append_assoc (items_of_blocks at.front) (items ++ items_of_blocks at.back) (items_of_bodies g.procedures))
+          ∙ ap (λ xs. xs ++ items_of_bodies g.procedures) (sym total);
       block_items = omega (arith, change.block_items, p.block_items, p.start_is, ap (λ xs. length xs) total, length-append (items_of_blocks at.front) (items ++ items_of_blocks at.back), length-append items (items_of_blocks at.back));
       entry = change.entry ∙ sound.holds.entry;
       code_words = ap (λ ws. ws.items) change.code_words ∙ sound.holds.code_words;
@@ -185,7 +185,7 @@ replace_shows old name slot at count added by slots items n sound has found fits
     let long : slot.length - count + added ≡ length (replaced_items p.at.block.items at count by) = omega (arith, size, there, p.length_is, counted) in
     let middle = replaced_middle (items_of_blocks p.at.front) p.at.block.items (items_of_blocks p.at.back ++ items_of_bodies (graph_of old).procedures) by slot.start at count p.start_is there in
     let all : items.items ≡ items_of_blocks p.at.front ++ (replaced_items p.at.block.items at count by ++ (items_of_blocks p.at.back ++ items_of_bodies (graph_of old).procedures)) =
-      is ∙ ap (λ zs. replaced_items zs (slot.start + at) count by) p.whole ∙ middle in
+    is ∙ ap (λ zs. replaced_items zs (slot.start + at) count by) p.whole ∙ middle in
     resized_shows old (record old { slots = slots; items = items; block_items = n }) name slot (λ b. record b { items = replaced_items b.items at count by } ∷ []) (replaced_items p.at.block.items at count by) p sound found refl
     (record {
       slots = entries ∙ ap (λ k. before old.slots.entries name ++ (name, record slot { length = k }) ∷ renumbered (slot.start + k) (behind old.slots.entries name)) long;

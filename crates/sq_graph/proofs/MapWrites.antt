@@ -64,8 +64,8 @@ module _ (h : Item → Item) (t : Term → Term) where
       (record {
         slots = slots ∙ ap mapped_slots holds.slots ∙ sym (slots_from-mapped 0 g0.blocks) ∙ ap (slots_from 0) (sym blocks);
         items = items ∙ ap (map h) holds.items ∙ sym (items-mapped g0.blocks g0.procedures)
-          ∙ ap (λ bs. items_of_blocks bs ++ items_of_bodies (map mapped_procedure g0.procedures)) (sym blocks)
-          ∙ ap (λ ps. items_of_blocks g.blocks ++ items_of_bodies ps) (sym procedures);
+            ∙ ap (λ bs. items_of_blocks bs ++ items_of_bodies (map mapped_procedure g0.procedures)) (sym blocks)
+            ∙ ap (λ ps. items_of_blocks g.blocks ++ items_of_bodies ps) (sym procedures);
         block_items = block_items ∙ holds.block_items ∙ sym (length-map (items_of_blocks g0.blocks) h) ∙ sym (ap (λ is. length is) (items_of_blocks-mapped g0.blocks)) ∙ ap (λ bs. length (items_of_blocks bs)) (sym blocks);
         entry = entry;
         code_words = code_words;

@@ -38,10 +38,10 @@ ends_at inside name slot p =
     let bs = (graph_of inside).blocks in
     let at = p.at in
     let ahead : before (named bs) name ≡ named at.front =
-      ap (λ cs. before (named cs) name) at.whole
-      ∙ ap (λ ps. before ps name) (named-append at.front (at.block ∷ at.back))
-      ∙ ap (λ k. before (named at.front ++ (k, at.block) ∷ named at.back) name) at.has_name
-      ∙ before-append (named at.front) (named at.back) name at.block at.ahead in
+    ap (λ cs. before (named cs) name) at.whole
+    ∙ ap (λ ps. before ps name) (named-append at.front (at.block ∷ at.back))
+    ∙ ap (λ k. before (named at.front ++ (k, at.block) ∷ named at.back) name) at.has_name
+    ∙ before-append (named at.front) (named at.back) name at.block at.ahead in
     let upto : through (named bs) name ≡ before (named bs) name ++ (name, at.block) ∷ [] = through-before (named bs) name at.block (block_at bs name at) in
     let front : length (pair_items (before (named bs) name)) ≡ slot.start = ap (λ ps. length (pair_items ps)) ahead ∙ ap (λ is. length is) (pair_items-named at.front) ∙ sym p.start_is in
     let one : pair_items ((name, at.block) ∷ []) ≡ at.block.items = append-nil at.block.items in
@@ -77,20 +77,20 @@ moves_behind ps first last after rest distinct is_run there some upto =
     let place : through ps after ≡ A1 = ap (λ xs. through xs after) shape.whole ∙ through-in A (R ++ C) after some in
     let la : length (pair_items A) ≡ length (pair_items A1) + length (pair_items A2) = omega (arith, ap (λ is. length is) a, length-append (pair_items A1) (pair_items A2)) in
     let ar : length (pair_items (through ps last)) ≡ length (pair_items A) + length (pair_items R) =
-      omega (arith, ap (λ xs. length (pair_items xs)) upto, ap (λ is. length is) (pair_items-append A R), length-append (pair_items A) (pair_items R)) in
+    omega (arith, ap (λ xs. length (pair_items xs)) upto, ap (λ is. length is) (pair_items-append A R), length-append (pair_items A) (pair_items R)) in
     let old : pair_items ps ++ rest ≡ pair_items A1 ++ (pair_items A2 ++ (pair_items R ++ (pair_items C ++ rest))) =
-      ap (λ is. is ++ rest) (ap pair_items shape.whole ∙ pair_items-append A (R ++ C) ∙ ap (λ is. pair_items A ++ is) (pair_items-append R C) ∙ ap (λ is. is ++ (pair_items R ++ pair_items C)) (sym a))
-      ∙ append_assoc (pair_items A1 ++ pair_items A2) (pair_items R ++ pair_items C) rest
-      ∙ append_assoc (pair_items A1) (pair_items A2) ((pair_items R ++ pair_items C) ++ rest)
-      ∙ ap (λ is. pair_items A1 ++ (pair_items A2 ++ is)) (append_assoc (pair_items R) (pair_items C) rest) in
+    ap (λ is. is ++ rest) (ap pair_items shape.whole ∙ pair_items-append A (R ++ C) ∙ ap (λ is. pair_items A ++ is) (pair_items-append R C) ∙ ap (λ is. is ++ (pair_items R ++ pair_items C)) (sym a))
+    ∙ append_assoc (pair_items A1 ++ pair_items A2) (pair_items R ++ pair_items C) rest
+    ∙ append_assoc (pair_items A1) (pair_items A2) ((pair_items R ++ pair_items C) ++ rest)
+    ∙ ap (λ is. pair_items A1 ++ (pair_items A2 ++ is)) (append_assoc (pair_items R) (pair_items C) rest) in
     let new : pair_items (move_run_after ps first last after) ++ rest ≡ pair_items A1 ++ (pair_items R ++ (pair_items A2 ++ (pair_items C ++ rest))) =
-      ap (λ is. is ++ rest)
-      (pair_items-append (through (A ++ C) after) (R ++ behind (A ++ C) after)
-       ∙ ap (λ xs. pair_items xs ++ pair_items (R ++ behind (A ++ C) after)) (through-in A C after some)
-       ∙ ap (λ xs. pair_items A1 ++ pair_items (R ++ xs)) (behind-in A C after some)
-       ∙ ap (λ is. pair_items A1 ++ is) (pair_items-append R (A2 ++ C) ∙ ap (λ is. pair_items R ++ is) (pair_items-append A2 C)))
-      ∙ append_assoc (pair_items A1) (pair_items R ++ (pair_items A2 ++ pair_items C)) rest
-      ∙ ap (λ is. pair_items A1 ++ is) (append_assoc (pair_items R) (pair_items A2 ++ pair_items C) rest ∙ ap (λ is. pair_items R ++ is) (append_assoc (pair_items A2) (pair_items C) rest)) in
+    ap (λ is. is ++ rest)
+    (pair_items-append (through (A ++ C) after) (R ++ behind (A ++ C) after)
+    ∙ ap (λ xs. pair_items xs ++ pair_items (R ++ behind (A ++ C) after)) (through-in A C after some)
+    ∙ ap (λ xs. pair_items A1 ++ pair_items (R ++ xs)) (behind-in A C after some)
+    ∙ ap (λ is. pair_items A1 ++ is) (pair_items-append R (A2 ++ C) ∙ ap (λ is. pair_items R ++ is) (pair_items-append A2 C)))
+    ∙ append_assoc (pair_items A1) (pair_items R ++ (pair_items A2 ++ pair_items C)) rest
+    ∙ ap (λ is. pair_items A1 ++ is) (append_assoc (pair_items R) (pair_items A2 ++ pair_items C) rest ∙ ap (λ is. pair_items R ++ is) (append_assoc (pair_items A2) (pair_items C) rest)) in
     let p : length (pair_items (through ps after)) ≡ length (pair_items A1) = ap (λ xs. length (pair_items xs)) place in
     let first_case : nat_le (length (pair_items (through ps after))) (length (pair_items A)) ≡ true = le_true (length (pair_items (through ps after))) (length (pair_items A)) (omega (arith, p, la)) in
     record {
@@ -103,9 +103,9 @@ moves_behind ps first last after rest distinct is_run there some upto =
       piece = omega (arith, ar);
       outside = λ above. absurd (omega (arith, above, p, la));
       items = rw first_case
-        (ap (λ is. exchanged is (length (pair_items (through ps after))) (length (pair_items A)) (length (pair_items (through ps last)))) old
-         ∙ exchanged_pieces (pair_items A1) (pair_items A2) (pair_items R) (pair_items C ++ rest) (length (pair_items (through ps after))) (length (pair_items A)) (length (pair_items (through ps last))) p (omega (arith, p, la)) ar
-         ∙ sym new);
+          (ap (λ is. exchanged is (length (pair_items (through ps after))) (length (pair_items A)) (length (pair_items (through ps last)))) old
+          ∙ exchanged_pieces (pair_items A1) (pair_items A2) (pair_items R) (pair_items C ++ rest) (length (pair_items (through ps after))) (length (pair_items A)) (length (pair_items (through ps last))) p (omega (arith, p, la)) ar
+          ∙ sym new);
     }
 
 moves_ahead : (ps : List (ℕ × Block)) (first last after : ℕ) (rest : List Item) → HasDistinctKeys ps → IsRun ps first last → ContainsKey (without_run ps first last) after → value_of (before ps first) after ≡ None → through ps last ≡ before ps first ++ run ps first last → Moves ps first last after rest
@@ -120,29 +120,29 @@ moves_ahead ps first last after rest distinct is_run there none upto =
     let value = some_value (value_of C after) in_c in
     let parts : C ≡ before C after ++ (after, value.0) ∷ behind C after = split_at_key C after value.0 value.1 in
     let whole : ps ≡ ((A ++ R) ++ before C after) ++ (after, value.0) ∷ behind C after =
-      shape.whole ∙ sym (append_assoc A R C) ∙ ap (λ xs. (A ++ R) ++ xs) parts ∙ sym (append_assoc (A ++ R) (before C after) ((after, value.0) ∷ behind C after)) in
+    shape.whole ∙ sym (append_assoc A R C) ∙ ap (λ xs. (A ++ R) ++ xs) parts ∙ sym (append_assoc (A ++ R) (before C after) ((after, value.0) ∷ behind C after)) in
     let apart : value_of ((A ++ R) ++ before C after) after ≡ None = absent_ahead ((A ++ R) ++ before C after) (behind C after) after value.0 (subst (λ (xs : List (ℕ × Block)). HasDistinctKeys xs) whole distinct) in
     let not_ahead : value_of (A ++ R) after ≡ None = or_none (value_of (A ++ R) after) (value_of (before C after) after) (sym (value_of-append (A ++ R) (before C after) after) ∙ apart) in
     let c : pair_items C1 ++ pair_items C2 ≡ pair_items C = sym (pair_items-append C1 C2) ∙ ap pair_items (through-behind C after) in
     let place : through ps after ≡ (A ++ R) ++ C1 = ap (λ xs. through xs after) (shape.whole ∙ sym (append_assoc A R C)) ∙ through-out (A ++ R) C after not_ahead in
     let ar : length (pair_items (through ps last)) ≡ length (pair_items A) + length (pair_items R) =
-      omega (arith, ap (λ xs. length (pair_items xs)) upto, ap (λ is. length is) (pair_items-append A R), length-append (pair_items A) (pair_items R)) in
+    omega (arith, ap (λ xs. length (pair_items xs)) upto, ap (λ is. length is) (pair_items-append A R), length-append (pair_items A) (pair_items R)) in
     let p : length (pair_items (through ps after)) ≡ length (pair_items A) + length (pair_items R) + length (pair_items C1) =
-      omega (arith, ap (λ xs. length (pair_items xs)) place, ap (λ is. length is) (pair_items-append (A ++ R) C1), length-append (pair_items (A ++ R)) (pair_items C1), ap (λ is. length is) (pair_items-append A R), length-append (pair_items A) (pair_items R)) in
+    omega (arith, ap (λ xs. length (pair_items xs)) place, ap (λ is. length is) (pair_items-append (A ++ R) C1), length-append (pair_items (A ++ R)) (pair_items C1), ap (λ is. length is) (pair_items-append A R), length-append (pair_items A) (pair_items R)) in
     let old : pair_items ps ++ rest ≡ pair_items A ++ (pair_items R ++ (pair_items C1 ++ (pair_items C2 ++ rest))) =
-      ap (λ is. is ++ rest) (ap pair_items shape.whole ∙ pair_items-append A (R ++ C) ∙ ap (λ is. pair_items A ++ is) (pair_items-append R C ∙ ap (λ is. pair_items R ++ is) (sym c)))
-      ∙ append_assoc (pair_items A) (pair_items R ++ (pair_items C1 ++ pair_items C2)) rest
-      ∙ ap (λ is. pair_items A ++ is) (append_assoc (pair_items R) (pair_items C1 ++ pair_items C2) rest ∙ ap (λ is. pair_items R ++ is) (append_assoc (pair_items C1) (pair_items C2) rest)) in
+    ap (λ is. is ++ rest) (ap pair_items shape.whole ∙ pair_items-append A (R ++ C) ∙ ap (λ is. pair_items A ++ is) (pair_items-append R C ∙ ap (λ is. pair_items R ++ is) (sym c)))
+    ∙ append_assoc (pair_items A) (pair_items R ++ (pair_items C1 ++ pair_items C2)) rest
+    ∙ ap (λ is. pair_items A ++ is) (append_assoc (pair_items R) (pair_items C1 ++ pair_items C2) rest ∙ ap (λ is. pair_items R ++ is) (append_assoc (pair_items C1) (pair_items C2) rest)) in
     let new : pair_items (move_run_after ps first last after) ++ rest ≡ pair_items A ++ (pair_items C1 ++ (pair_items R ++ (pair_items C2 ++ rest))) =
-      ap (λ is. is ++ rest)
-      (pair_items-append (through (A ++ C) after) (R ++ behind (A ++ C) after)
-       ∙ ap (λ xs. pair_items xs ++ pair_items (R ++ behind (A ++ C) after)) (through-out A C after none)
-       ∙ ap (λ xs. pair_items (A ++ C1) ++ pair_items (R ++ xs)) (behind-out A C after none)
-       ∙ ap (λ is. is ++ pair_items (R ++ C2)) (pair_items-append A C1)
-       ∙ ap (λ is. (pair_items A ++ pair_items C1) ++ is) (pair_items-append R C2))
-      ∙ append_assoc (pair_items A ++ pair_items C1) (pair_items R ++ pair_items C2) rest
-      ∙ append_assoc (pair_items A) (pair_items C1) ((pair_items R ++ pair_items C2) ++ rest)
-      ∙ ap (λ is. pair_items A ++ (pair_items C1 ++ is)) (append_assoc (pair_items R) (pair_items C2) rest) in
+    ap (λ is. is ++ rest)
+    (pair_items-append (through (A ++ C) after) (R ++ behind (A ++ C) after)
+    ∙ ap (λ xs. pair_items xs ++ pair_items (R ++ behind (A ++ C) after)) (through-out A C after none)
+    ∙ ap (λ xs. pair_items (A ++ C1) ++ pair_items (R ++ xs)) (behind-out A C after none)
+    ∙ ap (λ is. is ++ pair_items (R ++ C2)) (pair_items-append A C1)
+    ∙ ap (λ is. (pair_items A ++ pair_items C1) ++ is) (pair_items-append R C2))
+    ∙ append_assoc (pair_items A ++ pair_items C1) (pair_items R ++ pair_items C2) rest
+    ∙ append_assoc (pair_items A) (pair_items C1) ((pair_items R ++ pair_items C2) ++ rest)
+    ∙ ap (λ is. pair_items A ++ (pair_items C1 ++ is)) (append_assoc (pair_items R) (pair_items C2) rest) in
     record {
       start = length (pair_items A);
       end = length (pair_items (through ps last));
@@ -155,28 +155,29 @@ moves_ahead ps first last after rest distinct is_run there none upto =
       items = elim (leb_tells (length (pair_items (through ps after))) (length (pair_items A))) [
         | inr above ↦ rw above.0
             (ap (λ is. exchanged is (length (pair_items A)) (length (pair_items (through ps last))) (length (pair_items (through ps after)))) old
-             ∙ exchanged_pieces (pair_items A) (pair_items R) (pair_items C1) (pair_items C2 ++ rest) (length (pair_items A)) (length (pair_items (through ps last))) (length (pair_items (through ps after))) refl ar (omega (arith, p, ar))
-             ∙ sym new)
+            ∙ exchanged_pieces (pair_items A) (pair_items R) (pair_items C1) (pair_items C2 ++ rest) (length (pair_items A)) (length (pair_items (through ps last))) (length (pair_items (through ps after))) refl ar (omega (arith, p, ar))
+            ∙ sym new)
         | inl below ↦
             let no_run : pair_items R ≡ [] = nil_from_length (pair_items R) (omega (arith, below.1, p)) in
             let no_middle : pair_items C1 ≡ [] = nil_from_length (pair_items C1) (omega (arith, below.1, p)) in
             let plain : pair_items ps ++ rest ≡ pair_items A ++ ([] ++ ([] ++ (pair_items C2 ++ rest))) =
-              old ∙ ap (λ is. pair_items A ++ (is ++ (pair_items C1 ++ (pair_items C2 ++ rest)))) no_run ∙ ap (λ is. pair_items A ++ ([] ++ (is ++ (pair_items C2 ++ rest)))) no_middle in
+            old ∙ ap (λ is. pair_items A ++ (is ++ (pair_items C1 ++ (pair_items C2 ++ rest)))) no_run ∙ ap (λ is. pair_items A ++ ([] ++ (is ++ (pair_items C2 ++ rest)))) no_middle in
             let same : pair_items (move_run_after ps first last after) ++ rest ≡ pair_items A ++ ([] ++ ([] ++ (pair_items C2 ++ rest))) =
-              new ∙ ap (λ is. pair_items A ++ (is ++ (pair_items R ++ (pair_items C2 ++ rest)))) no_middle ∙ ap (λ is. pair_items A ++ ([] ++ (is ++ (pair_items C2 ++ rest)))) no_run in
+            new ∙ ap (λ is. pair_items A ++ (is ++ (pair_items R ++ (pair_items C2 ++ rest)))) no_middle ∙ ap (λ is. pair_items A ++ ([] ++ (is ++ (pair_items C2 ++ rest)))) no_run in
             let np : length (pair_items (through ps after)) ≡ length (pair_items A) = omega (arith, below.1, p) in
             let ns : length (pair_items A) ≡ length (pair_items (through ps after)) + 0 = omega (arith, np) in
             let ne : length (pair_items (through ps last)) ≡ length (pair_items A) + 0 = omega (arith, below.1, p, ar) in
             rw below.0
             (ap (λ is. exchanged is (length (pair_items (through ps after))) (length (pair_items A)) (length (pair_items (through ps last)))) plain
-             ∙ exchanged_pieces (pair_items A) [] [] (pair_items C2 ++ rest) (length (pair_items (through ps after))) (length (pair_items A)) (length (pair_items (through ps last))) np ns ne
-             ∙ sym same)
+            ∙ exchanged_pieces (pair_items A) [] [] (pair_items C2 ++ rest) (length (pair_items (through ps after))) (length (pair_items A)) (length (pair_items (through ps last))) np ns ne
+            ∙ sym same)
       ];
     }
   where
     none_then : {T : Type 0} (a b : Option T) → a ≡ None → IsSome (or_value a b) → IsSome b
     none_then None b none some = some
     none_then (Some x) b none some = absurd (cc)
+
     or_none : {T : Type 0} (a b : Option T) → or_value a b ≡ None → a ≡ None
     or_none None b none = refl
     or_none (Some x) b none = absurd (cc)
@@ -188,7 +189,7 @@ upto_last ps first last distinct is_run =
     let A = before ps first in
     let C = behind (starting_at ps first) last in
     let whole : ps ≡ (A ++ shape.lead) ++ (last, shape.last_value) ∷ C =
-      shape.whole ∙ ap (λ xs. A ++ (xs ++ C)) shape.ends ∙ ap (λ xs. A ++ xs) (append_assoc shape.lead ((last, shape.last_value) ∷ []) C) ∙ sym (append_assoc A shape.lead ((last, shape.last_value) ∷ C)) in
+    shape.whole ∙ ap (λ xs. A ++ (xs ++ C)) shape.ends ∙ ap (λ xs. A ++ xs) (append_assoc shape.lead ((last, shape.last_value) ∷ []) C) ∙ sym (append_assoc A shape.lead ((last, shape.last_value) ∷ C)) in
     let apart = absent_ahead (A ++ shape.lead) C last shape.last_value (subst (λ (xs : List (ℕ × Block)). HasDistinctKeys xs) whole distinct) in
     let one : through ((last, shape.last_value) ∷ C) last ≡ (last, shape.last_value) ∷ [] = rw (eq-eqb last last refl) refl in
     ap (λ xs. through xs last) whole ∙ through-out (A ++ shape.lead) ((last, shape.last_value) ∷ C) last apart ∙ ap (λ xs. (A ++ shape.lead) ++ xs) one
@@ -210,11 +211,17 @@ length_moved es first last after is_run =
     let A = before es first in
     let R = run es first last in
     let C = behind (starting_at es first) last in
-    omega (arith,
+    omega (
+      arith,
       ap (λ xs. length xs) (shape_of es first last is_run).whole,
-      length-append A (R ++ C), length-append R C,
-      length-append (through (A ++ C) after) (R ++ behind (A ++ C) after), length-append R (behind (A ++ C) after),
-      ap (λ xs. length xs) (through-behind (A ++ C) after), length-append (through (A ++ C) after) (behind (A ++ C) after), length-append A C)
+      length-append A (R ++ C),
+      length-append R C,
+      length-append (through (A ++ C) after) (R ++ behind (A ++ C) after),
+      length-append R (behind (A ++ C) after),
+      ap (λ xs. length xs) (through-behind (A ++ C) after),
+      length-append (through (A ++ C) after) (behind (A ++ C) after),
+      length-append A C,
+    )
 
 pub move_shows : (old : Inside) (first last after start end place : ℕ) (slots : Listed Slot) (items : Vec Item Global) → IsSound old
     → IsRun (named (graph_of old).blocks) first last → ContainsKey (without_run (named (graph_of old).blocks) first last) after
@@ -234,12 +241,12 @@ move_shows old first last after start end place slots items sound is_run there s
     let many = length_moved old.slots.entries first last after run_there in
     let whole : old.items.items ≡ pair_items (named g.blocks) ++ items_of_bodies g.procedures = sound.holds.items ∙ ap (λ is. is ++ items_of_bodies g.procedures) (sym (pair_items-named g.blocks)) in
     let all : items.items ≡ items_of_blocks (map (λ p. p.1) qs) ++ items_of_bodies g.procedures =
-      is ∙ ap (λ xs. moved_piece xs start end place) whole
-      ∙ ap (λ n. moved_piece (pair_items ps ++ items_of_bodies g.procedures) n end place) (start_is ∙ sym m.start_is)
-      ∙ ap (λ n. moved_piece (pair_items ps ++ items_of_bodies g.procedures) m.start n place) (end_is ∙ sym m.end_is)
-      ∙ ap (λ n. moved_piece (pair_items ps ++ items_of_bodies g.procedures) m.start m.end n) (place_is ∙ sym m.place_is)
-      ∙ m.items
-      ∙ ap (λ is. is ++ items_of_bodies g.procedures) (sym (pair_items-is qs)) in
+    is ∙ ap (λ xs. moved_piece xs start end place) whole
+    ∙ ap (λ n. moved_piece (pair_items ps ++ items_of_bodies g.procedures) n end place) (start_is ∙ sym m.start_is)
+    ∙ ap (λ n. moved_piece (pair_items ps ++ items_of_bodies g.procedures) m.start n place) (end_is ∙ sym m.end_is)
+    ∙ ap (λ n. moved_piece (pair_items ps ++ items_of_bodies g.procedures) m.start m.end n) (place_is ∙ sym m.place_is)
+    ∙ m.items
+    ∙ ap (λ is. is ++ items_of_bodies g.procedures) (sym (pair_items-is qs)) in
     shows (record old { slots = slots; items = items }) (moved_after g first last after)
     (record {
       slots = entries ∙ ap (λ es. renumbered 0 (move_run_after es first last after)) sound.holds.slots ∙ like_numbered 0 (move_run_after (slots_from 0 g.blocks) first last after) qs like;
@@ -276,7 +283,7 @@ after_there ps first last after is_run there =
     let C = behind (starting_at ps first) last in
     subst (λ (xs : List (ℕ × Block)). ContainsKey xs after) (sym shape.whole)
     (ap is_some (value_of-append A (R ++ C) after ∙ ap (or_value (value_of A after)) (value_of-append R C after))
-     ∙ still (value_of A after) (value_of R after) (value_of C after) (ap is_some (sym (value_of-append A C after)) ∙ there))
+    ∙ still (value_of A after) (value_of R after) (value_of C after) (ap is_some (sym (value_of-append A C after)) ∙ there))
   where
     still : {T : Type 0} (a b c : Option T) → IsSome (or_value a c) → IsSome (or_value a (or_value b c))
     still (Some x) b c some = refl
@@ -296,8 +303,8 @@ moved_length old first last after es head sound is_run there is head_is =
     let qs = move_run_after (named g.blocks) first last after in
     let like = like_moved first last after (slots_from 0 g.blocks) (named g.blocks) (like_slots 0 g.blocks) in
     let long : length_of_slots (rest_from es head) ≡ length (pair_items qs) =
-      ap (λ k. length_of_slots (rest_from es k)) head_is ∙ ap length_of_slots (from_first es).1.1 ∙ ap length_of_slots (is ∙ ap (λ xs. move_run_after xs first last after) sound.holds.slots)
-      ∙ like_length (move_run_after (slots_from 0 g.blocks) first last after) qs like in
+    ap (λ k. length_of_slots (rest_from es k)) head_is ∙ ap length_of_slots (from_first es).1.1 ∙ ap length_of_slots (is ∙ ap (λ xs. move_run_after xs first last after) sound.holds.slots)
+    ∙ like_length (move_run_after (slots_from 0 g.blocks) first last after) qs like in
     omega (arith, long, moved_items (named g.blocks) first last after is_run, ap (λ xs. length xs) (pair_items-named g.blocks), ap (λ xs. length xs) sound.holds.items, length-append (items_of_blocks g.blocks) (items_of_bodies g.procedures))
   where
     moved_items : (ps : List (ℕ × Block)) (first last after : ℕ) → IsRun ps first last → length (pair_items (move_run_after ps first last after)) ≡ length (pair_items ps)
@@ -307,9 +314,20 @@ moved_length old first last after es head sound is_run there is head_is =
         let C = behind (starting_at ps first) last in
         let T = through (A ++ C) after in
         let B = behind (A ++ C) after in
-        omega (arith,
+        omega (
+          arith,
           ap (λ xs. length (pair_items xs)) (shape_of ps first last is_run).whole,
-          ap (λ xs. length xs) (pair_items-append A (R ++ C)), length-append (pair_items A) (pair_items (R ++ C)), ap (λ xs. length xs) (pair_items-append R C), length-append (pair_items R) (pair_items C),
-          ap (λ xs. length xs) (pair_items-append T (R ++ B)), length-append (pair_items T) (pair_items (R ++ B)), ap (λ xs. length xs) (pair_items-append R B), length-append (pair_items R) (pair_items B),
-          ap (λ xs. length (pair_items xs)) (through-behind (A ++ C) after), ap (λ xs. length xs) (pair_items-append T B), length-append (pair_items T) (pair_items B),
-          ap (λ xs. length xs) (pair_items-append A C), length-append (pair_items A) (pair_items C))
+          ap (λ xs. length xs) (pair_items-append A (R ++ C)),
+          length-append (pair_items A) (pair_items (R ++ C)),
+          ap (λ xs. length xs) (pair_items-append R C),
+          length-append (pair_items R) (pair_items C),
+          ap (λ xs. length xs) (pair_items-append T (R ++ B)),
+          length-append (pair_items T) (pair_items (R ++ B)),
+          ap (λ xs. length xs) (pair_items-append R B),
+          length-append (pair_items R) (pair_items B),
+          ap (λ xs. length (pair_items xs)) (through-behind (A ++ C) after),
+          ap (λ xs. length xs) (pair_items-append T B),
+          length-append (pair_items T) (pair_items B),
+          ap (λ xs. length xs) (pair_items-append A C),
+          length-append (pair_items A) (pair_items C),
+        )

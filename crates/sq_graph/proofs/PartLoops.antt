@@ -39,8 +39,8 @@ bodies_step i start p ps bodies bodies' first inside read is =
     let more : take (i + 1) ps ≡ take i ps ++ p ∷ [] = take_more ps i p inside ∙ ap (λ q. take i ps ++ q ∷ []) (sym read) in
     record {
       are = is ∙ ap (λ bs. bs ++ record { link = p.link; start = start; length = p.length } ∷ []) first.are
-        ∙ ap (λ s. part_bodies 0 (take i ps) ++ record { link = p.link; start = s; length = p.length } ∷ []) (first.start_is ∙ zero_left (length_of_bodies (take i ps)))
-        ∙ sym (part_bodies-push 0 (take i ps) p) ∙ ap (part_bodies 0) (sym more);
+          ∙ ap (λ s. part_bodies 0 (take i ps) ++ record { link = p.link; start = s; length = p.length } ∷ []) (first.start_is ∙ zero_left (length_of_bodies (take i ps)))
+          ∙ sym (part_bodies-push 0 (take i ps) p) ∙ ap (part_bodies 0) (sym more);
       start_is = omega (arith, first.start_is, ap length_of_bodies more, sum_by_push (λ (part : ProcedurePart). part.length) (take i ps) p);
     }
 
@@ -75,9 +75,9 @@ slots_step i start count p ps entries entries' spare spare' names names' name fi
     record {
       names_are = names_is ∙ ap (λ ns. ns ++ name ∷ []) first.names_are ∙ sym (ap keys is ∙ map-append {B = ℕ} (λ e. e.0) entries ((name, slot) ∷ []));
       values_are = ap values is ∙ map-append {B = Slot} (λ e. e.1) entries ((name, slot) ∷ [])
-        ∙ ap (λ ss. ss ++ slot ∷ []) first.values_are
-        ∙ ap (λ s. part_slots 0 (take i ps) ++ record { start = s; length = p.length; term = p.term } ∷ []) (first.start_is ∙ zero_left (length_of_blocks (take i ps)))
-        ∙ sym (part_slots-push 0 (take i ps) p) ∙ ap (part_slots 0) (sym more);
+          ∙ ap (λ ss. ss ++ slot ∷ []) first.values_are
+          ∙ ap (λ s. part_slots 0 (take i ps) ++ record { start = s; length = p.length; term = p.term } ∷ []) (first.start_is ∙ zero_left (length_of_blocks (take i ps)))
+          ∙ sym (part_slots-push 0 (take i ps) p) ∙ ap (part_slots 0) (sym more);
       distinct = distinct;
       spare_is = omega (arith, first.spare_is, spares);
       start_is = omega (arith, first.start_is, ap length_of_blocks more, sum_by_push (λ (part : BlockPart). part.length) (take i ps) p);

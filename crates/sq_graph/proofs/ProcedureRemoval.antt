@@ -56,14 +56,14 @@ bodies_at old number body sound found =
     let made : Body = record { link = at.procedure.link; start = 0 + length (items_of_bodies at.front); length = length at.procedure.body } in
     let same : made ≡ body = same_body made body (sym at.link_is) (sym at.start_is) (sym at.length_is) in
     let parts : old.bodies.items ≡ bodies_from 0 at.front ++ made ∷ bodies_from (0 + length (items_of_bodies at.front) + length at.procedure.body) at.back =
-      sound.holds.bodies ∙ ap (bodies_from 0) at.whole ∙ bodies_from-append 0 at.front (at.procedure ∷ at.back) in
+    sound.holds.bodies ∙ ap (bodies_from 0) at.whole ∙ bodies_from-append 0 at.front (at.procedure ∷ at.back) in
     let whole : old.items.items ≡ (items_of_blocks (graph_of old).blocks ++ items_of_bodies at.front) ++ (at.procedure.body ++ items_of_bodies at.back) =
-      sound.holds.items
-      ∙ ap (λ ps. items_of_blocks g.blocks ++ items_of_bodies ps) at.whole
-      ∙ ap (λ is. items_of_blocks g.blocks ++ is) (items_of_bodies-append at.front (at.procedure ∷ at.back))
-      ∙ sym (append_assoc (items_of_blocks g.blocks) (items_of_bodies at.front) (at.procedure.body ++ items_of_bodies at.back)) in
+    sound.holds.items
+    ∙ ap (λ ps. items_of_blocks g.blocks ++ items_of_bodies ps) at.whole
+    ∙ ap (λ is. items_of_blocks g.blocks ++ is) (items_of_bodies-append at.front (at.procedure ∷ at.back))
+    ∙ sym (append_assoc (items_of_blocks g.blocks) (items_of_bodies at.front) (at.procedure.body ++ items_of_bodies at.back)) in
     let start : length (items_of_blocks (graph_of old).blocks ++ items_of_bodies at.front) ≡ old.block_items + body.start =
-      omega (arith, sound.holds.block_items, at.start_is, length-append (items_of_blocks g.blocks) (items_of_bodies at.front)) in
+    omega (arith, sound.holds.block_items, at.start_is, length-append (items_of_blocks g.blocks) (items_of_bodies at.front)) in
     record {
       at = at;
       parts = parts ∙ ap (λ b. bodies_from 0 at.front ++ b ∷ bodies_from (b.start + b.length) at.back) same;
@@ -82,8 +82,8 @@ pub lowers_fit : (old : Inside) (number : ℕ) (body : Body) (removed : List Bod
 lowers_fit old number body removed bs is =
     let at = bs.at in
     let rest : drop number removed ≡ bodies_from (body.start + body.length) at.back =
-      ap (drop number) (is ∙ ap (λ xs. remove xs number) bs.parts ∙ remove_at (bodies_from 0 at.front) body (bodies_from (body.start + body.length) at.back) number bs.counted)
-      ∙ drop_at (bodies_from 0 at.front) (bodies_from (body.start + body.length) at.back) number bs.counted in
+    ap (drop number) (is ∙ ap (λ xs. remove xs number) bs.parts ∙ remove_at (bodies_from 0 at.front) body (bodies_from (body.start + body.length) at.back) number bs.counted)
+    ∙ drop_at (bodies_from 0 at.front) (bodies_from (body.start + body.length) at.back) number bs.counted in
     subst (λ (xs : List Body). All (λ b. body.length ≤ b.start) xs) (sym rest) (starts_above (body.start + body.length) body.length at.back (omega arith))
 
 pub without_procedure_shows : (old : Inside) (number : ℕ) (body : Body) (removed : List Body) (mid items : Vec Item Global) (bodies : Vec Body Global)
@@ -105,34 +105,34 @@ without_procedure_shows old number body removed mid items bodies sound found rem
     let middle : Inside = record old { items = mid; bodies = bodies } in
     let g0 : Graph = record g { procedures = remove g.procedures number } in
     let left : remove g.procedures number ≡ at.front ++ at.back =
-      ap (λ ps. remove ps number) at.whole ∙ remove_at at.front at.procedure at.back number at.ahead in
+    ap (λ ps. remove ps number) at.whole ∙ remove_at at.front at.procedure at.back number at.ahead in
     let gone : removed ≡ bodies_from 0 at.front ++ bodies_from (body.start + body.length) at.back =
-      removed_is ∙ ap (λ xs. remove xs number) bs.parts ∙ remove_at (bodies_from 0 at.front) body (bodies_from (body.start + body.length) at.back) number bs.counted in
+    removed_is ∙ ap (λ xs. remove xs number) bs.parts ∙ remove_at (bodies_from 0 at.front) body (bodies_from (body.start + body.length) at.back) number bs.counted in
     let all : mid.items ≡ (items_of_blocks g.blocks ++ items_of_bodies at.front) ++ items_of_bodies at.back =
-      mid_is
-      ∙ ap (λ ys. ys ++ drop (old.block_items + body.start + body.length) old.items.items)
-        (ap (take (old.block_items + body.start)) bs.whole ∙ take_at (items_of_blocks g.blocks ++ items_of_bodies at.front) (at.procedure.body ++ items_of_bodies at.back) (old.block_items + body.start) bs.start)
-      ∙ ap (λ ys. (items_of_blocks g.blocks ++ items_of_bodies at.front) ++ ys)
-        (ap (drop (old.block_items + body.start + body.length)) (bs.whole ∙ sym (append_assoc (items_of_blocks g.blocks ++ items_of_bodies at.front) at.procedure.body (items_of_bodies at.back)))
-         ∙ drop_at ((items_of_blocks g.blocks ++ items_of_bodies at.front) ++ at.procedure.body) (items_of_bodies at.back) (old.block_items + body.start + body.length)
-           (omega (arith, bs.start, at.length_is, length-append (items_of_blocks g.blocks ++ items_of_bodies at.front) at.procedure.body))) in
+    mid_is
+    ∙ ap (λ ys. ys ++ drop (old.block_items + body.start + body.length) old.items.items)
+    (ap (take (old.block_items + body.start)) bs.whole ∙ take_at (items_of_blocks g.blocks ++ items_of_bodies at.front) (at.procedure.body ++ items_of_bodies at.back) (old.block_items + body.start) bs.start)
+    ∙ ap (λ ys. (items_of_blocks g.blocks ++ items_of_bodies at.front) ++ ys)
+    (ap (drop (old.block_items + body.start + body.length)) (bs.whole ∙ sym (append_assoc (items_of_blocks g.blocks ++ items_of_bodies at.front) at.procedure.body (items_of_bodies at.back)))
+    ∙ drop_at ((items_of_blocks g.blocks ++ items_of_bodies at.front) ++ at.procedure.body) (items_of_bodies at.back) (old.block_items + body.start + body.length)
+    (omega (arith, bs.start, at.length_is, length-append (items_of_blocks g.blocks ++ items_of_bodies at.front) at.procedure.body))) in
     let start : length (items_of_bodies at.front) ≡ body.start = omega (arith, at.start_is) in
     mapped_holds (recalled_item (lowered number)) (λ term. term) middle (record old { items = items; bodies = bodies }) g0 (without_procedure g number)
     (record {
       slots = sound.holds.slots;
       items = all ∙ append_assoc (items_of_blocks g.blocks) (items_of_bodies at.front) (items_of_bodies at.back)
-        ∙ ap (λ ys. items_of_blocks g.blocks ++ ys) (sym (items_of_bodies-append at.front at.back) ∙ ap items_of_bodies (sym left));
+          ∙ ap (λ ys. items_of_blocks g.blocks ++ ys) (sym (items_of_bodies-append at.front at.back) ∙ ap items_of_bodies (sym left));
       block_items = sound.holds.block_items;
       entry = sound.holds.entry;
       code_words = sound.holds.code_words;
       bodies = bodies_are
-        ∙ ap (λ xs. take number xs ++ map (lowered_body body.length) (drop number xs)) gone
-        ∙ ap (λ xs. xs ++ map (lowered_body body.length) (drop number (bodies_from 0 at.front ++ bodies_from (body.start + body.length) at.back))) (take_at (bodies_from 0 at.front) (bodies_from (body.start + body.length) at.back) number bs.counted)
-        ∙ ap (λ xs. bodies_from 0 at.front ++ map (lowered_body body.length) xs) (drop_at (bodies_from 0 at.front) (bodies_from (body.start + body.length) at.back) number bs.counted)
-        ∙ ap (λ xs. bodies_from 0 at.front ++ xs) (bodies_from-lowered body.start body.length at.back)
-        ∙ ap (λ n. bodies_from 0 at.front ++ bodies_from n at.back) at.start_is
-        ∙ sym (bodies_from-append 0 at.front at.back)
-        ∙ ap (bodies_from 0) (sym left);
+          ∙ ap (λ xs. take number xs ++ map (lowered_body body.length) (drop number xs)) gone
+          ∙ ap (λ xs. xs ++ map (lowered_body body.length) (drop number (bodies_from 0 at.front ++ bodies_from (body.start + body.length) at.back))) (take_at (bodies_from 0 at.front) (bodies_from (body.start + body.length) at.back) number bs.counted)
+          ∙ ap (λ xs. bodies_from 0 at.front ++ map (lowered_body body.length) xs) (drop_at (bodies_from 0 at.front) (bodies_from (body.start + body.length) at.back) number bs.counted)
+          ∙ ap (λ xs. bodies_from 0 at.front ++ xs) (bodies_from-lowered body.start body.length at.back)
+          ∙ ap (λ n. bodies_from 0 at.front ++ bodies_from n at.back) at.start_is
+          ∙ sym (bodies_from-append 0 at.front at.back)
+          ∙ ap (bodies_from 0) (sym left);
     })
     (record {
       items = omega (arith, sound.room.items, bs.size, bs.start, ap (λ ys. length ys) all, length-append (items_of_blocks g.blocks ++ items_of_bodies at.front) (items_of_bodies at.back));

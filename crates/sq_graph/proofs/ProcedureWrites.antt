@@ -42,9 +42,9 @@ piece_of_block old name slot at count p fits =
     let there : at + count ≤ length p.at.block.items = omega (arith, fits, p.counted, p.length_is) in
     let left : at + count - at ≡ count = omega arith in
     ap (take count) (ap (drop (slot.start + at)) p.whole
-      ∙ sym (drop-drop at slot.start (front ++ (xs ++ rest)))
-      ∙ ap (drop at) (drop_at front (xs ++ rest) slot.start (sym p.start_is))
-      ∙ drop-append-le at xs rest (omega (arith, there)))
+    ∙ sym (drop-drop at slot.start (front ++ (xs ++ rest)))
+    ∙ ap (drop at) (drop_at front (xs ++ rest) slot.start (sym p.start_is))
+    ∙ drop-append-le at xs rest (omega (arith, there)))
     ∙ take-append-le count (drop at xs) rest (omega (arith, there, length-drop at p.at.block.items))
     ∙ ap (λ n. take n (drop at xs)) (sym left)
     ∙ ap (λ ys. take (at + count - at) (drop at ys)) (sym p.items_is)
@@ -66,23 +66,23 @@ outline_shows old name slot at count link start items bodies sound has found fit
     let proc : Procedure = record { link = link; body = slice_range (items_of (graph_of old) name) at (at + count) } in
     let piece = piece_of_block old name slot at count p fits in
     let long : length (slice_range (items_of (graph_of old) name) at (at + count)) ≡ count =
-      length_slice (items_of (graph_of old) name) fits in
+    length_slice (items_of (graph_of old) name) fits in
     let first : 0 + length (items_of_bodies g.procedures) ≡ start = omega (arith, start_is, p.size, p.block_items) in
     shows (record old { items = items; bodies = bodies }) (outlined (graph_of old) name at count link)
     (record {
       slots = sound.holds.slots;
       items = is ∙ ap (λ ys. old.items.items ++ ys) piece ∙ ap (λ ys. ys ++ body) sound.holds.items
-        ∙ append_assoc (items_of_blocks g.blocks) (items_of_bodies g.procedures) body
-        ∙ ap (λ ys. items_of_blocks g.blocks ++ (items_of_bodies g.procedures ++ ys)) (sym (append-nil body))
-        ∙ ap (λ ys. items_of_blocks g.blocks ++ ys) (sym (items_of_bodies-append g.procedures (proc ∷ [])));
+          ∙ append_assoc (items_of_blocks g.blocks) (items_of_bodies g.procedures) body
+          ∙ ap (λ ys. items_of_blocks g.blocks ++ (items_of_bodies g.procedures ++ ys)) (sym (append-nil body))
+          ∙ ap (λ ys. items_of_blocks g.blocks ++ ys) (sym (items_of_bodies-append g.procedures (proc ∷ [])));
       block_items = sound.holds.block_items;
       entry = sound.holds.entry;
       code_words = sound.holds.code_words;
       bodies = bodies_are
-        ∙ ap (λ bs. bs ++ record { link = link; start = start; length = count } ∷ []) sound.holds.bodies
-        ∙ ap (λ n. bodies_from 0 g.procedures ++ record { link = link; start = n; length = count } ∷ []) (sym first)
-        ∙ ap (λ n. bodies_from 0 g.procedures ++ record { link = link; start = 0 + length (items_of_bodies g.procedures); length = n } ∷ []) (sym long)
-        ∙ sym (bodies_from-append 0 g.procedures (proc ∷ []));
+          ∙ ap (λ bs. bs ++ record { link = link; start = start; length = count } ∷ []) sound.holds.bodies
+          ∙ ap (λ n. bodies_from 0 g.procedures ++ record { link = link; start = n; length = count } ∷ []) (sym first)
+          ∙ ap (λ n. bodies_from 0 g.procedures ++ record { link = link; start = 0 + length (items_of_bodies g.procedures); length = n } ∷ []) (sym long)
+          ∙ sym (bodies_from-append 0 g.procedures (proc ∷ []));
     })
     rules
     (record {
@@ -106,10 +106,10 @@ item_of_block old name slot at d p inside =
     let rest = items_of_blocks p.at.back ++ items_of_bodies (graph_of old).procedures in
     let there : at < length p.at.block.items = omega (arith, inside, p.counted, p.length_is) in
     let read : get_or old.items.items (slot.start + at) d ≡ get_or p.at.block.items at d =
-      ap (λ ys. get_or ys (slot.start + at) d) p.whole
-      ∙ ap (λ n. get_or (front ++ (xs ++ rest)) (n + at) d) p.start_is
-      ∙ get_or-append-add front (xs ++ rest) at d
-      ∙ get_or_append_left xs rest d at there in
+    ap (λ ys. get_or ys (slot.start + at) d) p.whole
+    ∙ ap (λ n. get_or (front ++ (xs ++ rest)) (n + at) d) p.start_is
+    ∙ get_or-append-add front (xs ++ rest) at d
+    ∙ get_or_append_left xs rest d at there in
     ap (λ ys. slice_get ys at) p.items_is ∙ slice_get-get_or xs at d there ∙ ap Some (sym read)
 
 -- an Out stands within its block

@@ -67,10 +67,10 @@ module _ (f : ℕ → ℕ) (nm : Block → ℕ) where
   uses-other g =
       ap (λ us. f g.entry ∷ us)
       (ap (λ us. us ++ (terms_uses (map other_block g.blocks) ++ items_uses (all_items (other_graph g)))) (code_word_uses-other g.code_words)
-       ∙ ap (λ us. map f (code_word_uses g.code_words) ++ (us ++ items_uses (all_items (other_graph g)))) (terms_uses-other g.blocks)
-       ∙ ap (λ us. map f (code_word_uses g.code_words) ++ (map f (terms_uses g.blocks) ++ us)) (ap items_uses (all_items-other g) ∙ items_uses-other (all_items g))
-       ∙ ap (λ us. map f (code_word_uses g.code_words) ++ us) (sym (map-append f (terms_uses g.blocks) (items_uses (all_items g))))
-       ∙ sym (map-append f (code_word_uses g.code_words) (terms_uses g.blocks ++ items_uses (all_items g))))
+      ∙ ap (λ us. map f (code_word_uses g.code_words) ++ (us ++ items_uses (all_items (other_graph g)))) (terms_uses-other g.blocks)
+      ∙ ap (λ us. map f (code_word_uses g.code_words) ++ (map f (terms_uses g.blocks) ++ us)) (ap items_uses (all_items-other g) ∙ items_uses-other (all_items g))
+      ∙ ap (λ us. map f (code_word_uses g.code_words) ++ us) (sym (map-append f (terms_uses g.blocks) (items_uses (all_items g))))
+      ∙ sym (map-append f (code_word_uses g.code_words) (terms_uses g.blocks ++ items_uses (all_items g))))
 
   item_calls-other : (item : Item) → item_calls (retargeted_item f item) ≡ item_calls item
   item_calls-other (Op insn) = refl

@@ -65,13 +65,14 @@ reads inside name slot sound found =
       term_is = ap (λ s. s.term) same;
       within = omega (arith, ap (λ is. length is) whole, length-append (items_of_blocks at.front) (at.block.items ++ (items_of_blocks at.back ++ items_of_bodies g.procedures)), length-append at.block.items (items_of_blocks at.back ++ items_of_bodies g.procedures));
       slice =
-        ap (λ is. take slot.length (drop slot.start is)) whole
-        ∙ ap (λ n. take n (drop slot.start (items_of_blocks at.front ++ (at.block.items ++ (items_of_blocks at.back ++ items_of_bodies g.procedures))))) size
-        ∙ ap (λ n. take (length at.block.items) (drop n (items_of_blocks at.front ++ (at.block.items ++ (items_of_blocks at.back ++ items_of_bodies g.procedures))))) start
-        ∙ middle (items_of_blocks at.front) at.block.items (items_of_blocks at.back ++ items_of_bodies g.procedures);
+          ap (λ is. take slot.length (drop slot.start is)) whole
+          ∙ ap (λ n. take n (drop slot.start (items_of_blocks at.front ++ (at.block.items ++ (items_of_blocks at.back ++ items_of_bodies g.procedures))))) size
+          ∙ ap (λ n. take (length at.block.items) (drop n (items_of_blocks at.front ++ (at.block.items ++ (items_of_blocks at.back ++ items_of_bodies g.procedures))))) start
+          ∙ middle (items_of_blocks at.front) at.block.items (items_of_blocks at.back ++ items_of_bodies g.procedures);
     }
   where
     some_same : (a b : Slot) → Some a ≡ Some b → a ≡ b
     some_same a b same = cc
+
     zero_left : (n : ℕ) → 0 + n ≡ n
     zero_left n = omega arith

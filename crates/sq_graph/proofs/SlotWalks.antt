@@ -36,11 +36,11 @@ renumber_step now goal key v start walk found =
       distinct = st.distinct;
       fits = rw st.rest (omega (arith, walk.fits, rest_length now key v found));
       is =
-        ap (λ es. es ++ renumbered (start + v.length) (rest_from (with_value now key (started start v)) (next_key (with_value now key (started start v)) key))) st.ahead
-        ∙ ap (λ es. (before now key ++ (key, started start v) ∷ []) ++ renumbered (start + v.length) es) st.rest
-        ∙ append_assoc (before now key) ((key, started start v) ∷ []) (renumbered (start + v.length) (behind now key))
-        ∙ ap (λ es. before now key ++ renumbered start es) (sym (starting_at-behind now key v found))
-        ∙ walk.is;
+          ap (λ es. es ++ renumbered (start + v.length) (rest_from (with_value now key (started start v)) (next_key (with_value now key (started start v)) key))) st.ahead
+          ∙ ap (λ es. (before now key ++ (key, started start v) ∷ []) ++ renumbered (start + v.length) es) st.rest
+          ∙ append_assoc (before now key) ((key, started start v) ∷ []) (renumbered (start + v.length) (behind now key))
+          ∙ ap (λ es. before now key ++ renumbered start es) (sym (starting_at-behind now key v found))
+          ∙ walk.is;
     }
 
 -- each step leaves less to do
@@ -74,9 +74,9 @@ module _ (f : ℕ → ℕ) (Knows : ℕ → Type 0) where
         distinct = st.distinct;
         known = subst (λ (es : List (ℕ × Slot)). All Knows (slot_uses es)) (sym st.rest) (All-right Knows (term_uses v.term) (slot_uses (behind now key)) (subst (λ us. All Knows us) (rest_uses now key v found) walk.known));
         is =
-          ap (λ es. es ++ retargeted_slots f (rest_from (with_value now key (retargeted_slot v)) (next_key (with_value now key (retargeted_slot v)) key))) st.ahead
-          ∙ ap (λ es. (before now key ++ (key, retargeted_slot v) ∷ []) ++ retargeted_slots f es) st.rest
-          ∙ append_assoc (before now key) ((key, retargeted_slot v) ∷ []) (retargeted_slots f (behind now key))
-          ∙ ap (λ es. before now key ++ retargeted_slots f es) (sym (starting_at-behind now key v found))
-          ∙ walk.is;
+            ap (λ es. es ++ retargeted_slots f (rest_from (with_value now key (retargeted_slot v)) (next_key (with_value now key (retargeted_slot v)) key))) st.ahead
+            ∙ ap (λ es. (before now key ++ (key, retargeted_slot v) ∷ []) ++ retargeted_slots f es) st.rest
+            ∙ append_assoc (before now key) ((key, retargeted_slot v) ∷ []) (retargeted_slots f (behind now key))
+            ∙ ap (λ es. before now key ++ retargeted_slots f es) (sym (starting_at-behind now key v found))
+            ∙ walk.is;
       }

@@ -76,10 +76,10 @@ split_distinct front b back new place distinct fresh =
     let first : Block = record b { items = take place b.items; term = Fall } in
     let second : Block = record b { name = new; items = drop place b.items } in
     let parts : named (front ++ b ∷ back) ≡ (named front ++ (b.name, b) ∷ []) ++ named back =
-      named-append front (b ∷ back) ∙ sym (append_assoc (named front) ((b.name, b) ∷ []) (named back)) in
+    named-append front (b ∷ back) ∙ sym (append_assoc (named front) ((b.name, b) ∷ []) (named back)) in
     let inserted = HasDistinctKeys-insert (named front ++ (b.name, b) ∷ []) (named back) new second (rw parts at distinct) (rw parts at fresh) in
     let same : keys (named (front ++ (halves new place b ++ back))) ≡ keys ((named front ++ (b.name, b) ∷ []) ++ (new, second) ∷ named back) =
-      same_keys front in
+    same_keys front in
     rw same inserted
   where
     same_keys : (front : List Block) → keys (named (front ++ (halves new place b ++ back))) ≡ keys ((named front ++ (b.name, b) ∷ []) ++ (new, record b { name = new; items = drop place b.items }) ∷ named back)
@@ -92,14 +92,14 @@ split_rules g new name place rules fresh has =
     let f = halves new place in
     let blocks' = with_blocks-at (halves new place) g.blocks name at in
     let items : all_items (split_at g new name place) ≡ all_items g =
-      ap (λ is. is ++ items_of_bodies g.procedures) (items_of_blocks-kept (halves new place) g.blocks name at (split_items new place at.block)) in
+    ap (λ is. is ++ items_of_bodies g.procedures) (items_of_blocks-kept (halves new place) g.blocks name at (split_items new place at.block)) in
     let terms : terms_uses (with_blocks (halves new place) g.blocks name) ≡ terms_uses g.blocks =
-      flat_map-changed (λ b. term_uses b.term) (halves new place) g.blocks name at
-      ∙ ap (λ us. terms_uses at.front ++ (us ++ terms_uses at.back)) (append-nil (term_uses at.block.term))
-      ∙ sym (flat_map-at (λ b. term_uses b.term) g.blocks name at) in
+    flat_map-changed (λ b. term_uses b.term) (halves new place) g.blocks name at
+    ∙ ap (λ us. terms_uses at.front ++ (us ++ terms_uses at.back)) (append-nil (term_uses at.block.term))
+    ∙ sym (flat_map-at (λ b. term_uses b.term) g.blocks name at) in
     let used : uses (split_at g new name place) ≡ uses g =
-      ap (λ us. g.entry ∷ (code_word_uses g.code_words ++ (us ++ items_uses (all_items (split_at g new name place))))) terms
-      ∙ ap (λ is. g.entry ∷ (code_word_uses g.code_words ++ (terms_uses g.blocks ++ items_uses is))) items in
+    ap (λ us. g.entry ∷ (code_word_uses g.code_words ++ (us ++ items_uses (all_items (split_at g new name place))))) terms
+    ∙ ap (λ is. g.entry ∷ (code_word_uses g.code_words ++ (terms_uses g.blocks ++ items_uses is))) items in
     let own : (b : Block) → IsSome (value_of (named (halves new place b)) b.name) = λ b. rw (eq-eqb b.name b.name refl) refl in
     let fit = subst (λ (bs : List Block). All (λ b. TermFits b.term) bs) at.whole rules.terms in
     record {
@@ -107,13 +107,13 @@ split_rules g new name place rules fresh has =
       named_all = subst (λ us. All (HasBlock (split_at g new name place)) us) (sym used) (All-weaker (HasBlock g) (HasBlock (split_at g new name place)) (λ k some. keeps_names (halves new place) g.blocks name k own some) (uses g) rules.named_all);
       called_all = subst (λ (is : List Item). All (HasProcedure g) (flat_map item_calls is)) (sym items) rules.called_all;
       ends = ap last_goes_on blocks' ∙ last_goes_on-append at.front (record at.block { items = take place at.block.items; term = Fall }) (record at.block { name = new; items = drop place at.block.items } ∷ at.back)
-        ∙ last_of_halves new place at.block at.back ∙ sym (last_goes_on-append at.front at.block at.back) ∙ sym (ap last_goes_on at.whole) ∙ rules.ends;
+          ∙ last_of_halves new place at.block at.back ∙ sym (last_goes_on-append at.front at.block at.back) ∙ sym (ap last_goes_on at.whole) ∙ rules.ends;
       code_words = rules.code_words;
       items = subst (λ (is : List Item). All ItemFits is) (sym items) rules.items;
       terms = subst (λ (bs : List Block). All (λ b. TermFits b.term) bs) (sym blocks')
-        (All-append {X = Block} (λ b. TermFits b.term) at.front (halves new place at.block ++ at.back)
-         (All-left {X = Block} (λ b. TermFits b.term) at.front (at.block ∷ at.back) fit)
-         (split_terms at.block at.back (All-right {X = Block} (λ b. TermFits b.term) at.front (at.block ∷ at.back) fit)));
+          (All-append {X = Block} (λ b. TermFits b.term) at.front (halves new place at.block ++ at.back)
+          (All-left {X = Block} (λ b. TermFits b.term) at.front (at.block ∷ at.back) fit)
+          (split_terms at.block at.back (All-right {X = Block} (λ b. TermFits b.term) at.front (at.block ∷ at.back) fit)));
       procedures = rules.procedures;
     }
   where
@@ -124,22 +124,26 @@ split_rules g new name place rules fresh has =
 
 halves_words : (new place : ℕ) (b : Block) → sum_by block_words (halves new place b) ≡ block_words b
 halves_words new place b =
-    omega (arith,
+    omega (
+      arith,
       sum_by-cons block_words (record b { items = take place b.items; term = Fall }) (record b { name = new; items = drop place b.items } ∷ []),
       sum_by-cons block_words (record b { name = new; items = drop place b.items }) [],
       length-append (take place b.items) (drop place b.items),
-      ap (λ is. length is) (take-append-drop place b.items))
+      ap (λ is. length is) (take-append-drop place b.items),
+    )
 
 -- the words of all blocks around those that replace one
 pub words_of_blocks-changed : (f : Block → List Block) (blocks : List Block) (name : ℕ) (at : IsAt blocks name) → sum_by block_words (with_blocks f blocks name) + block_words at.block ≡ sum_by block_words blocks + sum_by block_words (f at.block)
 words_of_blocks-changed f blocks name at =
-    omega (arith,
+    omega (
+      arith,
       ap (λ bs. sum_by block_words bs) (with_blocks-at f blocks name at),
       ap (λ bs. sum_by block_words bs) at.whole,
       sum_by-append block_words at.front (f at.block ++ at.back),
       sum_by-append block_words (f at.block) at.back,
       sum_by-append block_words at.front (at.block ∷ at.back),
-      sum_by-cons block_words at.block at.back)
+      sum_by-cons block_words at.block at.back,
+    )
 
 pub words_of-split : (g : Graph) (new name place : ℕ) → HasBlock g name → words_of (split_at g new name place) ≡ words_of g
 words_of-split g new name place has =

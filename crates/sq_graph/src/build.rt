@@ -12,8 +12,7 @@ use crate::graph::Graph;
 use crate::parts::{BlockPart, Parts, ProcedurePart};
 use crate::rename::{self, Names, Rename};
 use crate::slot::{Body, Slot};
-use crate::slots;
-use crate::vectors;
+use crate::{slots, vectors};
 use sq_arena::Arena;
 use sq_num::Memory;
 use std::alloc::{AllocError, Global};
@@ -25,6 +24,7 @@ impl Graph {
         requires rules { IsGraph (graph_of_parts parts.now.blocks.now parts.now.items.now parts.now.entry parts.now.code_words.now parts.now.procedures.now) }
         requires small { IsSmall (count_of (graph_of_parts parts.now.blocks.now parts.now.items.now parts.now.entry parts.now.code_words.now parts.now.procedures.now)) }
         ensures graph { IfOk result (λ made. IsNamed (graph_of_parts parts.now.blocks.now parts.now.items.now parts.now.entry parts.now.code_words.now parts.now.procedures.now) made.graph) }
+        ensures rules { IfOk result (λ made. IsGraph made.graph) }
         ensures spare { IfOk result (λ made. made.spare ≡ no_room) }
     {
         let mut slots = Arena::new(alloc);

@@ -10,10 +10,9 @@ ghost use Rattle.sq_graph.specs.Operations.{replaced, call_of, called_at, called
 
 use crate::graph::Graph;
 use crate::item::Item;
-use crate::pieces;
 use crate::rename::{self, Lower};
 use crate::slot::Body;
-use crate::slots;
+use crate::{pieces, slots};
 use sq_isa::Reg;
 
 impl Graph {

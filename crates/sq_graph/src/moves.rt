@@ -7,8 +7,7 @@ ghost use Rattle.sq_graph.specs.Rules.{IsGraph};
 ghost use Rattle.sq_graph.specs.Operations.{moved_after};
 
 use crate::graph::Graph;
-use crate::pieces;
-use crate::slots;
+use crate::{pieces, slots};
 
 impl Graph {
     /// Moves the blocks from `first` to `last` right behind `after`.

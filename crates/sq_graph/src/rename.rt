@@ -64,7 +64,11 @@ impl Rename for Lower {
     ghost Knows = { λ _ _. Unit {0} };
 
     fn name(&self, number: u32) -> u32 {
-        if self.gone < number { number - 1 } else { number }
+        if self.gone < number {
+            number - 1
+        } else {
+            number
+        }
     }
 }
 

@@ -13,7 +13,7 @@ returns c =
     let there : c.args.from + (c.args.mid - c.args.from) ≡ c.args.mid = omega (arith, c.requires.first) in
     let end : c.args.from + (c.args.to - c.args.from) ≡ c.args.to = omega (arith, c.requires.first, c.requires.second) in
     let second : drop m (take (to - from) (drop from xs)) ≡ take (to - mid) (drop mid xs) =
-      ap (λ n. drop m (take n (drop from xs))) all ∙ drop-take m (to - mid) (drop from xs) ∙ ap (take (to - mid)) (drop-drop m from xs ∙ ap (λ n. drop n xs) there) in
+    ap (λ n. drop m (take n (drop from xs))) all ∙ drop-take m (to - mid) (drop from xs) ∙ ap (take (to - mid)) (drop-drop m from xs ∙ ap (λ n. drop n xs) there) in
     let first : take m (take (to - from) (drop from xs)) ≡ take m (drop from xs) = take-take m (to - from) (drop from xs) (omega (arith, c.requires.first, c.requires.second)) in
     ap (λ ys. take from xs ++ (ys ++ drop (to - from) (drop from xs))) (c.rotate_left.ensures.after ∙ ap (λ ys. ys ++ take m (take (to - from) (drop from xs))) second ∙ ap (λ ys. take (to - mid) (drop mid xs) ++ ys) first)
     ∙ ap (λ ys. take from xs ++ ((take (to - mid) (drop mid xs) ++ take m (drop from xs)) ++ ys)) (drop-drop (to - from) from xs ∙ ap (λ n. drop n xs) end)

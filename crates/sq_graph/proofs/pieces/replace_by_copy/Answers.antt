@@ -14,7 +14,7 @@ returns-clause-items c =
     let fits : c.args.at ≤ length c.args.items.now.items = omega (arith, c.requires.at, c.args.items.now.ok.0) in
     c.cut.ensures.items
     ∙ ap (λ ys. take (c.args.at + c.args.count) ys ++ drop (c.args.at + c.args.count + 1) ys)
-      (c.raise.ensures.items
-       ∙ ap (λ ys. take c.args.at ys ++ (drop (length ys - c.args.count) ys ++ take (length ys - c.args.count - c.args.at) (drop c.args.at ys))) c.append_copy.ensures.items
-       ∙ raised c.args.items.now.items new c.args.at c.args.count fits counted)
+    (c.raise.ensures.items
+    ∙ ap (λ ys. take c.args.at ys ++ (drop (length ys - c.args.count) ys ++ take (length ys - c.args.count - c.args.at) (drop c.args.at ys))) c.append_copy.ensures.items
+    ∙ raised c.args.items.now.items new c.args.at c.args.count fits counted)
     ∙ cut_behind c.args.items.now.items new c.args.at c.args.count fits counted

@@ -21,5 +21,5 @@ returns-then-slot-ne0-clause-entries c =
     let parts = between_parts (before c.args.slots.now.entries c.args.name) (behind c.args.slots.now.entries c.args.name) distinct in
     c.renumber.ensures.entries
     ∙ rw (c.next-next.ensures, c.unlink.ensures.entries)
-      (ap (λ es. es ++ renumbered c.args.slot.start (rest_from (without c.args.slots.now.entries c.args.name) (next_key c.args.slots.now.entries c.args.name))) parts.ahead
-       ∙ ap (λ es. before c.args.slots.now.entries c.args.name ++ renumbered c.args.slot.start es) parts.rest)
+    (ap (λ es. es ++ renumbered c.args.slot.start (rest_from (without c.args.slots.now.entries c.args.name) (next_key c.args.slots.now.entries c.args.name))) parts.ahead
+    ∙ ap (λ es. before c.args.slots.now.entries c.args.name ++ renumbered c.args.slot.start es) parts.rest)

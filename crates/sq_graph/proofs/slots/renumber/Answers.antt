@@ -31,7 +31,7 @@ loop-place-preserved c =
     let walk = rw c.in-Some.is at c.loop-place.invariant.walk in
     record {
       walk =
-        rw (c.next-place.ensures, c.set.ensures.entries)
-        (renumber_step c.loop-place.slots.entries _ c.in-Some.name c.slot-found.result c.loop-place.start walk c.slot-found.ensures);
+          rw (c.next-place.ensures, c.set.ensures.entries)
+          (renumber_step c.loop-place.slots.entries _ c.in-Some.name c.slot-found.result c.loop-place.start walk c.slot-found.ensures);
       spare = c.set.ensures.spare ∙ c.loop-place.invariant.spare;
     }

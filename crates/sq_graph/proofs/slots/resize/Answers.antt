@@ -28,15 +28,15 @@ returns-then-length-slot-clause-entries c =
     let st = steps c.args.slots.now.entries c.args.name c.args.slot (record c.args.slot { length = c.args.length }) c.requires.distinct c.requires.slot in
     c.renumber.ensures.entries
     ∙ rw (c.next-next.ensures, c.set.ensures.entries)
-      (ap (λ es. es ++ renumbered (c.args.slot.start + c.args.length) (rest_from (with_value c.args.slots.now.entries c.args.name (record c.args.slot { length = c.args.length })) (next_key (with_value c.args.slots.now.entries c.args.name (record c.args.slot { length = c.args.length })) c.args.name))) st.ahead
-       ∙ ap (λ es. (before c.args.slots.now.entries c.args.name ++ (c.args.name, new) ∷ []) ++ renumbered (c.args.slot.start + c.args.length) es) st.rest
-       ∙ append_assoc (before c.args.slots.now.entries c.args.name) ((c.args.name, new) ∷ []) (renumbered (c.args.slot.start + c.args.length) (behind c.args.slots.now.entries c.args.name)))
+    (ap (λ es. es ++ renumbered (c.args.slot.start + c.args.length) (rest_from (with_value c.args.slots.now.entries c.args.name (record c.args.slot { length = c.args.length })) (next_key (with_value c.args.slots.now.entries c.args.name (record c.args.slot { length = c.args.length })) c.args.name))) st.ahead
+    ∙ ap (λ es. (before c.args.slots.now.entries c.args.name ++ (c.args.name, new) ∷ []) ++ renumbered (c.args.slot.start + c.args.length) es) st.rest
+    ∙ append_assoc (before c.args.slots.now.entries c.args.name) ((c.args.name, new) ∷ []) (renumbered (c.args.slot.start + c.args.length) (behind c.args.slots.now.entries c.args.name)))
 
 pub returns-else-length-slot-clause-entries : goal.returns-else-length-slot-clause-entries
 returns-else-length-slot-clause-entries c =
     let new : Slot = record c.args.slot { length = c.args.length } in
     let still : renumbered (c.args.slot.start + c.args.length) (behind c.args.slots.now.entries c.args.name) ≡ behind c.args.slots.now.entries c.args.name =
-      ap (λ n. renumbered (c.args.slot.start + n) (behind c.args.slots.now.entries c.args.name)) c.if-length-slot.false ∙ c.requires.numbered in
+    ap (λ n. renumbered (c.args.slot.start + n) (behind c.args.slots.now.entries c.args.name)) c.if-length-slot.false ∙ c.requires.numbered in
     c.set.ensures.entries
     ∙ with_value-split c.args.slots.now.entries c.args.name c.args.slot (record c.args.slot { length = c.args.length }) c.requires.slot
     ∙ ap (λ es. before c.args.slots.now.entries c.args.name ++ (c.args.name, new) ∷ es) (sym still)

@@ -27,7 +27,7 @@ loop-place-preserved g c =
     let walk = rw c.in-Some.is at c.loop-place.invariant.walk in
     record {
       walk =
-        rw (c.next-place.ensures, c.set.ensures.entries, c.retarget_term-term.ensures)
-        (retarget_step (g.R.Rename.name_of c.args.by.now) (g.R.Rename.Knows c.args.by.now) c.loop-place.slots.entries _ c.in-Some.name c.slot-found.result walk c.slot-found.ensures);
+          rw (c.next-place.ensures, c.set.ensures.entries, c.retarget_term-term.ensures)
+          (retarget_step (g.R.Rename.name_of c.args.by.now) (g.R.Rename.Knows c.args.by.now) c.loop-place.slots.entries _ c.in-Some.name c.slot-found.result walk c.slot-found.ensures);
       spare = c.set.ensures.spare ∙ c.loop-place.invariant.spare;
     }

@@ -21,22 +21,22 @@ invariant_of-result c =
       body_room = c.self.inside.body_room;
     } in
     (kept c.self.inside new old
-     (record {
-       slots = ap (λ slots. slots.entries) c.in-Ok.ensures;
-       items = items;
-       block_items = refl;
-       entry = refl;
-       code_words = c.in_ok-copy-2.ensures.items ∙ c.deref-2.ensures.value;
-       bodies = bodies;
-     })
-     (record {
-       items = omega (arith, ap (λ is. length is) items, old.room.items);
-       item_room = c.in_ok-copy.ensures.room;
-       bodies = omega (arith, ap (λ bs. length bs) bodies, old.room.bodies);
-       body_room = c.in_ok-copy-3.ensures.room;
-     })
-     (record {
-       blocks = omega (arith, spare, ap (λ es. length es) (ap (λ slots. slots.entries) c.in-Ok.ensures), limits.blocks);
-       item_room = limits.item_room;
-       body_room = limits.body_room;
-     })).sound
+    (record {
+      slots = ap (λ slots. slots.entries) c.in-Ok.ensures;
+      items = items;
+      block_items = refl;
+      entry = refl;
+      code_words = c.in_ok-copy-2.ensures.items ∙ c.deref-2.ensures.value;
+      bodies = bodies;
+    })
+    (record {
+      items = omega (arith, ap (λ is. length is) items, old.room.items);
+      item_room = c.in_ok-copy.ensures.room;
+      bodies = omega (arith, ap (λ bs. length bs) bodies, old.room.bodies);
+      body_room = c.in_ok-copy-3.ensures.room;
+    })
+    (record {
+      blocks = omega (arith, spare, ap (λ es. length es) (ap (λ slots. slots.entries) c.in-Ok.ensures), limits.blocks);
+      item_room = limits.item_room;
+      body_room = limits.body_room;
+    })).sound

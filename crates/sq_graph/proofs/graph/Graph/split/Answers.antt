@@ -32,7 +32,7 @@ invariant_of-self c =
     let fresh = new_name c.self.inside c.insert_after-name.result c.self.invariant c.insert_after-name.ensures.fresh in
     let has = rw (← c.self.view_is) at c.requires.block in
     (split_shows c.self.inside c.args.block c.args.at c.slot-slot.result c.insert_after-name.result c.insert_after-name.new.self c.set.new.slots c.self.invariant has (rw (← c.self.view_is) at c.requires.at) c.slot-slot.ensures c.insert_after-name.ensures.entries c.insert_after-name.ensures.spare c.set.ensures.entries c.set.ensures.spare
-     (split_rules (graph_of c.self.inside) c.insert_after-name.result c.args.block c.args.at c.self.invariant.rules fresh has)).sound
+    (split_rules (graph_of c.self.inside) c.insert_after-name.result c.args.block c.args.at c.self.invariant.rules fresh has)).sound
 
 pub returns-clause-new : goal.returns-clause-new
 returns-clause-new c = rw (← c.self.view_is) (new_name c.self.inside c.insert_after-name.result c.self.invariant c.insert_after-name.ensures.fresh)
@@ -42,7 +42,7 @@ returns-clause-graph c =
     let fresh = new_name c.self.inside c.insert_after-name.result c.self.invariant c.insert_after-name.ensures.fresh in
     let has = rw (← c.self.view_is) at c.requires.block in
     (split_shows c.self.inside c.args.block c.args.at c.slot-slot.result c.insert_after-name.result c.insert_after-name.new.self c.set.new.slots c.self.invariant has (rw (← c.self.view_is) at c.requires.at) c.slot-slot.ensures c.insert_after-name.ensures.entries c.insert_after-name.ensures.spare c.set.ensures.entries c.set.ensures.spare
-     (split_rules (graph_of c.self.inside) c.insert_after-name.result c.args.block c.args.at c.self.invariant.rules fresh has)).is
+    (split_rules (graph_of c.self.inside) c.insert_after-name.result c.args.block c.args.at c.self.invariant.rules fresh has)).is
     ∙ ap (λ v. split_at v.graph c.insert_after-name.result c.args.block c.args.at) c.self.view_is
 
 pub returns-clause-words : goal.returns-clause-words
@@ -51,6 +51,13 @@ returns-clause-words c =
     let has = rw (← c.self.view_is) at c.requires.block in
     ap (λ g. words_of g)
     (split_shows c.self.inside c.args.block c.args.at c.slot-slot.result c.insert_after-name.result c.insert_after-name.new.self c.set.new.slots c.self.invariant has (rw (← c.self.view_is) at c.requires.at) c.slot-slot.ensures c.insert_after-name.ensures.entries c.insert_after-name.ensures.spare c.set.ensures.entries c.set.ensures.spare
-     (split_rules (graph_of c.self.inside) c.insert_after-name.result c.args.block c.args.at c.self.invariant.rules fresh has)).is
+    (split_rules (graph_of c.self.inside) c.insert_after-name.result c.args.block c.args.at c.self.invariant.rules fresh has)).is
     ∙ words_of-split (graph_of c.self.inside) c.insert_after-name.result c.args.block c.args.at has
     ∙ ap (λ v. words_of v.graph) c.self.view_is
+
+pub returns-clause-rules : goal.returns-clause-rules
+returns-clause-rules c =
+    let fresh = new_name c.self.inside c.insert_after-name.result c.self.invariant c.insert_after-name.ensures.fresh in
+    let has = rw (← c.self.view_is) at c.requires.block in
+    (split_shows c.self.inside c.args.block c.args.at c.slot-slot.result c.insert_after-name.result c.insert_after-name.new.self c.set.new.slots c.self.invariant has (rw (← c.self.view_is) at c.requires.at) c.slot-slot.ensures c.insert_after-name.ensures.entries c.insert_after-name.ensures.spare c.set.ensures.entries c.set.ensures.spare
+    (split_rules (graph_of c.self.inside) c.insert_after-name.result c.args.block c.args.at c.self.invariant.rules fresh has)).sound.rules
