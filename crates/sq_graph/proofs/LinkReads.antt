@@ -1,9 +1,9 @@
 -- What the arena that `links` hands out tells of the blocks, for callers.
-use Rattle.std.proofs.Common.{◌≡◌, ℕ, ◌+◌, length, Option, Some, IsSome, is_some, sym, ap, ◌∙◌}
+use Rattle.std.proofs.Common.{◌≡◌, ℕ, ◌+◌, length, Some, is_some, sym, ap, ◌∙◌}
 use Rattle.sq_arena.specs.Entries.{value_of}
 use Rattle.sq_graph.specs.declared.slot.Slot.{Slot}
-use Rattle.sq_graph.specs.Graph.{Block, Graph}
-use Rattle.sq_graph.specs.Blocks.{named, HasBlock, block_items, items_of, items_of_blocks}
+use Rattle.sq_graph.specs.Graph.{Graph}
+use Rattle.sq_graph.specs.Blocks.{HasBlock, block_items, items_of, items_of_blocks}
 use Rattle.sq_graph.specs.Slots.{slot_of, slots_from}
 use Rattle.sq_graph.proofs.Located.{located, value_of-slots}
 use Rattle.sq_graph.proofs.SlotReads.{slot_at, block_at}

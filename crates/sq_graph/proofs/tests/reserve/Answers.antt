@@ -1,4 +1,4 @@
-use Rattle.std.proofs.Common.{ap, arith, length, ◌∙◌}
+use Rattle.std.proofs.Common.{ap, arith, length}
 use Rattle.sq_graph.proofs.Sizes.{length-slots_from}
 use Rattle.sq_graph.proofs.tests.reserve.Goals as goal
 

@@ -1,5 +1,5 @@
-use Rattle.std.proofs.Common.{◌≡◌, ℕ, ◌<◌, lit<, false, refl, inl, inr, List, [], ◌∷◌, arith}
-use Rattle.std.specs.List.{IsDistinct, All}
+use Rattle.std.proofs.Common.{◌≡◌, lit<, false, refl, inl, inr, [], ◌∷◌, arith}
+use Rattle.std.specs.List.{IsDistinct}
 use Rattle.std.proofs.lemmas.List.Elements.{All-nil, All-cons}
 use Rattle.sq_isa.specs.declared.instructions.Insn.TheVariants.{Op as Operation}
 use Rattle.sq_isa.specs.declared.instructions.RegOp.TheVariants.{Add}

@@ -1,4 +1,4 @@
-use Rattle.std.proofs.Common.{◌≡◌, ◌∙◌, ◌≤◌, ◌<◌, List, length, drop, ap, sym, refl, subst, arith}
+use Rattle.std.proofs.Common.{◌∙◌, ◌<◌, List, length, drop, ap, sym, subst, arith}
 use Rattle.std.specs.List.{All, slice_index}
 use Rattle.std.proofs.lemmas.List.{length-map}
 use Rattle.sq_graph.specs.declared.item.Item.{Item}

@@ -1,4 +1,4 @@
-use Rattle.std.proofs.Common.{◌∙◌, ap, sym, refl, arith, length}
+use Rattle.std.proofs.Common.{◌∙◌, ap, arith, length}
 use Rattle.sq_graph.specs.Blocks.{block_items}
 use Rattle.sq_graph.specs.Operations.{split_at}
 use Rattle.sq_graph.specs.Words.{words_of}
