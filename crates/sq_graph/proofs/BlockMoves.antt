@@ -1,19 +1,17 @@
 -- A run of blocks that moves.
-use Rattle.std.proofs.Common.{◌≡◌, ◌≢◌, ℕ, zero, suc, ◌+◌, ◌-◌, ◌≤◌, ◌<◌, ◌^◌, ◌==◌, nat_le, Bool, true, false, List, [], ◌∷◌, ◌++◌, map, length, take, drop, vec_capacity, Vec, Global, Option, None, Some, IsSome, is_some, refl, sym, ap, ◌∙◌, subst, inl, inr, arith, length-append, length-drop, append_assoc}
-use Rattle.std.proofs.lemmas.Bool.{cases_Bool, eqb-true, eq-eqb, cases_lt}
-use Rattle.std.proofs.lemmas.List.{take_at, drop_at, append-nil, nil_from_length, map-append}
+use Rattle.std.proofs.Common.{◌≡◌, ℕ, ◌+◌, ◌-◌, ◌==◌, List, [], ◌∷◌, ◌++◌, map, length, take, drop, None, IsSome, is_some, refl, sym, ap, ◌∙◌, inl, inr, arith, length-append, append_assoc}
+use Rattle.std.proofs.lemmas.Bool.{cases_Bool}
+use Rattle.std.proofs.lemmas.List.{take_at, drop_at}
 use Rattle.std.proofs.lemmas.List.Concat.{flat_map-append}
 use Rattle.std.specs.List.{flat_map}
-use Rattle.sq_arena.specs.Entries.{HasDistinctKeys, value_of, ContainsKey, before, through, starting_at, behind, run, without_run, IsRun, move_run_after}
-use Rattle.sq_arena.proofs.EntriesLemmas.{HasShape, shape_of, through-behind, through-before, split_at as split_at_key, some_value}
-use Rattle.sq_arena.proofs.EntriesLaws.{absent_ahead, before-append, value_of-append, or_value}
+use Rattle.sq_arena.specs.Entries.{value_of, ContainsKey, before, through, starting_at, behind, run, without_run, IsRun, move_run_after}
 use Rattle.sq_graph.specs.declared.item.Item.{Item}
 use Rattle.sq_graph.specs.declared.slot.Slot.{Slot}
 use Rattle.sq_graph.specs.Graph.{Block}
 use Rattle.sq_graph.specs.Blocks.{named, items_of_blocks}
 use Rattle.sq_graph.specs.Slots.{slot_of, slots_from}
 use Rattle.sq_graph.specs.Cursor.{renumbered, length_of_slots}
-use Rattle.sq_graph.specs.Pieces.{exchanged, moved_piece}
+use Rattle.sq_graph.specs.Pieces.{exchanged}
 
 -- the slots are those of these named blocks, wherever they start
 abbrev pub IsLike : List (ℕ × Slot) → List (ℕ × Block) → Type 0

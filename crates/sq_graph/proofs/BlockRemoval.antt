@@ -1,5 +1,5 @@
 -- What the fields show after a block is taken out.
-use Rattle.std.proofs.Common.{◌≡◌, ℕ, suc, ◌+◌, ◌-◌, ◌≤◌, ◌<◌, ◌^◌, List, [], ◌∷◌, ◌++◌, length, take, drop, vec_capacity, Vec, Global, Option, Some, refl, sym, ap, ◌∙◌, arith, length-append, append_assoc}
+use Rattle.std.proofs.Common.{◌≡◌, ℕ, suc, ◌+◌, ◌-◌, List, [], ◌∷◌, ◌++◌, length, take, drop, vec_capacity, Vec, Global, Some, refl, sym, ap, ◌∙◌, arith, length-append, append_assoc}
 use Rattle.std.proofs.lemmas.List.{take_at, drop_at}
 use Rattle.sq_arena.specs.Arena.{Arena as Listed}
 use Rattle.sq_arena.specs.Entries.{value_of, before, behind}
@@ -7,7 +7,7 @@ use Rattle.sq_arena.proofs.EntriesLemmas.{split_at as split_at_key}
 use Rattle.sq_graph.specs.declared.item.Item.{Item}
 use Rattle.sq_graph.specs.declared.slot.Slot.{Slot}
 use Rattle.sq_graph.specs.declared.graph.Graph.TheInside.{Inside}
-use Rattle.sq_graph.specs.Graph.{Block, Graph}
+use Rattle.sq_graph.specs.Graph.{Block}
 use Rattle.sq_graph.specs.Blocks.{HasBlock, items_of, items_of_blocks, items_of_bodies}
 use Rattle.sq_graph.specs.Rules.{IsGraph}
 use Rattle.sq_graph.specs.Operations.{with_blocks, without_block}

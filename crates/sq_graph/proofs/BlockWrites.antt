@@ -1,26 +1,26 @@
 -- What the fields show after a call that changes blocks and keeps their items where they lie.
-use Rattle.std.proofs.Common.{◌≡◌, ◌≢◌, ℕ, zero, suc, ◌+◌, ◌-◌, ◌≤◌, ◌<◌, ◌^◌, ◌==◌, Bool, true, false, List, [], ◌∷◌, ◌++◌, map, length, take, drop, Option, None, Some, IsSome, is_some, refl, sym, ap, ◌∙◌, subst, inl, inr, arith, length-append, length-drop, append_assoc}
+use Rattle.std.proofs.Common.{◌≡◌, ℕ, ◌+◌, ◌-◌, ◌≤◌, ◌==◌, false, List, [], ◌∷◌, ◌++◌, length, take, drop, Option, None, Some, is_some, refl, sym, ap, ◌∙◌, inl, inr, arith, length-append, length-drop, append_assoc}
 use Rattle.std.proofs.lemmas.Bool.{cases_Bool, eq-eqb}
 use Rattle.std.proofs.lemmas.List.{append-nil, length-take-le, take-append-drop}
 use Rattle.sq_arena.specs.Arena.{Arena as Listed}
-use Rattle.sq_arena.specs.Entries.{value_of, ContainsKey, before, through, behind, with_value, insert_after}
+use Rattle.sq_arena.specs.Entries.{value_of, before, behind, with_value, insert_after}
 use Rattle.sq_arena.proofs.EntriesLemmas.{through-before, split_at as split_at_key}
 use Rattle.sq_graph.specs.declared.item.Item.{Item}
 use Rattle.sq_graph.specs.declared.item.Term.{Term}
 use Rattle.sq_graph.specs.declared.item.Term.TheVariants.{Fall}
 use Rattle.sq_graph.specs.declared.slot.Slot.{Slot}
 use Rattle.sq_graph.specs.declared.graph.Graph.TheInside.{Inside}
-use Rattle.sq_graph.specs.Graph.{Block, Graph}
-use Rattle.sq_graph.specs.Blocks.{named, HasBlock, block_of, block_items, items_of, items_of_blocks}
+use Rattle.sq_graph.specs.Graph.{Block}
+use Rattle.sq_graph.specs.Blocks.{named, HasBlock, block_items, items_of, items_of_blocks}
 use Rattle.sq_graph.specs.Rules.{IsGraph}
 use Rattle.sq_graph.specs.Operations.{IsNew, with_blocks, with_term, inserted_after, halves, split_at}
 use Rattle.sq_graph.specs.Slots.{slot_of, slots_from}
-use Rattle.sq_graph.specs.Layout.{graph_of, Holds, IsSound}
+use Rattle.sq_graph.specs.Layout.{graph_of, IsSound}
 use Rattle.sq_graph.proofs.Located.{IsAt, located, value_of-slots, value_of-slots-none}
 use Rattle.sq_graph.proofs.SlotReads.{block_at}
 use Rattle.sq_graph.proofs.Held.{Shows, limited}
 use Rattle.sq_graph.proofs.CursorLaws.{with_value-split, length-with_value}
-use Rattle.sq_graph.proofs.Changes.{IsAround, around, start_at, slots_from-changed, items_of_blocks-kept, reslotted}
+use Rattle.sq_graph.proofs.Changes.{around, start_at, slots_from-changed, items_of_blocks-kept, reslotted}
 
 some_same : {T : Type 0} (a b : T) → Some a ≡ Some b → a ≡ b
 some_same a b same = cc

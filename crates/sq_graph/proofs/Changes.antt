@@ -1,25 +1,19 @@
 -- A list of blocks in which the block of a name is replaced by a list of blocks.
-use Rattle.std.proofs.Common.{◌≡◌, ◌≢◌, ℕ, zero, suc, ◌+◌, ◌-◌, ◌≤◌, ◌<◌, ◌^◌, ◌==◌, Bool, true, false, List, [], ◌∷◌, ◌++◌, map, length, take, drop, Option, None, Some, IsSome, is_some, refl, sym, ap, ◌∙◌, subst, inl, inr, arith, length-append, append_assoc}
-use Rattle.std.proofs.lemmas.Bool.{cases_Bool, eqb-true, eq-eqb, ne_eqb}
-use Rattle.std.proofs.lemmas.List.Concat.{flat_map-append}
-use Rattle.std.specs.List.{flat_map}
+use Rattle.std.proofs.Common.{◌≡◌, ℕ, ◌+◌, ◌<◌, ◌^◌, ◌==◌, List, [], ◌∷◌, ◌++◌, length, None, Some, refl, sym, ap, ◌∙◌, inl, inr, arith}
+use Rattle.std.proofs.lemmas.Bool.{cases_Bool, eq-eqb}
 use Rattle.sq_arena.specs.Arena.{Arena as Listed}
-use Rattle.sq_arena.specs.Entries.{keys, HasDistinctKeys, value_of, ContainsKey, before, through, behind, with_value}
-use Rattle.sq_arena.proofs.EntriesLemmas.{through-before}
+use Rattle.sq_arena.specs.Entries.{keys, HasDistinctKeys, value_of, before, behind}
 use Rattle.sq_arena.proofs.EntriesLaws.{before-append, behind-append}
-use Rattle.sq_graph.specs.declared.item.Item.{Item}
 use Rattle.sq_graph.specs.declared.slot.Slot.{Slot}
 use Rattle.sq_graph.specs.declared.graph.Graph.TheInside.{Inside}
-use Rattle.sq_graph.specs.Graph.{Block, Graph}
-use Rattle.sq_graph.specs.Blocks.{named, HasBlock, items_of_blocks, items_of_bodies, all_items}
+use Rattle.sq_graph.specs.Graph.{Block}
+use Rattle.sq_graph.specs.Blocks.{named, items_of_blocks, items_of_bodies}
 use Rattle.sq_graph.specs.Rules.{IsGraph}
-use Rattle.sq_graph.specs.Operations.{with_blocks, changed}
+use Rattle.sq_graph.specs.Operations.{with_blocks}
 use Rattle.sq_graph.specs.Slots.{slot_of, slots_from}
-use Rattle.sq_graph.specs.Layout.{graph_of, Holds, IsSound}
-use Rattle.sq_graph.proofs.Located.{IsAt, located, named-append, items_of_blocks-append, slots_from-append, value_of-slots, value_of-slots-none, value_of-at}
-use Rattle.sq_graph.proofs.SlotReads.{slot_at}
+use Rattle.sq_graph.specs.Layout.{graph_of, IsSound}
+use Rattle.sq_graph.proofs.Located.{IsAt, items_of_blocks-append, slots_from-append, value_of-slots-none, value_of-at}
 use Rattle.sq_graph.proofs.Held.{Shows, shows, limited}
-use Rattle.sq_graph.proofs.CursorLaws.{with_value-split}
 
 pub keys-slots : (n : ℕ) (bs : List Block) → keys (slots_from n bs) ≡ keys (named bs)
 keys-slots n [] = refl

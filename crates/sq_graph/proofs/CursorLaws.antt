@@ -1,9 +1,8 @@
 -- A step of a loop that goes through the list of an arena.
-use Rattle.std.proofs.Common.{◌≡◌, ◌≢◌, ℕ, zero, suc, ◌+◌, ◌≤◌, ◌<◌, ◌==◌, Bool, true, false, List, [], ◌∷◌, ◌++◌, map, length, Option, None, Some, IsSome, is_some, refl, sym, ap, ◌∙◌, subst, inl, inr, arith, length-append, append_assoc}
+use Rattle.std.proofs.Common.{◌≡◌, ℕ, suc, ◌==◌, true, List, [], ◌∷◌, ◌++◌, length, Option, None, Some, is_some, refl, sym, ap, ◌∙◌, subst, inl, inr, append_assoc}
 use Rattle.std.proofs.lemmas.Bool.{cases_Bool, eqb-true, eq-eqb}
 use Rattle.std.proofs.lemmas.List.{append-nil}
-use Rattle.sq_arena.specs.Entries.{keys, HasDistinctKeys, value_of, ContainsKey, before, behind, starting_at, with_value, first_key, next_key}
-use Rattle.sq_arena.proofs.EntriesLemmas.{split_at, starting_at-behind}
+use Rattle.sq_arena.specs.Entries.{keys, HasDistinctKeys, value_of, before, behind, with_value, first_key, next_key}
 use Rattle.sq_arena.proofs.EntriesLaws.{absent_ahead, before-append, behind-append, starting_at-append}
 use Rattle.sq_graph.specs.Cursor.{IsPlace, ahead_of, rest_from}
 use Rattle.sq_graph.proofs.Located.{value_of-at}

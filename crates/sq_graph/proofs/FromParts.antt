@@ -1,5 +1,5 @@
 -- The fields that are made of parts show the graph of the parts, under other names.
-use Rattle.std.proofs.Common.{◌≡◌, ℕ, zero, suc, ◌+◌, ◌-◌, ◌≤◌, ◌<◌, ◌^◌, ◌==◌, Bool, List, [], ◌∷◌, ◌++◌, map, length, take, drop, get_or, vec_capacity, Option, None, Some, IsSome, is_some, refl, sym, ap, ◌∙◌, subst, inl, inr, arith, length-append, length-drop}
+use Rattle.std.proofs.Common.{◌≡◌, ℕ, suc, ◌+◌, ◌≤◌, ◌<◌, ◌==◌, List, [], ◌∷◌, ◌++◌, map, length, take, drop, get_or, IsSome, refl, sym, ap, ◌∙◌, subst, inl, inr, arith, length-append, length-drop}
 use Rattle.std.proofs.lemmas.Bool.{cases_Bool, eqb-true, eq-eqb}
 use Rattle.std.proofs.lemmas.List.{length-take-le, length-map, drop-drop, take-append-drop, nil_from_length, append_assoc}
 use Rattle.std.proofs.lemmas.List.Sums.{sum_by-cons}
@@ -8,22 +8,20 @@ use Rattle.std.specs.List.{All, flat_map, slice_index}
 use Rattle.sq_arena.specs.Entries.{keys, HasDistinctKeys, value_of}
 use Rattle.sq_graph.specs.declared.item.Item.{Item}
 use Rattle.sq_graph.specs.declared.slot.Slot.{Slot}
-use Rattle.sq_graph.specs.declared.slot.Body.{Body}
 use Rattle.sq_graph.specs.declared.parts.BlockPart.{BlockPart}
 use Rattle.sq_graph.specs.declared.parts.ProcedurePart.{ProcedurePart}
 use Rattle.sq_graph.specs.declared.parts.CodeRef.{CodeRef}
 use Rattle.sq_graph.specs.declared.graph.Graph.TheInside.{Inside}
-use Rattle.sq_graph.specs.Graph.{Block, Procedure, Graph}
+use Rattle.sq_graph.specs.Graph.{Block}
 use Rattle.sq_graph.specs.Blocks.{named, HasBlock, items_of_blocks, items_of_bodies, all_items}
 use Rattle.sq_graph.specs.Uses.{term_uses, terms_uses, items_uses, code_word_uses, uses}
 use Rattle.sq_graph.specs.Rules.{IsGraph}
 use Rattle.sq_graph.specs.Room.{IsSmall, count_of}
-use Rattle.sq_graph.specs.Renames.{retargeted_item, retargeted_items, retargeted_term, retargeted_words, retargeted_procedure, renamed_block, renamed}
-use Rattle.sq_graph.specs.Parts.{blocks_of_parts, procedures_of_parts, length_of_blocks, length_of_bodies, LengthsFit, graph_of_parts, names_of, IsNamed}
+use Rattle.sq_graph.specs.Renames.{retargeted_item, retargeted_items, retargeted_term, retargeted_words, renamed_block, renamed}
+use Rattle.sq_graph.specs.Parts.{blocks_of_parts, procedures_of_parts, length_of_blocks, length_of_bodies, LengthsFit, graph_of_parts, names_of}
 use Rattle.sq_graph.specs.PartSlots.{values, part_slots, part_bodies}
 use Rattle.sq_graph.specs.Cursor.{retargeted_slots, slot_uses}
-use Rattle.sq_graph.specs.Slots.{slot_of, slots_from, bodies_from}
-use Rattle.sq_graph.specs.Layout.{Holds, HasRoom}
+use Rattle.sq_graph.specs.Slots.{slots_from, bodies_from}
 use Rattle.sq_graph.proofs.Eachs.{All-left, All-right}
 use Rattle.sq_graph.proofs.Changes.{keys-slots}
 use Rattle.sq_graph.proofs.Held.{Shows, shows}

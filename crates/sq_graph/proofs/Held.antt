@@ -1,20 +1,16 @@
 -- The graph that the fields hold is the one that they show.
-use Rattle.std.proofs.Common.{◌≡◌, ℕ, ◌+◌, ◌-◌, ◌≤◌, ◌<◌, ◌^◌, List, [], ◌∷◌, ◌++◌, length, take, drop, refl, sym, ap, ◌∙◌, subst, arith, length-append, append_assoc, vec_capacity, max}
-use Rattle.std.proofs.lemmas.List.{take_at, drop_at, append-nil}
+use Rattle.std.proofs.Common.{◌≡◌, ℕ, ◌+◌, ◌<◌, ◌^◌, List, [], ◌∷◌, ◌++◌, length, take, drop, refl, sym, ap, ◌∙◌, subst, arith, append_assoc}
+use Rattle.std.proofs.lemmas.List.{take_at, drop_at}
 use Rattle.sq_graph.specs.declared.item.Item.{Item}
-use Rattle.sq_graph.specs.declared.slot.Slot.{Slot}
-use Rattle.sq_graph.specs.declared.slot.Body.{Body}
-use Rattle.sq_graph.specs.declared.parts.Room.{Room}
-use Rattle.sq_graph.specs.declared.parts.CodeRef.{CodeRef}
 use Rattle.sq_graph.specs.declared.graph.Graph.TheInside.{Inside}
 use Rattle.sq_graph.specs.Graph.{Block, Procedure, Graph}
 use Rattle.sq_graph.specs.Blocks.{items_of_blocks, items_of_bodies, all_items}
 use Rattle.sq_graph.specs.Rules.{IsGraph}
-use Rattle.sq_graph.specs.Room.{GraphAndRoom, IsSmall, count_of, sum_of, total_of}
-use Rattle.sq_graph.specs.Slots.{slot_of, slots_from, bodies_from}
+use Rattle.sq_graph.specs.Room.{IsSmall, count_of, sum_of}
+use Rattle.sq_graph.specs.Slots.{slots_from, bodies_from}
 use Rattle.sq_graph.proofs.BodyReads.{length-bodies_from}
 use Rattle.sq_graph.proofs.Sizes.{sizes, length-slots_from}
-use Rattle.sq_graph.specs.Layout.{blocks_of, procedures_of, graph_of, spare_of, shown, Holds, HasRoom, IsSound}
+use Rattle.sq_graph.specs.Layout.{blocks_of, procedures_of, graph_of, spare_of, Holds, HasRoom, IsSound}
 
 blocks_of-slots : (n : ℕ) (bs : List Block) (rest : List Item) → blocks_of (slots_from n bs) (items_of_blocks bs ++ rest) ≡ bs
 blocks_of-slots n [] rest = refl

@@ -1,25 +1,24 @@
 -- What the fields show after a call that changes the items of a block.
-use Rattle.std.proofs.Common.{◌≡◌, ◌≢◌, ℕ, zero, suc, ◌+◌, ◌-◌, ◌≤◌, ◌<◌, ◌^◌, List, [], ◌∷◌, ◌++◌, map, length, take, drop, vec_capacity, Vec, Global, Option, None, Some, IsSome, refl, sym, ap, ◌∙◌, subst, arith, length-append, length-drop, append_assoc}
-use Rattle.std.proofs.lemmas.List.{append-nil, length-take-le, take_at, drop_at, drop-drop, take-append-le, drop-append-le, take-append-drop}
+use Rattle.std.proofs.Common.{◌≡◌, ℕ, suc, ◌+◌, ◌-◌, ◌≤◌, List, [], ◌∷◌, ◌++◌, length, take, drop, vec_capacity, Vec, Global, Some, refl, sym, ap, ◌∙◌, arith, length-append, length-drop, append_assoc}
+use Rattle.std.proofs.lemmas.List.{append-nil, length-take-le, take_at, drop_at, drop-drop, drop-append-le, take-append-drop}
 use Rattle.sq_arena.specs.Arena.{Arena as Listed}
-use Rattle.sq_arena.specs.Entries.{HasDistinctKeys, value_of, before, behind}
+use Rattle.sq_arena.specs.Entries.{value_of, before, behind}
 use Rattle.sq_arena.proofs.EntriesLemmas.{split_at as split_at_key}
 use Rattle.sq_graph.specs.declared.item.Item.{Item}
 use Rattle.sq_graph.specs.declared.slot.Slot.{Slot}
-use Rattle.sq_graph.specs.declared.slot.Body.{Body}
 use Rattle.sq_graph.specs.declared.graph.Graph.TheInside.{Inside}
-use Rattle.sq_graph.specs.Graph.{Block, Procedure, Graph}
-use Rattle.sq_graph.specs.Blocks.{named, HasBlock, block_items, items_of, items_of_blocks, items_of_bodies, all_items}
+use Rattle.sq_graph.specs.Graph.{Block}
+use Rattle.sq_graph.specs.Blocks.{HasBlock, block_items, items_of, items_of_blocks, items_of_bodies}
 use Rattle.sq_graph.specs.Rules.{IsGraph}
-use Rattle.sq_graph.specs.Operations.{with_blocks, changed, replaced_items, replaced, without_block}
+use Rattle.sq_graph.specs.Operations.{with_blocks, changed, replaced_items, replaced}
 use Rattle.sq_graph.specs.Slots.{slot_of, slots_from}
 use Rattle.sq_graph.specs.Cursor.{length_of_slots, renumbered}
-use Rattle.sq_graph.specs.Layout.{graph_of, Holds, HasRoom, IsSound}
+use Rattle.sq_graph.specs.Layout.{graph_of, IsSound}
 use Rattle.sq_graph.proofs.Located.{IsAt, located}
 use Rattle.sq_graph.proofs.SlotReads.{block_at, items_around}
 use Rattle.sq_graph.proofs.Sizes.{HasSizes, sizes}
 use Rattle.sq_graph.proofs.Held.{Shows, shows, limited}
-use Rattle.sq_graph.proofs.Changes.{IsAround, around, start_at, slots_from-changed, items_of_blocks-changed}
+use Rattle.sq_graph.proofs.Changes.{around, start_at, slots_from-changed, items_of_blocks-changed}
 use Rattle.sq_graph.proofs.BlockWrites.{slot_is}
 
 pub renumbered-slots : (n k : ℕ) (bs : List Block) → renumbered n (slots_from k bs) ≡ slots_from n bs

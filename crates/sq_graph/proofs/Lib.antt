@@ -22,3 +22,4 @@ pub mod RetargetRules
 pub mod FromParts
 pub mod BlockMoves
 pub mod MoveShows
+pub mod LinkReads

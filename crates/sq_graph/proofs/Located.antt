@@ -1,11 +1,9 @@
 -- A block in the list of a graph's blocks, and in the arena.
-use Rattle.std.proofs.Common.{◌≡◌, ◌≢◌, ℕ, ◌+◌, ◌≤◌, ◌==◌, Bool, true, false, List, [], ◌∷◌, ◌++◌, length, take, drop, Option, None, Some, IsSome, is_some, refl, sym, ap, ◌∙◌, inl, inr, arith, length-append, append_assoc}
-use Rattle.std.proofs.lemmas.Bool.{cases_Bool, cases_eq, eqb-true, eq-eqb, ne_eqb}
+use Rattle.std.proofs.Common.{◌≡◌, ℕ, ◌+◌, ◌==◌, false, List, [], ◌∷◌, ◌++◌, length, take, drop, Option, None, Some, IsSome, is_some, refl, ap, ◌∙◌, inl, inr, arith, length-append}
+use Rattle.std.proofs.lemmas.Bool.{cases_Bool, eqb-true, eq-eqb}
 use Rattle.std.proofs.lemmas.List.{take_at, drop_at}
 use Rattle.std.proofs.lemmas.List.Concat.{flat_map-append}
-use Rattle.sq_arena.specs.Entries.{value_of, first_key, next_key, behind}
-use Rattle.sq_graph.specs.declared.item.Item.{Item}
-use Rattle.sq_graph.specs.declared.slot.Slot.{Slot}
+use Rattle.sq_arena.specs.Entries.{value_of, first_key, next_key}
 use Rattle.sq_graph.specs.Graph.{Block}
 use Rattle.sq_graph.specs.Blocks.{named, items_of_blocks}
 use Rattle.sq_graph.specs.Slots.{slot_of, slots_from}

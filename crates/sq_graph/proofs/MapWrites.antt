@@ -1,15 +1,14 @@
 -- What the fields show after each item and each term is made another.
-use Rattle.std.proofs.Common.{◌≡◌, ℕ, zero, suc, ◌+◌, ◌≤◌, ◌<◌, ◌^◌, List, [], ◌∷◌, ◌++◌, map, length, vec_capacity, Option, None, Some, refl, sym, ap, ◌∙◌, arith, length-append, append_assoc}
+use Rattle.std.proofs.Common.{◌≡◌, ℕ, ◌+◌, List, [], ◌∷◌, ◌++◌, map, length, vec_capacity, refl, sym, ap, ◌∙◌, arith}
 use Rattle.std.proofs.lemmas.List.{map-append, length-map}
-use Rattle.sq_arena.specs.Arena.{Arena as Listed}
 use Rattle.sq_graph.specs.declared.item.Item.{Item}
 use Rattle.sq_graph.specs.declared.item.Term.{Term}
 use Rattle.sq_graph.specs.declared.slot.Slot.{Slot}
 use Rattle.sq_graph.specs.declared.graph.Graph.TheInside.{Inside}
 use Rattle.sq_graph.specs.Graph.{Block, Procedure, Graph}
-use Rattle.sq_graph.specs.Blocks.{items_of_blocks, items_of_bodies, all_items}
+use Rattle.sq_graph.specs.Blocks.{items_of_blocks, items_of_bodies}
 use Rattle.sq_graph.specs.Rules.{IsGraph}
-use Rattle.sq_graph.specs.Slots.{slot_of, slots_from, bodies_from}
+use Rattle.sq_graph.specs.Slots.{slots_from, bodies_from}
 use Rattle.sq_graph.specs.Layout.{graph_of, Holds, HasRoom, IsSound}
 use Rattle.sq_graph.proofs.Held.{IsLimited, Shows, shows, limited}
 

@@ -1,17 +1,17 @@
 -- What the fields show after a run of blocks moves.
-use Rattle.std.proofs.Common.{◌≡◌, ℕ, zero, suc, ◌+◌, ◌-◌, ◌≤◌, ◌<◌, ◌^◌, ◌==◌, nat_le, Bool, true, false, List, [], ◌∷◌, ◌++◌, map, length, vec_capacity, Vec, Global, Option, None, Some, IsSome, is_some, refl, sym, ap, ◌∙◌, subst, ◌⊎◌, inl, inr, arith, length-append, append_assoc}
+use Rattle.std.proofs.Common.{◌≡◌, ℕ, ◌+◌, ◌≤◌, ◌<◌, ◌==◌, nat_le, true, List, [], ◌∷◌, ◌++◌, map, length, vec_capacity, Vec, Global, Option, None, Some, IsSome, is_some, refl, sym, ap, ◌∙◌, subst, ◌⊎◌, inl, inr, arith, length-append, append_assoc}
 use Rattle.std.proofs.lemmas.Bool.{cases_Bool, eq-eqb, le-leb}
 use Rattle.std.proofs.lemmas.List.{append-nil, nil_from_length}
 use Rattle.std.proofs.lemmas.Bool.Decides.{leb_tells}
 use Rattle.sq_arena.specs.Arena.{Arena as Listed}
 use Rattle.sq_arena.specs.Entries.{HasDistinctKeys, value_of, ContainsKey, before, through, starting_at, behind, run, without_run, IsRun, move_run_after, first_key}
-use Rattle.sq_arena.proofs.EntriesLemmas.{HasShape, shape_of, through-behind, through-before, split_at as split_at_key, some_value}
+use Rattle.sq_arena.proofs.EntriesLemmas.{shape_of, through-behind, through-before, split_at as split_at_key, some_value}
 use Rattle.sq_arena.proofs.EntriesLaws.{absent_ahead, before-append, value_of-append, or_value}
 use Rattle.sq_graph.specs.declared.item.Item.{Item}
 use Rattle.sq_graph.specs.declared.slot.Slot.{Slot}
 use Rattle.sq_graph.specs.declared.graph.Graph.TheInside.{Inside}
-use Rattle.sq_graph.specs.Graph.{Block, Graph}
-use Rattle.sq_graph.specs.Blocks.{named, HasBlock, items_of_blocks, items_of_bodies}
+use Rattle.sq_graph.specs.Graph.{Block}
+use Rattle.sq_graph.specs.Blocks.{named, items_of_blocks, items_of_bodies}
 use Rattle.sq_graph.specs.Rules.{IsGraph}
 use Rattle.sq_graph.specs.Operations.{moved_after}
 use Rattle.sq_graph.specs.Slots.{slots_from}
@@ -20,13 +20,12 @@ use Rattle.sq_graph.specs.Pieces.{exchanged, moved_piece}
 use Rattle.sq_graph.specs.Layout.{graph_of, IsSound}
 use Rattle.sq_graph.proofs.CursorLaws.{from_first}
 use Rattle.sq_graph.proofs.SplitRules.{some_right}
-use Rattle.sq_graph.proofs.Located.{IsAt, named-append}
+use Rattle.sq_graph.proofs.Located.{named-append}
 use Rattle.sq_graph.proofs.SlotReads.{block_at}
-use Rattle.sq_graph.proofs.Sizes.{sizes}
 use Rattle.sq_graph.proofs.Held.{Shows, shows, limited}
-use Rattle.sq_graph.proofs.ItemWrites.{Placed, placed}
+use Rattle.sq_graph.proofs.ItemWrites.{Placed}
 use Rattle.sq_graph.proofs.BlockRemoval.{length-renumbered}
-use Rattle.sq_graph.proofs.BlockMoves.{IsLike, like_slots, like_run, like_moved, like_numbered, like_length, pair_items, pair_items-append, pair_items-is, pair_items-named, through-in, behind-in, through-out, behind-out, exchanged_pieces}
+use Rattle.sq_graph.proofs.BlockMoves.{like_slots, like_run, like_moved, like_numbered, like_length, pair_items, pair_items-append, pair_items-is, pair_items-named, through-in, behind-in, through-out, behind-out, exchanged_pieces}
 
 -- where a block ends: behind the items of all blocks up to it
 pub record Ends (inside : Inside) (name : ℕ) (slot : Slot) : Type 0 where

@@ -1,8 +1,7 @@
 -- The loops that give the blocks and procedures of parts their places.
-use Rattle.std.proofs.Common.{◌≡◌, ℕ, zero, suc, ◌+◌, ◌-◌, ◌≤◌, ◌<◌, List, [], ◌∷◌, ◌++◌, map, length, take, drop, get_or, refl, sym, ap, ◌∙◌, subst, arith, length-append}
+use Rattle.std.proofs.Common.{◌≡◌, ℕ, ◌+◌, ◌≤◌, ◌<◌, List, [], ◌∷◌, ◌++◌, length, take, get_or, refl, sym, ap, ◌∙◌, subst, arith}
 use Rattle.std.proofs.lemmas.List.{take_more, map-append}
 use Rattle.std.proofs.lemmas.List.Sums.{sum_by-cons, sum_by_push, sum_by_more_le}
-use Rattle.std.specs.List.{sum_by}
 use Rattle.sq_arena.specs.Entries.{keys, HasDistinctKeys}
 use Rattle.sq_arena.proofs.EntriesLaws.{distinct_keys}
 use Rattle.sq_graph.specs.declared.slot.Slot.{Slot}

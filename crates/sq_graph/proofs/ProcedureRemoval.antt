@@ -1,5 +1,5 @@
 -- What the fields show after a procedure is taken out.
-use Rattle.std.proofs.Common.{◌≡◌, ℕ, suc, ◌+◌, ◌-◌, ◌≤◌, ◌<◌, ◌^◌, List, [], ◌∷◌, ◌++◌, map, length, take, drop, remove, vec_capacity, Vec, Global, Option, Some, refl, sym, ap, ◌∙◌, subst, arith, length-append, length-drop, append_assoc}
+use Rattle.std.proofs.Common.{◌≡◌, ℕ, suc, ◌+◌, ◌-◌, ◌≤◌, ◌<◌, List, [], ◌∷◌, ◌++◌, map, length, take, drop, remove, vec_capacity, Vec, Global, Some, refl, sym, ap, ◌∙◌, subst, arith, length-append, length-drop, append_assoc}
 use Rattle.std.proofs.lemmas.List.{take_at, drop_at, map-id, length-map, length-take-le, take-append-drop}
 use Rattle.std.proofs.lemmas.List.Edits.{length-remove}
 use Rattle.std.proofs.lemmas.List.Elements.{All-nil, All-cons}
@@ -8,16 +8,15 @@ use Rattle.sq_graph.specs.declared.item.Item.{Item}
 use Rattle.sq_graph.specs.declared.slot.Body.{Body}
 use Rattle.sq_graph.specs.declared.graph.Graph.TheInside.{Inside}
 use Rattle.sq_graph.specs.Graph.{Procedure, Graph}
-use Rattle.sq_graph.specs.Blocks.{body_of, procedure_body, items_of_blocks, items_of_bodies, all_items}
+use Rattle.sq_graph.specs.Blocks.{body_of, procedure_body, items_of_blocks, items_of_bodies}
 use Rattle.sq_graph.specs.Renames.{recalled_item, lowered}
 use Rattle.sq_graph.specs.Rules.{IsGraph}
 use Rattle.sq_graph.specs.Operations.{without_procedure}
 use Rattle.sq_graph.specs.Slots.{bodies_from, lowered_body}
-use Rattle.sq_graph.specs.Layout.{graph_of, Holds, HasRoom, IsSound}
+use Rattle.sq_graph.specs.Layout.{graph_of, IsSound}
 use Rattle.sq_graph.proofs.BodyReads.{IsAtNumber, body_at, reads_body, length-bodies_from}
 use Rattle.sq_graph.proofs.ProcedureWrites.{items_of_bodies-append, bodies_from-append}
-use Rattle.sq_graph.proofs.Sizes.{sizes}
-use Rattle.sq_graph.proofs.Held.{IsLimited, Shows, limited}
+use Rattle.sq_graph.proofs.Held.{Shows, limited}
 use Rattle.sq_graph.proofs.MapWrites.{mapped_holds}
 
 bodies_from-lowered : (n k : ℕ) (ps : List Procedure) → map (lowered_body k) (bodies_from (n + k) ps) ≡ bodies_from n ps

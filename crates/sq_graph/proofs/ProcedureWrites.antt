@@ -1,7 +1,7 @@
 -- What the fields show after a call that adds a procedure or puts a body in the place of an Out.
-use Rattle.std.proofs.Common.{◌≡◌, ℕ, suc, ◌+◌, ◌-◌, ◌≤◌, ◌<◌, ◌^◌, List, [], ◌∷◌, ◌++◌, length, take, drop, get_or, vec_capacity, Vec, Global, Option, None, Some, IsSome, is_some, refl, sym, ap, ◌∙◌, subst, inl, inr, arith, length-append, length-drop, append_assoc}
+use Rattle.std.proofs.Common.{◌≡◌, ℕ, ◌+◌, ◌-◌, ◌≤◌, ◌<◌, List, [], ◌∷◌, ◌++◌, length, take, drop, get_or, vec_capacity, Vec, Global, Option, None, Some, IsSome, is_some, sym, ap, ◌∙◌, subst, inl, inr, arith, length-append, length-drop, append_assoc}
 use Rattle.std.proofs.lemmas.Bool.{cases_lt}
-use Rattle.std.proofs.lemmas.List.{append-nil, take_at, drop_at, drop-drop, drop-append-le, take-append-le, length-take-le, get_or-append-add, get_or_append_left}
+use Rattle.std.proofs.lemmas.List.{append-nil, drop_at, drop-drop, drop-append-le, take-append-le, length-take-le, get_or-append-add, get_or_append_left}
 use Rattle.std.proofs.lemmas.List.Elements.{All-head, All-get_or}
 use Rattle.std.proofs.lemmas.Option.{slice_get-get_or, slice_get_past}
 use Rattle.std.proofs.lemmas.List.Concat.{flat_map-append}
@@ -13,8 +13,8 @@ use Rattle.sq_graph.specs.declared.slot.Slot.{Slot}
 use Rattle.sq_graph.specs.declared.slot.Body.{Body}
 use Rattle.sq_graph.specs.declared.graph.Graph.TheInside.{Inside}
 use Rattle.sq_graph.specs.Graph.{Procedure, Graph}
-use Rattle.sq_graph.specs.Blocks.{HasBlock, HasProcedure, procedure_body, items_of, items_of_blocks, items_of_bodies, all_items}
-use Rattle.sq_graph.specs.Uses.{item_calls, calls}
+use Rattle.sq_graph.specs.Blocks.{HasBlock, HasProcedure, procedure_body, items_of, items_of_blocks, items_of_bodies}
+use Rattle.sq_graph.specs.Uses.{item_calls}
 use Rattle.sq_graph.specs.Rules.{IsGraph}
 use Rattle.sq_graph.specs.Operations.{call_of, called_at, called_body, outlined}
 use Rattle.sq_graph.specs.Slots.{bodies_from}

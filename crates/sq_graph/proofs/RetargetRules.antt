@@ -1,10 +1,10 @@
 -- Other names keep the rules of a graph.
-use Rattle.std.proofs.Common.{◌≡◌, ◌≢◌, ℕ, zero, suc, ◌+◌, ◌≤◌, ◌<◌, ◌==◌, Bool, true, false, List, [], ◌∷◌, ◌++◌, map, length, Option, None, Some, IsSome, is_some, refl, sym, ap, ◌∙◌, subst, inl, inr, arith}
+use Rattle.std.proofs.Common.{◌≡◌, ℕ, false, List, [], ◌∷◌, ◌++◌, map, refl, sym, ap, ◌∙◌, subst, arith}
 use Rattle.std.proofs.lemmas.List.{map-append, length-map}
-use Rattle.std.proofs.lemmas.List.Elements.{All-nil, All-cons, All-head, All-tail, All-map, All-weaker}
+use Rattle.std.proofs.lemmas.List.Elements.{All-map, All-weaker}
 use Rattle.std.specs.List.{All, flat_map}
 use Rattle.std.specs.List.Sorted.{IsStrictlyIncreasing}
-use Rattle.sq_arena.specs.Entries.{HasDistinctKeys, value_of}
+use Rattle.sq_arena.specs.Entries.{HasDistinctKeys}
 use Rattle.sq_graph.specs.declared.item.Item.{Item}
 use Rattle.sq_graph.specs.declared.item.Item.TheVariants.{Op, Hi, Lo, Out}
 use Rattle.sq_graph.specs.declared.item.Term.{Term}
@@ -15,7 +15,7 @@ use Rattle.sq_graph.specs.Terms.{goes_on}
 use Rattle.sq_graph.specs.Blocks.{named, HasBlock, HasProcedure, items_of_blocks, items_of_bodies, all_items}
 use Rattle.sq_graph.specs.Uses.{item_uses, items_uses, term_uses, terms_uses, code_word_uses, uses, item_calls, calls}
 use Rattle.sq_graph.specs.Rules.{IsGraph, ItemFits, TermFits, ProcedureFits, mentions, last_goes_on}
-use Rattle.sq_graph.specs.Renames.{retargeted_item, retargeted_items, retargeted_term, retargeted_block, retargeted_procedure, retargeted_word, retargeted_words, retargeted}
+use Rattle.sq_graph.specs.Renames.{retargeted_item, retargeted_items, retargeted_term, retargeted_block, retargeted_procedure, retargeted_words, retargeted}
 use Rattle.sq_graph.proofs.MapWrites.{items_of_bodies-mapped}
 
 module _ (f : ℕ → ℕ) (nm : Block → ℕ) where

@@ -1,5 +1,5 @@
 -- The numbers in the fields of a graph.
-use Rattle.std.proofs.Common.{◌≡◌, ℕ, suc, ◌+◌, ◌-◌, ◌≤◌, ◌<◌, ◌^◌, List, [], ◌∷◌, length, Option, None, Some, IsSome, refl, sym, ap, ◌∙◌, arith, ◌++◌, length-append}
+use Rattle.std.proofs.Common.{◌≡◌, ℕ, suc, ◌+◌, ◌≤◌, ◌<◌, ◌^◌, List, [], ◌∷◌, length, Some, IsSome, refl, sym, ap, ◌∙◌, arith, ◌++◌, length-append}
 use Rattle.sq_arena.specs.Entries.{value_of, first_key}
 use Rattle.std.proofs.lemmas.List.Elements.{All-head}
 use Rattle.sq_graph.specs.declared.graph.Graph.TheInside.{Inside}
@@ -8,7 +8,7 @@ use Rattle.sq_graph.specs.Graph.{Block, Graph}
 use Rattle.sq_graph.specs.Blocks.{named, HasBlock, first_of, items_of_blocks, items_of_bodies, all_items}
 use Rattle.sq_graph.specs.Uses.{code_word_uses, terms_uses, items_uses}
 use Rattle.sq_graph.specs.Rules.{IsGraph}
-use Rattle.sq_graph.specs.Slots.{slots_from, bodies_from}
+use Rattle.sq_graph.specs.Slots.{slots_from}
 use Rattle.sq_graph.specs.Layout.{graph_of, IsSound}
 use Rattle.sq_graph.proofs.BodyReads.{length-bodies_from}
 

@@ -1,6 +1,6 @@
 -- What the fields of a graph tell of a block.
-use Rattle.std.proofs.Common.{◌≡◌, ℕ, ◌+◌, ◌≤◌, List, [], ◌∷◌, ◌++◌, length, take, drop, Option, None, Some, IsSome, is_some, refl, sym, ap, ◌∙◌, arith, length-append, append_assoc}
-use Rattle.sq_arena.specs.Entries.{value_of, ContainsKey, first_key}
+use Rattle.std.proofs.Common.{◌≡◌, ℕ, ◌+◌, ◌≤◌, List, ◌∷◌, ◌++◌, length, take, drop, Some, is_some, sym, ap, ◌∙◌, arith, length-append, append_assoc}
+use Rattle.sq_arena.specs.Entries.{value_of, ContainsKey}
 use Rattle.sq_graph.specs.declared.item.Item.{Item}
 use Rattle.sq_graph.specs.declared.slot.Slot.{Slot}
 use Rattle.sq_graph.specs.declared.graph.Graph.TheInside.{Inside}

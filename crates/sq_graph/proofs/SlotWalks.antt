@@ -1,8 +1,7 @@
 -- The loops that write each slot.
-use Rattle.std.proofs.Common.{◌≡◌, ℕ, suc, ◌+◌, ◌≤◌, ◌<◌, ◌^◌, List, [], ◌∷◌, ◌++◌, map, length, Option, None, Some, refl, sym, ap, ◌∙◌, subst, arith, length-append, append_assoc}
-use Rattle.std.specs.List.{All, flat_map}
-use Rattle.std.proofs.lemmas.List.{append-nil}
-use Rattle.sq_arena.specs.Entries.{HasDistinctKeys, value_of, ContainsKey, before, behind, starting_at, with_value, next_key}
+use Rattle.std.proofs.Common.{◌≡◌, ℕ, ◌+◌, ◌<◌, ◌^◌, List, [], ◌∷◌, ◌++◌, length, Option, Some, sym, ap, ◌∙◌, subst, arith, append_assoc}
+use Rattle.std.specs.List.{All}
+use Rattle.sq_arena.specs.Entries.{HasDistinctKeys, value_of, before, behind, starting_at, with_value, next_key}
 use Rattle.sq_arena.proofs.EntriesLemmas.{starting_at-behind}
 use Rattle.sq_graph.specs.declared.slot.Slot.{Slot}
 use Rattle.sq_graph.specs.Uses.{term_uses}

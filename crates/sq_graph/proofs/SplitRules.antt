@@ -1,20 +1,19 @@
 -- A split keeps the rules of a graph, and its words.
-use Rattle.std.proofs.Common.{◌≡◌, ◌≢◌, ℕ, zero, suc, ◌+◌, ◌-◌, ◌≤◌, ◌<◌, ◌==◌, Bool, true, false, List, [], ◌∷◌, ◌++◌, map, length, take, drop, Option, None, Some, IsSome, is_some, refl, sym, ap, ◌∙◌, subst, inl, inr, arith, length-append, append_assoc}
-use Rattle.std.proofs.lemmas.Bool.{cases_Bool, eqb-true, eq-eqb, ne_eqb}
+use Rattle.std.proofs.Common.{◌≡◌, ℕ, ◌+◌, ◌==◌, List, [], ◌∷◌, ◌++◌, length, take, drop, Option, None, Some, IsSome, refl, sym, ap, ◌∙◌, subst, inl, inr, arith, length-append, append_assoc}
+use Rattle.std.proofs.lemmas.Bool.{cases_Bool, eqb-true, eq-eqb}
 use Rattle.std.proofs.lemmas.List.{append-nil, take-append-drop}
 use Rattle.std.proofs.lemmas.List.Concat.{flat_map-append}
-use Rattle.std.proofs.lemmas.List.Elements.{All-nil, All-cons, All-head, All-tail, All-append, All-weaker}
+use Rattle.std.proofs.lemmas.List.Elements.{All-cons, All-head, All-tail, All-append, All-weaker}
 use Rattle.std.specs.List.{All, flat_map, sum_by}
 use Rattle.std.proofs.lemmas.List.Sums.{sum_by-append, sum_by-cons}
 use Rattle.sq_graph.specs.Words.{block_words, words_of}
 use Rattle.sq_arena.specs.Entries.{keys, HasDistinctKeys, value_of}
 use Rattle.sq_arena.proofs.EntriesLaws.{or_value, value_of-append, HasDistinctKeys-insert}
 use Rattle.sq_graph.specs.declared.item.Item.{Item}
-use Rattle.sq_graph.specs.declared.item.Term.{Term}
 use Rattle.sq_graph.specs.declared.item.Term.TheVariants.{Fall}
 use Rattle.sq_graph.specs.Graph.{Block, Graph}
-use Rattle.sq_graph.specs.Blocks.{named, HasBlock, HasProcedure, items_of_blocks, items_of_bodies, all_items}
-use Rattle.sq_graph.specs.Uses.{term_uses, terms_uses, items_uses, item_calls, code_word_uses, uses, calls}
+use Rattle.sq_graph.specs.Blocks.{named, HasBlock, HasProcedure, items_of_bodies, all_items}
+use Rattle.sq_graph.specs.Uses.{term_uses, terms_uses, items_uses, item_calls, code_word_uses, uses}
 use Rattle.sq_graph.specs.Rules.{IsGraph, ItemFits, TermFits, last_goes_on}
 use Rattle.sq_graph.specs.Operations.{IsNew, with_blocks, halves, split_at}
 use Rattle.sq_graph.proofs.Located.{IsAt, located, named-append}

@@ -1,10 +1,9 @@
 -- The blocks and procedures of a graph by their names and numbers. Names are compared by equality alone.
-use Rattle.std.specs.Prelude.{ℕ, List, [], ◌∷◌, ◌++◌, map, length, Option, None, Some, IsSome, ◌<◌, slice_get}
+use Rattle.std.specs.Prelude.{ℕ, List, [], ◌++◌, map, length, Option, None, Some, IsSome, ◌<◌, slice_get}
 use Rattle.std.specs.List.{flat_map}
 use Rattle.sq_arena.specs.Entries.{value_of, first_key, next_key}
 use Rattle.sq_graph.specs.declared.item.Item.{Item}
 use Rattle.sq_graph.specs.declared.item.Term.{Term}
-use Rattle.sq_graph.specs.declared.item.Term.TheVariants.{Fall}
 use Rattle.sq_graph.specs.Graph.{Block, Procedure, Graph}
 
 -- each block under its name

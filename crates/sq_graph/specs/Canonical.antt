@@ -1,9 +1,7 @@
 -- The canonical graph of a graph, which is one fixed function.
 use Rattle.std.specs.Prelude.{ℕ, Bool, ◌&&◌, not, if◌then◌else◌, List, [], ◌∷◌, ◌++◌, Option, None, Some}
-use Rattle.sq_isa.specs.Registers.{is_among}
-use Rattle.sq_graph.specs.Graph.{Block, Procedure, Graph}
+use Rattle.sq_graph.specs.Graph.{Block, Graph}
 use Rattle.sq_graph.specs.Blocks.{next_of}
-use Rattle.sq_graph.specs.Uses.{uses}
 use Rattle.sq_graph.specs.Operations.{redirected, without_block}
 use Rattle.sq_graph.specs.Leaders.{is_fall, is_bare, is_leader}
 

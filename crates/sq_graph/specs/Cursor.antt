@@ -1,6 +1,6 @@
 -- A place in the list of an arena, as a loop that goes through the list keeps it: a key, or `None` at the end.
 -- No public clause cites this module.
-use Rattle.std.specs.Prelude.{ℕ, ◌+◌, List, [], ◌∷◌, ◌++◌, map, Option, None, Some}
+use Rattle.std.specs.Prelude.{ℕ, ◌+◌, List, [], ◌∷◌, map, Option, None, Some}
 use Rattle.std.specs.List.{flat_map}
 use Rattle.sq_arena.specs.Entries.{ContainsKey, before, starting_at}
 use Rattle.sq_graph.specs.declared.slot.Slot.{Slot}

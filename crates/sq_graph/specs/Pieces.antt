@@ -1,5 +1,5 @@
 -- Pieces of a list that change places. No public clause cites this module.
-use Rattle.std.specs.Prelude.{ℕ, ◌+◌, ◌-◌, ◌++◌, List, take, drop, nat_le, if◌then◌else◌}
+use Rattle.std.specs.Prelude.{ℕ, ◌-◌, ◌++◌, List, take, drop, nat_le, if◌then◌else◌}
 
 module _ {T : Type 0} where
   -- the piece up to `mid` and the piece from it on, exchanged

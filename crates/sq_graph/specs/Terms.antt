@@ -1,5 +1,5 @@
 -- Where a term goes.
-use Rattle.std.specs.Prelude.{ℕ, Bool, true, false, not, ◌==◌}
+use Rattle.std.specs.Prelude.{Bool, true, false, not, ◌==◌}
 use Rattle.sq_graph.specs.declared.item.Term.{Term}
 use Rattle.sq_graph.specs.declared.item.Term.TheVariants.{Fall, Jump, Branch, Call, PartJump, Indirect, Stop}
 

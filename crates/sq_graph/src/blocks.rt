@@ -54,6 +54,7 @@ impl Graph {
         ensures new { IsNew self.old.graph result }
         ensures graph { self.new.graph ≡ split_at self.old.graph result block at }
         ensures spare { self.new.spare ≡ record self.old.spare { blocks = self.old.spare.blocks - 1 } }
+        ensures rules { IsGraph self.new.graph }
         ensures words { words_of self.new.graph ≡ words_of self.old.graph }
     {
         let slot = slots::slot(&self.slots, block);

@@ -24,6 +24,7 @@ impl Graph {
         requires rules { IsGraph (graph_of_parts parts.now.blocks.now parts.now.items.now parts.now.entry parts.now.code_words.now parts.now.procedures.now) }
         requires small { IsSmall (count_of (graph_of_parts parts.now.blocks.now parts.now.items.now parts.now.entry parts.now.code_words.now parts.now.procedures.now)) }
         ensures graph { IfOk result (λ made. IsNamed (graph_of_parts parts.now.blocks.now parts.now.items.now parts.now.entry parts.now.code_words.now parts.now.procedures.now) made.graph) }
+        ensures rules { IfOk result (λ made. IsGraph made.graph) }
         ensures spare { IfOk result (λ made. made.spare ≡ no_room) }
     {
         let mut slots = Arena::new(alloc);

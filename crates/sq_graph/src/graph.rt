@@ -2,7 +2,8 @@
 
 ghost use Rattle.std.specs.Prelude.{◌≡◌, ℕ, ◌+◌, ◌<◌, ◌≤◌, Some, None, length, OnOk, IfOk};
 ghost use Rattle.sq_graph.specs.Blocks.{HasBlock, HasProcedure, first_of, next_of, items_of, term_of, body_of, link_of};
-ghost use Rattle.sq_graph.specs.Room.{IsSmall, sum_of, count_of, Covers};
+ghost use Rattle.sq_graph.specs.Rules.{IsGraph};
+ghost use Rattle.sq_graph.specs.Room.{IsSmall, sum_of, count_of, total_of, Covers};
 ghost use Rattle.sq_graph.specs.Slots.{slots_from};
 
 use crate::item::{Item, Term};
@@ -34,6 +35,7 @@ pub struct Graph {
 }
 
 impl Model for Graph {
+    ghost use Rattle.sq_graph.specs.Rules.{IsGraph};
     ghost use Rattle.sq_graph.specs.Room.{GraphAndRoom};
 
     ghost Value = { GraphAndRoom };
@@ -81,7 +83,8 @@ impl Graph {
 
     /// The block at which the program starts.
     pub fn entry(&self) -> u32
-        ensures { result ≡ self.now.graph.entry }
+        ensures value { result ≡ self.now.graph.entry }
+        ensures rules { IsGraph self.now.graph }
     {
         self.entry
     }
@@ -118,7 +121,8 @@ impl Graph {
 
     /// How much fits with no memory.
     pub fn spare(&self) -> Room
-        ensures { result ≡ self.now.spare }
+        ensures value { result ≡ self.now.spare }
+        ensures small { IsSmall (total_of self.now) }
     {
         Room {
             blocks: self.slots.spare(),

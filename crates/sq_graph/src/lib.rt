@@ -17,6 +17,8 @@ mod pieces;
 mod rename;
 mod slot;
 mod slots;
+#[cfg(test)]
+mod tests;
 mod vectors;
 
 pub use graph::Graph;

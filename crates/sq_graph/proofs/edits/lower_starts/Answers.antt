@@ -1,4 +1,4 @@
-use Rattle.std.proofs.Common.{◌≡◌, ◌∙◌, ◌<◌, length, refl, ap, sym, arith}
+use Rattle.std.proofs.Common.{◌≡◌, ◌<◌, length, refl, ap, arith}
 use Rattle.sq_graph.specs.Slots.{lowered_body}
 use Rattle.sq_graph.proofs.BodyLowers.{lowered_none, lowered_fits, lowered_step, lowered_all}
 use Rattle.sq_graph.proofs.edits.lower_starts.Goals as goal

@@ -1,5 +1,4 @@
-use Rattle.std.proofs.Common.{◌≡◌, ◌+◌, ◌++◌, ◌≤◌, map, take, drop, length, vec_capacity, vec_len}
-use Rattle.sq_graph.specs.Slots.{lowered_body}
+use Rattle.std.proofs.Common.{◌≡◌, vec_capacity, vec_len}
 use Rattle.sq_graph.proofs.BodyLowers.{LoweredUpTo}
 use Rattle.sq_graph.proofs.edits.lower_starts.Given as goal
 

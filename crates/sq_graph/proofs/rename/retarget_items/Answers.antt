@@ -1,4 +1,4 @@
-use Rattle.std.proofs.Common.{ap, length, ◌≡◌, ◌<◌, arith, subst, get_or, sym}
+use Rattle.std.proofs.Common.{ap, length, ◌<◌, arith, subst, sym}
 use Rattle.std.specs.List.{All}
 use Rattle.std.proofs.lemmas.List.Elements.{All-get_or}
 use Rattle.sq_graph.specs.declared.item.Item.{Item}

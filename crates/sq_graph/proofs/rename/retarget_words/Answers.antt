@@ -1,8 +1,7 @@
-use Rattle.std.proofs.Common.{ap, length, ◌≡◌, ◌<◌, arith, subst, get_or, sym, map, ◌∙◌}
+use Rattle.std.proofs.Common.{ap, length, ◌<◌, arith, subst, sym, map, ◌∙◌}
 use Rattle.std.proofs.lemmas.List.{get_or-map, length-map}
 use Rattle.std.proofs.lemmas.List.Elements.{All-get_or}
 use Rattle.sq_graph.specs.declared.parts.CodeRef.{CodeRef}
-use Rattle.sq_graph.specs.Uses.{code_word_uses}
 use Rattle.sq_graph.specs.Renames.{retargeted_word}
 use Rattle.sq_graph.proofs.Mapped.{mapped_reads, mapped_step}
 use Rattle.sq_graph.proofs.rename.retarget_words.Goals as goal

@@ -1,6 +1,6 @@
-use Rattle.std.proofs.Common.{◌≡◌, ◌∙◌, ◌+◌, ◌∷◌, ◌++◌, [], ap, sym, is_some, arith, append_assoc}
-use Rattle.sq_arena.specs.Entries.{before, behind, without, next_key, first_key, HasDistinctKeys}
-use Rattle.sq_graph.specs.Cursor.{ahead_of, rest_from, length_of_slots, renumbered}
+use Rattle.std.proofs.Common.{◌∙◌, ◌++◌, ap, arith}
+use Rattle.sq_arena.specs.Entries.{before, behind, without, next_key}
+use Rattle.sq_graph.specs.Cursor.{rest_from, length_of_slots, renumbered}
 use Rattle.sq_graph.proofs.CursorLaws.{between_parts}
 use Rattle.sq_graph.proofs.slots.remove.Goals as goal
 

@@ -1,10 +1,6 @@
-use Rattle.std.proofs.Common.{◌≡◌, ◌∙◌, ap, sym, subst, is_some, Option, Some, List, ℕ, ◌++◌, length, arith}
-use Rattle.std.proofs.lemmas.List.{append-nil}
-use Rattle.sq_arena.specs.Entries.{ContainsKey, next_key, with_value, value_of}
-use Rattle.sq_graph.specs.declared.slot.Slot.{Slot}
-use Rattle.sq_graph.specs.Cursor.{IsPlace, ahead_of, rest_from, renumbered}
+use Rattle.std.proofs.Common.{◌∙◌, ap, is_some, arith}
 use Rattle.sq_graph.proofs.CursorLaws.{value_of-with_value}
-use Rattle.sq_graph.proofs.SlotWalks.{Renumbers, started, renumber_step, renumber_fits, step_shortens}
+use Rattle.sq_graph.proofs.SlotWalks.{started, renumber_step, renumber_fits, step_shortens}
 use Rattle.sq_graph.proofs.slots.renumber.Goals as goal
 
 pub slot-found-requires : goal.slot-found-requires

@@ -1,4 +1,4 @@
-use Rattle.std.proofs.Common.{◌≡◌, ◌++◌, length}
+use Rattle.std.proofs.Common.{◌≡◌, length}
 use Rattle.sq_graph.specs.Cursor.{rest_from, retargeted_slots}
 use Rattle.sq_graph.proofs.SlotWalks.{Retargets}
 use Rattle.sq_graph.proofs.slots.retarget.Given as goal

@@ -1,7 +1,6 @@
-use Rattle.std.proofs.Common.{Some, ◌≡◌, ◌∙◌, ◌<◌, ◌+◌, length, ap, sym, take, drop, arith}
+use Rattle.std.proofs.Common.{◌∙◌, ◌<◌, ◌+◌, length, ap, sym, take, drop, arith}
 use Rattle.std.proofs.lemmas.Option.{slice_get_read}
 use Rattle.sq_graph.specs.Blocks.{procedure_body}
-use Rattle.sq_graph.specs.Layout.{graph_of}
 use Rattle.sq_graph.proofs.BodyReads.{reads_body}
 use Rattle.sq_graph.proofs.Sizes.{sizes}
 use Rattle.sq_graph.proofs.graph.Graph.body.Goals as goal

@@ -1,4 +1,4 @@
-use Rattle.std.proofs.Common.{◌∙◌, length, refl, ap, sym, arith}
+use Rattle.std.proofs.Common.{◌∙◌, length, refl, ap, arith}
 use Rattle.sq_graph.specs.declared.graph.Graph.TheInside.{Inside}
 use Rattle.sq_graph.proofs.Held.{kept, limited}
 use Rattle.sq_graph.proofs.graph.Graph.copy.Goals as goal

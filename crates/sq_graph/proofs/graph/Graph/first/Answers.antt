@@ -1,4 +1,4 @@
-use Rattle.std.proofs.Common.{Some, ◌≡◌, ◌∙◌, ap, sym}
+use Rattle.std.proofs.Common.{Some, ◌≡◌, ◌∙◌, ap}
 use Rattle.sq_arena.specs.Entries.{first_key}
 use Rattle.sq_graph.specs.Layout.{graph_of}
 use Rattle.sq_graph.proofs.Located.{first-slots}

@@ -1,4 +1,4 @@
-use Rattle.std.proofs.Common.{◌≡◌, ◌∙◌, ◌≤◌, ◌<◌, List, length, drop, ap, sym, refl, subst, arith}
+use Rattle.std.proofs.Common.{◌∙◌, ◌<◌, List, length, drop, ap, sym, subst, arith}
 use Rattle.std.specs.List.{All, slice_index}
 use Rattle.std.proofs.lemmas.List.{length-map}
 use Rattle.sq_graph.specs.declared.item.Item.{Item}
@@ -95,3 +95,23 @@ returns-clause-graph c =
     (c.retarget_words.ensures ∙ ap (retargeted_words (slice_index c.deref.result.now)) c.in_ok-code_words.ensures.items) c.in_ok-bodies.ensures
     (c.len-item_room.ensures ∙ c.retarget_items.new.items.ok.0) (c.len-body_room.ensures ∙ c.in_ok-bodies.bodies.ok.0)).is in
     is ∙ ap (λ ns. renamed (slice_index ns) (graph_of_parts c.args.parts.now.blocks.now c.args.parts.now.items.now c.args.parts.now.entry c.args.parts.now.code_words.now c.args.parts.now.procedures.now)) (sym (ap names_of is ∙ names_are_those c.args.parts.now.blocks.now c.args.parts.now.items.now c.args.parts.now.entry c.args.parts.now.code_words.now c.args.parts.now.procedures.now c.push_blocks.new.slots.entries c.deref.result.now pushed c.requires.lengths))
+
+pub returns-clause-rules : goal.returns-clause-rules
+returns-clause-rules c =
+    let b = c.in_ok-block_items.ensures in
+    let pushed : IsPushed c.args.parts.now.blocks.now c.push_blocks.new.slots.entries c.deref.result.now = record { names_are = c.deref.ensures.value ∙ b.names; values_are = b.values; distinct = b.distinct } in
+    let new : Inside = record {
+      slots = c.retarget.new.slots;
+      items = c.retarget_items.new.items;
+      block_items = c.in_ok-block_items.block_items;
+      entry = c.name-entry.result;
+      code_words = c.retarget_words.new.words;
+      bodies = c.in_ok-bodies.bodies;
+      item_room = c.len-item_room.result;
+      body_room = c.len-body_room.result;
+    } in
+    (parts_show c.args.parts.now.blocks.now c.args.parts.now.items.now c.args.parts.now.entry c.args.parts.now.code_words.now c.args.parts.now.procedures.now c.push_blocks.new.slots.entries c.deref.result.now new pushed c.requires.lengths c.requires.rules c.requires.small
+    c.retarget.ensures.entries (c.retarget.ensures.spare ∙ b.spare)
+    (c.retarget_items.ensures.items ∙ ap (retargeted_items (slice_index c.deref.result.now)) c.in_ok-items.ensures.items) b.length c.name-entry.ensures
+    (c.retarget_words.ensures ∙ ap (retargeted_words (slice_index c.deref.result.now)) c.in_ok-code_words.ensures.items) c.in_ok-bodies.ensures
+    (c.len-item_room.ensures ∙ c.retarget_items.new.items.ok.0) (c.len-body_room.ensures ∙ c.in_ok-bodies.bodies.ok.0)).sound.rules

@@ -1,4 +1,4 @@
-use Rattle.std.proofs.Common.{◌≡◌, ◌∙◌, ◌+◌, ◌-◌, ◌<◌, ◌≤◌, Some, IsSome, is_some, length, ap, sym, refl, arith, take, drop, subst}
+use Rattle.std.proofs.Common.{◌∙◌, ◌+◌, ◌-◌, IsSome, length, ap, refl, arith, subst}
 use Rattle.std.proofs.lemmas.Option.{slice_get_read}
 use Rattle.sq_graph.specs.Operations.{replaced_items, called_at, called_body, inlined}
 use Rattle.sq_graph.specs.Layout.{graph_of}

@@ -1,6 +1,5 @@
-use Rattle.std.proofs.Common.{◌∙◌, ap, sym, refl, arith}
+use Rattle.std.proofs.Common.{◌∙◌, ap, arith}
 use Rattle.sq_graph.specs.Operations.{inserted_after}
-use Rattle.sq_graph.specs.Layout.{graph_of}
 use Rattle.sq_graph.proofs.Sizes.{sizes}
 use Rattle.sq_graph.proofs.SlotReads.{has_slot, reads}
 use Rattle.sq_graph.proofs.BlockWrites.{new_name, insert_shows}

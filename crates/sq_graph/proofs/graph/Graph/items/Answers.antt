@@ -1,4 +1,4 @@
-use Rattle.std.proofs.Common.{Some, ◌∙◌, ap, sym, take, drop}
+use Rattle.std.proofs.Common.{◌∙◌, ap, sym, take, drop}
 use Rattle.sq_graph.specs.Blocks.{block_items}
 use Rattle.sq_graph.proofs.SlotReads.{has_slot, reads}
 use Rattle.sq_graph.proofs.graph.Graph.items.Goals as goal

@@ -1,4 +1,4 @@
-use Rattle.std.proofs.Common.{Some, ◌≡◌, ◌∙◌, ◌<◌, length, ap, sym, arith}
+use Rattle.std.proofs.Common.{Some, ◌∙◌, ◌<◌, length, ap, sym, arith}
 use Rattle.std.proofs.lemmas.Option.{slice_get_read}
 use Rattle.sq_graph.specs.Blocks.{procedure_link}
 use Rattle.sq_graph.proofs.BodyReads.{reads_body}

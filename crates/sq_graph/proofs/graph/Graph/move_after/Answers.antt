@@ -1,7 +1,7 @@
-use Rattle.std.proofs.Common.{◌≡◌, ◌∙◌, ◌+◌, ◌-◌, ◌<◌, ◌≤◌, length, ap, sym, refl, arith}
+use Rattle.std.proofs.Common.{◌∙◌, ◌-◌, ◌<◌, ap, sym, refl, arith}
 use Rattle.sq_graph.specs.Blocks.{named, items_of_bodies}
 use Rattle.sq_graph.specs.Operations.{moved_after}
-use Rattle.sq_graph.specs.Cursor.{renumbered, rest_from, length_of_slots}
+use Rattle.sq_graph.specs.Cursor.{renumbered}
 use Rattle.sq_graph.specs.Layout.{graph_of}
 use Rattle.sq_graph.proofs.SlotReads.{has_slot}
 use Rattle.sq_graph.proofs.Sizes.{same_room}

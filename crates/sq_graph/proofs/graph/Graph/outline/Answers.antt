@@ -1,7 +1,6 @@
-use Rattle.std.proofs.Common.{◌≡◌, ◌∙◌, ◌+◌, ◌-◌, ◌<◌, ◌≤◌, length, ap, sym, refl, arith, take, drop, length-drop}
-use Rattle.std.proofs.lemmas.List.{length-take-le, length_push}
+use Rattle.std.proofs.Common.{◌≡◌, ◌∙◌, ◌+◌, ◌-◌, ◌≤◌, length, ap, sym, refl, arith}
+use Rattle.std.proofs.lemmas.List.{length_push}
 use Rattle.sq_graph.specs.Operations.{outlined}
-use Rattle.sq_graph.specs.Layout.{graph_of}
 use Rattle.sq_graph.proofs.SlotReads.{has_slot}
 use Rattle.sq_graph.proofs.Sizes.{sizes, same_room}
 use Rattle.sq_graph.proofs.ItemWrites.{placed}

@@ -1,10 +1,9 @@
-use Rattle.std.proofs.Common.{refl, sym, ap, ◌∙◌}
+use Rattle.std.proofs.Common.{refl, ap, ◌∙◌}
 use Rattle.sq_graph.specs.declared.graph.Graph.TheInside.{Inside}
 use Rattle.sq_graph.specs.Layout.{graph_of}
 use Rattle.sq_graph.specs.Operations.{redirected}
 use Rattle.sq_graph.specs.Renames.{retargeted_item, retargeted_term, swapped}
 use Rattle.sq_graph.proofs.Changes.{distinct_slots}
-use Rattle.sq_graph.proofs.Held.{Shows}
 use Rattle.sq_graph.proofs.MapWrites.{mapped_shows}
 use Rattle.sq_graph.proofs.graph.Graph.redirect.Goals as goal
 

@@ -1,7 +1,6 @@
-use Rattle.std.proofs.Common.{◌≡◌, ◌∙◌, ◌+◌, length, ap, sym, refl, arith}
+use Rattle.std.proofs.Common.{◌∙◌, ◌+◌, length, ap, refl, arith}
 use Rattle.sq_graph.specs.Blocks.{items_of}
 use Rattle.sq_graph.specs.Operations.{without_block}
-use Rattle.sq_graph.specs.Layout.{graph_of}
 use Rattle.sq_graph.proofs.Changes.{distinct_slots}
 use Rattle.sq_graph.proofs.SlotReads.{has_slot}
 use Rattle.sq_graph.proofs.Sizes.{same_room}

@@ -1,8 +1,7 @@
-use Rattle.std.proofs.Common.{◌≡◌, ◌∙◌, ◌+◌, ◌<◌, length, ap, sym, refl, arith}
+use Rattle.std.proofs.Common.{◌∙◌, ◌+◌, ◌<◌, length, ap, refl, arith}
 use Rattle.std.proofs.lemmas.Option.{slice_get_read}
 use Rattle.sq_graph.specs.Blocks.{body_of}
 use Rattle.sq_graph.specs.Operations.{without_procedure}
-use Rattle.sq_graph.specs.Layout.{graph_of}
 use Rattle.sq_graph.proofs.BodyReads.{reads_body}
 use Rattle.sq_graph.proofs.Sizes.{sizes, same_room}
 use Rattle.sq_graph.proofs.ProcedureRemoval.{bodies_at, lowers_fit, without_procedure_shows, frees_procedure}

@@ -1,9 +1,5 @@
-use Rattle.std.proofs.Common.{◌≡◌, ◌∙◌, ◌+◌, ◌-◌, ◌≤◌, ◌∷◌, [], length, ap, sym, refl, arith}
-use Rattle.sq_graph.specs.declared.graph.Graph.TheInside.{Inside}
-use Rattle.sq_graph.specs.Graph.{Block}
-use Rattle.sq_graph.specs.Blocks.{items_of_blocks, items_of_bodies}
-use Rattle.sq_graph.specs.Operations.{replaced, replaced_items}
-use Rattle.sq_graph.specs.Layout.{graph_of}
+use Rattle.std.proofs.Common.{◌∙◌, ◌+◌, ◌-◌, length, ap, refl, arith}
+use Rattle.sq_graph.specs.Operations.{replaced}
 use Rattle.sq_graph.proofs.Changes.{distinct_slots}
 use Rattle.sq_graph.proofs.SlotReads.{has_slot}
 use Rattle.sq_graph.proofs.Sizes.{same_room}

@@ -1,7 +1,5 @@
-use Rattle.std.proofs.Common.{◌∙◌, ap, sym}
-use Rattle.sq_graph.specs.Graph.{Graph}
+use Rattle.std.proofs.Common.{◌∙◌, ap}
 use Rattle.sq_graph.specs.Operations.{with_term}
-use Rattle.sq_graph.specs.Layout.{graph_of}
 use Rattle.sq_graph.proofs.SlotReads.{has_slot}
 use Rattle.sq_graph.proofs.BlockWrites.{set_term_shows}
 use Rattle.sq_graph.proofs.graph.Graph.set_term.Goals as goal

@@ -1,4 +1,4 @@
-use Rattle.std.proofs.Common.{◌∙◌, ap, sym, refl, arith, length}
+use Rattle.std.proofs.Common.{◌∙◌, ap, arith, length}
 use Rattle.sq_graph.specs.Blocks.{block_items}
 use Rattle.sq_graph.specs.Operations.{split_at}
 use Rattle.sq_graph.specs.Words.{words_of}
@@ -54,3 +54,10 @@ returns-clause-words c =
     (split_rules (graph_of c.self.inside) c.insert_after-name.result c.args.block c.args.at c.self.invariant.rules fresh has)).is
     ∙ words_of-split (graph_of c.self.inside) c.insert_after-name.result c.args.block c.args.at has
     ∙ ap (λ v. words_of v.graph) c.self.view_is
+
+pub returns-clause-rules : goal.returns-clause-rules
+returns-clause-rules c =
+    let fresh = new_name c.self.inside c.insert_after-name.result c.self.invariant c.insert_after-name.ensures.fresh in
+    let has = rw (← c.self.view_is) at c.requires.block in
+    (split_shows c.self.inside c.args.block c.args.at c.slot-slot.result c.insert_after-name.result c.insert_after-name.new.self c.set.new.slots c.self.invariant has (rw (← c.self.view_is) at c.requires.at) c.slot-slot.ensures c.insert_after-name.ensures.entries c.insert_after-name.ensures.spare c.set.ensures.entries c.set.ensures.spare
+    (split_rules (graph_of c.self.inside) c.insert_after-name.result c.args.block c.args.at c.self.invariant.rules fresh has)).sound.rules
