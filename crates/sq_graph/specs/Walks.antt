@@ -12,7 +12,7 @@ use Rattle.sq_graph.specs.declared.parts.CodeRef.{CodeRef}
 use Rattle.sq_graph.specs.Graph.{Block, Procedure, Graph}
 use Rattle.sq_graph.specs.Terms.{goes_on, links}
 use Rattle.sq_graph.specs.Uses.{item_uses, items_uses, term_uses}
-use Rattle.sq_graph.specs.Lines.{Line, Name, Do, Enter, Return, End, lines_of, inside, block_lines}
+use Rattle.sq_graph.specs.Lines.{Line, Name, Do, Enter, Return, End, inside, block_lines}
 
 -- Reached blocks
 

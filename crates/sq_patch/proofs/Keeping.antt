@@ -1,5 +1,5 @@
 -- Lines that stay as they are go on alike, where what stands behind them does.
-use Rattle.std.proofs.Common.{◌≡◌, ◌≢◌, ℕ, zero, suc, Bool, true, false, not, ◌==◌, List, [], ◌∷◌, ◌++◌, Option, Some, None, map, slice_get, refl, sym, ap, ◌∙◌, subst, inl, inr}
+use Rattle.std.proofs.Common.{◌≡◌, ℕ, Bool, true, false, List, ◌∷◌, Option, Some, None, slice_get, refl, sym, ap, ◌∙◌, subst}
 use Rattle.std.specs.List.{Contains}
 use Rattle.sq_isa.specs.Uses.{sources_of, destination_of}
 use Rattle.sq_isa.specs.Forms.{first_of, second_of}
@@ -10,11 +10,11 @@ use Rattle.sq_graph.specs.declared.item.Term.{Term}
 use Rattle.sq_graph.specs.declared.item.Term.TheVariants.{Fall, Jump, Branch, Call, PartJump, Indirect, Stop}
 use Rattle.sq_graph.specs.Graph.{Procedure, Graph}
 use Rattle.sq_graph.specs.Terms.{links}
-use Rattle.sq_graph.specs.Lines.{AddressHalf, Plain, Upper, Lower, Line, Name, Do, Enter, Return, End, line_of, inside, slot_name, block_lines}
+use Rattle.sq_graph.specs.Lines.{AddressHalf, Plain, Upper, Lower, Line, Do, Enter, End, inside, slot_name}
 use Rattle.sq_graph.specs.Walks.{code_targets, is_register}
 use Rattle.sq_patch.specs.Registers.{with_registers, AreSources}
-use Rattle.sq_patch.specs.LiveAgreement.{MakesTarget, HalfMakesTarget, SlotIsTarget, MakeTargets}
-use Rattle.sq_patch.specs.Changes.{Change, IsCarrier, Stands, IsNamedHalf, term_named, MayGoTo, falls, SameSlot, Alike, guarded, name_before, name_after, both_do, both_enter, both_return, both_end}
+use Rattle.sq_patch.specs.LiveAgreement.{HalfMakesTarget, SlotIsTarget}
+use Rattle.sq_patch.specs.Changes.{Change, IsCarrier, IsNamedHalf, SameSlot, Alike, guarded, both_do, both_enter, both_end}
 use Rattle.sq_patch.proofs.LiveSteps.{own_registers, own_sources}
 
 -- no mode at all

@@ -1,46 +1,40 @@
 -- One theorem for all rewriting: where places go on alike, again and again, the second graph follows the first.
-use Rattle.std.proofs.Common.{◌≡◌, ℕ, zero, suc, ◌+◌, ◌^◌, ◌<◌, ℤ, pos, Bool, true, false, not, int_lt, ◌==◌, ◌&&◌, ◌||◌, List, [], ◌∷◌, Option, Some, None, length, map, nat_eq, slice_get, if◌then◌else◌, refl, sym, ap, ◌∙◌, subst, inl, inr, arith, eq-eqb}
-use Rattle.std.specs.List.{Contains, list_any}
-use Rattle.std.specs.Ordering.{int_eq}
+use Rattle.std.proofs.Common.{◌≡◌, ℕ, zero, suc, ℤ, pos, Bool, true, false, not, ◌==◌, ◌&&◌, ◌||◌, List, [], ◌∷◌, Option, Some, None, map, slice_get, if◌then◌else◌, refl, sym, ap, ◌∙◌, subst, inl, inr, arith, eq-eqb}
+use Rattle.std.specs.List.{list_any}
 use Rattle.std.proofs.lemmas.Bool.{eqb-true, and_parts, and_from}
 use Rattle.std.proofs.lemmas.Bool.Decides.{nat_tests}
 use Rattle.std.proofs.lemmas.Grind.{common_steps}
 use Rattle.sq_isa.specs.Branches.{taken_of, inverse_of}
 use Rattle.sq_isa.specs.Registers.{is_among, is_among_but_x0}
-use Rattle.sq_isa.specs.Uses.{sources_of, destination_of, is_read, is_written}
-use Rattle.sq_isa.specs.Words.{wrapped, signed, unsigned, even}
+use Rattle.sq_isa.specs.Uses.{sources_of, destination_of}
 use Rattle.sq_isa.specs.declared.instructions.Cond.{Cond}
 use Rattle.sq_isa.specs.declared.instructions.Cond.TheVariants.{Beq, Bne, Blt, Bge, Bltu, Bgeu}
 use Rattle.sq_isa.specs.declared.instructions.Insn.{Insn}
 use Rattle.sq_isa.specs.declared.instructions.Insn.TheVariants.{OpImm}
 use Rattle.sq_isa.specs.declared.instructions.ImmOp.TheVariants.{Addi}
-use Rattle.sq_runs.specs.Runs.{Next, Went, Ended, Broke}
+use Rattle.sq_runs.specs.Runs.{Went, Ended, Broke}
 use Rattle.sq_runs.specs.Simulation.{Matches, Meets, Simulates}
 use Rattle.sq_runs.proofs.Simulate.{follows_by, meets_now, meets_skip, meets_wait, meets_broke}
 use Rattle.sq_memory.specs.Regions.{get}
 use Rattle.sq_system.specs.Starts.{Start, stack_pointer}
-use Rattle.sq_system.specs.World.{is_executable}
 use Rattle.sq_system.specs.declared.event.Halt.TheVariants.{Fetch}
 use Rattle.sq_graph.specs.declared.item.Term.{Term}
 use Rattle.sq_graph.specs.declared.item.Term.TheVariants.{Fall, Jump, Branch, Call, PartJump, Indirect, Stop}
-use Rattle.sq_graph.specs.Graph.{Procedure, Graph}
 use Rattle.sq_graph.specs.Terms.{links}
 use Rattle.sq_graph.specs.Lines.{AddressHalf, Plain, Upper, Lower, Line, Name, Do, Enter, Return, End, inside, slot_name, block_lines}
-use Rattle.sq_graph.specs.Walks.{Goes, TermGoes, code_targets, word_name, is_register, is_link_of, line_reads, line_writes, term_sources, term_link}
-use Rattle.sq_follow.specs.declared.kind.Kind.{Kind}
-use Rattle.sq_follow.specs.declared.kind.Kind.TheVariants.{Half as HalfBreak, Jump as JumpBreak}
-use Rattle.sq_follow.specs.Values.{Tag, Code, Part, Value, Num, Tagged, Held, Holds, Lost}
+use Rattle.sq_graph.specs.Walks.{Goes, word_name, is_register, is_link_of, line_writes, term_sources, term_link}
+use Rattle.sq_follow.specs.declared.kind.Kind.TheVariants.{Half as HalfBreak}
+use Rattle.sq_follow.specs.Values.{Code, Part, Value, Num, Tagged, Held, Holds, Lost}
 use Rattle.sq_follow.specs.Settings.{Setting}
-use Rattle.sq_follow.specs.Arithmetic.{zero_is_outside_text, taken_against_code, is_taken, is_upper_half, word_fits}
-use Rattle.sq_follow.specs.Jumps.{Destination, ToName, ToNumber, Jumped, part_jump, indirect_jump, stop}
-use Rattle.sq_follow.specs.GraphRuns.{Break, LeavesGraph, Core, State, At, Fetching, Moves, register_value, lost_in, reads_lost, with_register, do_line, enter, link_to, with_link, to_block, land, jump, branch, term_step, term_line, lines_step, graph_step}
+use Rattle.sq_follow.specs.Arithmetic.{zero_is_outside_text, taken_against_code, is_taken, is_upper_half}
+use Rattle.sq_follow.specs.Jumps.{Destination, ToName, ToNumber, Jumped, part_jump, indirect_jump}
+use Rattle.sq_follow.specs.GraphRuns.{LeavesGraph, Core, State, At, Fetching, Moves, register_value, lost_in, reads_lost, with_register, do_line, link_to, with_link, to_block, land, jump, branch, term_step, term_line, lines_step, graph_step}
 use Rattle.sq_follow.specs.Worlds.{World, all_names, setting_of, first_registers, regions_at_start}
 use Rattle.sq_follow.specs.Follows.{Follows, word_address, state_at_start}
-use Rattle.sq_patch.specs.Agreement.{Ties, SameValue, SameHeld, SameMemory, SameStore, SameCore, IsTied}
-use Rattle.sq_patch.specs.Registers.{with_registers, IsSource, AreSources, IsWritten}
+use Rattle.sq_patch.specs.Agreement.{Ties, SameValue, SameHeld, SameMemory, SameCore, IsTied}
+use Rattle.sq_patch.specs.Registers.{with_registers, IsSource, AreSources}
 use Rattle.sq_patch.specs.LiveAgreement.{everywhere}
-use Rattle.sq_patch.specs.Changes.{Change, IsCarrier, Stands, IsNamedHalf, term_named, MayGoTo, falls, SameSlot, Alike, ends, promised, guarded, shift, name_before, name_after, jump_before, jump_after, return_before, return_after, enter_before, enter_after, dead_before, both_do, both_enter, both_return, both_end, both_turned, both_hastened, both_jumped, IsSteady}
-use Rattle.sq_patch.proofs.Memories.{if_rel}
+use Rattle.sq_patch.specs.Changes.{Change, Stands, IsNamedHalf, term_named, MayGoTo, falls, SameSlot, Alike, ends, promised, guarded, shift, name_before, name_after, jump_before, jump_after, return_before, return_after, enter_before, enter_after, dead_before, both_do, both_enter, both_return, both_end, both_turned, both_hastened, both_jumped, IsSteady}
 use Rattle.sq_patch.proofs.Deeds.{IsTiedHalf, SameDestination, sources_rel, operand_at, registers_rel, taken_rel, indirect_rel, do_rel, unless_lost, written_test}
 use Rattle.sq_patch.proofs.LiveSteps.{own_sources, not_zero, no_link}
 use Rattle.sq_patch.proofs.Starts.{start_memory_rel}

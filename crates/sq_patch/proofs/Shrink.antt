@@ -1,17 +1,15 @@
 -- What is live in the second graph stands for what is live in the first.
-use Rattle.std.proofs.Common.{◌≡◌, ℕ, zero, suc, Bool, true, false, ◌||◌, ◌⊎◌, List, [], ◌∷◌, Option, Some, None, slice_get, refl, sym, ap, ◌∙◌, subst, inl, inr, ⊎_elim, not, ◌==◌, ◌&&◌, eq-eqb, arith}
+use Rattle.std.proofs.Common.{◌≡◌, ℕ, zero, suc, Bool, true, false, ◌||◌, ◌⊎◌, List, [], ◌∷◌, Option, Some, None, refl, sym, ap, ◌∙◌, subst, inl, inr, ⊎_elim, not, ◌==◌, ◌&&◌, eq-eqb, arith}
 use Rattle.std.specs.List.{Contains}
 use Rattle.std.proofs.lemmas.Bool.{and_parts, eqb-true}
 use Rattle.std.proofs.lemmas.Bool.Decides.{nat_tests}
 use Rattle.sq_isa.specs.Registers.{is_among, is_among_but_x0}
-use Rattle.sq_isa.specs.Uses.{sources_of, destination_of, is_read, is_written}
-use Rattle.sq_isa.specs.Branches.{inverse_of}
-use Rattle.sq_isa.specs.declared.instructions.Insn.{Insn}
+use Rattle.sq_isa.specs.Uses.{sources_of, destination_of}
 use Rattle.sq_graph.specs.declared.item.Term.{Term}
 use Rattle.sq_graph.specs.declared.item.Term.TheVariants.{Fall, Jump, Branch, Call, PartJump, Indirect, Stop}
-use Rattle.sq_graph.specs.Graph.{Procedure, Graph}
-use Rattle.sq_graph.specs.Lines.{AddressHalf, Upper, Line, Name, Do, Enter, Return, End, inside, block_lines}
-use Rattle.sq_graph.specs.Walks.{IsLive, read_here, live_behind, Goes, TermGoes, code_targets, is_register, is_link_of, line_reads, line_writes, term_sources, term_link}
+use Rattle.sq_graph.specs.Graph.{Procedure}
+use Rattle.sq_graph.specs.Lines.{Line, End, inside, block_lines}
+use Rattle.sq_graph.specs.Walks.{IsLive, read_here, live_behind, Goes, TermGoes, code_targets, is_register, is_link_of, line_reads, line_writes, term_link}
 use Rattle.sq_patch.specs.Registers.{with_registers, IsSource, AreSources}
 use Rattle.sq_patch.specs.Changes.{Change, Stands, term_named, MayGoTo, falls, Alike, ends, promised, guarded, shift, name_before, name_after, jump_before, jump_after, return_before, return_after, enter_before, enter_after, dead_before, both_do, both_enter, both_return, both_end, both_turned, both_hastened, both_jumped, IsSteady}
 use Rattle.sq_patch.proofs.LiveSteps.{no_link}

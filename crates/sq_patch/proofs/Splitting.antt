@@ -1,7 +1,7 @@
 -- A graph with one block split follows it.
-use Rattle.std.proofs.Common.{◌≡◌, ◌≢◌, ℕ, zero, suc, ◌+◌, ◌<◌, Bool, true, false, not, ◌==◌, ◌&&◌, List, [], ◌∷◌, ◌++◌, Option, Some, None, IsSome, eq-eqb, pos, map, take, drop, slice_get, if◌then◌else◌, refl, sym, ap, ap₂, ◌∙◌, subst, arith}
+use Rattle.std.proofs.Common.{◌≡◌, ◌≢◌, ℕ, zero, suc, ◌<◌, Bool, true, false, ◌==◌, List, [], ◌∷◌, ◌++◌, Option, Some, None, IsSome, eq-eqb, pos, map, take, drop, slice_get, if◌then◌else◌, refl, sym, ap, ◌∙◌, subst, arith}
 use Rattle.std.proofs.lemmas.Bool.Decides.{nat_tests}
-use Rattle.std.specs.List.{Contains, flat_map}
+use Rattle.std.specs.List.{Contains}
 use Rattle.sq_arena.specs.Entries.{value_of}
 use Rattle.sq_isa.specs.declared.instructions.Insn.TheVariants.{Lui, OpImm}
 use Rattle.sq_isa.specs.declared.instructions.ImmOp.TheVariants.{Addi}
@@ -10,18 +10,16 @@ use Rattle.sq_graph.specs.declared.item.Item.TheVariants.{Op, Hi, Lo, Out}
 use Rattle.sq_graph.specs.declared.item.Term.{Term}
 use Rattle.sq_graph.specs.declared.item.Term.TheVariants.{Fall, Jump, Branch, Call, PartJump, Indirect, Stop}
 use Rattle.sq_graph.specs.Graph.{Block, Procedure, Graph}
-use Rattle.sq_graph.specs.Terms.{links}
-use Rattle.sq_graph.specs.Blocks.{named, block_of, HasBlock, HasProcedure, all_items}
-use Rattle.sq_graph.specs.Uses.{item_uses, term_uses, item_calls}
+use Rattle.sq_graph.specs.Blocks.{named, HasBlock, HasProcedure, all_items}
+use Rattle.sq_graph.specs.Uses.{term_uses, item_calls}
 use Rattle.sq_graph.specs.Rules.{IsGraph}
 use Rattle.sq_graph.specs.Operations.{IsNew, with_blocks, halves, split_at}
-use Rattle.sq_graph.specs.Lines.{Plain, Upper, Lower, Line, Name, Do, Enter, Return, End, line_of, term_lines, body_lines, lines_of, inside, has_name, behind_name, slot_name, block_lines}
-use Rattle.sq_graph.specs.Walks.{lower_names, first_name, code_targets, word_name}
+use Rattle.sq_graph.specs.Lines.{Plain, Upper, Lower, Line, Name, Return, line_of, term_lines, body_lines, lines_of, inside, has_name, behind_name, slot_name, block_lines}
+use Rattle.sq_graph.specs.Walks.{code_targets, word_name}
 use Rattle.sq_follow.specs.Follows.{Follows}
-use Rattle.sq_patch.specs.LiveAgreement.{SlotIsTarget, MakeTargets}
-use Rattle.sq_patch.specs.Changes.{Change, Alike, ends, promised, guarded, name_before, name_after, both_return, IsSteady}
-use Rattle.sq_patch.specs.Operations.{SplitFollows}
-use Rattle.sq_patch.proofs.LiveTargets.{lines_make, block_makes, inside_makes, word_target}
+use Rattle.sq_patch.specs.LiveAgreement.{MakeTargets}
+use Rattle.sq_patch.specs.Changes.{Change, Alike, ends, name_before, name_after, both_return, IsSteady}
+use Rattle.sq_patch.proofs.LiveTargets.{lines_make, inside_makes, word_target}
 use Rattle.sq_patch.proofs.Patch.{change_follows}
 use Rattle.sq_patch.proofs.Keeping.{staying, every_carrier, keep_do, keep_enter, keep_term, lift, IsThere, SlotIn}
 use Rattle.sq_patch.proofs.Used.{contains_first, contains_later, from_slice, slice_there, entry_used, code_word_used, term_used, item_used, item_called, block_item, body_item, body_calls_none, not_new}

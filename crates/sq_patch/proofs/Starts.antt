@@ -1,19 +1,18 @@
 -- At the start, memories made from the names of code words and from their images under f agree.
-use Rattle.std.proofs.Common.{◌≡◌, ℕ, zero, suc, ◌+◌, ◌-◌, ◌<◌, ◌≤◌, Bool, true, false, ◌==◌, ◌&&◌, List, [], ◌∷◌, ◌++◌, length, Option, Some, None, is_some, map, option_map, slice_get, nat_eq, nat_le, if◌then◌else◌, refl, sym, ap, ap₂, ◌∙◌, subst, arith, eq-eqb}
+use Rattle.std.proofs.Common.{◌≡◌, ℕ, zero, suc, ◌+◌, ◌-◌, Bool, true, false, ◌==◌, List, [], ◌∷◌, ◌++◌, Option, Some, None, map, option_map, slice_get, nat_le, if◌then◌else◌, refl, sym, ap, ap₂, ◌∙◌, subst, arith, eq-eqb}
 use Rattle.std.specs.List.{list_any}
 use Rattle.std.proofs.lemmas.Bool.{eqb-true, and_parts, and_from}
 use Rattle.std.proofs.lemmas.Option.{slice_get-map}
-use Rattle.sq_memory.specs.Cells.{Cells, cells_from, map_cells, Agree}
-use Rattle.sq_memory.specs.Regions.{Region, get, region_cell, or_else, map_region, map_regions}
+use Rattle.sq_memory.specs.Cells.{Cells, map_cells, Agree}
+use Rattle.sq_memory.specs.Regions.{Region, get, region_cell, or_else, map_regions}
 use Rattle.sq_memory.proofs.RegionLaws.{get-map_regions}
 use Rattle.sq_memory.proofs.RangeLaws.{cells_from-map_cells, cells_from_some}
-use Rattle.sq_runs.specs.Runs.{Next}
 use Rattle.sq_isa.specs.declared.instructions.LoadKind.TheVariants.{Lw}
 use Rattle.sq_system.specs.Starts.{Start, ram_at_start}
-use Rattle.sq_follow.specs.Values.{Tag, Code, Part, Value, Num, Tagged, Cell, Byte, Frag, Stale, is_stale, is_fragment, same_word, same_tag, is_part_of, are_parts_of, whole}
+use Rattle.sq_follow.specs.Values.{Tag, Code, Part, Value, Tagged, Cell, Byte, Frag, Stale, is_stale, same_tag, is_part_of, are_parts_of, whole}
 use Rattle.sq_follow.specs.Accesses.{Step, with_loaded}
 use Rattle.sq_follow.specs.Worlds.{World, StartByte, Given, OfWord, StaleByte, StartPiece, word_cell, start_cell, piece_region, ram_region, regions_at_start}
-use Rattle.sq_patch.specs.Agreement.{Ties, SameTag, SameCell, LoadsWord, SameMemory}
+use Rattle.sq_patch.specs.Agreement.{Ties, SameTag, SameCell, SameMemory}
 use Rattle.sq_patch.specs.LiveAgreement.{everywhere}
 
 abbrev tag_map : (ℕ → ℕ) → Tag → Tag

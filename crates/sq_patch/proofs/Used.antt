@@ -1,13 +1,10 @@
 -- The names and procedures that a graph uses are there; a new name is not among them.
-use Rattle.std.proofs.Common.{◌≡◌, ◌≢◌, ℕ, zero, suc, ◌<◌, Bool, true, false, not, ◌==◌, List, [], ◌∷◌, ◌++◌, Option, Some, None, IsSome, length, map, slice_get, refl, sym, ap, ◌∙◌, subst, arith, eq-eqb}
+use Rattle.std.proofs.Common.{◌≡◌, ◌≢◌, ℕ, zero, suc, ◌<◌, List, [], ◌∷◌, ◌++◌, Option, Some, None, IsSome, length, slice_get, refl, sym, subst, arith}
 use Rattle.std.specs.List.{Contains, flat_map, All}
 use Rattle.std.proofs.lemmas.List.Elements.{Contains-append_left, Contains-append_right}
 use Rattle.sq_graph.specs.declared.item.Item.{Item}
-use Rattle.sq_graph.specs.declared.item.Item.TheVariants.{Op, Hi, Lo, Out}
-use Rattle.sq_graph.specs.declared.item.Term.{Term}
-use Rattle.sq_graph.specs.declared.parts.CodeRef.{CodeRef}
 use Rattle.sq_graph.specs.Graph.{Block, Procedure, Graph}
-use Rattle.sq_graph.specs.Blocks.{named, block_of, HasBlock, HasProcedure, items_of_blocks, items_of_bodies, all_items}
+use Rattle.sq_graph.specs.Blocks.{block_of, HasBlock, HasProcedure, items_of_blocks, items_of_bodies, all_items}
 use Rattle.sq_graph.specs.Uses.{item_uses, term_uses, items_uses, terms_uses, code_word_uses, uses, item_calls, calls}
 use Rattle.sq_graph.specs.Rules.{IsGraph, ProcedureFits}
 

@@ -1,5 +1,5 @@
 -- A change from one graph to another, and when pieces of the two go on alike.
-use Rattle.std.specs.Prelude.{◌≡◌, ℕ, pos, Bool, true, false, List, [], ◌∷◌, Option, Some, None, slice_get}
+use Rattle.std.specs.Prelude.{◌≡◌, ℕ, Bool, true, false, List, [], ◌∷◌, Option, Some, None, slice_get}
 use Rattle.std.specs.List.{Contains}
 use Rattle.sq_isa.specs.Branches.{inverse_of}
 use Rattle.sq_isa.specs.Uses.{sources_of, destination_of, is_written}
@@ -13,7 +13,7 @@ use Rattle.sq_graph.specs.Graph.{Procedure, Graph}
 use Rattle.sq_graph.specs.Terms.{links}
 use Rattle.sq_graph.specs.Lines.{AddressHalf, Plain, Upper, Lower, Line, Name, Do, Enter, Return, End, inside, slot_name, block_lines}
 use Rattle.sq_graph.specs.Walks.{Goes, code_targets, is_register, line_reads, line_writes}
-use Rattle.sq_patch.specs.Registers.{with_registers, AreSources, IsWritten}
+use Rattle.sq_patch.specs.Registers.{with_registers, AreSources}
 
 -- What a change is given by: the two graphs; names that values may hold for one another; names to which the two may
 -- go; for upper halves and their targets one function; a carrier, which has the registers that matter at a place; and
