@@ -10,4 +10,7 @@ mod Patch
 mod Shrink
 mod Keeping
 mod Used
+mod Staying
+mod Changing
 mod Splitting
+mod Falling

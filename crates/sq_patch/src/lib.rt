@@ -2,11 +2,11 @@
 //!
 //! To the layers above it promises that two runs of one graph which agree on memory and on the registers
 //! that are live go on to agree: what is dead may differ, and what the first run has lost may be anything; and
-//! that a graph with one block split follows it.
+//! that a graph follows it in which a block is split, or a Jump to the next slot became Fall.
 #![tactic(auto)]
 
 ghost use Rattle.sq_patch.specs.LiveAgreement.{StepsAgree, PlacesMakeTargets};
-ghost use Rattle.sq_patch.specs.Operations.{SplitFollows};
+ghost use Rattle.sq_patch.specs.Operations.{SplitFollows, FallFollows};
 
 /// From states that agree on what is live, a graph steps to such states again, with the same event or to the
 /// same end.
@@ -22,4 +22,9 @@ pub fn places_make_targets()
 /// A graph in which a block is split in two follows it.
 pub fn split_keeps_runs()
     ensures { SplitFollows }
+{}
+
+/// A graph in which a Jump to the next slot became Fall follows it.
+pub fn fall_keeps_runs()
+    ensures { FallFollows }
 {}

@@ -1,0 +1,5 @@
+use Rattle.sq_patch.proofs.Falling.{fall_follows}
+use Rattle.sq_patch.proofs.fall_keeps_runs.Goals as goal
+
+pub returns : goal.returns
+returns c = λ g block n rules jumps slot. fall_follows g block n rules jumps slot
