@@ -13,7 +13,7 @@ use Rattle.sq_patch.specs.LiveAgreement.{MakeTargets}
 use Rattle.sq_patch.specs.Changes.{Change, Alike, ends, name_before, name_after, IsSteady, IsCarrier}
 use Rattle.sq_patch.proofs.LiveTargets.{lines_make, word_target}
 use Rattle.sq_patch.proofs.Patch.{change_follows}
-use Rattle.sq_patch.proofs.Keeping.{staying, every_carrier}
+use Rattle.sq_patch.proofs.Keeping.{staying}
 use Rattle.sq_patch.proofs.Staying.{body_unnamed, made_behind, AreBlocks, body_keep, same_behind, behind_made, choose}
 use Rattle.sq_patch.proofs.Used.{contains_later, from_slice, entry_used, code_word_used}
 

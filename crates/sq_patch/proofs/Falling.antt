@@ -23,7 +23,7 @@ named_split : (front : List Block) (x : Block) (bs : List Block) → named (fron
 named_split [] x bs = refl
 named_split (y ∷ front) x bs = ap (λ rest. (y.name, y) ∷ rest) (named_split front x bs)
 
-absent_from : (front : List Block) (x : Block) (bs : List Block) → HasDistinctKeys (named (front ++ (x ∷ bs))) → value_of (named front) x.name ≡ None
+pub absent_from : (front : List Block) (x : Block) (bs : List Block) → HasDistinctKeys (named (front ++ (x ∷ bs))) → value_of (named front) x.name ≡ None
 absent_from front x bs d = absent_ahead (named front) (named bs) x.name x (subst HasDistinctKeys (named_split front x bs) d)
 
 -- a block of another name
@@ -31,7 +31,7 @@ other_name : (t : Bool) (y : Block) (o : Option Block) → (if t then Some y els
 other_name true y o e = absurd (cc)
 other_name false y o e = (refl, e)
 
-found_at : (front : List Block) (x : Block) (bs : List Block) → value_of (named front) x.name ≡ None → value_of (named (front ++ (x ∷ bs))) x.name ≡ Some x
+pub found_at : (front : List Block) (x : Block) (bs : List Block) → value_of (named front) x.name ≡ None → value_of (named (front ++ (x ∷ bs))) x.name ≡ Some x
 found_at [] x bs e = let t : (x.name == x.name) ≡ true = eq-eqb x.name x.name refl in rw t refl
 found_at (y ∷ front) x bs e = let o = other_name (y.name == x.name) y (value_of (named front) x.name) e in rw o.0 (found_at front x bs o.1)
 
@@ -39,14 +39,14 @@ next_at : (front : List Block) (x : Block) (bs : List Block) → value_of (named
 next_at front x bs e = ap (λ entries. behind entries x.name) (named_split front x bs) ∙ behind-append (named front) (named bs) x.name x e
 
 -- what stands behind a name
-name_at : (front : List Block) (x : Block) (bs : List Block) → value_of (named front) x.name ≡ None → behind_name x.name (lines_of (front ++ (x ∷ bs))) ≡ body_lines x (lines_of bs)
+pub name_at : (front : List Block) (x : Block) (bs : List Block) → value_of (named front) x.name ≡ None → behind_name x.name (lines_of (front ++ (x ∷ bs))) ≡ body_lines x (lines_of bs)
 name_at [] x bs e = let t : (x.name == x.name) ≡ true = eq-eqb x.name x.name refl in rw t refl
 name_at (y ∷ front) x bs e =
     let o = other_name (y.name == x.name) y (value_of (named front) x.name) e in
     rw o.0 (body_unnamed x.name y (lines_of (front ++ (x ∷ bs))) ∙ name_at front x bs o.1)
 
 -- every name
-abbrev every : ℕ → Type 0
+abbrev pub every : ℕ → Type 0
 every n = Unit {0}
 
 abbrev falling : Block → List Block

@@ -97,7 +97,7 @@ module _ (K : ℕ → Type 0) (X : List Line → ℕ → Type 0) (g h : Graph) (
       both_enter {m = None} {m' = None} t.0 t.0 t.1.0 (ap (λ procedures. slice_get procedures q) same ∙ t.1.0)
       (λ r s x n. (ap (is_register t.0.link) n, λ e. n)) (t.1.1 xs ys p)
 
-  slots : (o p : Option ℕ) → p ≡ o → SlotIn o → SlotIsTarget g o → SameSlot C.MayHold o p
+  pub slots : (o p : Option ℕ) → p ≡ o → SlotIn o → SlotIsTarget g o → SameSlot C.MayHold o p
   slots None p e k t = tt
   slots (Some n) None e k t = absurd (let f : None ≡ Some n = e in cc)
   slots (Some n) (Some m) e k t = (let f : Some m ≡ Some n = e in cc, (k, t))

@@ -14,3 +14,5 @@ mod Staying
 mod Changing
 mod Splitting
 mod Falling
+mod Dropping
+mod Hastening

@@ -23,13 +23,13 @@ map_parts items zero rest = refl
 map_parts [] (suc at) rest = refl
 map_parts (item ∷ items) (suc at) rest = ap (λ lines. line_of item ∷ lines) (map_parts items at rest)
 
-take_in : (items : List Item) (at : ℕ) (item : Item) → Contains (take at items) item → Contains items item
+pub take_in : (items : List Item) (at : ℕ) (item : Item) → Contains (take at items) item → Contains items item
 take_in items zero item c = absurd (let l : c.0 < 0 = c.1 in omega arith)
 take_in [] (suc at) item c = c
 take_in (x ∷ items) (suc at) item (zero, l, e) = (zero, omega arith, e)
 take_in (x ∷ items) (suc at) item (suc i, l, e) = contains_later x item items (take_in items at item (i, omega arith, e))
 
-drop_in : (items : List Item) (at : ℕ) (item : Item) → Contains (drop at items) item → Contains items item
+pub drop_in : (items : List Item) (at : ℕ) (item : Item) → Contains (drop at items) item → Contains items item
 drop_in items zero item c = c
 drop_in [] (suc at) item c = c
 drop_in (x ∷ items) (suc at) item c = contains_later x item items (drop_in items at item c)

@@ -1,10 +1,14 @@
 -- Operations on graphs that keep runs.
-use Rattle.std.specs.Prelude.{◌≡◌, ℕ, Some}
-use Rattle.sq_graph.specs.declared.item.Term.TheVariants.{Fall, Jump}
+use Rattle.std.specs.Prelude.{◌≡◌, ℕ, zero, suc, ◌+◌, [], Some, slice_get}
+use Rattle.sq_graph.specs.declared.item.Item.TheVariants.{Hi}
+use Rattle.sq_graph.specs.declared.item.Term.{Term}
+use Rattle.sq_graph.specs.declared.item.Term.TheVariants.{Fall, Jump, Call, PartJump}
 use Rattle.sq_graph.specs.Graph.{Graph}
-use Rattle.sq_graph.specs.Blocks.{next_of, term_of}
+use Rattle.sq_graph.specs.Blocks.{items_of, next_of, term_of}
 use Rattle.sq_graph.specs.Rules.{IsGraph}
-use Rattle.sq_graph.specs.Operations.{IsNew, split_at, with_term}
+use Rattle.sq_graph.specs.Operations.{IsNew, split_at, replaced, with_term}
+use Rattle.sq_graph.specs.Lines.{place_lines}
+use Rattle.sq_graph.specs.Walks.{IsLive}
 use Rattle.sq_follow.specs.Follows.{Follows}
 
 -- A graph with one block split follows it.
@@ -14,3 +18,16 @@ SplitFollows = (g : Graph) (new block at : ℕ) → IsGraph g → IsNew g new �
 -- A graph in which a Jump to the next slot became Fall follows it.
 abbrev pub FallFollows : Type 0
 FallFollows = (g : Graph) (block n : ℕ) → IsGraph g → term_of g block ≡ Some (Jump n) → next_of g block ≡ Some n → Follows g (with_term g block Fall)
+
+-- A graph without an upper half whose register is dead behind it follows it.
+abbrev pub DropFollows : Type 0
+DropFollows = (g : Graph) (block at rd to : ℕ) → IsGraph g → slice_get (items_of g block) at ≡ Some (Hi rd to) → ¬ IsLive g rd (place_lines g block (at + 1)) → Follows g (replaced g block at 1 [])
+
+-- a jump by an upper half as one of a single word: a Call, or a Jump where the link is x0
+abbrev pub hastened : ℕ → ℕ → Term
+hastened zero to = Jump to
+hastened (suc link) to = Call (suc link) to
+
+-- A graph in which a PartJump became a Call, or a Jump where its link is x0, follows it.
+abbrev pub HastenFollows : Type 0
+HastenFollows = (g : Graph) (block link part to : ℕ) → IsGraph g → term_of g block ≡ Some (PartJump link part to) → Follows g (with_term g block (hastened link to))

@@ -2,11 +2,12 @@
 //!
 //! To the layers above it promises that two runs of one graph which agree on memory and on the registers
 //! that are live go on to agree: what is dead may differ, and what the first run has lost may be anything; and
-//! that a graph follows it in which a block is split, or a Jump to the next slot became Fall.
+//! that four operations on graphs keep runs: a split, a Jump to the next slot that becomes Fall, a dead upper
+//! half that goes, and a jump by an upper half that becomes a Call or a Jump.
 #![tactic(auto)]
 
 ghost use Rattle.sq_patch.specs.LiveAgreement.{StepsAgree, PlacesMakeTargets};
-ghost use Rattle.sq_patch.specs.Operations.{SplitFollows, FallFollows};
+ghost use Rattle.sq_patch.specs.Operations.{SplitFollows, FallFollows, DropFollows, HastenFollows};
 
 /// From states that agree on what is live, a graph steps to such states again, with the same event or to the
 /// same end.
@@ -27,4 +28,14 @@ pub fn split_keeps_runs()
 /// A graph in which a Jump to the next slot became Fall follows it.
 pub fn fall_keeps_runs()
     ensures { FallFollows }
+{}
+
+/// A graph without an upper half whose register is dead behind it follows it.
+pub fn drop_keeps_runs()
+    ensures { DropFollows }
+{}
+
+/// A graph in which a jump by an upper half became a Call, or a Jump where its link is x0, follows it.
+pub fn hasten_keeps_runs()
+    ensures { HastenFollows }
 {}
