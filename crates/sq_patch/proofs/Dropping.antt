@@ -76,12 +76,12 @@ module _ (g : Graph) (block at rd to : ℕ) (rules : IsGraph g) (there : slice_g
   h = replaced g block at 1 []
 
   abbrev C : Change
-  C = staying every (live g) g h
+  C = staying every (live g) (Unit {0}) g h
 
   turned : IsTurned every g block dropping dropped
   turned = record { head = λ b bs. refl; through = λ m b bs k. items_unnamed m (replaced_items b.items at 1 []) (term_lines b.term (lines_of bs)) ∙ term_unnamed m b.term (lines_of bs) }
 
-  drops_alike : Turns every (live g) g known (live_carrier g) rules block dropping dropped turned
+  drops_alike : Turns every (live g) (Unit {0}) g known (live_carrier g) rules block dropping dropped turned
   drops_alike f front x bs e i =
       let d : HasDistinctKeys (named (front ++ (x ∷ bs))) = subst (λ blocks. HasDistinctKeys (named blocks)) (sym e) rules.distinct in
       let absent = absent_from front x bs d in
@@ -91,21 +91,21 @@ module _ (g : Graph) (block at rd to : ℕ) (rules : IsGraph g) (there : slice_g
       let rest : List Line = term_lines x.term (lines_of bs) in
       let behind_is : place_lines g block (at + 1) ≡ map line_of (drop (at + 1) x.items) ++ rest = ap (drop (at + 1)) lines_are ∙ behind_one x.items at (Hi rd to) rest here_is in
       let dead' : ¬ IsLive g rd (map line_of (drop (at + 1) x.items) ++ rest) = subst (λ lines. ¬ IsLive g rd lines) behind_is dead in
-      let here : AreBlocks every (live g) g known rules h refl (x ∷ bs) = λ y c. subst (λ blocks. Contains blocks y) e (in_tail front (x ∷ bs) y c) in
+      let here : AreBlocks every (live g) (Unit {0}) g known rules h refl (x ∷ bs) = λ y c. subst (λ blocks. Contains blocks y) e (in_tail front (x ∷ bs) y c) in
       let m : MakeTargets g (lines_of (x ∷ bs)) = tail_made g front (x ∷ bs) (subst (λ blocks. MakeTargets g (lines_of blocks)) (sym e) (lines_make g)) in
       let c = here x (contains_first x bs) in
-      let u : AreBlocks every (live g) g known rules h refl bs = λ y k. here y (contains_later x y bs k) in
-      let all = items_in every (live g) g known rules h refl x bs c m in
+      let u : AreBlocks every (live g) (Unit {0}) g known rules h refl bs = λ y k. here y (contains_later x y bs k) in
+      let all = items_in every (live g) (Unit {0}) g known rules h refl x bs c m in
       let behind : Alike C f None rest rest =
-      term_keep every (live g) g known rules h refl x (lines_of bs) (lines_of bs) c (slot_in every (live g) g known rules h refl bs u) (items_made every (live g) g known rules h refl x.items rest m).1 refl (same_lines every (live g) g known rules h refl bs u (behind_made every (live g) g known rules h refl x bs m)) in
+      term_keep every (live g) (Unit {0}) g known rules h refl x (lines_of bs) (lines_of bs) c (slot_in every (live g) (Unit {0}) g known rules h refl bs u) (items_made every (live g) (Unit {0}) g known rules h refl x.items rest m).1 refl (same_lines every (live g) (Unit {0}) g known rules h refl bs u (behind_made every (live g) (Unit {0}) g known rules h refl x bs m)) in
       let second : Alike C f None (map line_of (drop (at + 1) x.items) ++ rest) (map line_of (drop (at + 1) x.items) ++ rest) =
-      items_keep every (live g) g known rules h refl (drop (at + 1) x.items) rest rest (λ item k. all item (drop_in x.items (at + 1) item k)) behind in
+      items_keep every (live g) (Unit {0}) g known rules h refl (drop (at + 1) x.items) rest rest (λ item k. all item (drop_in x.items (at + 1) item k)) behind in
       let hi : Alike C f None (line_of (Hi rd to) ∷ (map line_of (drop (at + 1) x.items) ++ rest)) (map line_of (drop (at + 1) x.items) ++ rest) =
       dead_before refl (λ r l. unwritten g rd r (map line_of (drop (at + 1) x.items) ++ rest) dead' l) second in
       let first : Alike C f None (map line_of (take at x.items) ++ (line_of (Hi rd to) ∷ (map line_of (drop (at + 1) x.items) ++ rest))) (map line_of (take at x.items) ++ (map line_of (drop (at + 1) x.items) ++ rest)) =
-      items_keep every (live g) g known rules h refl (take at x.items) (line_of (Hi rd to) ∷ (map line_of (drop (at + 1) x.items) ++ rest)) (map line_of (drop (at + 1) x.items) ++ rest) (λ item k. all item (take_in x.items at item k)) hi in
+      items_keep every (live g) (Unit {0}) g known rules h refl (take at x.items) (line_of (Hi rd to) ∷ (map line_of (drop (at + 1) x.items) ++ rest)) (map line_of (drop (at + 1) x.items) ++ rest) (λ item k. all item (take_in x.items at item k)) hi in
       subst (λ lines. Alike C f None lines (dropped x (lines_of bs))) (sym (one_among x.items at (Hi rd to) rest here_is))
       (subst (λ lines. Alike C f None (map line_of (take at x.items) ++ (line_of (Hi rd to) ∷ (map line_of (drop (at + 1) x.items) ++ rest))) lines) (sym (without_one x.items at rest)) first)
 
   pub drop_follows : Follows g h
-  drop_follows = turned_follows every (live g) g known (live_carrier g) rules block dropping dropped turned drops_alike
+  drop_follows = turned_follows every (live g) (Unit {0}) g known (live_carrier g) rules block dropping dropped turned drops_alike

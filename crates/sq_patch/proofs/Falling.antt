@@ -79,7 +79,7 @@ module _ (g : Graph) (block n : ℕ) (rules : IsGraph g) (jumps : term_of g bloc
       sym (ap first_key rest) ∙ slot
 
   abbrev C : Change
-  C = staying every all_matter g h
+  C = staying every all_matter (Unit {0}) g h
 
   -- the slot behind the block goes on like what its name leads to
   slot_goes : {f : Bool} (front : List Block) (x : Block) (bs : List Block) → front ++ (x ∷ bs) ≡ g.blocks → first_key (named bs) ≡ Some n → Alike C f None (block_lines g n) (lines_of bs)
@@ -89,19 +89,19 @@ module _ (g : Graph) (block n : ℕ) (rules : IsGraph g) (jumps : term_of g bloc
       let e' : (front ++ x ∷ []) ++ (b ∷ bs) ≡ g.blocks = ahead front x (b ∷ bs) ∙ e in
       let d : HasDistinctKeys (named ((front ++ x ∷ []) ++ (b ∷ bs))) = subst (λ blocks. HasDistinctKeys (named blocks)) (sym e') rules.distinct in
       let at : block_lines g n ≡ body_lines b (lines_of bs) = subst (λ m. behind_name m (lines_of g.blocks) ≡ body_lines b (lines_of bs)) same (subst (λ blocks. behind_name b.name (lines_of blocks) ≡ body_lines b (lines_of bs)) e' (name_at (front ++ x ∷ []) b bs (absent_from (front ++ x ∷ []) b bs d))) in
-      let here : AreBlocks every all_matter g known rules h refl (b ∷ bs) = λ y c. subst (λ blocks. Contains blocks y) e' (in_tail (front ++ x ∷ []) (b ∷ bs) y c) in
+      let here : AreBlocks every all_matter (Unit {0}) g known rules h refl (b ∷ bs) = λ y c. subst (λ blocks. Contains blocks y) e' (in_tail (front ++ x ∷ []) (b ∷ bs) y c) in
       let m : MakeTargets g (lines_of (b ∷ bs)) = tail_made g (front ++ x ∷ []) (b ∷ bs) (subst (λ blocks. MakeTargets g (lines_of blocks)) (sym e') (lines_make g)) in
       let kept : Alike C f None (body_lines b (lines_of bs)) (body_lines b (lines_of bs)) =
-      body_keep every all_matter g known rules h refl b bs bs here m refl (same_lines every all_matter g known rules h refl bs (λ y c. here y (contains_later b y bs c)) (behind_made every all_matter g known rules h refl b bs m)) in
+      body_keep every all_matter (Unit {0}) g known rules h refl b bs bs here m refl (same_lines every all_matter (Unit {0}) g known rules h refl bs (λ y c. here y (contains_later b y bs c)) (behind_made every all_matter (Unit {0}) g known rules h refl b bs m)) in
       subst (λ lines. Alike C f None lines (lines_of (b ∷ bs))) (sym at) (name_after kept)
 
-  falls_alike : Turns every all_matter g known (every_carrier g) rules block falling bare turned
+  falls_alike : Turns every all_matter (Unit {0}) g known (every_carrier g) rules block falling bare turned
   falls_alike f front x bs e i =
-      let here : AreBlocks every all_matter g known rules h refl (x ∷ bs) = λ y c. subst (λ blocks. Contains blocks y) e (in_tail front (x ∷ bs) y c) in
+      let here : AreBlocks every all_matter (Unit {0}) g known rules h refl (x ∷ bs) = λ y c. subst (λ blocks. Contains blocks y) e (in_tail front (x ∷ bs) y c) in
       let m : MakeTargets g (lines_of (x ∷ bs)) = tail_made g front (x ∷ bs) (subst (λ blocks. MakeTargets g (lines_of blocks)) (sym e) (lines_make g)) in
       let jump : Alike C f None (End (Jump n) ∷ lines_of bs) (lines_of bs) = jump_before (slot_goes front x bs e (next_is front x bs e i)) in
       let ended : Alike C f None (term_lines x.term (lines_of bs)) (lines_of bs) = subst (λ t. Alike C f None (term_lines t (lines_of bs)) (lines_of bs)) (sym (term_is front x bs e i)) jump in
-      items_keep every all_matter g known rules h refl x.items (term_lines x.term (lines_of bs)) (lines_of bs) (items_in every all_matter g known rules h refl x bs (here x (contains_first x bs)) m) ended
+      items_keep every all_matter (Unit {0}) g known rules h refl x.items (term_lines x.term (lines_of bs)) (lines_of bs) (items_in every all_matter (Unit {0}) g known rules h refl x bs (here x (contains_first x bs)) m) ended
 
   pub fall_follows : Follows g h
-  fall_follows = turned_follows every all_matter g known (every_carrier g) rules block falling bare turned falls_alike
+  fall_follows = turned_follows every all_matter (Unit {0}) g known (every_carrier g) rules block falling bare turned falls_alike

@@ -39,7 +39,7 @@ module _ (g : Graph) (block link part to : ℕ) (rules : IsGraph g) (jumps : ter
   h = with_term g block (hastened link to)
 
   abbrev C : Change
-  C = staying every all_matter g h
+  C = staying every all_matter (Unit {0}) g h
 
   turned : IsTurned every g block (shorter link to) (shortened link to)
   turned = record { head = short_head link to; through = λ m b bs k. items_unnamed m b.items (End (hastened link to) ∷ lines_of bs) }
@@ -48,19 +48,19 @@ module _ (g : Graph) (block link part to : ℕ) (rules : IsGraph g) (jumps : ter
   meets zero xs ys s = both_jumped part to to (refl, tt)
   meets (suc l) xs ys s = both_hastened (suc l) part to to (refl, tt) s
 
-  hastens_alike : Turns every all_matter g known (every_carrier g) rules block (shorter link to) (shortened link to) turned
+  hastens_alike : Turns every all_matter (Unit {0}) g known (every_carrier g) rules block (shorter link to) (shortened link to) turned
   hastens_alike f front x bs e i =
       let d : HasDistinctKeys (named (front ++ (x ∷ bs))) = subst (λ blocks. HasDistinctKeys (named blocks)) (sym e) rules.distinct in
       let found : value_of (named g.blocks) block ≡ Some x = subst (λ name. value_of (named g.blocks) name ≡ Some x) i (subst (λ blocks. value_of (named blocks) x.name ≡ Some x) e (found_at front x bs (absent_from front x bs d))) in
       let term_is : x.term ≡ PartJump link part to = let k : Some x.term ≡ Some (PartJump link part to) = sym (ap block_term found) ∙ jumps in cc in
-      let here : AreBlocks every all_matter g known rules h refl (x ∷ bs) = λ y c. subst (λ blocks. Contains blocks y) e (in_tail front (x ∷ bs) y c) in
+      let here : AreBlocks every all_matter (Unit {0}) g known rules h refl (x ∷ bs) = λ y c. subst (λ blocks. Contains blocks y) e (in_tail front (x ∷ bs) y c) in
       let m : MakeTargets g (lines_of (x ∷ bs)) = tail_made g front (x ∷ bs) (subst (λ blocks. MakeTargets g (lines_of blocks)) (sym e) (lines_make g)) in
-      let made : MakeTargets g (term_lines (PartJump link part to) (lines_of bs)) = subst (λ t. MakeTargets g (term_lines t (lines_of bs))) term_is (items_made every all_matter g known rules h refl x.items (term_lines x.term (lines_of bs)) m).1 in
-      let slot = slot_in every all_matter g known rules h refl bs (λ y c. here y (contains_later x y bs c)) in
+      let made : MakeTargets g (term_lines (PartJump link part to) (lines_of bs)) = subst (λ t. MakeTargets g (term_lines t (lines_of bs))) term_is (items_made every all_matter (Unit {0}) g known rules h refl x.items (term_lines x.term (lines_of bs)) m).1 in
+      let slot = slot_in every all_matter (Unit {0}) g known rules h refl bs (λ y c. here y (contains_later x y bs c)) in
       let ended : Alike C f None (term_lines x.term (lines_of bs)) (End (hastened link to) ∷ lines_of bs) =
       subst (λ t. Alike C f None (term_lines t (lines_of bs)) (End (hastened link to) ∷ lines_of bs)) (sym term_is)
-      (meets link (lines_of bs) (lines_of bs) (λ l. slots every all_matter g h refl (slot_name (lines_of bs)) (slot_name (lines_of bs)) refl slot (made.0 l))) in
-      items_keep every all_matter g known rules h refl x.items (term_lines x.term (lines_of bs)) (End (hastened link to) ∷ lines_of bs) (items_in every all_matter g known rules h refl x bs (here x (contains_first x bs)) m) ended
+      (meets link (lines_of bs) (lines_of bs) (λ l. slots every all_matter (Unit {0}) g h refl (slot_name (lines_of bs)) (slot_name (lines_of bs)) refl slot (made.0 l))) in
+      items_keep every all_matter (Unit {0}) g known rules h refl x.items (term_lines x.term (lines_of bs)) (End (hastened link to) ∷ lines_of bs) (items_in every all_matter (Unit {0}) g known rules h refl x bs (here x (contains_first x bs)) m) ended
 
   pub hasten_follows : Follows g h
-  hasten_follows = turned_follows every all_matter g known (every_carrier g) rules block (shorter link to) (shortened link to) turned hastens_alike
+  hasten_follows = turned_follows every all_matter (Unit {0}) g known (every_carrier g) rules block (shorter link to) (shortened link to) turned hastens_alike

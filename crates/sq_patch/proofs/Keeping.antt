@@ -24,9 +24,9 @@ pub no_stands : NoMode → ℕ → ℕ → Type 0
 no_stands m = elim m [ ]
 
 -- A change in which names and registers stay: the names of K may be gone to, and code targets among them may be held.
--- X has the registers that matter.
-abbrev pub staying : (ℕ → Type 0) → (List Line → ℕ → Type 0) → Graph → Graph → Change
-staying K X g h = record {
+-- X has the registers that matter, and Z is what makes less be live afterwards.
+abbrev pub staying : (ℕ → Type 0) → (List Line → ℕ → Type 0) → Type 0 → Graph → Graph → Change
+staying K X Z g h = record {
   before = g;
   after = h;
   MayHold = λ n m. (m ≡ n) × (K n × Contains (code_targets g) n);
@@ -35,7 +35,7 @@ staying K X g h = record {
   Matters = X;
   Mode = NoMode;
   StandsIn = no_stands;
-  Sound = Unit {0};
+  Sound = Z;
 }
 
 -- every register
@@ -45,9 +45,9 @@ all_matter lines r = Unit {0}
 pub every_carrier : (g : Graph) → IsCarrier g all_matter
 every_carrier g = record { read = λ line rest r e. tt; kept = λ line rest next r e go x. tt }
 
-module _ (K : ℕ → Type 0) (X : List Line → ℕ → Type 0) (g h : Graph) (same : h.procedures ≡ g.procedures) where
+module _ (K : ℕ → Type 0) (X : List Line → ℕ → Type 0) (Z : Type 0) (g h : Graph) (same : h.procedures ≡ g.procedures) where
   abbrev pub C : Change
-  C = staying K X g h
+  C = staying K X Z g h
 
   -- the names of a line are in K, and what it calls is there
   abbrev pub HalfIn : AddressHalf → Type 0

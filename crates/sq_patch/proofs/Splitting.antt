@@ -66,22 +66,22 @@ module _ (g : Graph) (new block at : ℕ) (rules : IsGraph g) (fresh : IsNew g n
   abbrev h : Graph
   h = split_at g new block at
 
-  halves_keep : Turns Old all_matter g old (every_carrier g) rules block (halves new at) halved turned
+  halves_keep : Turns Old all_matter (Unit {0}) g old (every_carrier g) rules block (halves new at) halved turned
   halves_keep f front b bs e i =
-      let here : AreBlocks Old all_matter g old rules h refl (b ∷ bs) = λ x d. subst (λ blocks. Contains blocks x) e (in_tail front (b ∷ bs) x d) in
+      let here : AreBlocks Old all_matter (Unit {0}) g old rules h refl (b ∷ bs) = λ x d. subst (λ blocks. Contains blocks x) e (in_tail front (b ∷ bs) x d) in
       let m : MakeTargets g (lines_of (b ∷ bs)) = tail_made g front (b ∷ bs) (subst (λ blocks. MakeTargets g (lines_of blocks)) (sym e) (lines_make g)) in
-      let u : AreBlocks Old all_matter g old rules h refl bs = λ x d. here x (contains_later b x bs d) in
+      let u : AreBlocks Old all_matter (Unit {0}) g old rules h refl bs = λ x d. here x (contains_later b x bs d) in
       let c = here b (contains_first b bs) in
-      let all = items_in Old all_matter g old rules h refl b bs c m in
+      let all = items_in Old all_matter (Unit {0}) g old rules h refl b bs c m in
       let rest : List Line = term_lines b.term (lines_of bs) in
-      let C : Change = staying Old all_matter g h in
+      let C : Change = staying Old all_matter (Unit {0}) g h in
       let behind : Alike C f None rest rest =
-      term_keep Old all_matter g old rules h refl b (lines_of bs) (lines_of bs) c (slot_in Old all_matter g old rules h refl bs u) (items_made Old all_matter g old rules h refl b.items rest m).1 refl (same_lines Old all_matter g old rules h refl bs u (behind_made Old all_matter g old rules h refl b bs m)) in
+      term_keep Old all_matter (Unit {0}) g old rules h refl b (lines_of bs) (lines_of bs) c (slot_in Old all_matter (Unit {0}) g old rules h refl bs u) (items_made Old all_matter (Unit {0}) g old rules h refl b.items rest m).1 refl (same_lines Old all_matter (Unit {0}) g old rules h refl bs u (behind_made Old all_matter (Unit {0}) g old rules h refl b bs m)) in
       let second : Alike C f None (map line_of (drop at b.items) ++ rest) (map line_of (drop at b.items) ++ rest) =
-      items_keep Old all_matter g old rules h refl (drop at b.items) rest rest (λ item d. all item (drop_in b.items at item d)) behind in
+      items_keep Old all_matter (Unit {0}) g old rules h refl (drop at b.items) rest rest (λ item d. all item (drop_in b.items at item d)) behind in
       let first : Alike C f None (map line_of (take at b.items) ++ (map line_of (drop at b.items) ++ rest)) (halved b (lines_of bs)) =
-      items_keep Old all_matter g old rules h refl (take at b.items) (map line_of (drop at b.items) ++ rest) (Name new ∷ (map line_of (drop at b.items) ++ rest)) (λ item d. all item (take_in b.items at item d)) (name_after second) in
+      items_keep Old all_matter (Unit {0}) g old rules h refl (take at b.items) (map line_of (drop at b.items) ++ rest) (Name new ∷ (map line_of (drop at b.items) ++ rest)) (λ item d. all item (take_in b.items at item d)) (name_after second) in
       subst (λ lines. Alike C f None lines (halved b (lines_of bs))) (sym (map_parts b.items at rest)) first
 
   pub split_follows : Follows g h
-  split_follows = turned_follows Old all_matter g old (every_carrier g) rules block (halves new at) halved turned halves_keep
+  split_follows = turned_follows Old all_matter (Unit {0}) g old (every_carrier g) rules block (halves new at) halved turned halves_keep

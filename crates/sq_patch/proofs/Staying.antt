@@ -74,9 +74,9 @@ made_term g (Stop word) rest m = m.1
 pub made_behind : (g : Graph) (items : List Item) (t : Term) (rest : List Line) → MakeTargets g (map line_of items ++ term_lines t rest) → MakeTargets g rest
 made_behind g items t rest m = made_term g t rest (made_items g items (term_lines t rest) m)
 
-module _ (K : ℕ → Type 0) (X : List Line → ℕ → Type 0) (g : Graph) (known : (n : ℕ) → HasBlock g n → K n) (rules : IsGraph g) (h : Graph) (same : h.procedures ≡ g.procedures) where
+module _ (K : ℕ → Type 0) (X : List Line → ℕ → Type 0) (Z : Type 0) (g : Graph) (known : (n : ℕ) → HasBlock g n → K n) (rules : IsGraph g) (h : Graph) (same : h.procedures ≡ g.procedures) where
   abbrev pub C : Change
-  C = staying K X g h
+  C = staying K X Z g h
 
   abbrev pub AreOf : (Item → Type 0) → List Item → Type 0
   AreOf Q items = (item : Item) → Contains items item → Q item
@@ -92,19 +92,19 @@ module _ (K : ℕ → Type 0) (X : List Line → ℕ → Type 0) (g : Graph) (kn
   ItemIn (Op insn) = Unit {0}
   ItemIn (Hi rd to) = Unit {0}
   ItemIn (Lo rd rs to) = K to × Contains (code_targets g) to
-  ItemIn (Out q) = IsThere K X g h same q
+  ItemIn (Out q) = IsThere K X Z g h same q
 
   later_items : (Q : Item → Type 0) (item : Item) (items : List Item) → AreOf Q (item ∷ items) → AreOf Q items
   later_items Q item items f i c = f i (contains_later item i items c)
 
   pub items_keep : {b : Bool} (items : List Item) (xs ys : List Line) → AreOf ItemIn items → Alike C b None xs ys → Alike C b None (map line_of items ++ xs) (map line_of items ++ ys)
   items_keep [] xs ys f p = p
-  items_keep (Op insn ∷ items) xs ys f p = keep_do K X g h same Plain insn tt tt (items_keep items xs ys (later_items ItemIn (Op insn) items f) (lift K X g h same p))
-  items_keep (Hi rd to ∷ items) xs ys f p = keep_do K X g h same (Upper to None) (Lui rd 0) refl tt (items_keep items xs ys (later_items ItemIn (Hi rd to) items f) (lift K X g h same p))
+  items_keep (Op insn ∷ items) xs ys f p = keep_do K X Z g h same Plain insn tt tt (items_keep items xs ys (later_items ItemIn (Op insn) items f) (lift K X Z g h same p))
+  items_keep (Hi rd to ∷ items) xs ys f p = keep_do K X Z g h same (Upper to None) (Lui rd 0) refl tt (items_keep items xs ys (later_items ItemIn (Hi rd to) items f) (lift K X Z g h same p))
   items_keep (Lo rd rs to ∷ items) xs ys f p =
       let k = f (Lo rd rs to) (contains_first (Lo rd rs to) items) in
-      keep_do K X g h same (Lower to) (OpImm Addi rd rs (pos 0)) k.0 k.1 (items_keep items xs ys (later_items ItemIn (Lo rd rs to) items f) (lift K X g h same p))
-  items_keep (Out q ∷ items) xs ys f p = keep_enter K X g h same q (f (Out q) (contains_first (Out q) items)) (items_keep items xs ys (later_items ItemIn (Out q) items f) (lift K X g h same p))
+      keep_do K X Z g h same (Lower to) (OpImm Addi rd rs (pos 0)) k.0 k.1 (items_keep items xs ys (later_items ItemIn (Lo rd rs to) items f) (lift K X Z g h same p))
+  items_keep (Out q ∷ items) xs ys f p = keep_enter K X Z g h same q (f (Out q) (contains_first (Out q) items)) (items_keep items xs ys (later_items ItemIn (Out q) items f) (lift K X Z g h same p))
 
   cons_made : (item : Item) (items : List Item) → ItemMakes item → AreOf ItemMakes items → AreOf ItemMakes (item ∷ items)
   cons_made item items m f other (zero, l, e) = subst ItemMakes e m
@@ -119,7 +119,7 @@ module _ (K : ℕ → Type 0) (X : List Line → ℕ → Type 0) (g : Graph) (kn
   items_made (Out q ∷ items) rest m = let t = items_made items rest m in (cons_made (Out q) items tt t.0, t.1)
 
   -- the items of a body, which are no calls
-  body_in : (item : Item) → Contains (all_items g) item → item_calls item ≡ [] → ItemMakes item → ItemIn item
+  pub body_in : (item : Item) → Contains (all_items g) item → item_calls item ≡ [] → ItemMakes item → ItemIn item
   body_in (Op insn) c n m = tt
   body_in (Hi rd to) c n m = tt
   body_in (Lo rd rs to) c n m = (known to (item_used g rules (Lo rd rs to) to c (contains_first to [])), m)
@@ -132,7 +132,7 @@ module _ (K : ℕ → Type 0) (X : List Line → ℕ → Type 0) (g : Graph) (kn
       items_keep p.body (Return p.link ∷ xs) (Return p.link ∷ ys)
       (λ item c. body_in item (body_item g rules p item there c) (body_calls_none g rules p item there c) (made.0 item c)) (both_return k)
 
-  called_there : (q : ℕ) → HasProcedure g q → IsThere K X g h same q
+  called_there : (q : ℕ) → HasProcedure g q → IsThere K X Z g h same q
   called_there q l = let p = slice_there g.procedures q l in (p.0, (p.1, inside_keeps q p.0 p.1))
 
   -- the items of a block
@@ -142,17 +142,17 @@ module _ (K : ℕ → Type 0) (X : List Line → ℕ → Type 0) (g : Graph) (kn
   block_in (Lo rd rs to) c m = (known to (item_used g rules (Lo rd rs to) to c (contains_first to [])), m)
   block_in (Out q) c m = called_there q (item_called g rules (Out q) q c (contains_first q []))
 
-  term_kept : {b : Bool} (t : Term) (xs ys : List Line) → ((n : ℕ) → Contains (term_uses t) n → K n) → SlotIn K X g h same (slot_name xs) → MakeTargets g (term_lines t xs) → slot_name ys ≡ slot_name xs → Alike C b None xs ys → Alike C b None (term_lines t xs) (term_lines t ys)
+  term_kept : {b : Bool} (t : Term) (xs ys : List Line) → ((n : ℕ) → Contains (term_uses t) n → K n) → SlotIn K X Z g h same (slot_name xs) → MakeTargets g (term_lines t xs) → slot_name ys ≡ slot_name xs → Alike C b None xs ys → Alike C b None (term_lines t xs) (term_lines t ys)
   term_kept Fall xs ys f k m e p = p
-  term_kept (Jump to) xs ys f k m e p = keep_term K X g h same (Jump to) (f to (contains_first to [])) (λ l. k) m.0 e (lift K X g h same p)
-  term_kept (Branch cond x y to) xs ys f k m e p = keep_term K X g h same (Branch cond x y to) (f to (contains_first to [])) (λ l. k) m.0 e (lift K X g h same p)
-  term_kept (Call link to) xs ys f k m e p = keep_term K X g h same (Call link to) (f to (contains_first to [])) (λ l. k) m.0 e (lift K X g h same p)
-  term_kept (PartJump link part to) xs ys f k m e p = keep_term K X g h same (PartJump link part to) (f to (contains_first to [])) (λ l. k) m.0 e (lift K X g h same p)
-  term_kept (Indirect link at offset) xs ys f k m e p = keep_term K X g h same (Indirect link at offset) tt (λ l. k) m.0 e (lift K X g h same p)
-  term_kept (Stop word) xs ys f k m e p = keep_term K X g h same (Stop word) tt (λ l. k) m.0 e (lift K X g h same p)
+  term_kept (Jump to) xs ys f k m e p = keep_term K X Z g h same (Jump to) (f to (contains_first to [])) (λ l. k) m.0 e (lift K X Z g h same p)
+  term_kept (Branch cond x y to) xs ys f k m e p = keep_term K X Z g h same (Branch cond x y to) (f to (contains_first to [])) (λ l. k) m.0 e (lift K X Z g h same p)
+  term_kept (Call link to) xs ys f k m e p = keep_term K X Z g h same (Call link to) (f to (contains_first to [])) (λ l. k) m.0 e (lift K X Z g h same p)
+  term_kept (PartJump link part to) xs ys f k m e p = keep_term K X Z g h same (PartJump link part to) (f to (contains_first to [])) (λ l. k) m.0 e (lift K X Z g h same p)
+  term_kept (Indirect link at offset) xs ys f k m e p = keep_term K X Z g h same (Indirect link at offset) tt (λ l. k) m.0 e (lift K X Z g h same p)
+  term_kept (Stop word) xs ys f k m e p = keep_term K X Z g h same (Stop word) tt (λ l. k) m.0 e (lift K X Z g h same p)
 
   -- the term of a block
-  pub term_keep : {b : Bool} (x : Block) (xs ys : List Line) → Contains g.blocks x → SlotIn K X g h same (slot_name xs) → MakeTargets g (term_lines x.term xs) → slot_name ys ≡ slot_name xs → Alike C b None xs ys → Alike C b None (term_lines x.term xs) (term_lines x.term ys)
+  pub term_keep : {b : Bool} (x : Block) (xs ys : List Line) → Contains g.blocks x → SlotIn K X Z g h same (slot_name xs) → MakeTargets g (term_lines x.term xs) → slot_name ys ≡ slot_name xs → Alike C b None xs ys → Alike C b None (term_lines x.term xs) (term_lines x.term ys)
   term_keep {b = b} x xs ys c k m e p = term_kept x.term xs ys (λ n d. known n (term_used g rules x n c d)) k m e p
 
   -- the lines of a block
@@ -162,7 +162,7 @@ module _ (K : ℕ → Type 0) (X : List Line → ℕ → Type 0) (g : Graph) (kn
   block_name : (b : Block) → Contains g.blocks b → K b.name
   block_name b c = known b.name (named_there g.blocks b c)
 
-  pub slot_in : (bs : List Block) → AreBlocks bs → SlotIn K X g h same (slot_name (lines_of bs))
+  pub slot_in : (bs : List Block) → AreBlocks bs → SlotIn K X Z g h same (slot_name (lines_of bs))
   slot_in [] f = tt
   slot_in (b ∷ bs) f = block_name b (f b (contains_first b bs))
 
