@@ -26,7 +26,7 @@ use Rattle.sq_patch.proofs.Changing.{IsTurned, Turns, turned_follows, in_tail, t
 use Rattle.sq_patch.proofs.Used.{contains_first, contains_later}
 
 -- the lines of items with one among them
-one_among : (items : List Item) (at : ℕ) (item : Item) (rest : List Line) → slice_get items at ≡ Some item → map line_of items ++ rest ≡ map line_of (take at items) ++ (line_of item ∷ (map line_of (drop (at + 1) items) ++ rest))
+pub one_among : (items : List Item) (at : ℕ) (item : Item) (rest : List Line) → slice_get items at ≡ Some item → map line_of items ++ rest ≡ map line_of (take at items) ++ (line_of item ∷ (map line_of (drop (at + 1) items) ++ rest))
 one_among [] at item rest e = absurd (cc)
 one_among (x ∷ items) zero item rest e = let same : x ≡ item = let f : Some x ≡ Some item = e in cc in ap (λ y. line_of y ∷ (map line_of items ++ rest)) same
 one_among (x ∷ items) (suc at) item rest e = let more : suc at + 1 ≡ suc (at + 1) = omega arith in rw more (ap (λ lines. line_of x ∷ lines) (one_among items at item rest e))

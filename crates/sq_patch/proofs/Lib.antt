@@ -16,3 +16,4 @@ mod Splitting
 mod Falling
 mod Dropping
 mod Hastening
+mod Inlining

@@ -1,12 +1,12 @@
 -- Operations on graphs that keep runs.
 use Rattle.std.specs.Prelude.{◌≡◌, ℕ, zero, suc, ◌+◌, [], Some, slice_get}
-use Rattle.sq_graph.specs.declared.item.Item.TheVariants.{Hi}
+use Rattle.sq_graph.specs.declared.item.Item.TheVariants.{Hi, Out}
 use Rattle.sq_graph.specs.declared.item.Term.{Term}
 use Rattle.sq_graph.specs.declared.item.Term.TheVariants.{Fall, Jump, Call, PartJump}
 use Rattle.sq_graph.specs.Graph.{Graph}
 use Rattle.sq_graph.specs.Blocks.{items_of, next_of, term_of}
 use Rattle.sq_graph.specs.Rules.{IsGraph}
-use Rattle.sq_graph.specs.Operations.{IsNew, split_at, replaced, with_term}
+use Rattle.sq_graph.specs.Operations.{IsNew, split_at, replaced, inlined, with_term}
 use Rattle.sq_graph.specs.Lines.{place_lines}
 use Rattle.sq_graph.specs.Walks.{IsLive}
 use Rattle.sq_follow.specs.Follows.{Follows}
@@ -31,3 +31,7 @@ hastened (suc link) to = Call (suc link) to
 -- A graph in which a PartJump became a Call, or a Jump where its link is x0, follows it.
 abbrev pub HastenFollows : Type 0
 HastenFollows = (g : Graph) (block link part to : ℕ) → IsGraph g → term_of g block ≡ Some (PartJump link part to) → Follows g (with_term g block (hastened link to))
+
+-- A graph in which the body of a procedure stands in place of a call of it follows it.
+abbrev pub InlineFollows : Type 0
+InlineFollows = (g : Graph) (block at procedure : ℕ) → IsGraph g → slice_get (items_of g block) at ≡ Some (Out procedure) → Follows g (inlined g block at)

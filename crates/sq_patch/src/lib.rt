@@ -2,12 +2,12 @@
 //!
 //! To the layers above it promises that two runs of one graph which agree on memory and on the registers
 //! that are live go on to agree: what is dead may differ, and what the first run has lost may be anything; and
-//! that four operations on graphs keep runs: a split, a Jump to the next slot that becomes Fall, a dead upper
-//! half that goes, and a jump by an upper half that becomes a Call or a Jump.
+//! that five operations on graphs keep runs: a split, a Jump to the next slot that becomes Fall, a dead upper
+//! half that goes, a jump by an upper half that becomes a Call or a Jump, and a body in place of its call.
 #![tactic(auto)]
 
 ghost use Rattle.sq_patch.specs.LiveAgreement.{StepsAgree, PlacesMakeTargets};
-ghost use Rattle.sq_patch.specs.Operations.{SplitFollows, FallFollows, DropFollows, HastenFollows};
+ghost use Rattle.sq_patch.specs.Operations.{SplitFollows, FallFollows, DropFollows, HastenFollows, InlineFollows};
 
 /// From states that agree on what is live, a graph steps to such states again, with the same event or to the
 /// same end.
@@ -38,4 +38,9 @@ pub fn drop_keeps_runs()
 /// A graph in which a jump by an upper half became a Call, or a Jump where its link is x0, follows it.
 pub fn hasten_keeps_runs()
     ensures { HastenFollows }
+{}
+
+/// A graph in which the body of a procedure stands in place of a call of it follows it.
+pub fn inline_keeps_runs()
+    ensures { InlineFollows }
 {}
