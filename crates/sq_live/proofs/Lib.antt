@@ -1,0 +1,6 @@
+pub mod Sequences
+pub mod Ahead
+pub mod Layouts
+pub mod Searches
+pub mod PlaceSets
+pub mod Exactness

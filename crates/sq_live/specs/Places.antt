@@ -1,0 +1,34 @@
+-- The sets before the places of blocks.
+use Rattle.std.specs.Prelude.{◌≡◌, ℕ, ◌<◌, ◌≤◌, ◌+◌, Bool, false, not, ◌||◌, ◌&&◌, List, [], ◌∷◌, Some, length, drop, slice_index, slice_get}
+use Rattle.sq_isa.specs.Registers.{is_member, is_among_but_x0}
+use Rattle.sq_graph.specs.declared.item.Item.{Item}
+use Rattle.sq_graph.specs.Graph.{Block}
+use Rattle.sq_graph.specs.Walks.{term_sources, term_link, is_register}
+use Rattle.sq_live.specs.declared.effect.Effect.{Effect}
+use Rattle.sq_live.specs.Effects.{before_items}
+use Rattle.sq_live.specs.Search.{list_at}
+
+-- whether one of these nodes has r in its set
+abbrev pub any_member : List ℕ → List ℕ → ℕ → Bool
+any_member nodes [] r = false
+any_member nodes (to ∷ list) r = is_member (slice_index nodes to) r || any_member nodes list r
+
+-- a set before each item, and one behind them
+pub record ArePlaces (calls : List Effect) (items : List Item) (behind : ℕ) (places : List ℕ) : Type 0 where
+  pub count : length places ≡ length items + 1
+  pub live : (k r : ℕ) → k ≤ length items → r < 32 → is_member (slice_index places k) r ≡ before_items calls (drop k items) (is_member behind r) r
+
+-- whether r is live before a term that leads to these nodes
+abbrev pub before_term : Block → List ℕ → List ℕ → ℕ → Bool
+before_term block nodes list r =
+    is_among_but_x0 (term_sources block.term) r || (not (is_register (term_link block.term) r) && any_member nodes list r)
+
+-- the places of a block that leads to these nodes
+pub record AreInBlock (calls : List Effect) (nodes list : List ℕ) (block : Block) (places : List ℕ) : Type 0 where
+  pub count : length places ≡ length block.items + 1
+  pub live : (k r : ℕ) → k ≤ length block.items → r < 32 → is_member (slice_index places k) r ≡ before_items calls (drop k block.items) (before_term block nodes list r) r
+
+-- Each block has its places.
+abbrev pub AreBlockPlaces : List Effect → List (List ℕ) → List ℕ → List Block → List (List ℕ) → Type 0
+AreBlockPlaces calls exits nodes blocks places =
+    (k : ℕ) (block : Block) → slice_get blocks k ≡ Some block → AreInBlock calls nodes (list_at exits k) block (list_at places k)

@@ -1,0 +1,76 @@
+//! The blocks of a graph by their positions in layout order.
+
+ghost use Rattle.std.specs.Prelude.{◌≡◌, ℕ, ◌+◌, IfOk, length, nat_eq};
+ghost use Rattle.std.specs.HashMap.{get};
+ghost use Rattle.sq_graph.specs.Parts.{names_of};
+ghost use Rattle.sq_graph.specs.Rules.{IsGraph};
+ghost use Rattle.sq_live.specs.Effects.{AreCalls, AreBlocks};
+ghost use Rattle.sq_live.specs.Exits.{position_in};
+
+use crate::effect::{Effect, items_effect, term_effect};
+use sq_graph::Graph;
+use sq_isa::RegSet;
+use sq_num::Memory;
+use std::alloc::Global;
+use std::collections::HashMap;
+
+/// The names of the blocks.
+pub(crate) fn block_names(alloc: Global, g: &Graph) -> Result<Vec<u32>, Memory>
+    requires { IsGraph g.now.graph }
+    ensures { IfOk result (λ names. names.items ≡ names_of g.now.graph) }
+{
+    let mut names = Vec::new(alloc);
+    let mut place = Some(g.first());
+    while let Some(name) = place {
+        names.push(name)?;
+        place = g.next(name);
+    }
+    Ok(names)
+}
+
+/// The position of each name.
+pub(crate) fn positions(alloc: Global, names: &[u32]) -> Result<HashMap<u32, usize>, Memory>
+    ensures { IfOk result (λ positions. (name : ℕ) → get nat_eq positions name ≡ position_in names.now 0 name) }
+{
+    let mut positions = HashMap::new(alloc);
+    for k in (0..names.len()).rev() {
+        positions.insert(names[k], k)?;
+    }
+    Ok(positions)
+}
+
+/// The effects of the calls of procedures: each writes its link, and then does its body.
+pub(crate) fn call_effects(alloc: Global, g: &Graph) -> Result<Vec<Effect>, Memory>
+    ensures { IfOk result (λ calls. AreCalls g.now.graph.procedures calls.items) }
+{
+    let mut calls = Vec::new(alloc);
+    for procedure in 0..g.procedures() {
+        let link = Effect {
+            reads: RegSet::new(),
+            writes: RegSet::new().with(g.link(procedure)),
+        };
+        calls.push(link.then(&items_effect(g.body(procedure), &[])))?;
+    }
+    Ok(calls)
+}
+
+/// The effects of the blocks, and that of no code behind them.
+pub(crate) fn block_effects(
+    alloc: Global,
+    g: &Graph,
+    names: &[u32],
+    calls: &[Effect],
+) -> Result<Vec<Effect>, Memory>
+    requires rules { IsGraph g.now.graph }
+    requires names { names.now ≡ names_of g.now.graph }
+    ensures effects { IfOk result (λ effects. AreBlocks calls.now g.now.graph.blocks effects.items) }
+    ensures count { IfOk result (λ effects. length effects.items ≡ length names.now + 1) }
+{
+    let mut effects = Vec::new(alloc);
+    for name in names {
+        let items = items_effect(g.items(*name), calls);
+        effects.push(items.then(&term_effect(g.term(*name))))?;
+    }
+    effects.push(Effect::none())?;
+    Ok(effects)
+}

@@ -1,0 +1,72 @@
+//! Which registers are live at each place.
+
+ghost use Rattle.std.specs.Prelude.{◌≡◌, ◌<◌, ◌≤◌, ◌↔◌, ◌==◌, ◌||◌, not, IfOk, IsTrue, length, slice_index};
+ghost use Rattle.sq_isa.specs.Registers.{is_member};
+ghost use Rattle.sq_graph.specs.Graph.{Graph as GraphParts};
+ghost use Rattle.sq_graph.specs.Blocks.{HasBlock, items_of};
+ghost use Rattle.sq_graph.specs.Lines.{place_lines};
+ghost use Rattle.sq_graph.specs.Walks.{IsLive};
+ghost use Rattle.sq_live.specs.Liveness.{IsLivenessOf, places_of};
+
+use crate::exits::exits;
+use crate::layout::{block_effects, block_names, call_effects, positions};
+use crate::places::block_places;
+use crate::search::live_sets;
+use sq_graph::Graph;
+use sq_isa::{Reg, RegSet};
+use sq_num::Memory;
+use std::alloc::Global;
+use std::collections::HashMap;
+use std::marker::Model;
+
+/// The live registers of a graph, which contracts see as each block's name with the sets before its places.
+#[derive(Drop)]
+pub struct Liveness {
+    positions: HashMap<u32, usize>,
+    // For each block in layout order the sets before its items, and last that before its term.
+    places: Vec<Vec<RegSet>>,
+}
+
+impl Model for Liveness {
+    ghost use Rattle.std.specs.Prelude.{ℕ, List};
+
+    ghost Value = { List (ℕ × List ℕ) };
+
+    ghost use Rattle.sq_live.specs.Shown.{shown};
+
+    ghost view = { shown };
+}
+
+impl Liveness {
+    /// Whether the register is dead at a place of a block: place i is before item i, and the last place is before
+    /// the term. x0 is dead everywhere.
+    pub fn dead_at(&self, block: u32, place: u32, r: Reg) -> bool
+        requires { place < length (places_of self.now block) }
+        ensures value { result ≡ (r == 0 || not (is_member (slice_index (places_of self.now block) place) r)) }
+        ensures dead { (g : GraphParts) → IsLivenessOf g self.now → HasBlock g block → place ≤ length (items_of g block) → (IsTrue result ↔ ¬ IsLive g r (place_lines g block place)) }
+    {
+        match self.positions.get(&block) {
+            Some(position) => {
+                let set = self.places[*position][place as usize];
+                r.number() == 0 || !set.has(r)
+            }
+            None => unreachable!(),
+        }
+    }
+}
+
+/// The live registers of a graph.
+pub fn live(alloc: Global, g: &Graph) -> Result<Liveness, Memory>
+    ensures { IfOk result (IsLivenessOf g.now.graph) }
+{
+    // Its contract has the rules of the graph.
+    let _entry = g.entry();
+    let names = block_names(alloc, g)?;
+    let positions = positions(alloc, &names)?;
+    let calls = call_effects(alloc, g)?;
+    let effects = block_effects(alloc, g, &names, &calls)?;
+    let exits = exits(alloc, g, &names, &positions)?;
+    let nodes = live_sets(alloc, &effects, &exits)?;
+    let places = block_places(alloc, g, &names, &calls, &exits, &nodes)?;
+    Ok(Liveness { positions, places })
+}
