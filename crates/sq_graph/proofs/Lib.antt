@@ -23,3 +23,4 @@ pub mod FromParts
 pub mod BlockMoves
 pub mod MoveShows
 pub mod LinkReads
+pub mod Bypassing
