@@ -24,3 +24,4 @@ pub mod BlockMoves
 pub mod MoveShows
 pub mod LinkReads
 pub mod Bypassing
+pub mod Joining
