@@ -103,6 +103,13 @@ falls_on (Stop word) fall = absurd (cc)
 pub bare_falls : (b : Block) → is_bare b ≡ true → is_fall b.term ≡ true
 bare_falls b bare = (and_parts (has_no_items b.items) (is_fall b.term) bare).1
 
+no_items : (is : List Item) → has_no_items is ≡ true → is ≡ []
+no_items [] none = refl
+no_items (item ∷ is) none = absurd (cc)
+
+pub bare_items : (b : Block) → is_bare b ≡ true → b.items ≡ []
+bare_items b bare = no_items b.items (and_parts (has_no_items b.items) (is_fall b.term) bare).0
+
 pub ends_tail : (b : Block) (rest : List Block) → last_goes_on (b ∷ rest) ≡ false → last_goes_on rest ≡ false
 ends_tail b [] ends = refl
 ends_tail b (next ∷ rest) ends = ends

@@ -25,3 +25,6 @@ pub mod MoveShows
 pub mod LinkReads
 pub mod Bypassing
 pub mod Joining
+pub mod Kept
+pub mod Joined
+pub mod CanonicalLaws
