@@ -17,3 +17,6 @@ mod Falling
 mod Dropping
 mod Hastening
 mod Inlining
+mod Moving
+mod Bypassing
+mod Joining
