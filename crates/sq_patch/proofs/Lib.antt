@@ -18,5 +18,6 @@ mod Dropping
 mod Hastening
 mod Inlining
 mod Moving
+mod Dying
 mod Bypassing
 mod Joining

@@ -55,13 +55,13 @@ term_use g b n c d =
     (Contains-append_right (code_word_uses g.code_words) (terms_uses g.blocks ++ items_uses (all_items g)) n
     (Contains-append_left (terms_uses g.blocks) (items_uses (all_items g)) n (flat_contains (λ (b : Block). term_uses b.term) g.blocks b n c d)))
 
-item_use : (g : Graph) (item : Item) (n : ℕ) → Contains (all_items g) item → Contains (item_uses item) n → Contains (uses g) n
+pub item_use : (g : Graph) (item : Item) (n : ℕ) → Contains (all_items g) item → Contains (item_uses item) n → Contains (uses g) n
 item_use g item n c d =
     contains_later g.entry n (code_word_uses g.code_words ++ (terms_uses g.blocks ++ items_uses (all_items g)))
     (Contains-append_right (code_word_uses g.code_words) (terms_uses g.blocks ++ items_uses (all_items g)) n
     (Contains-append_right (terms_uses g.blocks) (items_uses (all_items g)) n (flat_contains item_uses (all_items g) item n c d)))
 
-word_use : (g : Graph) (n : ℕ) → Contains (map word_name g.code_words) n → Contains (uses g) n
+pub word_use : (g : Graph) (n : ℕ) → Contains (map word_name g.code_words) n → Contains (uses g) n
 word_use g n c =
     contains_later g.entry n (code_word_uses g.code_words ++ (terms_uses g.blocks ++ items_uses (all_items g)))
     (Contains-append_left (code_word_uses g.code_words) (terms_uses g.blocks ++ items_uses (all_items g)) n c)
@@ -70,11 +70,11 @@ same_addresses : (f : ℕ → ℕ) (ws : List CodeRef) → map word_address (ret
 same_addresses f [] = refl
 same_addresses f (w ∷ ws) = ap (λ ats. w.at ∷ ats) (same_addresses f ws)
 
-other_names : (f : ℕ → ℕ) (ws : List CodeRef) → map word_name (retargeted_words f ws) ≡ map f (map word_name ws)
+pub other_names : (f : ℕ → ℕ) (ws : List CodeRef) → map word_name (retargeted_words f ws) ≡ map f (map word_name ws)
 other_names f [] = refl
 other_names f (w ∷ ws) = ap (λ ns. f w.block ∷ ns) (other_names f ws)
 
-procedure_moved : (f : ℕ → ℕ) (ps : List Procedure) (q : ℕ) (p : Procedure) → slice_get ps q ≡ Some p → slice_get (map (retargeted_procedure f) ps) q ≡ Some (retargeted_procedure f p)
+pub procedure_moved : (f : ℕ → ℕ) (ps : List Procedure) (q : ℕ) (p : Procedure) → slice_get ps q ≡ Some p → slice_get (map (retargeted_procedure f) ps) q ≡ Some (retargeted_procedure f p)
 procedure_moved f ps q p e = slice_get-map (retargeted_procedure f) ps q ∙ ap (option_map (retargeted_procedure f)) e
 
 module _ (K : ℕ → Type 0) (f : ℕ → ℕ) (g h : Graph) (rules : IsGraph g) (used : (n : ℕ) → Contains (uses g) n → K n) (same : h.procedures ≡ map (retargeted_procedure f) g.procedures) where
@@ -182,20 +182,24 @@ module _ (K : ℕ → Type 0) (f : ℕ → ℕ) (g h : Graph) (rules : IsGraph g
   move_term (Indirect link at offset) xs ys u s m p = both_end (Indirect link at offset) f tt (λ e. lift p) (λ l. slots_move (slot_name xs) (slot_name ys) (s l) (m.0 l))
   move_term (Stop word) xs ys u s m p = both_end (Stop word) f tt (λ e. lift p) (λ l. slots_move (slot_name xs) (slot_name ys) (s l) (m.0 l))
 
-  -- the items of a block of the graph in front of lines that go on alike
+  -- what is asked of the items of a block of the graph
+  pub items_move : (x : Block) (rest : List Line) → Contains g.blocks x → MakeTargets g (map line_of x.items ++ rest) → AreOf ItemMoves x.items
+  items_move x rest c m item d = item_moves item (block_item g rules x item c d) ((items_made x.items rest m).0 item d)
+
+  -- they stand in front of lines that go on alike
   pub move_front : {b : Bool} (x : Block) (rest xs ys : List Line) → Contains g.blocks x → MakeTargets g (map line_of x.items ++ rest) → Alike M b None xs ys → Alike M b None (map line_of x.items ++ xs) (map line_of (retargeted_items f x.items) ++ ys)
-  move_front x rest xs ys c m p =
-      let made = items_made x.items rest m in
-      move_items x.items xs ys (λ item d. item_moves item (block_item g rules x item c d) (made.0 item d)) p
+  move_front x rest xs ys c m p = move_items x.items xs ys (items_move x rest c m) p
+
+  -- the term of a block of the graph
+  pub term_moves : {b : Bool} (x : Block) (xs ys : List Line) → Contains g.blocks x → MakeTargets g (body_lines x xs) → (links x.term ≡ true → SlotMoves (slot_name xs) (slot_name ys)) → Alike M b None xs ys → Alike M b None (term_lines x.term xs) (term_lines (retargeted_term f x.term) ys)
+  term_moves x xs ys c m s p = move_term x.term xs ys (λ n d. used n (term_use g x n c d)) s (items_made x.items (term_lines x.term xs) m).1 p
 
   pub move_body : {b : Bool} (x : Block) (xs ys : List Line) → Contains g.blocks x → MakeTargets g (body_lines x xs) → (links x.term ≡ true → SlotMoves (slot_name xs) (slot_name ys)) → Alike M b None xs ys → Alike M b None (body_lines x xs) (body_lines (retargeted_block f x) ys)
   move_body x xs ys c m s p =
-      let made = items_made x.items (term_lines x.term xs) m in
-      move_front x (term_lines x.term xs) (term_lines x.term xs) (term_lines (retargeted_term f x.term) ys) c m
-      (move_term x.term xs ys (λ n d. used n (term_use g x n c d)) s made.1 p)
+      move_front x (term_lines x.term xs) (term_lines x.term xs) (term_lines (retargeted_term f x.term) ys) c m (term_moves x xs ys c m s p)
 
   module _ (names : (n : ℕ) → K n → Alike M false None (block_lines g n) (block_lines h (f n))) where
-    steady : IsSteady M
+    pub steady : IsSteady M
     steady = record {
       carrier = every_carrier g;
       names = λ n n' j. subst (λ k. Alike M false None (block_lines g n) (block_lines h k)) (sym j.0) (names n j.1);

@@ -10,6 +10,7 @@ use Rattle.sq_graph.specs.Operations.{IsNew, split_at, replaced, inlined, with_t
 use Rattle.sq_graph.specs.Canonical.{canonical_of}
 use Rattle.sq_graph.specs.Lines.{place_lines}
 use Rattle.sq_graph.specs.Walks.{IsLive}
+use Rattle.sq_graph.specs.Soundness.{IsSound}
 use Rattle.sq_follow.specs.Follows.{Follows}
 
 -- A graph with one block split follows it.
@@ -40,3 +41,7 @@ InlineFollows = (g : Graph) (block at procedure : ℕ) → IsGraph g → slice_g
 -- The canonical graph of a graph follows it.
 abbrev pub CanonicalFollows : Type 0
 CanonicalFollows = (g : Graph) → IsGraph g → Follows g (canonical_of g)
+
+-- The canonical graph of a graph is sound where the graph is.
+abbrev pub CanonicalIsSound : Type 0
+CanonicalIsSound = (g : Graph) → IsGraph g → IsSound g → IsSound (canonical_of g)

@@ -8,7 +8,7 @@
 #![tactic(auto)]
 
 ghost use Rattle.sq_patch.specs.LiveAgreement.{StepsAgree, PlacesMakeTargets};
-ghost use Rattle.sq_patch.specs.Operations.{SplitFollows, FallFollows, DropFollows, HastenFollows, InlineFollows, CanonicalFollows};
+ghost use Rattle.sq_patch.specs.Operations.{SplitFollows, FallFollows, DropFollows, HastenFollows, InlineFollows, CanonicalFollows, CanonicalIsSound};
 
 /// From states that agree on what is live, a graph steps to such states again, with the same event or to the
 /// same end.
@@ -50,4 +50,9 @@ pub fn inline_keeps_runs()
 /// that is fallen into and is no leader joined to the one before.
 pub fn canonical_keeps_runs()
     ensures { CanonicalFollows }
+{}
+
+/// The canonical graph of a graph is sound where the graph is.
+pub fn canonical_keeps_soundness()
+    ensures { CanonicalIsSound }
 {}
