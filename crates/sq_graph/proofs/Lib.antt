@@ -23,3 +23,9 @@ pub mod FromParts
 pub mod BlockMoves
 pub mod MoveShows
 pub mod LinkReads
+pub mod Bypassing
+pub mod Joining
+pub mod Kept
+pub mod Joined
+pub mod CanonicalLaws
+pub mod CanonicalReach

@@ -9,6 +9,7 @@ pub mod Operations
 pub mod Words
 pub mod Leaders
 pub mod Canonical
+pub mod Bypasses
 pub mod Resolve
 pub mod Parts
 pub mod Slots
