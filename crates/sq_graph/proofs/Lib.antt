@@ -6,6 +6,11 @@ pub mod Held
 pub mod Eachs
 pub mod Mapped
 pub mod CursorLaws
+pub mod BackWalks
+pub mod Marks
+pub mod SlotPasses
+pub mod BlockPasses
+pub mod CanonicalShows
 pub mod SlotWalks
 pub mod Changes
 pub mod BlockWrites

@@ -8,6 +8,7 @@
 
 mod blocks;
 mod build;
+mod canonical;
 mod edits;
 mod graph;
 mod item;

@@ -1,0 +1,261 @@
+-- What the fields show after the passes of `canonical`.
+use Rattle.std.proofs.Common.{◌≡◌, ℕ, suc, ◌+◌, ◌-◌, ◌<◌, ◌^◌, ◌==◌, inl, inr, List, [], ◌∷◌, ◌++◌, length, vec_capacity, Vec, Global, Option, is_some, refl, sym, ap, ◌∙◌, subst, arith, append_assoc, length-append}
+use mathlib.Core.Path.{fun_ext}
+use Rattle.std.specs.List.{All}
+use Rattle.std.proofs.lemmas.List.{length-map}
+use Rattle.std.proofs.lemmas.Bool.{cases_Bool}
+use Rattle.std.proofs.lemmas.List.Elements.{All-head, All-tail, All-weaker}
+use Rattle.sq_arena.specs.Arena.{Arena as Listed}
+use Rattle.sq_arena.specs.Entries.{HasDistinctKeys, value_of, ContainsKey, first_key}
+use Rattle.sq_graph.specs.declared.item.Item.{Item}
+use Rattle.sq_graph.specs.declared.parts.CodeRef.{CodeRef}
+use Rattle.sq_graph.specs.declared.slot.Slot.{Slot}
+use Rattle.sq_graph.specs.declared.graph.Graph.TheInside.{Inside}
+use Rattle.sq_graph.specs.Graph.{Block, Graph}
+use Rattle.sq_graph.specs.Blocks.{HasBlock, items_of_blocks, items_of_bodies, all_items}
+use Rattle.sq_graph.specs.Uses.{code_word_uses, terms_uses, items_uses, uses}
+use Rattle.sq_graph.specs.Rules.{IsGraph}
+use Rattle.sq_graph.specs.Room.{Covers}
+use Rattle.sq_graph.specs.Renames.{retargeted_term, retargeted_item, retargeted_items, retargeted_words}
+use Rattle.sq_graph.specs.Canonical.{joined, canonical_of}
+use Rattle.sq_graph.specs.Bypasses.{passed, all_bypassed}
+use Rattle.sq_graph.specs.Cursor.{ahead_of, rest_from, retargeted_slots, slot_uses, renumbered, length_of_slots}
+use Rattle.sq_graph.specs.CanonicalSlots.{aimed, start_of, full_slots, marked, joined_slots}
+use Rattle.sq_graph.specs.Layout.{graph_of, spare_of, IsSound}
+use Rattle.sq_graph.proofs.Eachs.{All-left, All-right}
+use Rattle.sq_graph.proofs.Sizes.{sizes, same_room}
+use Rattle.sq_graph.proofs.CursorLaws.{from_first}
+use Rattle.sq_graph.proofs.SlotReads.{has_slot}
+use Rattle.sq_graph.proofs.Held.{Shows, shows, limited}
+use Rattle.sq_graph.proofs.Changes.{distinct_slots}
+use Rattle.sq_graph.proofs.MapWrites.{bodies_from-mapped, items_of_bodies-mapped}
+use Rattle.sq_graph.proofs.BlockRemoval.{length-renumbered}
+use Rattle.sq_graph.proofs.MoveShows.{renumbered_from_first}
+use Rattle.sq_graph.proofs.Marks.{marked_more}
+use Rattle.sq_graph.proofs.SlotPasses.{start_of-retargeted, contains-retargeted}
+use Rattle.sq_graph.proofs.BlockPasses.{starts_passed, keys-aimed, keys-retargeted, slot_uses-aimed, marked_blocks, full_slots-blocks, keys-marked_blocks, marked-blocks, slot_uses-marked, slot_uses-blocks, length_of_slots-blocks, renumbered-blocks, joined_slots-blocks, used_joins}
+use Rattle.sq_graph.proofs.CanonicalLaws.{all_bypassed_is_graph, all_bypassed_items, all_items-joined, joined_is_graph, canonical_is_joined, canonical_length}
+
+-- a name that has a slot still has one that says where its uses go
+contains-aimed : (es : List (ℕ × Slot)) (name : ℕ) → is_some (value_of (aimed es) name) ≡ is_some (value_of es name)
+contains-aimed [] name = refl
+contains-aimed (e ∷ es) name =
+    elim (cases_Bool (e.0 == name)) [ inl here ↦ rw here refl | inr apart ↦ rw apart (contains-aimed es name) ]
+
+module _ (old : Inside) (sound : IsSound old) where
+  -- the slots after each name has been given where its uses go
+  pub there : (name : ℕ) → HasBlock (graph_of old) name → ContainsKey (aimed old.slots.entries) name
+  there name has = contains-aimed old.slots.entries name ∙ has_slot old name sound has
+
+  pub distinct_aimed : HasDistinctKeys (aimed old.slots.entries)
+  distinct_aimed = rw (keys-aimed old.slots.entries) (distinct_slots old sound)
+
+  all_used : All (ContainsKey (aimed old.slots.entries)) (uses (graph_of old))
+  all_used = All-weaker (HasBlock (graph_of old)) (ContainsKey (aimed old.slots.entries)) there (uses (graph_of old)) sound.rules.named_all
+
+  more_used : All (ContainsKey (aimed old.slots.entries)) (code_word_uses old.code_words.items ++ (terms_uses (graph_of old).blocks ++ items_uses (all_items (graph_of old))))
+  more_used = All-tail (ContainsKey (aimed old.slots.entries)) (graph_of old).entry (code_word_uses old.code_words.items ++ (terms_uses (graph_of old).blocks ++ items_uses (all_items (graph_of old)))) all_used
+
+  pub terms_known : All (ContainsKey (aimed old.slots.entries)) (slot_uses (aimed old.slots.entries))
+  terms_known =
+      let P = ContainsKey (aimed old.slots.entries) in
+      let g = graph_of old in
+      let same : slot_uses (aimed old.slots.entries) ≡ terms_uses g.blocks = ap (λ es. slot_uses (aimed es)) sound.holds.slots ∙ slot_uses-aimed 0 g.blocks in
+      subst (λ us. All P us) (sym same)
+      (All-left P (terms_uses g.blocks) (items_uses (all_items g)) (All-right P (code_word_uses old.code_words.items) (terms_uses g.blocks ++ items_uses (all_items g)) more_used))
+
+  -- and after the terms go there
+  abbrev pub passed_slots : List (ℕ × Slot)
+  passed_slots = retargeted_slots (start_of (aimed old.slots.entries)) (aimed old.slots.entries)
+
+  still_there : (name : ℕ) → ContainsKey (aimed old.slots.entries) name → ContainsKey passed_slots name
+  still_there = contains-retargeted (start_of (aimed old.slots.entries)) [] (aimed old.slots.entries)
+
+  pub items_known : All (ContainsKey passed_slots) (items_uses old.items.items)
+  items_known =
+      let P = ContainsKey (aimed old.slots.entries) in
+      let g = graph_of old in
+      subst (λ (is : List Item). All (ContainsKey passed_slots) (items_uses is)) (sym sound.holds.items)
+      (All-weaker P (ContainsKey passed_slots) still_there (items_uses (all_items g))
+      (All-right P (terms_uses g.blocks) (items_uses (all_items g)) (All-right P (code_word_uses old.code_words.items) (terms_uses g.blocks ++ items_uses (all_items g)) more_used)))
+
+  pub words_known : All (ContainsKey passed_slots) (code_word_uses old.code_words.items)
+  words_known =
+      let g = graph_of old in
+      All-weaker (ContainsKey (aimed old.slots.entries)) (ContainsKey passed_slots) still_there (code_word_uses old.code_words.items)
+      (All-left (ContainsKey (aimed old.slots.entries)) (code_word_uses old.code_words.items) (terms_uses g.blocks ++ items_uses (all_items g)) more_used)
+
+  pub entry_known : ContainsKey passed_slots old.entry
+  entry_known =
+      still_there old.entry
+      (All-head (ContainsKey (aimed old.slots.entries)) old.entry (code_word_uses old.code_words.items ++ (terms_uses (graph_of old).blocks ++ items_uses (all_items (graph_of old)))) all_used)
+
+  pub distinct_passed : HasDistinctKeys passed_slots
+  distinct_passed = rw (keys-retargeted (start_of (aimed old.slots.entries)) (aimed old.slots.entries)) distinct_aimed
+
+  starts_aimed : start_of (aimed old.slots.entries) ≡ passed (graph_of old).blocks
+  starts_aimed =
+      ap (λ es. start_of (aimed es)) sound.holds.slots
+      ∙ fun_ext (starts_passed 0 (graph_of old).blocks sound.rules.distinct sound.rules.ends)
+
+  pub starts_are : start_of passed_slots ≡ passed (graph_of old).blocks
+  starts_are = fun_ext (start_of-retargeted (start_of (aimed old.slots.entries)) [] (aimed old.slots.entries)) ∙ starts_aimed
+
+  -- the blocks that are left, without a mark
+  pub full_are : full_slots passed_slots ≡ marked_blocks [] (all_bypassed (graph_of old)).blocks
+  full_are =
+      ap (λ h. full_slots (retargeted_slots h (aimed old.slots.entries))) starts_aimed
+      ∙ ap (λ es. full_slots (retargeted_slots (passed (graph_of old).blocks) (aimed es))) sound.holds.slots
+      ∙ full_slots-blocks (passed (graph_of old).blocks) 0 (graph_of old).blocks
+
+  pub distinct_full : HasDistinctKeys (full_slots passed_slots)
+  distinct_full =
+      let g = all_bypassed (graph_of old) in
+      rw (full_are, keys-marked_blocks [] g.blocks) (all_bypassed_is_graph (graph_of old) sound.rules).distinct
+
+  pub entry_is : start_of passed_slots old.entry ≡ (all_bypassed (graph_of old)).entry
+  entry_is = ap (λ f. f old.entry) starts_are
+
+  pub words_are : retargeted_words (start_of passed_slots) old.code_words.items ≡ (all_bypassed (graph_of old)).code_words
+  words_are = ap (λ f. retargeted_words f old.code_words.items) starts_are
+
+  pub items_are : retargeted_items (start_of passed_slots) old.items.items ≡ all_items (all_bypassed (graph_of old))
+  items_are =
+      ap (λ f. retargeted_items f old.items.items) starts_are
+      ∙ ap (retargeted_items (passed (graph_of old).blocks)) sound.holds.items
+      ∙ sym (all_bypassed_items (graph_of old))
+
+-- the marks of all uses
+pub marks_are : (g : Graph) (full one two three four : List (ℕ × Slot)) (entry : ℕ) (words : List CodeRef) (items : List Item)
+    → full ≡ marked_blocks [] g.blocks → entry ≡ g.entry → words ≡ g.code_words → items ≡ all_items g
+    → one ≡ marked (entry ∷ []) full → two ≡ marked (code_word_uses words) one → three ≡ marked (slot_uses two) two → four ≡ marked (items_uses items) three
+    → four ≡ marked_blocks (uses g) g.blocks
+marks_are g full one two three four entry words items full_is entry_is words_is items_is one_is two_is three_is four_is =
+    let E = entry ∷ [] in
+    let W = code_word_uses words in
+    let T = terms_uses g.blocks in
+    let I = items_uses items in
+    let second : two ≡ marked (E ++ W) full = two_is ∙ ap (marked W) one_is ∙ marked_more W E full in
+    let terms : slot_uses two ≡ T = ap slot_uses second ∙ slot_uses-marked (E ++ W) full ∙ ap slot_uses full_is ∙ slot_uses-blocks [] g.blocks in
+    let third : three ≡ marked ((E ++ W) ++ T) full = three_is ∙ ap (λ us. marked us two) terms ∙ ap (marked T) second ∙ marked_more T (E ++ W) full in
+    let all : ((E ++ W) ++ T) ++ I ≡ uses g =
+    ap (λ us. entry ∷ us) (append_assoc W T I)
+    ∙ ap (λ n. n ∷ (W ++ (T ++ I))) entry_is
+    ∙ ap (λ ws. g.entry ∷ (code_word_uses ws ++ (T ++ I))) words_is
+    ∙ ap (λ is. g.entry ∷ (code_word_uses g.code_words ++ (T ++ items_uses is))) items_is in
+    four_is
+    ∙ ap (marked I) third
+    ∙ marked_more I ((E ++ W) ++ T) full
+    ∙ ap (λ us. marked us full) all
+    ∙ ap (marked (uses g)) full_is
+    ∙ marked-blocks (uses g) g.blocks
+
+-- the slots that are joined where they have no mark
+pub joins_are : (g : Graph) (four five : List (ℕ × Slot)) → IsGraph g → four ≡ marked_blocks (uses g) g.blocks → five ≡ joined_slots four → five ≡ marked_blocks (uses g) (joined g).blocks
+joins_are g four five rules four_is five_is =
+    five_is
+    ∙ ap joined_slots four_is
+    ∙ joined_slots-blocks (uses g) g.blocks
+    ∙ ap (marked_blocks (uses g)) (used_joins (uses g) g.blocks [] g.blocks refl rules.distinct)
+
+pub distinct_joined : (g : Graph) (five : List (ℕ × Slot)) → IsGraph g → five ≡ marked_blocks (uses g) (joined g).blocks → HasDistinctKeys five
+distinct_joined g five rules five_is = rw (five_is, keys-marked_blocks (uses g) (joined g).blocks) (joined_is_graph g rules).distinct
+
+length-marked_blocks : (us : List ℕ) (bs : List Block) → length (marked_blocks us bs) ≡ length bs
+length-marked_blocks us [] = refl
+length-marked_blocks us (b ∷ bs) = ap suc (length-marked_blocks us bs)
+
+length-aimed : (es : List (ℕ × Slot)) → length (aimed es) ≡ length es
+length-aimed [] = refl
+length-aimed (e ∷ es) = ap suc (length-aimed es)
+
+module _ (old : Inside) (sound : IsSound old) where
+  -- the items of blocks fit, and those of slots as many
+  pub blocks_fit : (us : List ℕ) (es : List (ℕ × Slot)) → es ≡ marked_blocks us (all_bypassed (graph_of old)).blocks → length_of_slots es < 2 ^ 29
+  blocks_fit us es is =
+      let g = all_bypassed (graph_of old) in
+      let size = sizes old sound in
+      let same : length (all_items g) ≡ length old.items.items =
+      ap (λ xs. length xs) (all_bypassed_items (graph_of old)) ∙ length-map (all_items (graph_of old)) (retargeted_item (passed (graph_of old).blocks)) ∙ size.item_count in
+      omega (arith, ap length_of_slots is, length_of_slots-blocks us g.blocks, length-append (items_of_blocks g.blocks) (items_of_bodies g.procedures), same, size.items, size.item_room)
+
+  pub canonical_shows : (entry : ℕ) (items : Vec Item Global) (words : Vec CodeRef Global) (slots : Listed Slot) (us : List ℕ) (five : List (ℕ × Slot)) (head : Option ℕ)
+      → entry ≡ start_of (passed_slots old sound) old.entry
+      → items.items ≡ retargeted_items (start_of (passed_slots old sound)) old.items.items → vec_capacity items ≡ vec_capacity old.items
+      → words.items ≡ retargeted_words (start_of (passed_slots old sound)) old.code_words.items
+      → five ≡ marked_blocks us (joined (all_bypassed (graph_of old))).blocks → head ≡ first_key five
+      → slots.entries ≡ ahead_of five head ++ renumbered 0 (rest_from five head)
+      → length slots.entries + slots.spare ≡ length old.slots.entries + old.slots.spare
+      → Shows (record old { slots = slots; items = items; entry = entry; code_words = words }) (canonical_of (graph_of old))
+  canonical_shows entry items words slots us five head entry_is' items_is capacity words_is five_is head_is slots_is total =
+      let g = graph_of old in
+      let h = joined (all_bypassed g) in
+      let new : Inside = record old { slots = slots; items = items; entry = entry; code_words = words } in
+      let f = passed g.blocks in
+      let rules : IsGraph h = joined_is_graph (all_bypassed g) (all_bypassed_is_graph g sound.rules) in
+      let limits = limited old sound in
+      let all : items.items ≡ all_items h = items_is ∙ items_are old sound ∙ sym (all_items-joined (all_bypassed g)) in
+      let counted : length items.items ≡ length old.items.items = ap (λ is. length is) items_is ∙ length-map old.items.items (retargeted_item (start_of (passed_slots old sound))) in
+      let bodies : length (items_of_bodies h.procedures) ≡ length (items_of_bodies g.procedures) =
+      ap (λ is. length is) (items_of_bodies-mapped (retargeted_item f) (λ t. t) g.procedures) ∙ length-map (items_of_bodies g.procedures) (retargeted_item f) in
+      subst (λ (k : Graph). Shows new k) (sym (canonical_is_joined g sound.rules))
+      (shows new h
+      (record {
+        slots = slots_is ∙ renumbered_from_first five head head_is ∙ ap (renumbered 0) five_is ∙ renumbered-blocks us 0 h.blocks;
+        items = all;
+        block_items = omega (arith, sound.holds.block_items, counted, bodies, ap (λ is. length is) all, ap (λ is. length is) sound.holds.items, length-append (items_of_blocks h.blocks) (items_of_bodies h.procedures), length-append (items_of_blocks g.blocks) (items_of_bodies g.procedures));
+        entry = entry_is' ∙ entry_is old sound;
+        code_words = words_is ∙ words_are old sound;
+        bodies = sound.holds.bodies ∙ sym (bodies_from-mapped (retargeted_item f) (λ t. t) 0 g.procedures);
+      })
+      rules
+      (record {
+        items = omega (arith, counted, sound.room.items);
+        item_room = omega (arith, capacity, sound.room.item_room);
+        bodies = sound.room.bodies;
+        body_room = sound.room.body_room;
+      })
+      (record {
+        blocks = omega (arith, total, limits.blocks);
+        item_room = limits.item_room;
+        body_room = limits.body_room;
+      }))
+
+  pub passed_is : (aims terms : List (ℕ × Slot)) → aims ≡ aimed old.slots.entries → terms ≡ retargeted_slots (start_of aims) aims → terms ≡ passed_slots old sound
+  passed_is aims terms aims_is terms_is = terms_is ∙ ap (λ es. retargeted_slots (start_of es) es) aims_is
+
+  -- a slot that goes is to spare
+  pub slots_total : (terms full marks joins slots : Listed Slot) (head : Option ℕ) (us : List ℕ)
+      → terms.entries ≡ passed_slots old sound → full.entries ≡ marked_blocks [] (all_bypassed (graph_of old)).blocks → marks.entries ≡ marked_blocks us (all_bypassed (graph_of old)).blocks
+      → terms.spare ≡ old.slots.spare → length full.entries + full.spare ≡ length terms.entries + terms.spare → marks.spare ≡ full.spare → length joins.entries + joins.spare ≡ length marks.entries + marks.spare
+      → head ≡ first_key joins.entries → slots.entries ≡ ahead_of joins.entries head ++ renumbered 0 (rest_from joins.entries head) → slots.spare ≡ joins.spare
+      → length slots.entries + slots.spare ≡ length old.slots.entries + old.slots.spare
+  slots_total terms full marks joins slots head us terms_is full_is marks_is terms_spare full_total marks_spare joins_total head_is slots_is slots_spare =
+      let g = all_bypassed (graph_of old) in
+      let f = start_of (aimed old.slots.entries) in
+      let passed : length terms.entries ≡ length old.slots.entries =
+      ap (λ es. length es) terms_is ∙ length-map {B = ℕ × Slot} (aimed old.slots.entries) (λ e. (e.0, record e.1 { term = retargeted_term f e.1.term })) ∙ length-aimed old.slots.entries in
+      let numbered : length slots.entries ≡ length joins.entries =
+      ap (λ es. length es) (slots_is ∙ renumbered_from_first joins.entries head head_is) ∙ length-renumbered 0 joins.entries in
+      omega (arith, passed, numbered, terms_spare, full_total, marks_spare, joins_total, slots_spare, ap (λ es. length es) full_is, ap (λ es. length es) marks_is, length-marked_blocks [] g.blocks, length-marked_blocks us g.blocks)
+
+  -- what is spare afterwards
+  pub canonical_spare : (new : Inside) → Shows new (canonical_of (graph_of old)) → length new.slots.entries + new.slots.spare ≡ length old.slots.entries + old.slots.spare
+      → length new.items.items ≡ length old.items.items → new.item_room ≡ old.item_room → spare_of new ≡ record { blocks = old.slots.spare + length (graph_of old).blocks - length (graph_of new).blocks; items = (spare_of old).items; procedures = new.body_room - length new.bodies.items }
+  canonical_spare new shown total items room =
+      same_room (spare_of new) (record { blocks = old.slots.spare + length (graph_of old).blocks - length (graph_of new).blocks; items = (spare_of old).items; procedures = new.body_room - length new.bodies.items })
+      (omega (arith, total, (sizes old sound).block_count, (sizes new shown.sound).block_count))
+      (omega (arith, items, room))
+      refl
+
+  pub canonical_kept : (new : Inside) → Shows new (canonical_of (graph_of old)) → length new.slots.entries + new.slots.spare ≡ length old.slots.entries + old.slots.spare
+      → length new.items.items ≡ length old.items.items → new.item_room ≡ old.item_room → new.body_room - length new.bodies.items ≡ (spare_of old).procedures → Covers (spare_of new) (spare_of old)
+  canonical_kept new shown total items room procedures =
+      record {
+        blocks = omega (arith, total, (sizes old sound).block_count, (sizes new shown.sound).block_count, ap (λ h. length h.blocks) shown.is, canonical_length (graph_of old) sound.rules);
+        items = omega (arith, items, room);
+        procedures = omega (arith, procedures);
+      }
+
+pub length_from_first : (es : List (ℕ × Slot)) (head : Option ℕ) → head ≡ first_key es → length_of_slots (rest_from es head) ≡ length_of_slots es
+length_from_first es head is = ap (λ k. length_of_slots (rest_from es k)) is ∙ ap length_of_slots (from_first es).1.1
