@@ -1,0 +1,3 @@
+pub mod Lifts
+mod LiftedRows
+mod Lifting
