@@ -1,3 +1,5 @@
 pub mod Lifts
 mod LiftedRows
 mod Lifting
+mod TextWords
+mod Facts

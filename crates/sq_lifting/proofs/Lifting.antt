@@ -51,7 +51,8 @@ use Rattle.sq_program.specs.Readings.{Reading, IsItem, IsTerm, Links, ebreak_wor
 use Rattle.sq_program.specs.Lifted.{Piece, ItemPiece, TermPiece, link_piece, piece_of, procedure_at}
 use Rattle.sq_program.specs.Monitored as monitored
 use Rattle.sq_program.specs.Monitored.{Watched, Watches, half_of, upper_value, at_address, jumped, branched, finished, jalr_jump, insn_step, marked_step, word_step, monitored_step}
-use Rattle.sq_lifting.proofs.Lifts.{HasName, piece_line, closes, onward, IsAt, MarkFits, GoodLine, GoodTerm, SlotIf, IsNamed, IsTarget, BodyReads, ProcedureReads, IsDoor, Lifts, lift_end, lift_name, lift_line, Place, out, within, NeverLost, Same, IsLiftOf}
+use Rattle.sq_lifting.specs.Lifting.{MarkFits}
+use Rattle.sq_lifting.proofs.Lifts.{HasName, piece_line, closes, onward, IsAt, GoodLine, GoodTerm, SlotIf, IsNamed, IsTarget, BodyReads, ProcedureReads, IsDoor, Lifts, lift_end, lift_name, lift_line, Place, out, within, NeverLost, Same, IsLiftOf}
 use Rattle.sq_lifting.proofs.LiftedRows.{T, s, s', laws, SameStep, SameOperands, SameStores, plain_row_lift, upper_text, upper_outside, addi_text, addi_outside, load_outside, store_outside, at_upper, IsUpper, in_text_upper, outside_upper, upper_is, halves_add}
 
 use Rattle.sq_patch.specs.Agreement.{Ties}

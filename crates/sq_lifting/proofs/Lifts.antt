@@ -56,12 +56,6 @@ abbrev pub PartStands : Bool → ℕ → Value → Type 0
 PartStands true to value = value ≡ Tagged (Part to None)
 PartStands false to value = value ≡ Num (upper_word (high_half to))
 
--- a half of an address is one of a word
-abbrev pub MarkFits : Mark → Type 0
-MarkFits (Hi to) = to < 2 ^ 32
-MarkFits (Lo to) = to < 2 ^ 32
-MarkFits mark = Unit {0}
-
 module _ (t : Text) (notes : List Note) (g : Graph) where
   abbrev pub IsNamed : ℕ → Type 0
   IsNamed n = HasName n (lines_of g.blocks)
