@@ -3,3 +3,4 @@ mod LiftedRows
 mod Lifting
 mod TextWords
 mod Facts
+mod NoteFacts
