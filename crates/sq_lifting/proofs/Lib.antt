@@ -4,3 +4,5 @@ mod Lifting
 mod TextWords
 mod Facts
 mod NoteFacts
+mod ReadingFacts
+mod Cutting

@@ -69,3 +69,14 @@ next_there t x w e f =
     let other : x + 4 < t.lo + 4 * length t.words = grind (arith, nat_tests) in
     let v = word_there (x + 4) t.lo t.words (omega arith) other (omega arith) in
     is_there t (x + 4) v.0 v.1
+
+-- a word is in text
+pub in_text_of : (t : Text) (x : ℕ) → IsWord t x → is_in_text t x ≡ true
+in_text_of t x e =
+    let w = some_is (word_at t x) e in
+    let s = stood x t.lo w.0 t.words w.1 in
+    let least : t.lo ≤ x = s.least in
+    let most : x + 4 ≤ t.lo + 4 * length t.words = s.most in
+    let a : nat_le t.lo x ≡ true = grind (arith, nat_tests) in
+    let b : nat_lt x (end_of t) ≡ true = grind (arith, nat_tests) in
+    rw (a, b) refl
