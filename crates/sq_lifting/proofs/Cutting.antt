@@ -37,7 +37,7 @@ use Rattle.sq_lifting.proofs.ReadingFacts.{contains_among, piece_uses, piece_use
 abbrev pub rest_lines : Rest → List Line
 rest_lines rest = map line_of rest.items ++ term_lines rest.term (lines_of rest.blocks)
 
-true_not_false : {A : Type 0} → true ≡ false → A
+pub true_not_false : {A : Type 0} → true ≡ false → A
 true_not_false e = absurd (cc)
 
 when_false : (b : Bool) → (b ≡ true → ⊥) → b ≡ false

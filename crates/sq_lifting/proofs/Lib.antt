@@ -6,3 +6,4 @@ mod Facts
 mod NoteFacts
 mod ReadingFacts
 mod Cutting
+mod CutLines

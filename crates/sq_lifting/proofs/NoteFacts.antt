@@ -106,7 +106,7 @@ item_jumps t at mark i item e = refl
 
 -- The words of a body
 
-read_item : (link : ℕ) (o : Option Reading) → is_item_but link o ≡ true → (item : Item) × (o ≡ Some (IsItem item)) × (mentions item link ≡ false)
+pub read_item : (link : ℕ) (o : Option Reading) → is_item_but link o ≡ true → (item : Item) × (o ≡ Some (IsItem item)) × (mentions item link ≡ false)
 read_item link None e = absurd (cc)
 read_item link (Some (IsItem item)) e = (item, refl, not_true_is (mentions item link) e)
   where
@@ -142,7 +142,7 @@ pub record IsReturn (t : Text) (at link : ℕ) : Type 0 where
   pub plain : word.mark ≡ Plain
   pub insn : insn_in word ≡ Some (Jalr 0 link (pos 0))
 
-return_is : (t : Text) (at link : ℕ) (o : Option Word) → word_at t at ≡ o → is_return link o ≡ true → IsReturn t at link
+pub return_is : (t : Text) (at link : ℕ) (o : Option Word) → word_at t at ≡ o → is_return link o ≡ true → IsReturn t at link
 return_is t at link None h e = absurd (cc)
 return_is t at link (Some w) h e =
     let a = and_parts (is_plain w.mark) (returns_through link (insn_in w)) e in
