@@ -29,8 +29,8 @@ use Rattle.sq_program.specs.Notes.{used_notes, is_in_procedure, is_in_procedures
 use Rattle.sq_program.specs.Lifted.{Piece, ItemPiece, TermPiece, link_piece, piece_of, piece_leads, Rest, between, with_piece, with_reading, begun_if, cut, with_item, body_from, procedure_of, lifted, procedure_at}
 use Rattle.sq_lifting.specs.Lifting.{IsMarkedText, IsFine}
 use Rattle.sq_lifting.proofs.Lifts.{HasName, piece_line, closes, onward, IsNamed, IsTarget, SlotIf, GoodTerm, GoodLine, BodyReads, ProcedureReads, IsDoor, Lifts, lift_end, lift_name, lift_line}
-use Rattle.sq_lifting.proofs.TextWords.{same_itself, at_here, at_later, some_is}
-use Rattle.sq_lifting.proofs.Facts.{one, IsSoundWord, ReadWord, marked_of, reached_word, sound_word, next_reached, used, UsedBy}
+use Rattle.sq_lifting.proofs.TextWords.{same_itself, at_here, at_later, some_is, stood}
+use Rattle.sq_lifting.proofs.Facts.{one, none_in, reading_uses, IsSoundWord, ReadWord, marked_of, reached_word, sound_word, next_reached, used, used_reached, UsedBy}
 use Rattle.sq_lifting.proofs.NoteFacts.{at_number, in_procedure_start, IsGoodNote, good_note, IsReturn, return_is, read_item, item_jumps}
 use Rattle.sq_lifting.proofs.ReadingFacts.{piece_uses, goes_alike, reading_form, IsForm, IsReadTerm, IsReadItem}
 use Rattle.sq_lifting.proofs.Cutting.{rest_lines, true_not_false, ns, keep, lead, kept_is, kept_from, read_at, halves_out, door, next_kept, used_kept, lead_of, lead_used, lead_entry, lead_code, IsBehind, behind}
@@ -244,3 +244,154 @@ module _ (p : Program) (is : ℕ → Bool) (marked : IsMarkedText p.text) (dec :
       go : (b : Bool) → K at ≡ b → ((K (at + 4) ≡ true → L (at + 4) ≡ true) → Cut (at + 4) words ≡ between (Cut (at + 4) words).blocks) → (if b then begun_if (L at) at (with_reading N (reading_of T at w) (Cut (at + 4) words)) else Cut (at + 4) words) ≡ between (if b then begun_if (L at) at (with_reading N (reading_of T at w) (Cut (at + 4) words)) else Cut (at + 4) words).blocks
       go true k rec = begun (L at) (with_reading N (reading_of T at w) (Cut (at + 4) words)) (h k)
       go false k rec = rec (lead_skipped at k)
+
+  -- NAMES OF THE GRAPH
+
+  first_lead : K T.lo ≡ true → L T.lo ≡ true
+  first_lead k = lead_if T.lo (λ l.
+      let i = kept_is p is marked dec fine T.lo k in
+      let b = behind p is marked dec fine T.lo (dec.only T.lo i.0) i.1 l in
+      let s = stood b.pc T.lo b.read.word T.words b.read.there in
+      let le : T.lo ≤ b.pc = s.least in
+      let e : b.pc + 4 ≡ T.lo = b.next in
+      let no_way : ⊥ = omega arith in no_way)
+
+  -- the whole graph is the cut from the first word on
+  whole_cut : rest_lines (Cut T.lo T.words) ≡ lines_of G.blocks
+  whole_cut = ap rest_lines (closed_cut T.lo T.words first_lead)
+
+  pub has_name_of : (x : ℕ) → K x ≡ true → L x ≡ true → IsNamed T N G x
+  has_name_of x k l =
+      let w = some_is (word_at T x) (reached_word p is marked dec fine.text (dec.only x (kept_is p is marked dec fine x k).0)) in
+      subst (HasName x) whole_cut (has_cut K L N T x T.lo w.0 T.words k l w.1)
+
+  -- a name that a piece uses
+  named_used : (x y : ℕ) (rd : ReadWord p is marked dec fine.text x) → K x ≡ true → Contains (piece_uses (piece_of N rd.reading)) y → IsNamed T N G y
+  named_used x y rd k c =
+      has_name_of y (used_kept p is marked dec fine x y rd.word rd.reading rd.sound k rd.there rd.reads c)
+      (lead_used p is marked dec fine x y rd.word rd.reading (kept_is p is marked dec fine x k).0 rd.there rd.reads c)
+
+  -- BODIES OF PROCEDURES
+
+  body_quiet : (at link n : ℕ) → is at ≡ true → has_body T link at n ≡ true → IsQuiet link (body_from T at n)
+  body_quiet at link zero i b = tt
+  body_quiet at link (suc n) i b =
+      let c = and_parts (is_item_but link (reading_at T at)) (has_body T link (at + 4) n) b in
+      let item = read_item link (reading_at T at) c.0 in
+      let rd = read_at p is marked dec fine at i in
+      let e : reading_at T at ≡ Some rd.reading = rw rd.there rd.reads in
+      let q : rd.reading ≡ IsItem item.0 = let h : Some rd.reading ≡ Some (IsItem item.0) = sym e ∙ item.1 in cc in
+      let m : marked_reading T at rd.word.mark rd.sound.insn ≡ Some (IsItem item.0) = subst (λ r. marked_reading T at rd.word.mark rd.sound.insn ≡ Some r) q (marked_of p is marked dec fine.text at rd.word rd.reading rd.sound rd.reads) in
+      let next = next_reached p is marked dec fine.text at rd.word rd.sound i rd.there (sym (goes_alike N T at rd.word.mark rd.sound.insn (IsItem item.0) m) ∙ ap not (item_open item.0)) in
+      subst (λ o. IsQuiet link (with_item o (body_from T (at + 4) n))) (sym item.1)
+      (reading_form T at rd.word.mark rd.sound.insn (IsItem item.0) m, item.2, body_quiet (at + 4) link n next c.1)
+    where
+      item_open : (item : Item) → closes (line_of item) ≡ false
+      item_open (Op insn) = refl
+      item_open (Hi rd to) = refl
+      item_open (Lo rd rs to) = refl
+      item_open (Out procedure) = refl
+
+  -- what an item of a body is
+  item_good : (item : Item) (ys : List Line) → IsReadItem item → ((y : ℕ) → Contains (item_uses item) y → IsNamed T N G y) → MakeTargets G (line_of item ∷ ys) → (zs : List Line) → Good (line_of item) zs
+  item_good (Op insn) ys f named makes zs = tt
+  item_good (Hi rd to) ys f named makes zs = tt
+  item_good (Lo rd rs to) ys f named makes zs = (named to (one to), makes.0)
+  item_good (Out procedure) ys f named makes zs = absurd f
+
+  item_tail : (item : Item) (ys : List Line) → MakeTargets G (line_of item ∷ ys) → MakeTargets G ys
+  item_tail (Op insn) ys h = h.1
+  item_tail (Hi rd to) ys h = h.1
+  item_tail (Lo rd rs to) ys h = h.1
+  item_tail (Out procedure) ys h = h
+
+  body_reads : (at link n : ℕ) (ys : List Line) → is at ≡ true → has_body T link at n ≡ true → MakeTargets G (map line_of (body_from T at n) ++ ys) → BodyReads T N G at link (body_from T at n)
+  body_reads at link zero ys i b makes = let r = return_is T at link (word_at T at) refl b in (r.word, r.there, r.plain, r.insn)
+  body_reads at link (suc n) ys i b makes =
+      let c = and_parts (is_item_but link (reading_at T at)) (has_body T link (at + 4) n) b in
+      let item = read_item link (reading_at T at) c.0 in
+      let rd = read_at p is marked dec fine at i in
+      let e : reading_at T at ≡ Some rd.reading = rw rd.there rd.reads in
+      let q : rd.reading ≡ IsItem item.0 = let h : Some rd.reading ≡ Some (IsItem item.0) = sym e ∙ item.1 in cc in
+      let m : marked_reading T at rd.word.mark rd.sound.insn ≡ Some (IsItem item.0) = subst (λ r. marked_reading T at rd.word.mark rd.sound.insn ≡ Some r) q (marked_of p is marked dec fine.text at rd.word rd.reading rd.sound rd.reads) in
+      let next = next_reached p is marked dec fine.text at rd.word rd.sound i rd.there (sym (goes_alike N T at rd.word.mark rd.sound.insn (IsItem item.0) m) ∙ ap not (item_open item.0)) in
+      let f = reading_form T at rd.word.mark rd.sound.insn (IsItem item.0) m in
+      let makes' : MakeTargets G (map line_of (item.0 ∷ body_from T (at + 4) n) ++ ys) = subst (λ o. MakeTargets G (map line_of (with_item o (body_from T (at + 4) n)) ++ ys)) item.1 makes in
+      let names : (y : ℕ) → Contains (item_uses item.0) y → IsNamed T N G y = λ y u. body_name at rd i item.0 q y u in
+      subst (λ o. BodyReads T N G at link (with_item o (body_from T (at + 4) n))) (sym item.1)
+      ((rd.word, rd.there, subst (λ r. reading_of T at rd.word ≡ Some r) q rd.reads, item_good item.0 (map line_of (body_from T (at + 4) n) ++ ys) f names makes' [], not_written G.procedures item.0 link f item.2),
+       body_reads (at + 4) link n ys next c.1 (item_tail item.0 (map line_of (body_from T (at + 4) n) ++ ys) makes'))
+    where
+      item_open : (item : Item) → closes (line_of item) ≡ false
+      item_open (Op insn) = refl
+      item_open (Hi rd to) = refl
+      item_open (Lo rd rs to) = refl
+      item_open (Out procedure) = refl
+
+      half_of : (at : ℕ) (rd : ReadWord p is marked dec fine.text at) (item : Item) → rd.reading ≡ IsItem item → (y : ℕ) → UsedBy T at rd.word.mark rd.sound.insn y → Contains (half_target rd.word.mark) y
+      half_of at rd item q y (inr h) = h.0
+      half_of at rd item q y (inl j) =
+          let m : marked_reading T at rd.word.mark rd.sound.insn ≡ Some (IsItem item) = subst (λ r. marked_reading T at rd.word.mark rd.sound.insn ≡ Some r) q (marked_of p is marked dec fine.text at rd.word rd.reading rd.sound rd.reads) in
+          none_in y (subst (λ xs. Contains xs y) (item_jumps T at rd.word.mark rd.sound.insn item m) j)
+
+      body_name : (at : ℕ) (rd : ReadWord p is marked dec fine.text at) → is at ≡ true → (item : Item) → rd.reading ≡ IsItem item → (y : ℕ) → Contains (item_uses item) y → IsNamed T N G y
+      body_name at rd i item q y c =
+          let c' : Contains (reading_uses rd.reading) y = subst (λ r. Contains (reading_uses r) y) (sym q) c in
+          let u = used p is marked dec fine.text at y rd.word rd.reading rd.sound rd.reads c' in
+          let c'' : Contains (piece_uses (piece_of N rd.reading)) y = subst (λ r. Contains (piece_uses (piece_of N r)) y) (sym q) c in
+          has_name_of y
+          (kept_from p is marked dec fine y (used_reached p is marked dec fine.text at y rd.word rd.sound i rd.there u) (halves_out p is marked dec fine at y rd.word rd.sound i rd.there (half_of at rd item q y u)))
+          (lead_used p is marked dec fine at y rd.word rd.reading i rd.there rd.reads c'')
+
+  -- a noted procedure stands at its address
+  procedure_reads : (number : ℕ) (n : Note) (q : Procedure) → slice_get N number ≡ Some n → slice_get G.procedures number ≡ Some q → ProcedureReads T N G n.address n.link q
+  procedure_reads number n q e h =
+      let good = good_note is p number n fine.notes e in
+      let same : procedure_of T n ≡ q = let f : Some (procedure_of T n) ≡ Some q = sym (slice_get-map (procedure_of T) N number ∙ ap (option_map (procedure_of T)) e) ∙ h in cc in
+      let makes : MakeTargets G (inside q []) = inside_makes G number q [] h tt in
+      let makes' : MakeTargets G (map line_of (body_from T n.address n.length) ++ (Return n.link ∷ [])) = subst (λ q. MakeTargets G (inside q [])) (sym same) makes in
+      subst (ProcedureReads T N G n.address n.link) same (record {
+        body = body_reads n.address n.link n.length (Return n.link ∷ []) good.reached good.body makes';
+        link_is = refl;
+        real = good.link;
+      })
+
+  -- THE LINES
+
+  -- a line that goes on to a kept leader has its name behind it
+  slot_behind : (at : ℕ) (words : List Word) (w : Word) (r : Reading) (s : IsSoundWord T at w) → IsSuffix (at + 4) words → K at ≡ true → word_at T at ≡ Some w → reading_of T at w ≡ Some r → goes_on s.insn ≡ true → Contains (piece_leads at (piece_of N r)) (at + 4) → (ys : List Line) × (rest_lines (Cut (at + 4) words) ≡ Name (at + 4) ∷ ys)
+  slot_behind at words w r s suffix k e rd g c =
+      let k' = next_kept p is marked dec fine at w s k e g in
+      let l' = lead_of p is marked dec fine at (at + 4) w r (kept_is p is marked dec fine at k).0 e rd c in
+      let v = some_is (word_at T (at + 4)) (reached_word p is marked dec fine.text (dec.only (at + 4) (kept_is p is marked dec fine (at + 4) k').0)) in
+      head_cut K L N T (at + 4) v.0 words k' l' (sym (suffix (at + 4) (omega arith)) ∙ v.1)
+
+  slot_if : (b : Bool) (at : ℕ) (rest ys : List Line) → rest ≡ Name (at + 4) ∷ ys → (b ≡ true → SlotIsTarget G (slot_name rest)) → SlotIf T N G b rest
+  slot_if false at rest ys e h = tt
+  slot_if true at rest ys e h = (at + 4, ys, e, subst (λ rest. SlotIsTarget G (slot_name rest)) e (h refl))
+
+  slot_where : (b : Bool) (at : ℕ) (rest : List Line) → (b ≡ true → (ys : List Line) × (rest ≡ Name (at + 4) ∷ ys)) → (b ≡ true → SlotIsTarget G (slot_name rest)) → SlotIf T N G b rest
+  slot_where false at rest f h = tt
+  slot_where true at rest f h = let y = f refl in (at + 4, y.0, y.1, subst (λ rest. SlotIsTarget G (slot_name rest)) y.1 (h refl))
+
+  -- a term that links goes on
+  links_go : (term : Term) → links term ≡ true → term_goes_on term ≡ true
+  links_go Fall e = refl
+  links_go (Jump to) e = absurd (cc)
+  links_go (Branch cond a b to) e = refl
+  links_go (Call link to) e = refl
+  links_go (PartJump link part to) e = e
+  links_go (Indirect link at offset) e = e
+  links_go (Stop word) e = absurd (cc)
+
+  goes_lead : (at : ℕ) (term : Term) → term_goes_on term ≡ true → Contains (piece_leads at (TermPiece term)) (at + 4)
+  goes_lead at term e = Contains-append_right (term_uses term) (if term_goes_on term then (at + 4) ∷ [] else []) (at + 4) (rw e (one (at + 4)))
+
+  term_good : (at : ℕ) (term : Term) (rest : List Line) → IsReadTerm term → ((y : ℕ) → Contains (term_uses term) y → IsNamed T N G y) → SlotIf T N G (links term) rest → Good (End term) rest
+  term_good at Fall rest f named slot = absurd f
+  term_good at (Jump to) rest f named slot = named to (one to)
+  term_good at (Branch cond a b to) rest f named slot = named to (one to)
+  term_good at (Call link to) rest f named slot = absurd f
+  term_good at (PartJump link part to) rest f named slot = (named to (one to), slot)
+  term_good at (Indirect link via offset) rest f named slot = slot
+  term_good at (Stop word) rest f named slot = tt
