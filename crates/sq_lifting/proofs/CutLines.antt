@@ -31,8 +31,8 @@ use Rattle.sq_lifting.specs.Lifting.{IsMarkedText, IsFine}
 use Rattle.sq_lifting.proofs.Lifts.{HasName, piece_line, closes, onward, IsNamed, IsTarget, SlotIf, GoodTerm, GoodLine, BodyReads, ProcedureReads, IsDoor, Lifts, lift_end, lift_name, lift_line}
 use Rattle.sq_lifting.proofs.TextWords.{same_itself, at_here, at_later, some_is, stood}
 use Rattle.sq_lifting.proofs.Facts.{one, none_in, reading_uses, IsSoundWord, ReadWord, marked_of, reached_word, sound_word, next_reached, used, used_reached, UsedBy}
-use Rattle.sq_lifting.proofs.NoteFacts.{at_number, in_procedure_start, IsGoodNote, good_note, IsReturn, return_is, read_item, item_jumps}
-use Rattle.sq_lifting.proofs.ReadingFacts.{piece_uses, goes_alike, reading_form, IsForm, IsReadTerm, IsReadItem}
+use Rattle.sq_lifting.proofs.NoteFacts.{notes_have, at_number, in_procedure_start, IsGoodNote, good_note, IsReturn, return_is, read_item, item_jumps}
+use Rattle.sq_lifting.proofs.ReadingFacts.{piece_uses, goes_alike, jal_links, reading_form, IsForm, IsReadTerm, IsReadItem}
 use Rattle.sq_lifting.proofs.Cutting.{rest_lines, true_not_false, ns, keep, lead, kept_is, kept_from, read_at, halves_out, door, next_kept, used_kept, lead_of, lead_used, lead_entry, lead_code, IsBehind, behind}
 
 -- NAMES AMONG LINES
@@ -366,10 +366,6 @@ module _ (p : Program) (is : ℕ → Bool) (marked : IsMarkedText p.text) (dec :
       let v = some_is (word_at T (at + 4)) (reached_word p is marked dec fine.text (dec.only (at + 4) (kept_is p is marked dec fine (at + 4) k').0)) in
       head_cut K L N T (at + 4) v.0 words k' l' (sym (suffix (at + 4) (omega arith)) ∙ v.1)
 
-  slot_if : (b : Bool) (at : ℕ) (rest ys : List Line) → rest ≡ Name (at + 4) ∷ ys → (b ≡ true → SlotIsTarget G (slot_name rest)) → SlotIf T N G b rest
-  slot_if false at rest ys e h = tt
-  slot_if true at rest ys e h = (at + 4, ys, e, subst (λ rest. SlotIsTarget G (slot_name rest)) e (h refl))
-
   slot_where : (b : Bool) (at : ℕ) (rest : List Line) → (b ≡ true → (ys : List Line) × (rest ≡ Name (at + 4) ∷ ys)) → (b ≡ true → SlotIsTarget G (slot_name rest)) → SlotIf T N G b rest
   slot_where false at rest f h = tt
   slot_where true at rest f h = let y = f refl in (at + 4, y.0, y.1, subst (λ rest. SlotIsTarget G (slot_name rest)) y.1 (h refl))
@@ -395,3 +391,176 @@ module _ (p : Program) (is : ℕ → Bool) (marked : IsMarkedText p.text) (dec :
   term_good at (PartJump link part to) rest f named slot = (named to (one to), slot)
   term_good at (Indirect link via offset) rest f named slot = slot
   term_good at (Stop word) rest f named slot = tt
+
+  -- A line reads
+
+  goes_of : (at : ℕ) (rd : ReadWord p is marked dec fine.text at) → closes (piece_line (piece_of N rd.reading)) ≡ false → goes_on rd.sound.insn ≡ true
+  goes_of at rd e = sym (goes_alike N T at rd.word.mark rd.sound.insn rd.reading (marked_of p is marked dec fine.text at rd.word rd.reading rd.sound rd.reads)) ∙ ap not e
+
+  form_at : (at : ℕ) (rd : ReadWord p is marked dec fine.text at) → IsForm rd.reading
+  form_at at rd = reading_form T at rd.word.mark rd.sound.insn rd.reading (marked_of p is marked dec fine.text at rd.word rd.reading rd.sound rd.reads)
+
+  open_term : (term : Term) → term_goes_on term ≡ true → closes (End term) ≡ false
+  open_term term e = ap not e
+
+  -- where the name behind a term that links is
+  slot_at : (at : ℕ) (words : List Word) (rd : ReadWord p is marked dec fine.text at) (term : Term) → piece_of N rd.reading ≡ TermPiece term → IsSuffix (at + 4) words → K at ≡ true → term_goes_on term ≡ true → (ys : List Line) × (rest_lines (Cut (at + 4) words) ≡ Name (at + 4) ∷ ys)
+  slot_at at words rd term e suffix k g =
+      slot_behind at words rd.word rd.reading rd.sound suffix k rd.there rd.reads
+      (goes_of at rd (subst (λ q. closes (piece_line q) ≡ false) (sym e) (open_term term g)))
+      (subst (λ q. Contains (piece_leads at q) (at + 4)) (sym e) (goes_lead at term g))
+
+  named_term : (at : ℕ) (rd : ReadWord p is marked dec fine.text at) (piece : Piece) → piece_of N rd.reading ≡ piece → K at ≡ true → (y : ℕ) → Contains (piece_uses piece) y → IsNamed T N G y
+  named_term at rd piece e k y c = named_used at y rd k (subst (λ q. Contains (piece_uses q) y) (sym e) c)
+
+  enter_good : (number to : ℕ) (rest : List Line) → procedure_at N to ≡ Some number → LinksDieIn G (Enter number ∷ rest) → Good (Enter number) rest
+  enter_good number to rest e dies =
+      let n = at_number N to number e in
+      let h : slice_get G.procedures number ≡ Some (procedure_of T n.0) = slice_get-map (procedure_of T) N number ∙ ap (option_map (procedure_of T)) n.1 in
+      let good = good_note is p number n.0 fine.notes n.1 in
+      (procedure_of T n.0, h, λ live. dies.0 (procedure_of T n.0) h (live_body G n.0.link n.0.link (body_from T n.0.address n.0.length) rest (body_quiet n.0.address n.0.link n.0.length good.reached good.body) live))
+
+  line_good : (at : ℕ) (words : List Word) (rd : ReadWord p is marked dec fine.text at) → IsSuffix (at + 4) words → K at ≡ true → MakeTargets G (piece_line (piece_of N rd.reading) ∷ rest_lines (Cut (at + 4) words)) → LinksDieIn G (piece_line (piece_of N rd.reading) ∷ rest_lines (Cut (at + 4) words)) → Good (piece_line (piece_of N rd.reading)) (rest_lines (Cut (at + 4) words))
+  line_good at words rd suffix k makes dies = go rd.reading refl
+    where
+      rest : List Line
+      rest = rest_lines (Cut (at + 4) words)
+
+      call_good : (link to : ℕ) (o : Option ℕ) → procedure_at N to ≡ o → rd.reading ≡ Links link to → Good (piece_line (link_piece link to o)) rest
+      call_good link to (Some number) e q =
+          let f : piece_of N rd.reading ≡ ItemPiece (Out number) = rw (q, e) refl in
+          enter_good number to rest e (subst (λ q. LinksDieIn G (piece_line q ∷ rest)) f dies)
+      call_good link to None e q =
+          let f : piece_of N rd.reading ≡ TermPiece (Call link to) = rw (q, e) refl in
+          let makes' : MakeTargets G (End (Call link to) ∷ rest) = subst (λ q. MakeTargets G (piece_line q ∷ rest)) f makes in
+          (named_term at rd (TermPiece (Call link to)) f k to (one to), slot_where (links (Call link to)) at rest (λ l. slot_at at words rd (Call link to) f suffix k refl) makes'.0)
+
+      go : (r : Reading) → rd.reading ≡ r → Good (piece_line (piece_of N rd.reading)) rest
+      go (IsItem item) q =
+          let f : piece_of N rd.reading ≡ ItemPiece item = rw q refl in
+          let form : IsReadItem item = subst IsForm q (form_at at rd) in
+          subst (λ q. Good (piece_line q) rest) (sym f)
+          (item_good item rest form (λ y c. named_term at rd (ItemPiece item) f k y c) (subst (λ q. MakeTargets G (piece_line q ∷ rest)) f makes) rest)
+      go (IsTerm term) q =
+          let f : piece_of N rd.reading ≡ TermPiece term = rw q refl in
+          let form : IsReadTerm term = subst IsForm q (form_at at rd) in
+          let makes' : MakeTargets G (End term ∷ rest) = subst (λ q. MakeTargets G (piece_line q ∷ rest)) f makes in
+          subst (λ q. Good (piece_line q) rest) (sym f)
+          (term_good at term rest form (λ y c. named_term at rd (TermPiece term) f k y c) (slot_where (links term) at rest (λ l. slot_at at words rd term f suffix k (links_go term l)) makes'.0))
+      go (Links link to) q = subst (λ r. Good (piece_line (piece_of N r)) rest) (sym q) (call_good link to (procedure_at N to) refl q)
+
+  -- a `jal` to a noted address has the procedure's link
+  is_door : (at : ℕ) (rd : ReadWord p is marked dec fine.text at) → K at ≡ true → IsDoor T N G rd.reading
+  is_door at rd k = go rd.reading refl
+    where
+      go : (r : Reading) → rd.reading ≡ r → IsDoor T N G r
+      go (IsItem item) q = tt
+      go (IsTerm term) q = tt
+      go (Links link to) q = λ number procedure e h.
+          let n = at_number N to number e in
+          let i = (kept_is p is marked dec fine at k).0 in
+          let in_it : is_in_procedure n.0 to ≡ true = subst (λ z. is_in_procedure n.0 z ≡ true) n.2 (in_procedure_start n.0) in
+          let c : Contains (reading_uses rd.reading) to = subst (λ r. Contains (reading_uses r) to) (sym q) (one to) in
+          let u = used p is marked dec fine.text at to rd.word rd.reading rd.sound rd.reads c in
+          let j = jumps i number n.0 n.1 in_it u in
+          let d = door p is marked dec fine at to rd.word rd.sound number n.0 k rd.there n.1 j in_it in
+          let good = good_note is p number n.0 fine.notes n.1 in
+          let m : marked_reading T at rd.word.mark (Jal n.0.link d.0) ≡ Some (Links link to) = subst (λ i. marked_reading T at rd.word.mark i ≡ Some (Links link to)) d.1 (subst (λ r. marked_reading T at rd.word.mark rd.sound.insn ≡ Some r) q (marked_of p is marked dec fine.text at rd.word rd.reading rd.sound rd.reads)) in
+          let l = jal_links T at n.0.link d.0 rd.word.mark (Links link to) good.link m in
+          let same : link ≡ n.0.link = cc in
+          subst (λ l. ProcedureReads T N G to l procedure) (sym same) (subst (λ a. ProcedureReads T N G a n.0.link procedure) n.2 (procedure_reads number n.0 procedure n.1 h))
+        where
+          jumps : is at ≡ true → (number : ℕ) (n : Note) → slice_get N number ≡ Some n → is_in_procedure n to ≡ true → UsedBy T at rd.word.mark rd.sound.insn to → Contains (jump_target at rd.sound.insn) to
+          jumps i number n e b (inl j) = j
+          jumps i number n e b (inr h) = true_not_false (sym (notes_have N number to n e b) ∙ halves_out p is marked dec fine at to rd.word rd.sound i rd.there h.0)
+
+  -- THE CUT
+
+  -- a line before goes on to this place, or none does and only a leader may stand here
+  abbrev Came : Option ℕ → ℕ → Type 0
+  Came o at = ((o ≡ Some at) × (K at ≡ true)) ⊎ ((o ≡ None) × (K at ≡ true → L at ≡ true))
+
+  closed_lead : (at : ℕ) (rd : ReadWord p is marked dec fine.text at) → closes (piece_line (piece_of N rd.reading)) ≡ true → K (at + 4) ≡ true → L (at + 4) ≡ true
+  closed_lead at rd e k = lead_if (at + 4) (λ l. true_not_false (sym e ∙ (before_is at k l).1 rd.word rd.reading rd.there rd.reads))
+
+  came_next : (at : ℕ) (rd : ReadWord p is marked dec fine.text at) → K at ≡ true → Came (onward (piece_line (piece_of N rd.reading)) at) (at + 4)
+  came_next at rd k = go (closes (piece_line (piece_of N rd.reading))) refl
+    where
+      go : (b : Bool) → closes (piece_line (piece_of N rd.reading)) ≡ b → Came (if b then None else Some (at + 4)) (at + 4)
+      go true e = inr (refl, closed_lead at rd e)
+      go false e = inl (refl, next_kept p is marked dec fine at rd.word rd.sound k rd.there (goes_of at rd e))
+
+  -- behind a term a block begins
+  term_lead : (at : ℕ) (rd : ReadWord p is marked dec fine.text at) (piece : Piece) → piece_of N rd.reading ≡ piece → IsTermPiece piece → K at ≡ true → K (at + 4) ≡ true → L (at + 4) ≡ true
+  term_lead at rd (ItemPiece item) e f k k' = absurd f
+  term_lead at rd (TermPiece term) e f k k' = go (term_goes_on term) refl
+    where
+      go : (b : Bool) → term_goes_on term ≡ b → L (at + 4) ≡ true
+      go true g = lead_of p is marked dec fine at (at + 4) rd.word rd.reading (kept_is p is marked dec fine at k).0 rd.there rd.reads (subst (λ q. Contains (piece_leads at q) (at + 4)) (sym e) (goes_lead at term g))
+      go false g = closed_lead at rd (subst (λ q. closes (piece_line q) ≡ true) (sym e) (ap not g)) k'
+
+  piece_rest : (at : ℕ) (words : List Word) (rd : ReadWord p is marked dec fine.text at) → K at ≡ true → rest_lines (with_piece (piece_of N rd.reading) (Cut (at + 4) words)) ≡ piece_line (piece_of N rd.reading) ∷ rest_lines (Cut (at + 4) words)
+  piece_rest at words rd k = piece_lines N rd.reading (Cut (at + 4) words) (form_at at rd) (λ f. closed_cut (at + 4) words (λ k'. term_lead at rd (piece_of N rd.reading) refl f k k'))
+
+  lifts_cut : (at : ℕ) (words : List Word) → IsSuffix at words → MakeTargets G (rest_lines (Cut at words)) → LinksDieIn G (rest_lines (Cut at words)) → (o : Option ℕ) → Came o at → Reads o (rest_lines (Cut at words))
+  lifts_cut at [] suffix makes dies o (inl c) =
+      let w = some_is (word_at T at) (reached_word p is marked dec fine.text (dec.only at (kept_is p is marked dec fine at c.1).0)) in
+      absurd (let u : Some w.0 ≡ None = sym w.1 ∙ suffix at (omega arith) in cc)
+  lifts_cut at [] suffix makes dies o (inr c) = rw c.0 lift_end
+  lifts_cut at (w ∷ words) suffix makes dies o c = go (K at) refl makes dies (λ m d o' c'. lifts_cut (at + 4) words (tail_suffix at w words suffix) m d o' c')
+    where
+      own : word_at T at ≡ Some w
+      own = suffix at (omega arith) ∙ at_here at w words
+
+      skipped : K at ≡ false → Came o at → Came o (at + 4)
+      skipped k (inl c) = true_not_false (sym c.1 ∙ k)
+      skipped k (inr c) = inr (c.0, lead_skipped at k)
+
+      -- the line at this word, and the name before it
+      kept_line : (rd : ReadWord p is marked dec fine.text at) → K at ≡ true → MakeTargets G (piece_line (piece_of N rd.reading) ∷ rest_lines (Cut (at + 4) words)) → LinksDieIn G (piece_line (piece_of N rd.reading) ∷ rest_lines (Cut (at + 4) words)) → (MakeTargets G (rest_lines (Cut (at + 4) words)) → LinksDieIn G (rest_lines (Cut (at + 4) words)) → (o' : Option ℕ) → Came o' (at + 4) → Reads o' (rest_lines (Cut (at + 4) words))) → Reads (Some at) (piece_line (piece_of N rd.reading) ∷ rest_lines (Cut (at + 4) words))
+      kept_line rd k makes dies rec =
+          lift_line at rd.word rd.reading refl rd.there rd.reads refl (is_door at rd k) (line_good at words rd (tail_suffix at w words suffix) k makes dies)
+          (rec (line_makes (piece_of N rd.reading) makes) (line_dies (piece_of N rd.reading) dies) (onward (piece_line (piece_of N rd.reading)) at) (came_next at rd k))
+        where
+          line_makes : (piece : Piece) → MakeTargets G (piece_line piece ∷ rest_lines (Cut (at + 4) words)) → MakeTargets G (rest_lines (Cut (at + 4) words))
+          line_makes (ItemPiece item) h = item_tail item (rest_lines (Cut (at + 4) words)) h
+          line_makes (TermPiece term) h = h.1
+
+          item_dies : (item : Item) (ys : List Line) → LinksDieIn G (line_of item ∷ ys) → LinksDieIn G ys
+          item_dies (Op insn) ys h = h
+          item_dies (Hi rd to) ys h = h
+          item_dies (Lo rd rs to) ys h = h
+          item_dies (Out procedure) ys h = h.1
+
+          line_dies : (piece : Piece) → LinksDieIn G (piece_line piece ∷ rest_lines (Cut (at + 4) words)) → LinksDieIn G (rest_lines (Cut (at + 4) words))
+          line_dies (ItemPiece item) h = item_dies item (rest_lines (Cut (at + 4) words)) h
+          line_dies (TermPiece term) h = h
+
+      begun : (b : Bool) (rest : Rest) → L at ≡ b → K at ≡ true → Came o at → Reads (Some at) (rest_lines rest) → Reads o (rest_lines (begun_if b at rest))
+      begun true rest l k (inl c) h = lift_name (rw c.0 refl) (has_name_of at k l) h
+      begun true rest l k (inr c) h = lift_name (rw c.0 tt) (has_name_of at k l) h
+      begun false rest l k (inl c) h = subst (λ o. Reads o (rest_lines rest)) (sym c.0) h
+      begun false rest l k (inr c) h = true_not_false (sym (c.1 k) ∙ l)
+
+      begun_makes : (b : Bool) (rest : Rest) → MakeTargets G (rest_lines (begun_if b at rest)) → MakeTargets G (rest_lines rest)
+      begun_makes true rest h = h
+      begun_makes false rest h = h
+
+      begun_dies : (b : Bool) (rest : Rest) → LinksDieIn G (rest_lines (begun_if b at rest)) → LinksDieIn G (rest_lines rest)
+      begun_dies true rest h = h
+      begun_dies false rest h = h
+
+      go : (b : Bool) → K at ≡ b → MakeTargets G (rest_lines (if b then begun_if (L at) at (with_reading N (reading_of T at w) (Cut (at + 4) words)) else Cut (at + 4) words)) → LinksDieIn G (rest_lines (if b then begun_if (L at) at (with_reading N (reading_of T at w) (Cut (at + 4) words)) else Cut (at + 4) words)) → (MakeTargets G (rest_lines (Cut (at + 4) words)) → LinksDieIn G (rest_lines (Cut (at + 4) words)) → (o' : Option ℕ) → Came o' (at + 4) → Reads o' (rest_lines (Cut (at + 4) words))) → Reads o (rest_lines (if b then begun_if (L at) at (with_reading N (reading_of T at w) (Cut (at + 4) words)) else Cut (at + 4) words))
+      go false k makes dies rec = rec makes dies o (skipped k c)
+      go true k makes dies rec =
+          let rd = read_at p is marked dec fine at (kept_is p is marked dec fine at k).0 in
+          let same : rd.word ≡ w = let u : Some rd.word ≡ Some w = sym rd.there ∙ own in cc in
+          let reads : reading_of T at w ≡ Some rd.reading = subst (λ w. reading_of T at w ≡ Some rd.reading) same rd.reads in
+          let rest : Rest = with_reading N (reading_of T at w) (Cut (at + 4) words) in
+          let lines : rest_lines rest ≡ piece_line (piece_of N rd.reading) ∷ rest_lines (Cut (at + 4) words) = ap (λ o. rest_lines (with_reading N o (Cut (at + 4) words))) reads ∙ piece_rest at words rd k in
+          begun (L at) rest refl k c (subst (Reads (Some at)) (sym lines) (kept_line rd k (subst (MakeTargets G) lines (begun_makes (L at) rest makes)) (subst (LinksDieIn G) lines (begun_dies (L at) rest dies)) rec))
+
+  pub lifts_whole : MakeTargets G (lines_of G.blocks) → LinksDieIn G (lines_of G.blocks) → Reads None (lines_of G.blocks)
+  lifts_whole makes dies =
+      subst (Reads None) whole_cut
+      (lifts_cut T.lo T.words (λ x h. refl) (subst (MakeTargets G) (sym whole_cut) makes) (subst (LinksDieIn G) (sym whole_cut) dies) None (inr (refl, first_lead)))
