@@ -40,7 +40,7 @@ rest_lines rest = map line_of rest.items ++ term_lines rest.term (lines_of rest.
 pub true_not_false : {A : Type 0} → true ≡ false → A
 true_not_false e = absurd (cc)
 
-when_false : (b : Bool) → (b ≡ true → ⊥) → b ≡ false
+pub when_false : (b : Bool) → (b ≡ true → ⊥) → b ≡ false
 when_false true f = absurd (f refl)
 when_false false f = refl
 

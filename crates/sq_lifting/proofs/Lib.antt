@@ -7,3 +7,4 @@ mod NoteFacts
 mod ReadingFacts
 mod Cutting
 mod CutLines
+mod Whole

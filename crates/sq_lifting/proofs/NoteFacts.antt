@@ -1,5 +1,5 @@
 -- What holds of the noted procedures of a program that is not refused.
-use Rattle.std.proofs.Common.{◌≡◌, ◌≢◌, ◌⊎◌, inl, inr, ℕ, ℤ, zero, suc, ◌+◌, ◌<◌, pos, Bool, true, false, not, ◌==◌, ◌&&◌, ◌||◌, List, [], ◌∷◌, ◌++◌, map, length, Option, Some, None, slice_get, if◌then◌else◌, refl, sym, ap, ◌∙◌, subst, arith, nat_lt}
+use Rattle.std.proofs.Common.{◌≡◌, ◌≢◌, ◌⊎◌, inl, inr, ℕ, ℤ, zero, suc, ◌+◌, ◌<◌, pos, Bool, true, false, not, ◌==◌, ◌&&◌, ◌||◌, List, [], ◌∷◌, ◌++◌, map, length, Option, Some, None, slice_get, if◌then◌else◌, refl, sym, ap, ◌∙◌, subst, arith, nat_lt, ne_eqb}
 use Rattle.std.specs.Option.{option_map, option_and_then}
 use Rattle.std.specs.Ordering.{int_eq}
 use Rattle.std.specs.List.{Contains, list_any}
@@ -201,7 +201,7 @@ pub record IsUsedNote (is : ℕ → Bool) (p : Program) (notes : List Note) (n :
   pub good : is_good_note is p before n ≡ true
   pub reached : is n.address ≡ true
 
-used_good : (is : ℕ → Bool) (p : Program) (before : Option ℕ) (number : ℕ) (notes : List Note) (q : ℕ) (n : Note) → bad_note_from is p before number notes ≡ None → slice_get (used_notes is notes) q ≡ Some n → IsUsedNote is p notes n
+pub used_good : (is : ℕ → Bool) (p : Program) (before : Option ℕ) (number : ℕ) (notes : List Note) (q : ℕ) (n : Note) → bad_note_from is p before number notes ≡ None → slice_get (used_notes is notes) q ≡ Some n → IsUsedNote is p notes n
 used_good is p before number [] q n e h = absurd (cc)
 used_good is p before number (m ∷ notes) q n e h = go (is_good_note is p before m) refl e (λ f k g. used_good is p (Some m.address) (number + 1) notes k n f g)
   where
@@ -272,3 +272,44 @@ good_note is p q n e h =
       codes = λ x k. any_none (is_in_procedure n) (map target_of p.code_words) x g.1 k;
       words = λ x w i k. enter_free is n x p.text.lo w p.text.words f.1 i k;
     }
+
+-- Notes ascend by address
+
+ascends : (is : ℕ → Bool) (p : Program) (before : Option ℕ) (n : Note) → is_good_note is p before n ≡ true → is_above before n.address ≡ true
+ascends is p before n e =
+    let a = and_parts (is_in_order p.text before n) (not (is n.address) || is_procedure p.text n && not (is_entered is p n)) e in
+    let b = and_parts (is_word p.text n.address && is_above before n.address) (is_register n.link) a.0 in
+    (and_parts (is_word p.text n.address) (is_above before n.address) b.0).1
+
+later_good : (is : ℕ → Bool) (p : Program) (before : Option ℕ) (number : ℕ) (m : Note) (notes : List Note) → bad_note_from is p before number (m ∷ notes) ≡ None → (is_good_note is p before m ≡ true) × (bad_note_from is p (Some m.address) (number + 1) notes ≡ None)
+later_good is p before number m notes e = go (is_good_note is p before m) refl e
+  where
+    go : (b : Bool) → is_good_note is p before m ≡ b → (if b then bad_note_from is p (Some m.address) (number + 1) notes else Some number) ≡ None → (is_good_note is p before m ≡ true) × (bad_note_from is p (Some m.address) (number + 1) notes ≡ None)
+    go true g h = (g, h)
+    go false g h = absurd (cc)
+
+above : (is : ℕ → Bool) (p : Program) (a number : ℕ) (notes : List Note) (q : ℕ) (n : Note) → bad_note_from is p (Some a) number notes ≡ None → slice_get (used_notes is notes) q ≡ Some n → a < n.address
+above is p a number [] q n e h = absurd (cc)
+above is p a number (m ∷ notes) q n e h =
+    let g = later_good is p (Some a) number m notes e in
+    let less : a < m.address = let k = ascends is p (Some a) m g.0 in grind (arith, nat_tests) in
+    pick (is m.address) q h less (λ k f. above is p m.address (number + 1) notes k n g.1 f)
+  where
+    pick : (c : Bool) (q : ℕ) → slice_get (if c then m ∷ used_notes is notes else used_notes is notes) q ≡ Some n → a < m.address → ((k : ℕ) → slice_get (used_notes is notes) k ≡ Some n → m.address < n.address) → a < n.address
+    pick true zero h less rec = let u : m ≡ n = cc in subst (λ k. a < k.address) u less
+    pick true (suc k) h less rec = let r : m.address < n.address = rec k h in omega arith
+    pick false k h less rec = let r : m.address < n.address = rec k h in omega arith
+
+-- so a procedure's number is that of its address
+pub own_number : (is : ℕ → Bool) (p : Program) (before : Option ℕ) (number : ℕ) (notes : List Note) (q : ℕ) (n : Note) → bad_note_from is p before number notes ≡ None → slice_get (used_notes is notes) q ≡ Some n → procedure_at (used_notes is notes) n.address ≡ Some q
+own_number is p before number [] q n e h = absurd (cc)
+own_number is p before number (m ∷ notes) q n e h =
+    let g = later_good is p before number m notes e in
+    pick (is m.address) q h (λ k f. above is p m.address (number + 1) notes k n g.1 f) (λ k f. own_number is p (Some m.address) (number + 1) notes k n g.1 f)
+  where
+    pick : (c : Bool) (q : ℕ) → slice_get (if c then m ∷ used_notes is notes else used_notes is notes) q ≡ Some n → ((k : ℕ) → slice_get (used_notes is notes) k ≡ Some n → m.address < n.address) → ((k : ℕ) → slice_get (used_notes is notes) k ≡ Some n → procedure_at (used_notes is notes) n.address ≡ Some k) → procedure_at (if c then m ∷ used_notes is notes else used_notes is notes) n.address ≡ Some q
+    pick true zero h less rec = let u : m ≡ n = cc in rw (ap (λ k. k.address) u, same_itself n.address) refl
+    pick true (suc k) h less rec =
+        let other : (m.address == n.address) ≡ false = let l = less k h in ne_eqb m.address n.address (λ e. omega (arith, l)) in
+        rw (other, rec k h) refl
+    pick false k h less rec = rec k h

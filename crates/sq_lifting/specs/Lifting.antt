@@ -1,5 +1,6 @@
 -- Lifting keeps runs.
 use Rattle.std.specs.Prelude.{◌≡◌, ℕ, ◌%◌, ◌^◌, ◌<◌, Bool, false, None, Some, slice_get, length, map}
+use Rattle.std.specs.List.{Contains}
 use Rattle.sq_runs.specs.Follows.{LocksWith}
 use Rattle.sq_system.specs.Starts.{Start}
 use Rattle.sq_system.specs.World.{is_executable}
@@ -9,7 +10,7 @@ use Rattle.sq_reloc.specs.Marks.{IsMarked}
 use Rattle.sq_follow.specs.Worlds.{World, layout_of, setting_of, core_at_start}
 use Rattle.sq_follow.specs.GraphRuns.{graph_step}
 use Rattle.sq_follow.specs.Follows.{state_at_start}
-use Rattle.sq_program.specs.Programs.{Word, Text, Note, Program, word_at, insn_in, end_of, target_of}
+use Rattle.sq_program.specs.Programs.{Word, Text, Note, Program, word_at, IsWord, insn_in, end_of, target_of}
 use Rattle.sq_program.specs.Reached.{Decides}
 use Rattle.sq_program.specs.Notes.{bad_note}
 use Rattle.sq_program.specs.Faults.{text_refusal}
@@ -29,6 +30,12 @@ pub record IsMarkedText (t : Text) : Type 0 where
   pub aligned : t.lo % 4 ≡ 0
   pub marked : (x : ℕ) (w : Word) → word_at t x ≡ Some w → IsMarked (insn_in w) w.mark
   pub small : (x : ℕ) (w : Word) → word_at t x ≡ Some w → MarkFits w.mark
+
+-- and the entry and the targets of code words are words of text
+pub record IsLinked (p : Program) : Type 0 where
+  pub text : IsMarkedText p.text
+  pub entry : IsWord p.text p.entry
+  pub code_words : (x : ℕ) → Contains (map target_of p.code_words) x → IsWord p.text x
 
 -- nothing of a program is refused
 pub record IsFine (is : ℕ → Bool) (p : Program) : Type 0 where
@@ -50,5 +57,5 @@ watched_start w p start = record { pc = p.entry; core = core_at_start w (map tar
 -- is unbroken.
 abbrev pub LiftingKeepsRuns : Type 0
 LiftingKeepsRuns =
-    (p : Program) (is : ℕ → Bool) → IsMarkedText p.text → Decides p is → IsFine is p → (w : World) (start : Start) → IsWorldOf w start p
+    (p : Program) (is : ℕ → Bool) → IsLinked p → Decides p is → IsFine is p → (w : World) (start : Start) → IsWorldOf w start p
     → LocksWith (monitored_step (layout_of w start) p.text) (watched_start w p start) (graph_step (setting_of w start) (lifted is p)) (state_at_start w (lifted is p) start)
