@@ -1,5 +1,6 @@
 pub mod RegisterWrites
 pub mod Ranges
+pub mod Pieces
 pub mod MemoryWrites
 pub mod Effects
 pub mod Moves

@@ -26,7 +26,7 @@ earlier_or_last i n h = tell (nat_eq i n) refl
     tell true e = inr (eqb-true i n e)
     tell false e = let f : i ≡ n → ⊥ = eqb-false i n e in inl (omega arith)
 
-are_all-fails : (test : ℕ → Bool) (x n i : ℕ) → i < n → test (x + i) ≡ false → are_all test x n ≡ false
+pub are_all-fails : (test : ℕ → Bool) (x n i : ℕ) → i < n → test (x + i) ≡ false → are_all test x n ≡ false
 are_all-fails test x zero i h e = absurd (omega arith)
 are_all-fails test x (suc n) i h e = tell (earlier_or_last i n h) (λ g. are_all-fails test x n i g e)
   where

@@ -1,5 +1,5 @@
 -- ECALL: what a system call finds and what it does.
-use Rattle.std.specs.Prelude.{◌≡◌, ℕ, ◌-◌, ◌^◌, ◌≤◌, true, min, length, take, Option, Some, None}
+use Rattle.std.specs.Prelude.{◌≡◌, ℕ, ◌-◌, ◌^◌, ◌≤◌, ◌==◌, ◌&&◌, true, min, length, take, Option, Some, None}
 use Rattle.sq_runs.specs.Runs.{Next, Went, Ended}
 use Rattle.sq_system.specs.Calls.{effect_of, answer_of}
 use Rattle.sq_system.specs.declared.call.CallArgs.{CallArgs}
@@ -42,6 +42,14 @@ call_of w s = record {
   left = left s;
   readable = is_range (is_in_memory s.memory) (a1 s) (a2 s);
   writable = is_range (is_writable w) (a1 s) (a2 s);
+}
+
+-- Only `write` depends on whether its buffer is in memory, and only `read` on whether it is writable; the same
+-- call without what its effect doesn't depend on.
+abbrev pub narrowed : CallArgs → CallArgs
+narrowed call = record call {
+  readable = call.number == 64 && call.readable;
+  writable = call.number == 63 && call.writable;
 }
 
 -- a0 with the answer, and the instruction behind the call follows

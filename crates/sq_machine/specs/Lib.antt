@@ -1,5 +1,6 @@
 pub mod Calls
 pub mod Presence
+pub mod Ranges
 pub mod Rows
 pub mod Starts
 pub mod State

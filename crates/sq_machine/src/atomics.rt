@@ -44,7 +44,7 @@ impl Hart {
         ensures { IsQuietStep (sc_row (world_of world.now) rd rs src (state_of self.old)) result (state_of self.old) (state_of self.new) }
     {
         let address = self.register(rs);
-        if !world.may_store(address, 4) {
+        if !self.may_store(world, address, 4) {
             return Moved::Ended(Halt::Store(address));
         }
         let number = self.register(src);
@@ -71,7 +71,7 @@ impl Hart {
         ensures { IsQuietStep (amo_row (world_of world.now) op rd rs src (state_of self.old)) result (state_of self.old) (state_of self.new) }
     {
         let address = self.register(rs);
-        if !world.may_store(address, 4) {
+        if !self.may_store(world, address, 4) {
             return Moved::Ended(Halt::Store(address));
         }
         let number = self.register(src);

@@ -3,7 +3,7 @@
 ghost use Rattle.std.specs.Prelude.{◌≡◌, ◌+◌, ◌<◌, ◌≤◌, ◌^◌, ◌++◌, ◌∷◌, [], length, take, drop, true, IfOk, OnOk, OnErr};
 ghost use Rattle.sq_system.specs.Calls.{effect_of, answer_of};
 ghost use Rattle.sq_machine.specs.State.{with_register, with_bytes, without_input, bytes_at};
-ghost use Rattle.sq_machine.specs.Calls.{left, call_of, answered, called, call_row, IsAllowed};
+ghost use Rattle.sq_machine.specs.Calls.{left, call_of, narrowed, answered, called, call_row, IsAllowed};
 ghost use Rattle.sq_machine.specs.Steps.{IsStep};
 ghost use Rattle.sq_machine.specs.Views.{state_of, world_of};
 
@@ -13,6 +13,12 @@ use crate::world::World;
 use sq_isa::Reg;
 use sq_num::{Bytes, Memory};
 use sq_system::{CallArgs, Effect, Event, Halt, Log, call_answer, call_effect};
+
+/// The number of the call whose effect depends on whether its buffer is writable.
+const READ: u32 = 63;
+
+/// The number of the call whose effect depends on whether its buffer is in memory.
+const WRITE: u32 = 64;
 
 /// The effect of a call.
 #[tactic(auto, using(crate::proofs::Effects::effect_allowed))]
@@ -53,20 +59,22 @@ impl Hart {
         self.rest().len().min(u32::MAX as usize) as u32
     }
 
-    /// What a call finds.
+    /// What a call finds. Its buffer is looked at only where its effect depends on it.
     #[tactic(auto, unfolding(crate::specs::Calls::call_of, crate::specs::Views::world_of))]
-    fn call_args(&self, world: &World) -> CallArgs
-        ensures value { result ≡ call_of (world_of world.now) (state_of self.now) }
+    fn call_args(&mut self, world: &World) -> CallArgs
+        ensures value { result ≡ narrowed (call_of (world_of world.now) (state_of self.old)) }
+        ensures state { state_of self.new ≡ state_of self.old }
         ensures readable { result.readable ≡ true → result.a1 + result.a2 ≤ 2 ^ 32 }
         ensures writable { result.writable ≡ true → result.a1 + result.a2 ≤ 2 ^ 32 }
-        ensures left { result.left ≤ length (state_of self.now).input }
+        ensures left { result.left ≤ length (state_of self.old).input }
     {
         let a1 = self.register(Reg::A1);
         let a2 = self.register(Reg::A2);
-        let readable = self.are_in_memory(a1, a2);
-        let writable = world.are_writable(a1, a2);
+        let number = self.register(Reg::A7);
+        let readable = number == WRITE && self.are_in_memory(a1, a2);
+        let writable = number == READ && self.are_writable(world, a1, a2);
         CallArgs {
-            number: self.register(Reg::A7),
+            number,
             a0: self.register(Reg::A0),
             a1,
             a2,
@@ -141,6 +149,7 @@ impl Hart {
     }
 
     /// A call.
+    #[tactic(auto, using(crate::proofs::Effects::row_narrowed))]
     pub fn call(&mut self, world: &World, log: &mut Log) -> Result<Moved, Memory>
         ensures ok { IfOk result (λ moved. IsStep (call_row (world_of world.now) (state_of self.old)) moved (state_of self.old) (state_of self.new) log.old log.new) }
         ensures state_kept { OnErr result (state_of self.new ≡ state_of self.old) }

@@ -15,4 +15,7 @@ pub struct Hart {
     pub read: usize,
     /// The address that LR reserved.
     pub reservation: Option<u32>,
+    /// The places of the pieces that served the last fetch and the last write. They only save time.
+    pub code_piece: usize,
+    pub data_piece: usize,
 }

@@ -2,7 +2,7 @@
 
 ghost use Rattle.std.specs.Prelude.{◌≡◌, ◌+◌, ◌<◌, ◌≤◌, ◌^◌, IsTrue};
 ghost use Rattle.byteorder.specs.Endian.{little_bytes};
-ghost use Rattle.sq_system.specs.World.{is_writable};
+ghost use Rattle.sq_system.specs.World.{is_writable, is_range};
 ghost use Rattle.sq_isa.specs.Accesses.{store_width};
 ghost use Rattle.sq_machine.specs.Rows.{lui_row, auipc_row, jal_row, jalr_row, branch_row, load_row, store_row, may_store, op_imm_row, op_row};
 ghost use Rattle.sq_machine.specs.State.{with_bytes};
@@ -87,7 +87,7 @@ impl Hart {
     {
         let address = self.address(rs, offset);
         let width = store_width(kind);
-        if !world.may_store(address, width) {
+        if !self.may_store(world, address, width) {
             return Moved::Ended(Halt::Store(address));
         }
         let number = self.register(src);
@@ -114,6 +114,26 @@ impl Hart {
         Moved::Went
     }
 
+    /// Whether the n bytes from `x` on are writable.
+    #[tactic(auto, unfolding(crate::specs::Views::state_of))]
+    pub fn are_writable(&mut self, world: &World, x: u32, n: u32) -> bool
+        ensures value { result ≡ is_range (is_writable (world_of world.now)) x n }
+        ensures end { IsTrue result → x + n ≤ 2 ^ 32 }
+        ensures state { state_of self.new ≡ state_of self.old }
+    {
+        world.are_writable(x, n, &mut self.data_piece)
+    }
+
+    /// Whether a store of so many bytes may be made at an address.
+    pub fn may_store(&mut self, world: &World, address: u32, width: u32) -> bool
+        requires { 0 < width }
+        ensures value { result ≡ may_store (world_of world.now) address width }
+        ensures end { IsTrue result → address + width ≤ 2 ^ 32 }
+        ensures state { state_of self.new ≡ state_of self.old }
+    {
+        address % width == 0 && self.are_writable(world, address, width)
+    }
+
     /// The lowest `width` bytes of a number from an address on.
     pub fn put_number(&mut self, address: u32, width: u32, number: u32)
         requires width { width ≤ 4 }
@@ -135,16 +155,5 @@ fn store_width(kind: StoreKind) -> u32
         StoreKind::Sb => 1,
         StoreKind::Sh => 2,
         StoreKind::Sw => 4,
-    }
-}
-
-impl World {
-    /// Whether a store of so many bytes may be made at an address.
-    pub fn may_store(&self, address: u32, width: u32) -> bool
-        requires { 0 < width }
-        ensures value { result ≡ may_store (world_of self.now) address width }
-        ensures end { IsTrue result → address + width ≤ 2 ^ 32 }
-    {
-        address % width == 0 && self.are_writable(address, width)
     }
 }

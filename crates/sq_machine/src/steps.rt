@@ -3,6 +3,7 @@
 ghost use Rattle.std.specs.Prelude.{◌≡◌, ℕ, ◌<◌, IfOk, OnOk, OnErr};
 ghost use Rattle.sq_runs.specs.Runs.{Went as Goes, RunsFor, trace};
 ghost use Rattle.sq_isa.specs.Table.{insn_of};
+ghost use Rattle.sq_system.specs.World.{is_executable, is_range};
 ghost use Rattle.sq_machine.specs.State.{advance};
 ghost use Rattle.sq_machine.specs.Rows.{row_of};
 ghost use Rattle.sq_machine.specs.Steps.{fetched, insn_step, step_of, trace_of, IsQuietStep, IsStep, status_of};
@@ -17,12 +18,22 @@ use sq_num::Memory;
 use sq_system::{Halt, Log};
 
 impl Hart {
+    /// Whether a word may be fetched from an address.
+    #[tactic(auto, unfolding(crate::specs::Views::state_of))]
+    fn may_fetch(&mut self, world: &World, x: u32) -> bool
+        ensures value { result ≡ is_range (is_executable (world_of world.now)) x 4 }
+        ensures state { state_of self.new ≡ state_of self.old }
+    {
+        world.are_executable(x, 4, &mut self.code_piece)
+    }
+
     /// The word at pc, where one can be fetched.
-    fn fetch(&self, world: &World) -> Option<u32>
-        ensures { result ≡ fetched (world_of world.now) (state_of self.now) }
+    fn fetch(&mut self, world: &World) -> Option<u32>
+        ensures value { result ≡ fetched (world_of world.now) (state_of self.old) }
+        ensures state { state_of self.new ≡ state_of self.old }
     {
         let pc = self.pc();
-        if world.are_executable(pc, 4) {
+        if self.may_fetch(world, pc) {
             self.word(pc)
         } else {
             None

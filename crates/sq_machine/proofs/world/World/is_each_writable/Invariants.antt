@@ -1,7 +1,7 @@
 use Rattle.std.proofs.Common.{◌≡◌, true}
 use Rattle.sq_system.specs.World.{are_all, is_writable}
 use Rattle.sq_machine.specs.Views.{world_of}
-use Rattle.sq_machine.proofs.world.World.are_writable.Given as goal
+use Rattle.sq_machine.proofs.world.World.is_each_writable.Given as goal
 
 abbrev pub invariant-loop-i : goal.invariant-loop-i
 invariant-loop-i l = are_all (is_writable (world_of l.self)) l.x l.i ≡ true

@@ -1,9 +1,0 @@
-use Rattle.std.proofs.Common.{sym, ◌∙◌}
-use Rattle.sq_system.specs.World.{is_writable}
-use Rattle.sq_machine.specs.Views.{world_of}
-use Rattle.sq_machine.proofs.Ranges.{is_range-fails}
-use Rattle.sq_machine.proofs.world.World.are_writable.Goals as goal
-
-pub returns-then-not-is_writable-clause-value : goal.returns-then-not-is_writable-clause-value
-returns-then-not-is_writable-clause-value c =
-    sym (is_range-fails (is_writable (world_of c.args.self.now)) c.args.x c.args.n c.loop-i.i c.loop-i-test.true (sym c.is_writable.ensures ∙ c.if-not-is_writable.true))
