@@ -1,1 +1,3 @@
 mod Cells
+mod Accessing
+mod Calling

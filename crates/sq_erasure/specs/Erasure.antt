@@ -52,9 +52,10 @@ pub record IsErasedCore (P : ℕ → Type 0) (E : Erasing) (a : Core) (b : State
   pub zero : b.registers 0 ≡ 0
   pub store : IsErasedStore P E a.store b
 
--- the two memories are laid out alike but for text, and an access outside text is where P holds
+-- the two memories are laid out alike but for text; P holds above all addresses, and where an access is outside text
 pub record IsErasedSetting (P : ℕ → Type 0) (s : Setting) (w : World) : Type 0 where
   pub base : w.base ≡ s.world.base
   pub size : w.size ≡ s.world.size
   pub writable : (x : ℕ) → P x → is_writable w x ≡ is_writable s.world x
+  pub above : (x : ℕ) → 2 ^ 32 ≤ x → P x
   pub outside : (x n : ℕ) → x + n ≤ 2 ^ 32 → meets_text s x n ≡ false → (i : ℕ) → i < n → P (x + i)
