@@ -1,3 +1,4 @@
 mod Cells
 mod Accessing
 mod Calling
+mod Rows

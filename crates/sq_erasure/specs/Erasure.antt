@@ -1,5 +1,5 @@
 -- Tagged runs without their tags: what a plain machine holds where a tagged run holds values.
-use Rattle.std.specs.Prelude.{◌≡◌, ℕ, ℤ, ◌+◌, ◌^◌, ◌<◌, ◌≤◌, Bool, true, false, List, Option, Some, None, slice_get}
+use Rattle.std.specs.Prelude.{◌≡◌, ℕ, ℤ, ◌+◌, ◌%◌, ◌^◌, ◌<◌, ◌≤◌, Bool, true, false, List, Option, Some, None, slice_get}
 use Rattle.byteorder.specs.Endian.{little_bytes}
 use Rattle.sq_isa.specs.Words.{wrapped, unsigned}
 use Rattle.sq_memory.specs.Cells.{AgreeOn}
@@ -15,10 +15,11 @@ pub record Erasing : Type 1 where
   pub address : ℕ → ℕ
   pub word : ℕ → Option ℕ → ℕ
 
--- addresses are in text, and so words, as upper halves are
+-- addresses are those of words of text, and upper halves are words
 pub record IsErasing (E : Erasing) (s : Setting) : Type 0 where
   pub in_text : (n : ℕ) → E.Names n → is_in_text s (E.address n) ≡ true
   pub small : (n : ℕ) → E.Names n → E.address n < 2 ^ 32
+  pub whole : (n : ℕ) → E.Names n → E.address n % 4 ≡ 0
   pub word_small : (n : ℕ) (w : Option ℕ) → E.word n w < 2 ^ 32
 
 abbrev pub IsErasedTag : Erasing → Tag → ℕ → Type 0
