@@ -91,7 +91,7 @@ module _ (P : ℕ → Type 0) (E : Erasing) (s : Setting) (w : World) (naming : 
 
   tag_small : (tag : Tag) (y : ℕ) → IsErasedTag E tag y → y < 2 ^ 32
   tag_small (Code n) y h = rw h.1 (naming.small n h.0)
-  tag_small (Part n v) y h = rw h (naming.word_small n v)
+  tag_small (Part n v) y h = rw h.1 (naming.word_small n v h.0)
 
   tag_word : (kind : LoadKind) (cs : List Cell) (tag : Tag) → tag_in kind cs ≡ Some tag → (kind ≡ Lw) × (whole cs ≡ Some tag)
   tag_word Lw cs tag e = (refl, e)

@@ -48,7 +48,7 @@ module _ (E : Erasing) where
   -- a tag stands for one number
   one_number : (tag : Tag) (y z : ℕ) → IsErasedTag E tag y → IsErasedTag E tag z → z ≡ y
   one_number (Code n) y z h k = k.1 ∙ sym h.1
-  one_number (Part n w) y z h k = k ∙ sym h
+  one_number (Part n w) y z h k = k.1 ∙ sym h.1
 
   -- part k of a value is byte k of its word
   part_byte : (tag : Tag) (y k : ℕ) (c : Cell) (b : ℕ) → IsErasedTag E tag y → is_part_of tag k c ≡ true → IsErasedCell E c b → slice_get (little_bytes 4 y) k ≡ Some b

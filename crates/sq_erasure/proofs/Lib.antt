@@ -1,4 +1,5 @@
 mod Cells
 mod Accessing
 mod Calling
-mod Rows
+pub mod Rows
+pub mod TextKept

@@ -53,7 +53,7 @@ module _ (P : ℕ → Type 0) (E : Erasing) (s : Setting) (w : World) (naming : 
 
   tag_small : (tag : Tag) (y : ℕ) → IsErasedTag E tag y → y < 2 ^ 32
   tag_small (Code n) y h = rw h.1 (naming.small n h.0)
-  tag_small (Part n v) y h = rw h (naming.word_small n v)
+  tag_small (Part n v) y h = rw h.1 (naming.word_small n v h.0)
 
   -- ARITHMETIC
 
@@ -134,8 +134,8 @@ module _ (P : ℕ → Type 0) (E : Erasing) (s : Setting) (w : World) (naming : 
   plain_erased insn v a b z h k = tt
 
   -- an upper half, and the word that is made
-  pub upper_erased : (n d y : ℕ) (word : Option ℕ) (insn : Insn) (v : Operands) (a : Store) (b : State) → y ≡ E.word n word → IsErasedStore P E a b → Same d b (row_of s (Upper n word) insn v a) (Went None (finish d y b))
-  upper_erased n d y word insn v a b h k = gives_erased P E s w naming laid d y (Tagged (Part n word)) a b h k
+  pub upper_erased : (n d y : ℕ) (word : Option ℕ) (insn : Insn) (v : Operands) (a : Store) (b : State) → E.Halves n word → y ≡ E.word n word → IsErasedStore P E a b → Same d b (row_of s (Upper n word) insn v a) (Went None (finish d y b))
+  upper_erased n d y word insn v a b e h k = gives_erased P E s w naming laid d y (Tagged (Part n word)) a b (e, h) k
 
   -- where a value is the upper half of this name, it and the immediate are this number
   abbrev pub AddUp : ℕ → ℤ → ℤ → ℕ → Type 0

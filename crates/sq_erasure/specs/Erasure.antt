@@ -9,10 +9,11 @@ use Rattle.sq_follow.specs.Values.{Tag, Code, Part, Value, Num, Tagged, Cell, By
 use Rattle.sq_follow.specs.Settings.{Setting, Store, is_in_text, meets_text}
 use Rattle.sq_follow.specs.GraphRuns.{Core}
 
--- which names stand for addresses, and for which; and the word of an upper half
+-- which names stand for addresses, and for which; which upper halves there are, and the word of each
 pub record Erasing : Type 1 where
   pub Names : ℕ → Type 0
   pub address : ℕ → ℕ
+  pub Halves : ℕ → Option ℕ → Type 0
   pub word : ℕ → Option ℕ → ℕ
 
 -- addresses are those of words of text, and upper halves are words
@@ -20,11 +21,11 @@ pub record IsErasing (E : Erasing) (s : Setting) : Type 0 where
   pub in_text : (n : ℕ) → E.Names n → is_in_text s (E.address n) ≡ true
   pub small : (n : ℕ) → E.Names n → E.address n < 2 ^ 32
   pub whole : (n : ℕ) → E.Names n → E.address n % 4 ≡ 0
-  pub word_small : (n : ℕ) (w : Option ℕ) → E.word n w < 2 ^ 32
+  pub word_small : (n : ℕ) (w : Option ℕ) → E.Halves n w → E.word n w < 2 ^ 32
 
 abbrev pub IsErasedTag : Erasing → Tag → ℕ → Type 0
 IsErasedTag E (Code n) y = E.Names n × (y ≡ E.address n)
-IsErasedTag E (Part n w) y = y ≡ E.word n w
+IsErasedTag E (Part n w) y = E.Halves n w × (y ≡ E.word n w)
 
 -- a number is the same number
 abbrev pub IsErased : Erasing → Value → ℕ → Type 0
