@@ -1,5 +1,5 @@
 mod Cells
-mod Accessing
+pub mod Accessing
 mod Calling
 pub mod Rows
 pub mod TextKept

@@ -8,3 +8,4 @@ mod ReadingFacts
 mod Cutting
 mod CutLines
 mod Whole
+mod Watched

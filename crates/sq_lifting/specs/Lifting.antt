@@ -18,18 +18,19 @@ use Rattle.sq_program.specs.Lifted.{lifted}
 use Rattle.sq_program.specs.FilePrograms.{NoteDies}
 use Rattle.sq_program.specs.Monitored.{Watched, monitored_step}
 
--- a half of an address is one of a word
+-- a half is that of an address below 2^32
 abbrev pub MarkFits : Mark → Type 0
 MarkFits (Hi to) = to < 2 ^ 32
 MarkFits (Lo to) = to < 2 ^ 32
 MarkFits mark = Unit {0}
 
 -- text as relocations mark it: it starts at a multiple of 4, halves of addresses stand in instructions that hold such
--- halves, and the addresses are words
+-- halves, and addresses and words are below 2^32
 pub record IsMarkedText (t : Text) : Type 0 where
   pub aligned : t.lo % 4 ≡ 0
   pub marked : (x : ℕ) (w : Word) → word_at t x ≡ Some w → IsMarked (insn_in w) w.mark
   pub small : (x : ℕ) (w : Word) → word_at t x ≡ Some w → MarkFits w.mark
+  pub numbers : (x : ℕ) (w : Word) → word_at t x ≡ Some w → w.number < 2 ^ 32
 
 -- and the entry and the targets of code words are words of text
 pub record IsLinked (p : Program) : Type 0 where
@@ -43,7 +44,7 @@ pub record IsFine (is : ℕ → Bool) (p : Program) : Type 0 where
   pub notes : bad_note is p ≡ None
   pub dies : (i : ℕ) (note : Note) → slice_get p.notes i ≡ Some note → NoteDies is p note
 
--- the world has the program's text, and outside it nothing is executable but where no word of text stands
+-- the world has the program's text, and each word of text is executable
 pub record IsWorldOf (w : World) (start : Start) (p : Program) : Type 0 where
   pub lo : w.lo ≡ p.text.lo
   pub hi : w.hi ≡ end_of p.text

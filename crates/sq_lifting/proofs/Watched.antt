@@ -1,0 +1,199 @@
+-- The plain machine does what the monitored run of a program does.
+use Rattle.std.proofs.Common.{◌≡◌, ◌≢◌, ◌⊎◌, inl, inr, ℕ, zero, suc, ◌+◌, ◌-◌, ◌*◌, ◌%◌, ◌^◌, ◌<◌, ◌≤◌, ℤ, pos, Bool, true, false, not, ◌==◌, ◌&&◌, ◌||◌, List, [], ◌∷◌, length, map, Option, Some, None, if◌then◌else◌, refl, sym, ap, ◌∙◌, subst, arith, nat_lt, nat_le}
+use Rattle.std.specs.Option.{unwrap_or}
+use Rattle.std.specs.Ordering.{int_eq}
+use Rattle.std.specs.List.{Contains}
+use Rattle.std.proofs.lemmas.Bool.{and_parts, eqb-true}
+use Rattle.std.proofs.lemmas.Bool.Decides.{nat_tests, Decides-int_eq}
+use Rattle.sq_isa.specs.Words.{wrapped, unsigned, upper_word, even}
+use Rattle.sq_isa.specs.Registers.{written}
+use Rattle.sq_isa.specs.Ranges.{IsUnimp, FieldsFit}
+use Rattle.sq_isa.specs.Uses.{sources_of, destination_of}
+use Rattle.sq_isa.specs.Branches.{taken_of}
+use Rattle.sq_isa.specs.Table.{insn_of}
+use Rattle.sq_isa.proofs.Encoded.{FieldsFit-insn_of}
+use Rattle.sq_isa.specs.declared.instructions.Cond.{Cond}
+use Rattle.sq_isa.specs.declared.instructions.Insn.{Insn}
+use Rattle.sq_isa.specs.declared.instructions.Insn.TheVariants.{Lui, Auipc, Jal, Jalr, Branch as BranchInsn, Load, Store as StoreInsn, OpImm, Op as OpInsn, Fence, Ecall, Ebreak, Unimp, Atomic}
+use Rattle.sq_isa.specs.declared.instructions.ImmOp.TheVariants.{Addi}
+use Rattle.sq_runs.specs.Runs.{Next, Went, Ended, Broke}
+use Rattle.sq_runs.specs.Simulation.{Matches}
+use Rattle.sq_runs.specs.Follows.{LocksWith}
+use Rattle.sq_runs.proofs.Simulate.{locks_by}
+use Rattle.sq_memory.specs.Cells.{Cells, cells_from, Agree}
+use Rattle.sq_memory.specs.Regions.{get}
+use Rattle.sq_memory.proofs.RangeLaws.{cells_from-same}
+use Rattle.sq_system.specs.Starts.{Start, stack_pointer}
+use Rattle.sq_system.specs.World.{World as Layout, is_executable, are_all, is_range}
+use Rattle.sq_system.specs.declared.event.Halt.TheVariants.{Fetch, Illegal, Breakpoint}
+use Rattle.sq_machine.specs.State.{State, number_at, aligned_number, with_register, jump, next_pc, advance, finish, address_of, target_of as plain_target}
+use Rattle.sq_machine.specs.Rows as plain
+use Rattle.sq_machine.specs.Steps.{fetched, insn_step, word_step, step_of}
+use Rattle.sq_reloc.specs.declared.mark.Mark.{Mark}
+use Rattle.sq_reloc.specs.declared.mark.Mark.TheVariants.{Plain as PlainMark, Hi, Lo}
+use Rattle.sq_reloc.specs.Marks.{IsMarked}
+use Rattle.sq_graph.specs.Lines.{AddressHalf, Plain, Upper, Lower}
+use Rattle.sq_follow.specs.declared.kind.Kind.TheVariants.{Half, Jump as JumpBreak}
+use Rattle.sq_follow.specs.Values.{Code, Part, Value, Num, Tagged, Cell, Byte, Held, Holds, Lost}
+use Rattle.sq_follow.specs.Settings.{Setting, Store, Made}
+use Rattle.sq_follow.specs.Arithmetic.{is_taken, is_upper_half, word_fits}
+use Rattle.sq_follow.specs.Accesses.{Step}
+use Rattle.sq_follow.specs.Rows.{source, address_value, row_of}
+use Rattle.sq_follow.specs.Jumps.{ToName, ToNumber, Jumped, number_jump, name_jump, indirect_jump, part_jump, stop}
+use Rattle.sq_follow.specs.GraphRuns.{Core, is_lost, value_in, register_value, operands}
+use Rattle.sq_follow.specs.Worlds.{World, layout_of, core_at_start, first_registers, regions_at_start}
+use Rattle.sq_patch.specs.LiveAgreement.{everywhere}
+use Rattle.sq_erasure.specs.Erasure.{Erasing, IsErasing, IsErased, IsErasedHeld, IsErasedCell, IsErasedStore, IsErasedCore, IsErasedSetting}
+use Rattle.sq_erasure.proofs.Accessing.{Plainly, IsErasedMade, nothing_written}
+use Rattle.sq_erasure.proofs.Rows.{AddUp, plain_erased, upper_erased, addi_erased, load_half_erased, store_half_erased, taken_erased}
+use Rattle.sq_erasure.proofs.TextKept.{Keeps, KeepsText, row_kept}
+use Rattle.sq_program.specs.Programs.{Word, Text, Program, word_at, IsWord, is_in_text, insn_in, end_of, target_of}
+use Rattle.sq_program.specs.Reached.{reached_from, jump_target, half_target, goes_on, Decides, entry}
+use Rattle.sq_program.specs.Faults.{text_refusal}
+use Rattle.sq_program.specs.Monitored as monitored
+use Rattle.sq_program.specs.Monitored.{Watched, Watches, half_of, upper_value, at_address, jumped, branched, finished, jalr_jump, monitored_step}
+use Rattle.sq_lifting.specs.Lifting.{IsLinked, watched_start}
+use Rattle.sq_lifting.specs.Watching.{own_names, IsLaidOut, IsPlainStart, WatchingErases}
+use Rattle.sq_lifting.proofs.TextWords.{some_is, is_there, stood, in_text_of}
+use Rattle.sq_lifting.proofs.Facts.{one, ReadWord, IsSoundWord, UsedBy, read_word, sound_word, used_reached, next_reached, reached_word}
+
+module _ (p : Program) (is : ℕ → Bool) (linked : IsLinked p) (dec : Decides p is) (fine : text_refusal is p ≡ None) (w : World) (start : Start) (plain_world : Layout) (first : State) (begins : IsPlainStart is w start p plain_world first) where
+  abbrev t : Text
+  t = p.text
+
+  abbrev E : Erasing
+  E = own_names is
+
+  abbrev S : Setting
+  S = monitored.setting_of (layout_of w start) t
+
+  abbrev Cells_ : Cells Cell
+  Cells_ = get (regions_at_start w (map target_of p.code_words) start)
+
+  word_of : (x : ℕ) → is x ≡ true → (v : Word) × (word_at t x ≡ Some v)
+  word_of x i = some_is (word_at t x) (reached_word p is linked.text dec fine (dec.only x i))
+
+  -- a reached word stands below 2^32, at a multiple of 4, in text
+  record Placed (x : ℕ) : Type 0 where
+    most : x + 4 ≤ 2 ^ 32
+    whole : x % 4 ≡ 0
+    inside : is_in_text t x ≡ true
+
+  placed : (x : ℕ) → is x ≡ true → Placed x
+  placed x i =
+      let v = word_of x i in
+      let s = stood x t.lo v.0 t.words v.1 in
+      let most : x + 4 ≤ t.lo + 4 * length t.words = s.most in
+      let end : t.lo + 4 * length t.words ≤ 2 ^ 32 = begins.end in
+      let whole : x % 4 ≡ t.lo % 4 = s.whole in
+      record { most = omega arith; whole = whole ∙ linked.text.aligned; inside = in_text_of t x (is_there t x v.0 v.1) }
+
+  naming : IsErasing E S
+  naming = record {
+    in_text = λ n i. (placed n i).inside;
+    small = λ n i. let h = (placed n i).most in omega (arith, h);
+    whole = λ n i. (placed n i).whole;
+    word_small = λ n u h. omega arith;
+  }
+
+  laid : IsErasedSetting everywhere S plain_world
+  laid = record {
+    base = begins.laid_out.base;
+    size = begins.laid_out.size;
+    writable = λ x _. begins.laid_out.writable x;
+    above = λ x h. tt;
+    outside = λ x n f m i l. tt;
+  }
+
+  -- the plain state is the erased one, text is as at the start, and pc is at a reached word or where nothing is executable
+  record IsErasureOf (a : Watched) (b : State) : Type 0 where
+    pc : b.pc ≡ a.pc
+    core : IsErasedCore everywhere E a.core b
+    kept : (r : ℕ) → is_lost (a.core.registers r) ≡ false
+    text : (x : ℕ) → is_in_text t x ≡ true → a.core.store.memory x ≡ Cells_ x
+    place : (is a.pc ≡ true) ⊎ (is_executable plain_world a.pc ≡ false)
+
+  abbrev Match : Watches → Plainly → Type 0
+  Match = Matches IsErasureOf
+
+  -- REGISTERS
+
+  read_value : (a : Watched) (b : State) → IsErasureOf a b → (r : ℕ) → IsErased E (register_value r a.core.registers) (b.registers r)
+  read_value a b h zero = h.core.zero
+  read_value a b h (suc r) = go (a.core.registers (suc r)) (h.kept (suc r)) (h.core.registers (suc r))
+    where
+      go : (x : Held) → is_lost x ≡ false → IsErasedHeld E x (b.registers (suc r)) → IsErased E (value_in x) (b.registers (suc r))
+      go (Holds v) e k = k
+      go Lost e k = absurd (cc)
+
+  held_written : (d v : ℕ) (u : Value) (x : Held) (y : ℕ) (c : Bool) → IsErased E u v → IsErasedHeld E x y → IsErasedHeld E (if c then Holds u else x) (if c then v else y)
+  held_written d v u x y true h k = h
+  held_written d v u x y false h k = k
+
+  kept_written : (d : ℕ) (u : Value) (k : ℕ → Held) → ((r : ℕ) → is_lost (k r) ≡ false) → (r : ℕ) → is_lost (written d (Holds u) k r) ≡ false
+  kept_written d u k h r = go (r == d && not (d == 0))
+    where
+      go : (c : Bool) → is_lost (if c then Holds u else k r) ≡ false
+      go true = refl
+      go false = h r
+
+  zero_written : (d v : ℕ) (k : ℕ → ℕ) → k 0 ≡ 0 → written d v k 0 ≡ 0
+  zero_written d v k h = go (0 == d && not (d == 0)) (grind (arith, nat_tests))
+    where
+      go : (c : Bool) → c ≡ false → (if c then v else k 0) ≡ 0
+      go true e = absurd (cc)
+      go false e = h
+
+  -- ITEMS
+
+  next_small : (a : Watched) (b : State) → b.pc ≡ a.pc → is (a.pc + 4) ≡ true → next_pc b ≡ a.pc + 4
+  next_small a b e i = let h = (placed (a.pc + 4) i).most in rw e (omega (arith, h))
+
+  -- behind an instruction that goes on to the next word
+  finish_watch : (d : ℕ) (half : AddressHalf) (insn : Insn) (a : Watched) (b : State) (y : Plainly) → IsErasureOf a b → is (a.pc + 4) ≡ true → Matches (IsErasedMade everywhere E S plain_world naming laid d (next_pc b) b.registers) (row_of S half insn (operands insn a.core.registers) a.core.store) y → Match (finished a.pc d a.core (row_of S half insn (operands insn a.core.registers) a.core.store)) y
+  finish_watch d half insn a b y h i m = go (row_of S half insn (operands insn a.core.registers) a.core.store) y (row_kept S half insn (operands insn a.core.registers) a.core.store) m
+    where
+      go : (x : Step) (y : Plainly) → Keeps S a.core.store x → Matches (IsErasedMade everywhere E S plain_world naming laid d (next_pc b) b.registers) x y → Match (finished a.pc d a.core x) y
+      go (Went e made) (Went f c) k m = (m.0, record {
+        pc = m.1.pc_is ∙ next_small a b h.pc i;
+        core = record {
+          registers = λ r. subst (IsErasedHeld E (written d (Holds made.value) a.core.registers r)) (sym (m.1.registers r)) (held_written d m.1.value made.value (a.core.registers r) (b.registers r) (r == d && not (d == 0)) m.1.value_is (h.core.registers r));
+          zero = m.1.registers 0 ∙ zero_written d m.1.value b.registers h.core.zero;
+          store = m.1.store;
+        };
+        kept = kept_written d made.value a.core.registers h.kept;
+        text = λ x e. k x e ∙ h.text x e;
+        place = inl i;
+      })
+      go (Went e made) (Ended g) k m = absurd m
+      go (Went e made) (Broke c) k m = absurd m
+      go (Ended g) (Went e c) k m = absurd m
+      go (Ended g) (Ended g') k m = m
+      go (Ended g) (Broke c) k m = absurd m
+      go (Broke kind) y k m = tt
+
+  operands_erased : (insn : Insn) (a : Watched) (b : State) → IsErasureOf a b → (i : ℕ) → IsErased E (operands insn a.core.registers i) (b.registers (source insn i))
+  operands_erased insn a b h i = read_value a b h (source insn i)
+
+  -- an upper half and a lower half of one address add up to it
+  own_halves : (n : ℕ) (imm : ℤ) → AddUp everywhere E S plain_world naming laid n imm imm n
+  own_halves n imm (Num x) y h e = absurd (cc)
+  own_halves n imm (Tagged (Code m)) y h e = absurd (cc)
+  own_halves n imm (Tagged (Part m word)) y h e =
+      let u = h.0 in
+      let q : is_upper_half n imm (Tagged (Part m (Some u.0))) ≡ true = subst (λ w. is_upper_half n imm (Tagged (Part m w)) ≡ true) u.1 e in
+      let r = and_parts (m == n) (wrapped (u.0 + unsigned imm) == n) q in
+      let s : wrapped (u.0 + unsigned imm) ≡ n = eqb-true (wrapped (u.0 + unsigned imm)) n r.1 in
+      let v : y ≡ wrapped u.0 = h.1 ∙ ap (λ w. wrapped (unwrap_or w 0)) u.1 in
+      rw v (omega (arith, s))
+
+  abbrev Sound : ℕ → Word → Type 0
+  Sound x v = IsSoundWord t x v
+
+  -- an address whose half a reached word has
+  half_value : (x to : ℕ) (v : Word) (s : Sound x v) → is x ≡ true → word_at t x ≡ Some v → Contains (half_target v.mark) to → IsErased E (address_value S to) to
+  half_value x to v s i e c = go (is_in_text t to) refl
+    where
+      go : (b : Bool) → is_in_text t to ≡ b → IsErased E (if b then Tagged (Code to) else Num to) to
+      go true f = (used_reached p is linked.text dec fine x to v s i e (inr (c, f)), refl)
+      go false f = refl
