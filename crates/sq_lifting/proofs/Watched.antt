@@ -197,3 +197,90 @@ module _ (p : Program) (is : ℕ → Bool) (linked : IsLinked p) (dec : Decides 
       go : (b : Bool) → is_in_text t to ≡ b → IsErased E (if b then Tagged (Code to) else Num to) to
       go true f = (used_reached p is linked.text dec fine x to v s i e (inr (c, f)), refl)
       go false f = refl
+
+  -- JUMPS
+
+  -- to an address, with the link written
+  jump_watch : (link x pc : ℕ) (a : Watched) (b : State) → IsErasureOf a b → (link ≢ 0 → is (a.pc + 4) ≡ true) → pc ≡ x → (is x ≡ true) ⊎ (is_executable plain_world x ≡ false) → Match (at_address x (monitored.with_link link a.pc a.core)) (Went None (jump pc (with_register link (next_pc b) b)))
+  unfolding jump with_register
+  jump_watch link x pc a b h next e place = (refl, record {
+    pc = e;
+    core = record {
+      registers = λ r. held link r (a.core.registers r) (b.registers r) next (h.core.registers r);
+      zero = zero_written link (next_pc b) b.registers h.core.zero;
+      store = record { memory = h.core.store.memory; input = h.core.store.input; reservation = h.core.store.reservation };
+    };
+    kept = kept_written link (Tagged (Code (a.pc + 4))) a.core.registers h.kept;
+    text = h.text;
+    place = place;
+  })
+    where
+      held : (link r : ℕ) (u : Held) (y : ℕ) → (link ≢ 0 → is (a.pc + 4) ≡ true) → IsErasedHeld E u y → IsErasedHeld E (if r == link && not (link == 0) then Holds (Tagged (Code (a.pc + 4))) else u) (if r == link && not (link == 0) then next_pc b else y)
+      held link r u y f k = go (r == link && not (link == 0)) refl
+        where
+          go : (c : Bool) → (r == link && not (link == 0)) ≡ c → IsErasedHeld E (if c then Holds (Tagged (Code (a.pc + 4))) else u) (if c then next_pc b else y)
+          go false e = k
+          go true e =
+              let q = and_parts (r == link) (not (link == 0)) e in
+              let n : link ≢ 0 = let g = q.1 in grind (arith, nat_tests) in
+              let i = f n in
+              (i, next_small a b h.pc i)
+
+  goes_link : (rd : ℕ) → rd ≢ 0 → not (rd == 0) ≡ true
+  goes_link rd n = grind (arith, nat_tests)
+
+  -- the target of a branch or a `jal`
+  target_place : (a : Watched) (v : Word) (s : Sound a.pc v) (to : ℕ) → is a.pc ≡ true → word_at t a.pc ≡ Some v → Contains (jump_target a.pc s.insn) to → is to ≡ true
+  target_place a v s to i e c = used_reached p is linked.text dec fine a.pc to v s i e (inl c)
+
+  even_word : (x : ℕ) → is x ≡ true → even x ≡ x
+  even_word x i = let h = (placed x i).whole in omega (arith, h)
+
+  -- to what a register holds
+  number_watch : (link x pc : ℕ) (a : Watched) (b : State) → IsErasureOf a b → (link ≢ 0 → is (a.pc + 4) ≡ true) → pc ≡ x → Match (jumped link a.pc a.core (number_jump S x)) (Went None (jump pc (with_register link (next_pc b) b)))
+  number_watch link x pc a b h next e = go (is_executable (layout_of w start) x) refl
+    where
+      go : (c : Bool) → is_executable (layout_of w start) x ≡ c → Match (jumped link a.pc a.core (if c then Broke JumpBreak else Went None (ToNumber x))) (Went None (jump pc (with_register link (next_pc b) b)))
+      go true f = tt
+      go false f = jump_watch link x pc a b h next e (inr (begins.laid_out.executable x ∙ f))
+
+  away_watch : (link rs : ℕ) (offset : ℤ) (a : Watched) (b : State) (v : Value) → IsErasureOf a b → (link ≢ 0 → is (a.pc + 4) ≡ true) → IsErased E v (b.registers rs) → Match (jumped link a.pc a.core (indirect_jump S offset v)) (plain.jalr_row link rs offset b)
+  away_watch link rs offset a b (Num x) h next k = number_watch link (even (wrapped (x + unsigned offset))) (even (address_of rs offset b)) a b h next (ap (λ y. even (wrapped (y + unsigned offset))) k)
+  away_watch link rs offset a b (Tagged (Part n word)) h next k = tt
+  away_watch link rs offset a b (Tagged (Code n)) h next k = go (int_eq offset (pos 0)) refl
+    where
+      go : (c : Bool) → int_eq offset (pos 0) ≡ c → Match (jumped link a.pc a.core (if c then Went None (ToName n) else Broke JumpBreak)) (plain.jalr_row link rs offset b)
+      go false f = tt
+      go true f =
+          let z : offset ≡ pos 0 = (Decides-int_eq offset (pos 0)).0 f in
+          let most = (placed n k.0).most in
+          let same : wrapped (n + 0) ≡ n = omega (arith, most) in
+          let at : even (address_of rs offset b) ≡ n = rw (z, k.1) (ap even same ∙ even_word n k.0) in
+          jump_watch link n (even (address_of rs offset b)) a b h next at (inl k.0)
+
+  part_watch : (link rs to : ℕ) (offset : ℤ) (a : Watched) (b : State) (v : Value) → IsErasureOf a b → (link ≢ 0 → is (a.pc + 4) ≡ true) → (is_in_text t to ≡ true → is to ≡ true) → IsErased E v (b.registers rs) → Match (jumped link a.pc a.core (part_jump S to offset v)) (plain.jalr_row link rs offset b)
+  part_watch link rs to offset a b v h next inside k = go (is_upper_half to offset v) refl
+    where
+      to_name : (c : Bool) → is_in_text t to ≡ c → wrapped (b.registers rs + unsigned offset) ≡ to → Match (jumped link a.pc a.core (if c then Went None (ToName to) else number_jump S (even to))) (plain.jalr_row link rs offset b)
+      to_name true f e = jump_watch link to (even (address_of rs offset b)) a b h next (ap even e ∙ even_word to (inside f)) (inl (inside f))
+      to_name false f e = number_watch link (even to) (even (address_of rs offset b)) a b h next (ap even e)
+
+      go : (c : Bool) → is_upper_half to offset v ≡ c → Match (jumped link a.pc a.core (if c then name_jump S to else Broke Half)) (plain.jalr_row link rs offset b)
+      go false f = tt
+      go true f = to_name (is_in_text t to) refl (own_halves to offset v (b.registers rs) k f)
+
+  -- a branch: neither side writes a register
+  step_watch : (x pc : ℕ) (a : Watched) (b : State) → IsErasureOf a b → pc ≡ x → is x ≡ true → Match (at_address x a.core) (Went None (jump pc b))
+  unfolding jump
+  step_watch x pc a b h e i = (refl, record {
+    pc = e;
+    core = record { registers = h.core.registers; zero = h.core.zero; store = record { memory = h.core.store.memory; input = h.core.store.input; reservation = h.core.store.reservation } };
+    kept = h.kept;
+    text = h.text;
+    place = inl i;
+  })
+
+  branch_watch : (cond : Cond) (x y to : ℕ) (offset : ℤ) (a : Watched) (b : State) (o : Option Bool) → IsErasureOf a b → is (a.pc + 4) ≡ true → is to ≡ true → plain_target offset b ≡ to → ((c : Bool) → o ≡ Some c → taken_of cond (b.registers x) (b.registers y) ≡ c) → Match (branched a.pc to a.core o) (plain.branch_row cond x y offset b)
+  branch_watch cond x y to offset a b None h next i e taken = tt
+  branch_watch cond x y to offset a b (Some true) h next i e taken = rw (taken true refl) (step_watch to (plain_target offset b) a b h e i)
+  branch_watch cond x y to offset a b (Some false) h next i e taken = rw (taken false refl) (step_watch (a.pc + 4) (next_pc b) a b h (next_small a b h.pc next) next)
