@@ -1,6 +1,6 @@
 -- The plain machine does what the monitored run of a program does.
 use Rattle.std.proofs.Common.{◌≡◌, ◌≢◌, ◌⊎◌, inl, inr, ℕ, zero, suc, ◌+◌, ◌-◌, ◌*◌, ◌%◌, ◌^◌, ◌<◌, ◌≤◌, ℤ, pos, Bool, true, false, not, ◌==◌, ◌&&◌, ◌||◌, List, [], ◌∷◌, length, map, Option, Some, None, if◌then◌else◌, refl, sym, ap, ◌∙◌, subst, arith, nat_lt, nat_le}
-use Rattle.std.specs.Option.{unwrap_or}
+use Rattle.std.specs.Option.{unwrap_or, option_map}
 use Rattle.std.specs.Ordering.{int_eq}
 use Rattle.std.specs.List.{Contains}
 use Rattle.std.proofs.lemmas.Bool.{and_parts, eqb-true}
@@ -11,6 +11,7 @@ use Rattle.sq_isa.specs.Ranges.{IsUnimp, FieldsFit}
 use Rattle.sq_isa.specs.Uses.{sources_of, destination_of}
 use Rattle.sq_isa.specs.Branches.{taken_of}
 use Rattle.sq_isa.specs.Table.{insn_of}
+use Rattle.sq_isa.specs.Accesses.{bytes_number}
 use Rattle.sq_isa.proofs.Encoded.{FieldsFit-insn_of}
 use Rattle.sq_isa.specs.declared.instructions.Cond.{Cond}
 use Rattle.sq_isa.specs.declared.instructions.Insn.{Insn}
@@ -52,7 +53,7 @@ use Rattle.sq_program.specs.Reached.{reached_from, jump_target, half_target, goe
 use Rattle.sq_program.specs.Faults.{text_refusal}
 use Rattle.sq_program.specs.Monitored as monitored
 use Rattle.sq_program.specs.Monitored.{Watched, Watches, half_of, upper_value, at_address, jumped, branched, finished, jalr_jump, monitored_step}
-use Rattle.sq_lifting.specs.Lifting.{IsLinked, watched_start}
+use Rattle.sq_lifting.specs.Lifting.{MarkFits, IsLinked, watched_start}
 use Rattle.sq_lifting.specs.Watching.{own_names, IsLaidOut, IsPlainStart, WatchingErases}
 use Rattle.sq_lifting.proofs.TextWords.{some_is, is_there, stood, in_text_of}
 use Rattle.sq_lifting.proofs.Facts.{one, ReadWord, IsSoundWord, UsedBy, read_word, sound_word, used_reached, next_reached, reached_word}
@@ -284,3 +285,201 @@ module _ (p : Program) (is : ℕ → Bool) (linked : IsLinked p) (dec : Decides 
   branch_watch cond x y to offset a b None h next i e taken = tt
   branch_watch cond x y to offset a b (Some true) h next i e taken = rw (taken true refl) (step_watch to (plain_target offset b) a b h e i)
   branch_watch cond x y to offset a b (Some false) h next i e taken = rw (taken false refl) (step_watch (a.pc + 4) (next_pc b) a b h (next_small a b h.pc next) next)
+
+  -- EACH INSTRUCTION
+
+  -- what is known of the instruction at a reached word
+  record Known (a : Watched) (mark : Mark) (insn : Insn) : Type 0 where
+    next : goes_on insn ≡ true → is (a.pc + 4) ≡ true
+    target : (to : ℕ) → Contains (jump_target a.pc insn) to → is to ≡ true
+    half : (to : ℕ) → Contains (half_target mark) to → IsErased E (address_value S to) to
+    inside : (to : ℕ) → Contains (half_target mark) to → is_in_text t to ≡ true → is to ≡ true
+    marked : IsMarked (Some insn) mark
+    small : MarkFits mark
+    fits : FieldsFit insn
+
+  abbrev InsnGoal : Watched → State → AddressHalf → Insn → Type 0
+  InsnGoal a b half insn = Match (monitored.insn_step S a.pc half insn a.core) (plain.row_of plain_world b insn)
+
+  item_watch : (insn : Insn) (a : Watched) (b : State) → IsErasureOf a b → is (a.pc + 4) ≡ true → Match (finished a.pc (destination_of insn) a.core (row_of S Plain insn (operands insn a.core.registers) a.core.store)) (plain.row_of plain_world b insn)
+  item_watch insn a b h i =
+      finish_watch (destination_of insn) Plain insn a b (plain.row_of plain_world b insn) h i
+      (plain_erased everywhere E S plain_world naming laid insn (operands insn a.core.registers) a.core.store b h.core.zero (operands_erased insn a b h) h.core.store)
+
+  target_is : (a : Watched) (b : State) (offset : ℤ) → b.pc ≡ a.pc → plain_target offset b ≡ reached_from a.pc offset
+  target_is a b offset e = ap (λ pc. wrapped (pc + unsigned offset)) e
+
+  unimp_is : (word : ℕ) → IsUnimp word → Illegal ≡ stop word
+  unimp_is word (inl e) = rw e refl
+  unimp_is word (inr e) = rw e refl
+
+  plain_watch : (insn : Insn) (mark : Mark) (a : Watched) (b : State) → IsErasureOf a b → Known a mark insn → InsnGoal a b Plain insn
+  plain_watch (Lui rd upper) mark a b h k = item_watch (Lui rd upper) a b h (k.next refl)
+  plain_watch (Auipc rd upper) mark a b h k = tt
+  plain_watch (Jal rd offset) mark a b h k =
+      jump_watch rd (reached_from a.pc offset) (plain_target offset b) a b h (λ n. k.next (goes_link rd n)) (target_is a b offset h.pc) (inl (k.target (reached_from a.pc offset) (one (reached_from a.pc offset))))
+  plain_watch (Jalr rd rs offset) mark a b h k = away_watch rd rs offset a b (register_value rs a.core.registers) h (λ n. k.next (goes_link rd n)) (read_value a b h rs)
+  plain_watch (BranchInsn cond x y offset) mark a b h k =
+      branch_watch cond x y (reached_from a.pc offset) offset a b (is_taken S cond (register_value x a.core.registers) (register_value y a.core.registers)) h (k.next refl) (k.target (reached_from a.pc offset) (one (reached_from a.pc offset))) (target_is a b offset h.pc)
+      (λ c e. taken_erased everywhere E S plain_world naming laid cond (register_value x a.core.registers) (register_value y a.core.registers) (b.registers x) (b.registers y) c (read_value a b h x) (read_value a b h y) e)
+  plain_watch (Load kind rd rs offset) mark a b h k = item_watch (Load kind rd rs offset) a b h (k.next refl)
+  plain_watch (StoreInsn kind rs src offset) mark a b h k = item_watch (StoreInsn kind rs src offset) a b h (k.next refl)
+  plain_watch (OpImm op rd rs imm) mark a b h k = item_watch (OpImm op rd rs imm) a b h (k.next refl)
+  plain_watch (OpInsn op rd x y) mark a b h k = item_watch (OpInsn op rd x y) a b h (k.next refl)
+  plain_watch (Fence word) mark a b h k = item_watch (Fence word) a b h (k.next refl)
+  plain_watch Ecall mark a b h k = item_watch Ecall a b h (k.next refl)
+  plain_watch Ebreak mark a b h k = refl
+  plain_watch (Unimp word) mark a b h k = unimp_is word k.fits
+  plain_watch (Atomic op order rd rs src) mark a b h k = item_watch (Atomic op order rd rs src) a b h (k.next refl)
+
+  upper_watch : (to : ℕ) (insn : Insn) (a : Watched) (b : State) → IsErasureOf a b → Known a (Hi to) insn → InsnGoal a b (Upper to (upper_value a.pc insn)) insn
+  upper_watch to (Lui rd upper) a b h k =
+      finish_watch rd (Upper to (Some (upper_word upper))) (Lui rd upper) a b (plain.row_of plain_world b (Lui rd upper)) h (k.next refl)
+      (upper_erased everywhere E S plain_world naming laid to rd (upper_word upper) (Some (upper_word upper)) (Lui rd upper) (operands (Lui rd upper) a.core.registers) a.core.store b (upper_word upper, refl) (omega arith) h.core.store)
+  upper_watch to (Auipc rd upper) a b h k =
+      let e : wrapped (b.pc + upper_word upper) ≡ wrapped (a.pc + upper_word upper) = ap (λ pc. wrapped (pc + upper_word upper)) h.pc in
+      finish_watch rd (Upper to (Some (wrapped (a.pc + upper_word upper)))) (Auipc rd upper) a b (plain.row_of plain_world b (Auipc rd upper)) h (k.next refl)
+      (upper_erased everywhere E S plain_world naming laid to rd (wrapped (b.pc + upper_word upper)) (Some (wrapped (a.pc + upper_word upper))) (Auipc rd upper) (operands (Auipc rd upper) a.core.registers) a.core.store b (wrapped (a.pc + upper_word upper), refl) (e ∙ twice (a.pc + upper_word upper)) h.core.store)
+    where
+      twice : (x : ℕ) → wrapped x ≡ wrapped (wrapped x)
+      twice x = omega arith
+  upper_watch to insn a b h k = absurd (let e = k.marked in cc)
+
+  lower_watch : (to : ℕ) (insn : Insn) (a : Watched) (b : State) → IsErasureOf a b → Known a (Lo to) insn → InsnGoal a b (Lower to) insn
+  lower_watch to (OpImm Addi rd rs imm) a b h k =
+      finish_watch rd (Lower to) (OpImm Addi rd rs imm) a b (plain.row_of plain_world b (OpImm Addi rd rs imm)) h (k.next refl)
+      (addi_erased everywhere E S plain_world naming laid to to rd rs imm imm (operands (OpImm Addi rd rs imm) a.core.registers) a.core.store b (own_halves to imm) (k.half to (one to)) (read_value a b h rs) h.core.store)
+  lower_watch to (Load kind rd rs imm) a b h k =
+      finish_watch rd (Lower to) (Load kind rd rs imm) a b (plain.row_of plain_world b (Load kind rd rs imm)) h (k.next refl)
+      (load_half_erased everywhere E S plain_world naming laid to rd rs kind imm imm (operands (Load kind rd rs imm) a.core.registers) a.core.store b k.small (own_halves to imm) (read_value a b h rs) h.core.store)
+  lower_watch to (StoreInsn kind rs src imm) a b h k =
+      finish_watch 0 (Lower to) (StoreInsn kind rs src imm) a b (plain.row_of plain_world b (StoreInsn kind rs src imm)) h (k.next refl)
+      (store_half_erased everywhere E S plain_world naming laid to rs src kind imm imm (operands (StoreInsn kind rs src imm) a.core.registers) a.core.store b (own_halves to imm) (read_value a b h rs) (read_value a b h src) h.core.store)
+  lower_watch to (Jalr rd rs offset) a b h k = part_watch rd rs to offset a b (register_value rs a.core.registers) h (λ n. k.next (goes_link rd n)) (k.inside to (one to)) (read_value a b h rs)
+  lower_watch to insn a b h k = absurd (let e = k.marked in cc)
+
+  insn_watch : (mark : Mark) (insn : Insn) (a : Watched) (b : State) → IsErasureOf a b → Known a mark insn → InsnGoal a b (half_of a.pc mark insn) insn
+  insn_watch (Hi to) insn a b h k = upper_watch to insn a b h k
+  insn_watch (Lo to) insn a b h k = lower_watch to insn a b h k
+  insn_watch mark insn a b h k = plain_watch insn mark a b h k
+
+  -- FETCHING
+
+  present : (x : ℕ) (v : Word) → word_at t x ≡ Some v → is_executable plain_world x ≡ true
+  present x v e =
+      let r = (begins.text x v e).0 in
+      let a = (and_parts (nat_le (x + 4) (2 ^ 32)) (are_all (is_executable plain_world) x 4) r).1 in
+      let b = (and_parts ((true && is_executable plain_world (x + 0)) && is_executable plain_world (x + 1) && is_executable plain_world (x + 2)) (is_executable plain_world (x + 3)) a).0 in
+      let c = (and_parts ((true && is_executable plain_world (x + 0)) && is_executable plain_world (x + 1)) (is_executable plain_world (x + 2)) b).0 in
+      let d = (and_parts (true && is_executable plain_world (x + 0)) (is_executable plain_world (x + 1)) c).0 in
+      subst (λ y. is_executable plain_world y ≡ true) (plus_zero x) d
+    where
+      plus_zero : (x : ℕ) → x + 0 ≡ x
+      plus_zero x = omega arith
+
+  -- text has its bytes at all times
+  text_byte : (b : State) (m : Cells Cell) (x c : ℕ) → m x ≡ Some (Byte c) → Agree (IsErasedCell E) (m x) (b.memory x) → b.memory x ≡ Some c
+  text_byte b m x c e k = go (b.memory x) (subst (λ o. Agree (IsErasedCell E) o (b.memory x)) e k)
+    where
+      go : (o : Option ℕ) → Agree (IsErasedCell E) (Some (Byte c)) o → o ≡ Some c
+      go None k = absurd k
+      go (Some d) k = ap Some k
+
+  same_byte : (a : Watched) (b : State) → IsErasureOf a b → (x : ℕ) → is_in_text t x ≡ true → b.memory x ≡ first.memory x
+  same_byte a b h x e =
+      let c = begins.bytes x e in
+      text_byte b a.core.store.memory x c.0 (h.text x e ∙ c.1) (h.core.store.memory x tt) ∙ sym (text_byte first Cells_ x c.0 c.1 (begins.memory x tt))
+
+  same_word : (a : Watched) (b : State) → IsErasureOf a b → (x : ℕ) (v : Word) → word_at t x ≡ Some v → aligned_number b.memory x 4 ≡ Some v.number
+  unfolding number_at
+  same_word a b h x v e =
+      let s = stood x t.lo v t.words e in
+      let low : t.lo ≤ x = s.least in
+      let high : x + 4 ≤ t.lo + 4 * length t.words = s.most in
+      let inside : (i : ℕ) → i < 4 → is_in_text t (x + i) ≡ true = λ i l. in_range (x + i) (omega arith) (omega (arith, l, high)) in
+      let same = cells_from-same 4 b.memory first.memory x (λ i l. same_byte a b h (x + i) (inside i l)) in
+      ap (λ o. if x % 4 == 0 then option_map bytes_number o else None) same ∙ (begins.text x v e).1
+    where
+      in_range : (y : ℕ) → t.lo ≤ y → y < t.lo + 4 * length t.words → is_in_text t y ≡ true
+      in_range y a b =
+          let c : nat_le t.lo y ≡ true = grind (arith, nat_tests) in
+          let d : nat_lt y (end_of t) ≡ true = grind (arith, nat_tests) in
+          rw (c, d) refl
+
+  fetch_word : (a : Watched) (b : State) → IsErasureOf a b → (v : Word) → word_at t a.pc ≡ Some v → fetched plain_world b ≡ Some v.number
+  fetch_word a b h v e =
+      let r : is_range (is_executable plain_world) b.pc 4 ≡ true = subst (λ pc. is_range (is_executable plain_world) pc 4 ≡ true) (sym h.pc) (begins.text a.pc v e).0 in
+      rw r (subst (λ pc. aligned_number b.memory pc 4 ≡ Some v.number) (sym h.pc) (same_word a b h a.pc v e))
+
+  fetch_none : (a : Watched) (b : State) → IsErasureOf a b → is_executable plain_world a.pc ≡ false → fetched plain_world b ≡ None
+  fetch_none a b h e =
+      let f : is_executable plain_world (b.pc + 0) ≡ false = subst (λ pc. is_executable plain_world pc ≡ false) (sym h.pc ∙ sym (plus_zero b.pc)) e in
+      let r : is_range (is_executable plain_world) b.pc 4 ≡ false = rw f (none (nat_le (b.pc + 4) (2 ^ 32))) in
+      rw r refl
+    where
+      plus_zero : (x : ℕ) → x + 0 ≡ x
+      plus_zero x = omega arith
+
+      none : (c : Bool) → (c && false) ≡ false
+      none true = refl
+      none false = refl
+
+  known : (a : Watched) (v : Word) (s : Sound a.pc v) → is a.pc ≡ true → word_at t a.pc ≡ Some v → Known a v.mark s.insn
+  known a v s i e = record {
+    next = λ g. next_reached p is linked.text dec fine a.pc v s i e g;
+    target = λ to c. target_place a v s to i e c;
+    half = λ to c. half_value a.pc to v s i e c;
+    inside = λ to c f. used_reached p is linked.text dec fine a.pc to v s i e (inr (c, f));
+    marked = subst (λ o. IsMarked o v.mark) s.is (linked.text.marked a.pc v e);
+    small = linked.text.small a.pc v e;
+    fits = FieldsFit-insn_of v.number s.insn (linked.text.numbers a.pc v e) s.is;
+  }
+
+  -- ONE STEP
+
+  word_watch : (a : Watched) (b : State) → IsErasureOf a b → (o : Option Word) → word_at t a.pc ≡ o → (is a.pc ≡ true) ⊎ (is_executable plain_world a.pc ≡ false) → Match (monitored.word_step S a.pc o a.core) (word_step plain_world b (fetched plain_world b))
+  word_watch a b h None e (inl i) = let v = word_of a.pc i in absurd (let f : Some v.0 ≡ None = sym v.1 ∙ e in cc)
+  word_watch a b h None e (inr n) = rw (fetch_none a b h n) (ap Fetch h.pc)
+  word_watch a b h (Some v) e (inr n) = absurd (let f : true ≡ false = sym (present a.pc v e) ∙ n in cc)
+  word_watch a b h (Some v) e (inl i) =
+      let s = sound_word p is linked.text dec fine a.pc v i e in
+      rw (fetch_word a b h v e)
+      (subst (λ o. Match (monitored.marked_step S a.pc v.mark o a.core) (insn_step plain_world b o)) (sym s.is) (insn_watch v.mark s.insn a b h (known a v s i e)))
+
+  watch_step : (a : Watched) (b : State) → IsErasureOf a b → Match (monitored_step (layout_of w start) t a) (step_of plain_world b)
+  unfolding step_of
+  watch_step a b h = word_watch a b h (word_at t a.pc) refl h.place
+
+  -- THE START
+
+  start_held : (r : ℕ) → IsErasedHeld E (first_registers start r) (first.registers r)
+  start_held r = subst (IsErasedHeld E (first_registers start r)) (sym (begins.registers r)) (go (r == 2 && not (2 == 0)))
+    where
+      go : (c : Bool) → IsErasedHeld E (if c then Holds (Num (stack_pointer start)) else Holds (Num 0)) (if c then stack_pointer start else 0)
+      go true = refl
+      go false = refl
+
+  start_kept : (r : ℕ) → is_lost (first_registers start r) ≡ false
+  start_kept r = go (r == 2 && not (2 == 0))
+    where
+      go : (c : Bool) → is_lost (if c then Holds (Num (stack_pointer start)) else Holds (Num 0)) ≡ false
+      go true = refl
+      go false = refl
+
+  pub watching : LocksWith (monitored_step (layout_of w start) t) (watched_start w p start) (step_of plain_world) first
+  watching =
+      locks_by (monitored_step (layout_of w start) t) (step_of plain_world) IsErasureOf watch_step (watched_start w p start) first
+      (record {
+        pc = begins.pc;
+        core = record {
+          registers = start_held;
+          zero = begins.registers 0 ∙ zero_written 2 (stack_pointer start) (λ r. 0) refl;
+          store = record { memory = begins.memory; input = begins.input; reservation = begins.reservation };
+        };
+        kept = start_kept;
+        text = λ x e. refl;
+        place = inl (dec.all p.entry (entry linked.entry));
+      })
+
+pub watching_erases : WatchingErases
+watching_erases p is linked dec fine w start plain_world first lo hi begins = watching p is linked dec fine w start plain_world first begins
