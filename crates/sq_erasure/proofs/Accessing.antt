@@ -1,5 +1,5 @@
 -- Loads, stores and atomic operations, tagged and plain.
-use Rattle.std.proofs.Common.{◌≡◌, ◌≢◌, ℕ, zero, suc, ◌+◌, ◌%◌, ◌^◌, ◌<◌, ◌≤◌, Bool, true, false, not, ◌==◌, ◌&&◌, ◌||◌, List, [], ◌∷◌, length, map, Option, Some, None, if◌then◌else◌, refl, sym, ap, ap₂, ◌∙◌, subst, arith, nat_le}
+use Rattle.std.proofs.Common.{◌≡◌, ℕ, zero, suc, ◌+◌, ◌%◌, ◌^◌, ◌<◌, ◌≤◌, Bool, true, false, not, ◌==◌, ◌&&◌, List, length, map, Option, Some, None, if◌then◌else◌, refl, sym, ap, ap₂, ◌∙◌, subst, arith, nat_le}
 use Rattle.std.specs.Option.{option_map}
 use Rattle.std.specs.List.{list_any}
 use Rattle.std.proofs.lemmas.Bool.{and_parts, eqb-true}
@@ -16,17 +16,16 @@ use Rattle.sq_isa.specs.declared.instructions.AtomicOp.{AtomicOp}
 use Rattle.sq_isa.specs.declared.instructions.AtomicOp.TheVariants.{Lr, Sc, Swap, Add, Xor, And, Or, Min, Max, MinU, MaxU}
 use Rattle.sq_runs.specs.Runs.{Next, Went, Ended, Broke}
 use Rattle.sq_runs.specs.Simulation.{Matches}
-use Rattle.sq_memory.specs.Cells.{Cells, cells_from, with_cells, Agree, AllAgree}
+use Rattle.sq_memory.specs.Cells.{cells_from, Agree}
 use Rattle.sq_memory.proofs.RangeLaws.{cells_from-agree, cells_from_some, with_cells-agree}
 use Rattle.sq_system.specs.World.{World, is_writable, are_all, is_range}
 use Rattle.sq_system.specs.declared.event.Event.{Event}
 use Rattle.sq_system.specs.declared.event.Halt.{Halt}
-use Rattle.sq_system.specs.declared.event.Halt.TheVariants.{Load as LoadFault, Store as StoreFault}
+use Rattle.sq_system.specs.declared.event.Halt.TheVariants.{Store as StoreFault}
 use Rattle.sq_machine.specs.State.{State, number_at, aligned_number, with_register, with_bytes, with_reservation, jump, next_pc, advance, finish}
 use Rattle.sq_machine.specs.Rows.{loaded, load_step, lr_step, sc_step, amo_step}
 use Rattle.sq_machine.specs.Rows as plain
-use Rattle.sq_follow.specs.declared.kind.Kind.{Kind}
-use Rattle.sq_follow.specs.declared.kind.Kind.TheVariants.{Arithmetic, Fragment, Stale as StaleByte, Text}
+use Rattle.sq_follow.specs.declared.kind.Kind.TheVariants.{Fragment, Stale as StaleByte, Text}
 use Rattle.sq_follow.specs.Values.{Tag, Code, Part, Value, Num, Tagged, Cell, is_tagged, is_stale, is_fragment, byte_of, whole, cells_of}
 use Rattle.sq_follow.specs.Settings.{Setting, Store, Made, meets_text, may_store}
 use Rattle.sq_follow.specs.Arithmetic.{atomic_result}
@@ -79,13 +78,16 @@ module _ (P : ℕ → Type 0) (E : Erasing) (s : Setting) (w : World) (naming : 
 
   pub advance_erased : (v : Value) (y : ℕ) (a : Store) (b : State) → IsErased E v y → IsErasedStore P E a b → Same 0 b (gives v a) (Went None (advance b))
   unfolding jump
-  advance_erased v y a b h g = (refl, record {
-    pc_is = refl;
-    value = y;
-    value_is = h;
-    registers = λ r. sym (nothing_written y b.registers r);
-    store = record { memory = g.memory; input = g.input; reservation = g.reservation };
-  })
+  advance_erased v y a b h g = (
+    refl,
+    record {
+      pc_is = refl;
+      value = y;
+      value_is = h;
+      registers = λ r. sym (nothing_written y b.registers r);
+      store = record { memory = g.memory; input = g.input; reservation = g.reservation };
+    },
+  )
 
   -- WORDS
 
@@ -185,14 +187,16 @@ module _ (P : ℕ → Type 0) (E : Erasing) (s : Setting) (w : World) (naming : 
   store_done : (x width : ℕ) (v : Value) (y : ℕ) (a : Store) (b : State) → (is_tagged v ≡ true → width ≡ 4) → IsErased E v y → IsErasedStore P E a b → Same 0 b (gives (Num 0) (stored x width v a)) (Went None (advance (with_bytes x (little_bytes width y) b)))
   unfolding with_bytes jump
   store_done x width v y a b t h g =
-      let k = stored_same x width v y a b t h g in
-      (refl, record {
-        pc_is = refl;
-        value = 0;
-        value_is = refl;
-        registers = λ r. sym (nothing_written 0 b.registers r);
-        store = record { memory = k.memory; input = k.input; reservation = k.reservation };
-      })
+      let k = stored_same x width v y a b t h g in (
+        refl,
+        record {
+          pc_is = refl;
+          value = 0;
+          value_is = refl;
+          registers = λ r. sym (nothing_written 0 b.registers r);
+          store = record { memory = k.memory; input = k.input; reservation = k.reservation };
+        },
+      )
 
   word_kind : (kind : StoreKind) (v : Value) → (is_tagged v && not (is_word kind)) ≡ false → is_tagged v ≡ true → store_width kind ≡ 4
   word_kind Sw v e t = refl

@@ -1,30 +1,28 @@
 -- System calls, tagged and plain.
-use Rattle.std.proofs.Common.{◌≡◌, ◌≢◌, ℕ, zero, suc, ◌+◌, ◌-◌, ◌%◌, ◌^◌, ◌<◌, ◌≤◌, Bool, true, false, not, ◌==◌, ◌&&◌, ◌||◌, List, [], ◌∷◌, length, map, take, drop, min, Option, Some, None, is_some, if◌then◌else◌, refl, sym, ap, ap₂, ◌∙◌, subst, arith, nat_le}
-use Rattle.std.specs.Option.{option_map, unwrap_or}
+use Rattle.std.proofs.Common.{◌≡◌, ℕ, zero, suc, ◌+◌, ◌-◌, ◌%◌, ◌^◌, ◌<◌, Bool, true, false, not, ◌==◌, ◌&&◌, ◌||◌, List, [], length, map, take, drop, min, Option, Some, None, is_some, if◌then◌else◌, refl, sym, ap, ap₂, subst, arith, nat_le}
+use Rattle.std.specs.Option.{unwrap_or}
 use Rattle.std.specs.List.{list_any}
 use Rattle.std.proofs.lemmas.Bool.{and_parts, eqb-true}
 use Rattle.std.proofs.lemmas.Bool.Decides.{nat_tests}
-use Rattle.sq_isa.specs.Registers.{written}
-use Rattle.sq_runs.specs.Runs.{Next, Went, Ended, Broke}
+use Rattle.sq_runs.specs.Runs.{Went, Broke}
 use Rattle.sq_runs.specs.Simulation.{Matches}
-use Rattle.sq_memory.specs.Cells.{Cells, is_in_memory, cells_from, with_cells, Agree, AllAgree}
+use Rattle.sq_memory.specs.Cells.{is_in_memory, cells_from, Agree}
 use Rattle.sq_memory.proofs.RangeLaws.{cells_from-agree, with_cells-agree}
 use Rattle.sq_system.specs.World.{World, is_writable, are_all, is_range}
-use Rattle.sq_system.specs.Calls.{effect_of, answer_of, read_effect, write_effect, brk_answer}
+use Rattle.sq_system.specs.Calls.{effect_of}
 use Rattle.sq_system.specs.declared.call.CallArgs.{CallArgs}
-use Rattle.sq_system.specs.declared.call.Effect.{Effect}
-use Rattle.sq_system.specs.declared.call.Effect.TheVariants.{Exit, Write, Read, Brk, Fail, Ask}
+use Rattle.sq_system.specs.declared.call.Effect.TheVariants.{Write, Read, Fail}
 use Rattle.sq_system.specs.declared.event.Event.{Event}
 use Rattle.sq_system.specs.declared.event.Event.TheVariants.{Wrote, Read as WasRead, Brk as WasBrk, Failed, Asked}
 use Rattle.sq_system.specs.declared.event.Halt.TheVariants.{Exit as Exited}
-use Rattle.sq_machine.specs.State.{State, bytes_at, with_register, with_bytes, without_input, jump, next_pc, advance}
+use Rattle.sq_machine.specs.State.{State, bytes_at, with_register, with_bytes, without_input, jump, next_pc}
 use Rattle.sq_machine.specs.Calls as plain
 use Rattle.sq_machine.specs.Calls.{answered, called}
-use Rattle.sq_follow.specs.declared.kind.Kind.TheVariants.{Call, Fragment, Stale as StaleByte, Text}
+use Rattle.sq_follow.specs.declared.kind.Kind.TheVariants.{Fragment, Stale as StaleByte, Text}
 use Rattle.sq_follow.specs.Values.{Value, Num, Tagged, Cell, Byte, is_tagged, is_stale, is_fragment, byte_of}
 use Rattle.sq_follow.specs.Settings.{Setting, Store, Made, meets_text}
 use Rattle.sq_follow.specs.Accesses.{Step}
-use Rattle.sq_follow.specs.Calls.{CallOperands, has_tagged, number_in, call_of, takes_buffer, answer, with_buffer, with_input, answered_with, effect_row, args_row, number_row, call_row}
+use Rattle.sq_follow.specs.Calls.{CallOperands, call_of, with_buffer, with_input, effect_row, number_row, call_row}
 use Rattle.sq_erasure.specs.Erasure.{Erasing, IsErasing, IsErased, IsErasedCell, IsErasedStore, IsErasedSetting}
 use Rattle.sq_erasure.proofs.Cells.{AreErased, erased_numbers, bytes_erased}
 use Rattle.sq_erasure.proofs.Accessing.{Plainly, IsErasedMade, range_same}

@@ -1,38 +1,37 @@
 -- Each row, tagged and plain.
-use Rattle.std.proofs.Common.{◌≡◌, ◌≢◌, ℕ, zero, suc, ◌+◌, ◌-◌, ◌%◌, ◌^◌, ◌<◌, ◌≤◌, ℤ, pos, Bool, true, false, not, ◌==◌, ◌&&◌, ◌||◌, List, [], ◌∷◌, Option, Some, None, if◌then◌else◌, refl, sym, ap, ap₂, ◌∙◌, subst, arith, nat_lt, nat_le}
+use Rattle.std.proofs.Common.{◌≡◌, ◌≢◌, ℕ, ◌+◌, ◌^◌, ◌<◌, ℤ, pos, Bool, true, false, not, ◌==◌, ◌&&◌, Option, Some, None, if◌then◌else◌, refl, sym, ap, ◌∙◌, subst, arith, nat_lt}
 use Rattle.std.specs.Ordering.{int_eq}
 use Rattle.std.proofs.lemmas.Bool.{and_parts, eqb-true}
 use Rattle.std.proofs.lemmas.Bool.Decides.{nat_tests, Decides-int_eq}
 use Rattle.byteorder.specs.Endian.{little_bytes}
-use Rattle.sq_isa.specs.Words.{wrapped, unsigned, upper_word, even}
+use Rattle.sq_isa.specs.Words.{wrapped, unsigned, upper_word}
 use Rattle.sq_isa.specs.Values.{value_of, value_imm_of}
 use Rattle.sq_isa.specs.Branches.{taken_of}
 use Rattle.sq_isa.specs.Accesses.{store_width}
 use Rattle.sq_isa.specs.Uses.{destination_of}
 use Rattle.sq_isa.specs.declared.instructions.Insn.{Insn}
-use Rattle.sq_isa.specs.declared.instructions.Insn.TheVariants.{Lui, Auipc, Load, Store as StoreInsn, OpImm, Op, Fence, Ecall, Atomic}
+use Rattle.sq_isa.specs.declared.instructions.Insn.TheVariants.{Lui, Load, Store as StoreInsn, OpImm, Op, Fence, Ecall, Atomic}
 use Rattle.sq_isa.specs.declared.instructions.ImmOp.{ImmOp}
-use Rattle.sq_isa.specs.declared.instructions.ImmOp.TheVariants.{Addi, Slti, Sltiu, Xori, Ori, Andi, Slli, Srli, Srai}
+use Rattle.sq_isa.specs.declared.instructions.ImmOp.TheVariants.{Addi, Sltiu}
 use Rattle.sq_isa.specs.declared.instructions.RegOp.{RegOp}
 use Rattle.sq_isa.specs.declared.instructions.RegOp.TheVariants.{Sltu}
 use Rattle.sq_isa.specs.declared.instructions.Cond.{Cond}
 use Rattle.sq_isa.specs.declared.instructions.Cond.TheVariants.{Beq, Bne, Blt, Bge, Bltu, Bgeu}
 use Rattle.sq_isa.specs.declared.instructions.LoadKind.{LoadKind}
 use Rattle.sq_isa.specs.declared.instructions.StoreKind.{StoreKind}
-use Rattle.sq_runs.specs.Runs.{Next, Went, Ended, Broke}
+use Rattle.sq_runs.specs.Runs.{Went, Ended, Broke}
 use Rattle.sq_runs.specs.Simulation.{Matches}
-use Rattle.sq_system.specs.World.{World, is_executable}
-use Rattle.sq_graph.specs.Lines.{AddressHalf, Plain, Upper, Lower}
+use Rattle.sq_system.specs.World.{World}
+use Rattle.sq_graph.specs.Lines.{Plain, Upper, Lower}
 use Rattle.sq_system.specs.declared.event.Halt.TheVariants.{Store as StoreFault}
-use Rattle.sq_machine.specs.State.{State, next_pc, with_bytes, advance, finish, address_of}
+use Rattle.sq_machine.specs.State.{State, next_pc, with_bytes, advance, finish}
 use Rattle.sq_machine.specs.Rows as plain
-use Rattle.sq_follow.specs.declared.kind.Kind.TheVariants.{Arithmetic, Half, Address, Jump}
+use Rattle.sq_follow.specs.declared.kind.Kind.TheVariants.{Arithmetic, Half}
 use Rattle.sq_follow.specs.Values.{Tag, Code, Part, Value, Num, Tagged}
-use Rattle.sq_follow.specs.Settings.{Setting, Store, Made, is_in_text}
+use Rattle.sq_follow.specs.Settings.{Setting, Store, is_in_text}
 use Rattle.sq_follow.specs.Arithmetic.{zero_is_outside_text, tagged_imm, imm_value, tagged_op, op_value, taken_against_code, is_taken, is_upper_half}
 use Rattle.sq_follow.specs.Accesses.{Step, gives, gives_or_breaks, load_at, store_at, atomic_at}
-use Rattle.sq_follow.specs.Rows.{Operands, source, at_number, address_value, at_upper_half, plain_row, row_of}
-use Rattle.sq_follow.specs.Jumps.{Destination, ToName, ToNumber, number_jump, indirect_jump, name_jump, part_jump}
+use Rattle.sq_follow.specs.Rows.{Operands, source, at_number, address_value, at_upper_half, row_of}
 use Rattle.sq_erasure.specs.Erasure.{Erasing, IsErasing, IsErasedTag, IsErased, IsErasedStore, IsErasedSetting}
 use Rattle.sq_erasure.proofs.Accessing.{Plainly, IsErasedMade, gives_erased, advance_erased, load_erased, store_erased, atomic_erased}
 use Rattle.sq_erasure.proofs.Calling.{call_erased}

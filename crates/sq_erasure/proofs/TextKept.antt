@@ -1,14 +1,14 @@
 -- No step of a tagged run changes text.
-use Rattle.std.proofs.Common.{◌≡◌, ◌⊎◌, inl, inr, ℕ, zero, suc, ◌+◌, ◌^◌, ◌<◌, ◌≤◌, ℤ, pos, Bool, true, false, not, ◌==◌, ◌&&◌, ◌||◌, List, [], ◌∷◌, length, map, take, min, Option, Some, None, if◌then◌else◌, refl, sym, ap, ◌∙◌, subst, arith, nat_lt, nat_le, max}
+use Rattle.std.proofs.Common.{◌≡◌, ◌⊎◌, inl, inr, ℕ, zero, suc, ◌+◌, ◌^◌, ◌<◌, ◌≤◌, Bool, true, false, not, ◌==◌, ◌&&◌, ◌||◌, List, [], ◌∷◌, length, map, take, min, Option, Some, None, if◌then◌else◌, refl, sym, ap, ◌∙◌, subst, arith, nat_lt, nat_le, max}
 use Rattle.std.specs.Option.{unwrap_or}
 use Rattle.std.specs.List.{list_any}
 use Rattle.std.proofs.lemmas.Bool.{and_parts, eqb-true}
 use Rattle.std.proofs.lemmas.Bool.Decides.{nat_tests}
 use Rattle.byteorder.specs.Endian.{little_bytes}
-use Rattle.sq_isa.specs.Words.{wrapped, unsigned, upper_word}
+use Rattle.sq_isa.specs.Words.{wrapped, unsigned}
 use Rattle.sq_isa.specs.Accesses.{load_width, store_width, extended, bytes_number, is_aligned, is_reserved}
 use Rattle.sq_isa.specs.declared.instructions.Insn.{Insn}
-use Rattle.sq_isa.specs.declared.instructions.Insn.TheVariants.{Lui, Auipc, Load, Store as StoreInsn, OpImm, Op, Fence, Ecall, Atomic}
+use Rattle.sq_isa.specs.declared.instructions.Insn.TheVariants.{Lui, Load, Store as StoreInsn, OpImm, Op, Fence, Ecall, Atomic}
 use Rattle.sq_isa.specs.declared.instructions.ImmOp.TheVariants.{Addi}
 use Rattle.sq_isa.specs.declared.instructions.LoadKind.{LoadKind}
 use Rattle.sq_isa.specs.declared.instructions.LoadKind.TheVariants.{Lw}
@@ -16,26 +16,23 @@ use Rattle.sq_isa.specs.declared.instructions.StoreKind.{StoreKind}
 use Rattle.sq_isa.specs.declared.instructions.StoreKind.TheVariants.{Sb, Sh, Sw}
 use Rattle.sq_isa.specs.declared.instructions.AtomicOp.{AtomicOp}
 use Rattle.sq_isa.specs.declared.instructions.AtomicOp.TheVariants.{Lr, Sc, Swap, Add, Xor, And, Or, Min, Max, MinU, MaxU}
-use Rattle.sq_runs.specs.Runs.{Next, Went, Ended, Broke}
-use Rattle.sq_memory.specs.Cells.{Cells, cells_from, with_cells, is_in_memory}
+use Rattle.sq_runs.specs.Runs.{Went, Ended, Broke}
+use Rattle.sq_memory.specs.Cells.{cells_from, with_cells}
 use Rattle.sq_memory.proofs.RangeLaws.{with_cells-apart}
 use Rattle.sq_system.specs.World.{is_writable, are_all, is_range}
-use Rattle.sq_system.specs.Calls.{effect_of, read_effect}
 use Rattle.sq_system.specs.declared.call.CallArgs.{CallArgs}
-use Rattle.sq_system.specs.declared.call.Effect.{Effect}
-use Rattle.sq_system.specs.declared.call.Effect.TheVariants.{Exit, Write, Read, Brk, Fail, Ask}
-use Rattle.sq_system.specs.declared.event.Event.{Event}
+use Rattle.sq_system.specs.declared.call.Effect.TheVariants.{Write, Read, Fail}
 use Rattle.sq_system.specs.declared.event.Event.TheVariants.{Wrote}
 use Rattle.sq_system.specs.declared.event.Halt.{Halt}
-use Rattle.sq_system.specs.declared.event.Halt.TheVariants.{Load as LoadFault, Store as StoreFault}
+use Rattle.sq_system.specs.declared.event.Halt.TheVariants.{Store as StoreFault}
 use Rattle.sq_graph.specs.Lines.{AddressHalf, Plain, Upper, Lower}
 use Rattle.sq_follow.specs.declared.kind.Kind.{Kind}
-use Rattle.sq_follow.specs.declared.kind.Kind.TheVariants.{Arithmetic, Half, Call, Fragment, Stale as StaleByte, Text}
+use Rattle.sq_follow.specs.declared.kind.Kind.TheVariants.{Arithmetic, Half, Fragment, Stale as StaleByte, Text}
 use Rattle.sq_follow.specs.Values.{Tag, Value, Num, Tagged, Cell, Byte, is_tagged, is_stale, is_fragment, byte_of, cells_of}
-use Rattle.sq_follow.specs.Settings.{Setting, Store, Made, is_in_text, meets_text, may_store}
+use Rattle.sq_follow.specs.Settings.{Setting, Store, is_in_text, meets_text, may_store}
 use Rattle.sq_follow.specs.Arithmetic.{imm_value, op_value, atomic_result, is_upper_half}
 use Rattle.sq_follow.specs.Accesses.{Step, gives, gives_or_breaks, aligned_cells, stored, tag_in, with_tag_or_number, with_loaded, load_cells, load_at, is_word, store_at, lr_cells, sc_step, update, amo_cells, atomic_row, atomic_at}
-use Rattle.sq_follow.specs.Calls.{CallOperands, has_tagged, call_of, takes_buffer, with_buffer, effect_row, args_row, number_row, call_row}
+use Rattle.sq_follow.specs.Calls.{CallOperands, call_of, with_buffer, effect_row, number_row, call_row}
 use Rattle.sq_follow.specs.Rows.{Operands, at_number, address_value, row_of}
 
 module _ (s : Setting) where

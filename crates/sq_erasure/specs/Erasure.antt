@@ -1,7 +1,6 @@
 -- Tagged runs without their tags: what a plain machine holds where a tagged run holds values.
-use Rattle.std.specs.Prelude.{◌≡◌, ℕ, ℤ, ◌+◌, ◌%◌, ◌^◌, ◌<◌, ◌≤◌, Bool, true, false, List, Option, Some, None, slice_get}
+use Rattle.std.specs.Prelude.{◌≡◌, ℕ, ◌+◌, ◌%◌, ◌^◌, ◌<◌, ◌≤◌, true, false, Option, Some, slice_get}
 use Rattle.byteorder.specs.Endian.{little_bytes}
-use Rattle.sq_isa.specs.Words.{wrapped, unsigned}
 use Rattle.sq_memory.specs.Cells.{AgreeOn}
 use Rattle.sq_system.specs.World.{World, is_writable}
 use Rattle.sq_machine.specs.State.{State}

@@ -1,39 +1,38 @@
 -- The lines of a lifted graph, each the reading of its word.
-use Rattle.std.proofs.Common.{MatchBool, ◌≡◌, ◌≢◌, ◌⊎◌, inl, inr, ℕ, ℤ, zero, suc, ◌+◌, ◌≤◌, ◌<◌, pos, Bool, true, false, not, ◌==◌, ◌&&◌, ◌||◌, List, [], ◌∷◌, ◌++◌, map, length, Option, Some, None, slice_get, if◌then◌else◌, refl, sym, ap, ◌∙◌, subst, arith}
-use Rattle.std.specs.Option.{option_map, option_and_then}
+use Rattle.std.proofs.Common.{MatchBool, ◌≡◌, ◌⊎◌, inl, inr, ℕ, zero, suc, ◌+◌, ◌≤◌, Bool, true, false, not, ◌==◌, ◌&&◌, ◌||◌, List, [], ◌∷◌, ◌++◌, map, Option, Some, None, slice_get, if◌then◌else◌, refl, sym, ap, ◌∙◌, subst, arith}
+use Rattle.std.specs.Option.{option_map}
 use Rattle.std.specs.List.{Contains}
 use Rattle.std.proofs.lemmas.Bool.{cond_both, eqb-true, and_parts}
 use Rattle.std.proofs.lemmas.Option.{slice_get-map}
 use Rattle.std.proofs.lemmas.List.Elements.{Contains-append_right}
 use Rattle.sq_isa.specs.Registers.{is_among, is_among_but_x0}
 use Rattle.sq_isa.specs.Uses.{sources_of, destination_of}
-use Rattle.sq_isa.specs.declared.instructions.Insn.{Insn}
 use Rattle.sq_isa.specs.declared.instructions.Insn.TheVariants.{Jal}
 use Rattle.sq_graph.specs.declared.item.Item.{Item}
 use Rattle.sq_graph.specs.declared.item.Item.TheVariants.{Op, Hi, Lo, Out}
 use Rattle.sq_graph.specs.declared.item.Term.{Term}
 use Rattle.sq_graph.specs.declared.item.Term.TheVariants.{Fall, Jump, Branch, Call, PartJump, Indirect, Stop}
-use Rattle.sq_graph.specs.Graph.{Block, Procedure, Graph}
+use Rattle.sq_graph.specs.Graph.{Procedure, Graph}
 use Rattle.sq_graph.specs.Terms.{goes_on as term_goes_on, links}
 use Rattle.sq_graph.specs.Uses.{item_uses, term_uses}
 use Rattle.sq_graph.specs.Rules.{mentions}
-use Rattle.sq_graph.specs.Lines.{Line, Name, Do, Enter, Return, End, line_of, term_lines, lines_of, inside, has_name, slot_name}
-use Rattle.sq_graph.specs.Walks.{IsLive, read_here, live_behind, Goes, code_targets, line_reads, line_writes}
+use Rattle.sq_graph.specs.Lines.{Line, Name, Enter, Return, End, line_of, term_lines, lines_of, inside, slot_name}
+use Rattle.sq_graph.specs.Walks.{IsLive, read_here, live_behind, line_reads, line_writes}
 use Rattle.sq_graph.specs.Soundness.{LinksDieIn}
 use Rattle.sq_patch.specs.LiveAgreement.{MakeTargets, SlotIsTarget}
 use Rattle.sq_patch.proofs.LiveTargets.{inside_makes}
-use Rattle.sq_program.specs.Programs.{Word, Text, Note, Program, word_from, word_at, insn_in}
-use Rattle.sq_program.specs.Reached.{reached_from, jump_target, half_target, goes_on, Decides}
+use Rattle.sq_program.specs.Programs.{Word, Text, Note, Program, word_from, word_at}
+use Rattle.sq_program.specs.Reached.{jump_target, half_target, insn_goes_on, Decides}
 use Rattle.sq_program.specs.Readings.{Reading, IsItem, IsTerm, Links, marked_reading, reading_of, reading_at}
-use Rattle.sq_program.specs.Notes.{used_notes, is_in_procedure, is_in_procedures, has_body, is_item_but}
-use Rattle.sq_program.specs.Lifted.{Piece, ItemPiece, TermPiece, link_piece, piece_of, piece_leads, Rest, between, with_piece, with_reading, begun_if, cut, with_item, body_from, procedure_of, lifted, procedure_at}
+use Rattle.sq_program.specs.Notes.{is_in_procedure, has_body, is_item_without}
+use Rattle.sq_program.specs.Lifted.{Form, ItemForm, TermForm, link_form, form_of, form_leads, Rest, between, with_form, with_reading, begun_if, cut, with_item, body_from, procedure_of, lifted, procedure_at}
 use Rattle.sq_lifting.specs.Lifting.{IsMarkedText, IsFine}
-use Rattle.sq_lifting.proofs.Lifts.{HasName, piece_line, closes, onward, IsNamed, IsTarget, SlotIf, GoodTerm, GoodLine, BodyReads, ProcedureReads, IsDoor, Lifts, lift_end, lift_name, lift_line}
+use Rattle.sq_lifting.proofs.Lifts.{HasName, form_line, closes, onward, IsNamed, SlotIf, GoodLine, BodyReads, ProcedureReads, IsDoor, Lifts, lift_end, lift_name, lift_line}
 use Rattle.sq_lifting.proofs.TextWords.{same_itself, at_here, at_later, some_is, stood}
-use Rattle.sq_lifting.proofs.Facts.{one, none_in, reading_uses, IsSoundWord, ReadWord, marked_of, reached_word, sound_word, next_reached, used, used_reached, UsedBy}
-use Rattle.sq_lifting.proofs.NoteFacts.{notes_have, at_number, in_procedure_start, IsGoodNote, good_note, IsReturn, return_is, read_item, item_jumps}
-use Rattle.sq_lifting.proofs.ReadingFacts.{piece_uses, goes_alike, jal_links, reading_form, IsForm, IsReadTerm, IsReadItem}
-use Rattle.sq_lifting.proofs.Cutting.{rest_lines, true_not_false, ns, keep, lead, kept_is, kept_from, read_at, halves_out, door, next_kept, used_kept, lead_of, lead_used, lead_entry, lead_code, IsBehind, behind}
+use Rattle.sq_lifting.proofs.Facts.{one, none_in, reading_uses, IsSoundWord, ReadWord, marked_of, reached_word, next_reached, used, used_reached, UsedBy}
+use Rattle.sq_lifting.proofs.NoteFacts.{notes_have, at_number, in_procedure_start, good_note, return_is, read_item, item_jumps}
+use Rattle.sq_lifting.proofs.ReadingFacts.{form_uses, goes_alike, jal_links, reading_form, IsForm, IsReadTerm, IsReadItem}
+use Rattle.sq_lifting.proofs.Cutting.{rest_lines, true_not_false, ns, keep, lead, kept_is, kept_from, read_at, halves_out, door, next_kept, used_kept, lead_of, lead_used, IsBehind, behind}
 
 -- NAMES AMONG LINES
 
@@ -75,13 +74,13 @@ item_named x (Out procedure) ls h = h
 rest_blocks : (x : ℕ) (rest : Rest) → HasName x (rest_lines rest) → HasName x (lines_of rest.blocks)
 rest_blocks x rest h = term_no_name x rest.term (lines_of rest.blocks) (items_no_name x rest.items (term_lines rest.term (lines_of rest.blocks)) h)
 
-piece_named : (x : ℕ) (piece : Piece) (rest : Rest) → HasName x (rest_lines rest) → HasName x (rest_lines (with_piece piece rest))
-piece_named x (ItemPiece item) rest h = item_named x item (rest_lines rest) h
-piece_named x (TermPiece term) rest h = term_named x term (lines_of rest.blocks) (rest_blocks x rest h)
+form_named : (x : ℕ) (shape : Form) (rest : Rest) → HasName x (rest_lines rest) → HasName x (rest_lines (with_form shape rest))
+form_named x (ItemForm item) rest h = item_named x item (rest_lines rest) h
+form_named x (TermForm term) rest h = term_named x term (lines_of rest.blocks) (rest_blocks x rest h)
 
 reading_named : (ns : List Note) (o : Option Reading) (x : ℕ) (rest : Rest) → HasName x (rest_lines rest) → HasName x (rest_lines (with_reading ns o rest))
 reading_named ns None x rest h = h
-reading_named ns (Some r) x rest h = piece_named x (piece_of ns r) rest h
+reading_named ns (Some r) x rest h = form_named x (form_of ns r) rest h
 
 begun_named : (b : Bool) (at x : ℕ) (rest : Rest) → HasName x (rest_lines rest) → HasName x (rest_lines (begun_if b at rest))
 begun_named true at x rest h = match_or (at == x) (HasName x (rest_lines rest)) h
@@ -107,7 +106,7 @@ head_cut keeps leads ns t at w (v ∷ words) k l e = (rest_lines (with_reading n
 -- THE LINES OF A PIECE
 
 -- a term is the last of its block, so that what is behind it begins a block
-term_first : (term : Term) (rest : Rest) → IsReadTerm term → rest ≡ between rest.blocks → rest_lines (with_piece (TermPiece term) rest) ≡ End term ∷ rest_lines rest
+term_first : (term : Term) (rest : Rest) → IsReadTerm term → rest ≡ between rest.blocks → rest_lines (with_form (TermForm term) rest) ≡ End term ∷ rest_lines rest
 term_first Fall rest f e = absurd f
 term_first (Jump to) rest f e = ap (λ r. End (Jump to) ∷ rest_lines r) (sym e)
 term_first (Branch cond a b to) rest f e = ap (λ r. End (Branch cond a b to) ∷ rest_lines r) (sym e)
@@ -116,18 +115,18 @@ term_first (PartJump link part to) rest f e = ap (λ r. End (PartJump link part 
 term_first (Indirect link at offset) rest f e = ap (λ r. End (Indirect link at offset) ∷ rest_lines r) (sym e)
 term_first (Stop word) rest f e = ap (λ r. End (Stop word) ∷ rest_lines r) (sym e)
 
-abbrev IsTermPiece : Piece → Type 0
-IsTermPiece (ItemPiece item) = ⊥
-IsTermPiece (TermPiece term) = Unit {0}
+abbrev IsTermForm : Form → Type 0
+IsTermForm (ItemForm item) = ⊥
+IsTermForm (TermForm term) = Unit {0}
 
-link_lines : (link to : ℕ) (o : Option ℕ) (rest : Rest) → (IsTermPiece (link_piece link to o) → rest ≡ between rest.blocks) → rest_lines (with_piece (link_piece link to o) rest) ≡ piece_line (link_piece link to o) ∷ rest_lines rest
+link_lines : (link to : ℕ) (o : Option ℕ) (rest : Rest) → (IsTermForm (link_form link to o) → rest ≡ between rest.blocks) → rest_lines (with_form (link_form link to o) rest) ≡ form_line (link_form link to o) ∷ rest_lines rest
 link_lines link to None rest e = ap (λ r. End (Call link to) ∷ rest_lines r) (sym (e tt))
 link_lines link to (Some q) rest e = refl
 
-piece_lines : (ns : List Note) (r : Reading) (rest : Rest) → IsForm r → (IsTermPiece (piece_of ns r) → rest ≡ between rest.blocks) → rest_lines (with_piece (piece_of ns r) rest) ≡ piece_line (piece_of ns r) ∷ rest_lines rest
-piece_lines ns (IsItem item) rest f e = refl
-piece_lines ns (IsTerm term) rest f e = term_first term rest f (e tt)
-piece_lines ns (Links link to) rest f e = link_lines link to (procedure_at ns to) rest e
+form_lines : (ns : List Note) (r : Reading) (rest : Rest) → IsForm r → (IsTermForm (form_of ns r) → rest ≡ between rest.blocks) → rest_lines (with_form (form_of ns r) rest) ≡ form_line (form_of ns r) ∷ rest_lines rest
+form_lines ns (IsItem item) rest f e = refl
+form_lines ns (IsTerm term) rest f e = term_first term rest f (e tt)
+form_lines ns (Links link to) rest f e = link_lines link to (procedure_at ns to) rest e
 
 -- THE DEAD LINK OF A BODY
 
@@ -207,20 +206,23 @@ module _ (p : Program) (is : ℕ → Bool) (marked : IsMarkedText p.text) (dec :
   tail_suffix at w words h = λ x le. h x (omega (arith, le)) ∙ at_later x at w words le
 
   -- what goes on to a kept word that is no leader stands before it, and is kept
-  before_is : (at : ℕ) → K (at + 4) ≡ true → L (at + 4) ≡ false → (K at ≡ true) × ((w : Word) (r : Reading) → word_at T at ≡ Some w → reading_of T at w ≡ Some r → closes (piece_line (piece_of N r)) ≡ false)
+  before_is : (at : ℕ) → K (at + 4) ≡ true → L (at + 4) ≡ false → (K at ≡ true) × ((w : Word) (r : Reading) → word_at T at ≡ Some w → reading_of T at w ≡ Some r → closes (form_line (form_of N r)) ≡ false)
   before_is at k l =
       let i = kept_is p is marked dec fine (at + 4) k in
       let b = behind p is marked dec fine (at + 4) (dec.only (at + 4) i.0) i.1 l in
       let e : b.pc ≡ at = let h = b.next in omega (arith, h) in
       go b e
     where
-      go : (b : IsBehind p is marked dec fine (at + 4)) → b.pc ≡ at → (K at ≡ true) × ((w : Word) (r : Reading) → word_at T at ≡ Some w → reading_of T at w ≡ Some r → closes (piece_line (piece_of N r)) ≡ false)
-      go b e = (subst (λ y. K y ≡ true) e b.kept, λ w r f h.
-          let u : Some b.read.word ≡ Some w = sym b.read.there ∙ subst (λ y. word_at T y ≡ Some w) (sym e) f in
-          let v : b.read.word ≡ w = cc in
-          let x : Some b.read.reading ≡ Some r = sym b.read.reads ∙ subst (λ y. reading_of T y b.read.word ≡ Some r) (sym e) (subst (λ w. reading_of T at w ≡ Some r) (sym v) h) in
-          let z : b.read.reading ≡ r = cc in
-          subst (λ r. closes (piece_line (piece_of N r)) ≡ false) z b.goes)
+      go : (b : IsBehind p is marked dec fine (at + 4)) → b.pc ≡ at → (K at ≡ true) × ((w : Word) (r : Reading) → word_at T at ≡ Some w → reading_of T at w ≡ Some r → closes (form_line (form_of N r)) ≡ false)
+      go b e = (
+        subst (λ y. K y ≡ true) e b.kept,
+        λ w r f h.
+            let u : Some b.read.word ≡ Some w = sym b.read.there ∙ subst (λ y. word_at T y ≡ Some w) (sym e) f in
+            let v : b.read.word ≡ w = cc in
+            let x : Some b.read.reading ≡ Some r = sym b.read.reads ∙ subst (λ y. reading_of T y b.read.word ≡ Some r) (sym e) (subst (λ w. reading_of T at w ≡ Some r) (sym v) h) in
+            let z : b.read.reading ≡ r = cc in
+            subst (λ r. closes (form_line (form_of N r)) ≡ false) z b.goes,
+      )
 
   lead_if : (y : ℕ) → (L y ≡ false → ⊥) → L y ≡ true
   lead_if y f = go (L y) refl
@@ -265,8 +267,8 @@ module _ (p : Program) (is : ℕ → Bool) (marked : IsMarkedText p.text) (dec :
       let w = some_is (word_at T x) (reached_word p is marked dec fine.text (dec.only x (kept_is p is marked dec fine x k).0)) in
       subst (HasName x) whole_cut (has_cut K L N T x T.lo w.0 T.words k l w.1)
 
-  -- a name that a piece uses
-  named_used : (x y : ℕ) (rd : ReadWord p is marked dec fine.text x) → K x ≡ true → Contains (piece_uses (piece_of N rd.reading)) y → IsNamed T N G y
+  -- a name that a form uses
+  named_used : (x y : ℕ) (rd : ReadWord p is marked dec fine.text x) → K x ≡ true → Contains (form_uses (form_of N rd.reading)) y → IsNamed T N G y
   named_used x y rd k c =
       has_name_of y (used_kept p is marked dec fine x y rd.word rd.reading rd.sound k rd.there rd.reads c)
       (lead_used p is marked dec fine x y rd.word rd.reading (kept_is p is marked dec fine x k).0 rd.there rd.reads c)
@@ -276,7 +278,7 @@ module _ (p : Program) (is : ℕ → Bool) (marked : IsMarkedText p.text) (dec :
   body_quiet : (at link n : ℕ) → is at ≡ true → has_body T link at n ≡ true → IsQuiet link (body_from T at n)
   body_quiet at link zero i b = tt
   body_quiet at link (suc n) i b =
-      let c = and_parts (is_item_but link (reading_at T at)) (has_body T link (at + 4) n) b in
+      let c = and_parts (is_item_without link (reading_at T at)) (has_body T link (at + 4) n) b in
       let item = read_item link (reading_at T at) c.0 in
       let rd = read_at p is marked dec fine at i in
       let e : reading_at T at ≡ Some rd.reading = rw rd.there rd.reads in
@@ -308,7 +310,7 @@ module _ (p : Program) (is : ℕ → Bool) (marked : IsMarkedText p.text) (dec :
   body_reads : (at link n : ℕ) (ys : List Line) → is at ≡ true → has_body T link at n ≡ true → MakeTargets G (map line_of (body_from T at n) ++ ys) → BodyReads T N G at link (body_from T at n)
   body_reads at link zero ys i b makes = let r = return_is T at link (word_at T at) refl b in (r.word, r.there, r.plain, r.insn)
   body_reads at link (suc n) ys i b makes =
-      let c = and_parts (is_item_but link (reading_at T at)) (has_body T link (at + 4) n) b in
+      let c = and_parts (is_item_without link (reading_at T at)) (has_body T link (at + 4) n) b in
       let item = read_item link (reading_at T at) c.0 in
       let rd = read_at p is marked dec fine at i in
       let e : reading_at T at ≡ Some rd.reading = rw rd.there rd.reads in
@@ -318,9 +320,10 @@ module _ (p : Program) (is : ℕ → Bool) (marked : IsMarkedText p.text) (dec :
       let f = reading_form T at rd.word.mark rd.sound.insn (IsItem item.0) m in
       let makes' : MakeTargets G (map line_of (item.0 ∷ body_from T (at + 4) n) ++ ys) = subst (λ o. MakeTargets G (map line_of (with_item o (body_from T (at + 4) n)) ++ ys)) item.1 makes in
       let names : (y : ℕ) → Contains (item_uses item.0) y → IsNamed T N G y = λ y u. body_name at rd i item.0 q y u in
-      subst (λ o. BodyReads T N G at link (with_item o (body_from T (at + 4) n))) (sym item.1)
-      ((rd.word, rd.there, subst (λ r. reading_of T at rd.word ≡ Some r) q rd.reads, item_good item.0 (map line_of (body_from T (at + 4) n) ++ ys) f names makes' [], not_written G.procedures item.0 link f item.2),
-       body_reads (at + 4) link n ys next c.1 (item_tail item.0 (map line_of (body_from T (at + 4) n) ++ ys) makes'))
+      subst (λ o. BodyReads T N G at link (with_item o (body_from T (at + 4) n))) (sym item.1) (
+        (rd.word, rd.there, subst (λ r. reading_of T at rd.word ≡ Some r) q rd.reads, item_good item.0 (map line_of (body_from T (at + 4) n) ++ ys) f names makes' [], not_written G.procedures item.0 link f item.2),
+        body_reads (at + 4) link n ys next c.1 (item_tail item.0 (map line_of (body_from T (at + 4) n) ++ ys) makes'),
+      )
     where
       item_open : (item : Item) → closes (line_of item) ≡ false
       item_open (Op insn) = refl
@@ -338,7 +341,7 @@ module _ (p : Program) (is : ℕ → Bool) (marked : IsMarkedText p.text) (dec :
       body_name at rd i item q y c =
           let c' : Contains (reading_uses rd.reading) y = subst (λ r. Contains (reading_uses r) y) (sym q) c in
           let u = used p is marked dec fine.text at y rd.word rd.reading rd.sound rd.reads c' in
-          let c'' : Contains (piece_uses (piece_of N rd.reading)) y = subst (λ r. Contains (piece_uses (piece_of N r)) y) (sym q) c in
+          let c'' : Contains (form_uses (form_of N rd.reading)) y = subst (λ r. Contains (form_uses (form_of N r)) y) (sym q) c in
           has_name_of y
           (kept_from p is marked dec fine y (used_reached p is marked dec fine.text at y rd.word rd.sound i rd.there u) (halves_out p is marked dec fine at y rd.word rd.sound i rd.there (half_of at rd item q y u)))
           (lead_used p is marked dec fine at y rd.word rd.reading i rd.there rd.reads c'')
@@ -359,7 +362,7 @@ module _ (p : Program) (is : ℕ → Bool) (marked : IsMarkedText p.text) (dec :
   -- THE LINES
 
   -- a line that goes on to a kept leader has its name behind it
-  slot_behind : (at : ℕ) (words : List Word) (w : Word) (r : Reading) (s : IsSoundWord T at w) → IsSuffix (at + 4) words → K at ≡ true → word_at T at ≡ Some w → reading_of T at w ≡ Some r → goes_on s.insn ≡ true → Contains (piece_leads at (piece_of N r)) (at + 4) → (ys : List Line) × (rest_lines (Cut (at + 4) words) ≡ Name (at + 4) ∷ ys)
+  slot_behind : (at : ℕ) (words : List Word) (w : Word) (r : Reading) (s : IsSoundWord T at w) → IsSuffix (at + 4) words → K at ≡ true → word_at T at ≡ Some w → reading_of T at w ≡ Some r → insn_goes_on s.insn ≡ true → Contains (form_leads at (form_of N r)) (at + 4) → (ys : List Line) × (rest_lines (Cut (at + 4) words) ≡ Name (at + 4) ∷ ys)
   slot_behind at words w r s suffix k e rd g c =
       let k' = next_kept p is marked dec fine at w s k e g in
       let l' = lead_of p is marked dec fine at (at + 4) w r (kept_is p is marked dec fine at k).0 e rd c in
@@ -380,7 +383,7 @@ module _ (p : Program) (is : ℕ → Bool) (marked : IsMarkedText p.text) (dec :
   links_go (Indirect link at offset) e = e
   links_go (Stop word) e = absurd (cc)
 
-  goes_lead : (at : ℕ) (term : Term) → term_goes_on term ≡ true → Contains (piece_leads at (TermPiece term)) (at + 4)
+  goes_lead : (at : ℕ) (term : Term) → term_goes_on term ≡ true → Contains (form_leads at (TermForm term)) (at + 4)
   goes_lead at term e = Contains-append_right (term_uses term) (if term_goes_on term then (at + 4) ∷ [] else []) (at + 4) (rw e (one (at + 4)))
 
   term_good : (at : ℕ) (term : Term) (rest : List Line) → IsReadTerm term → ((y : ℕ) → Contains (term_uses term) y → IsNamed T N G y) → SlotIf T N G (links term) rest → Good (End term) rest
@@ -394,7 +397,7 @@ module _ (p : Program) (is : ℕ → Bool) (marked : IsMarkedText p.text) (dec :
 
   -- A line reads
 
-  goes_of : (at : ℕ) (rd : ReadWord p is marked dec fine.text at) → closes (piece_line (piece_of N rd.reading)) ≡ false → goes_on rd.sound.insn ≡ true
+  goes_of : (at : ℕ) (rd : ReadWord p is marked dec fine.text at) → closes (form_line (form_of N rd.reading)) ≡ false → insn_goes_on rd.sound.insn ≡ true
   goes_of at rd e = sym (goes_alike N T at rd.word.mark rd.sound.insn rd.reading (marked_of p is marked dec fine.text at rd.word rd.reading rd.sound rd.reads)) ∙ ap not e
 
   form_at : (at : ℕ) (rd : ReadWord p is marked dec fine.text at) → IsForm rd.reading
@@ -404,14 +407,14 @@ module _ (p : Program) (is : ℕ → Bool) (marked : IsMarkedText p.text) (dec :
   open_term term e = ap not e
 
   -- where the name behind a term that links is
-  slot_at : (at : ℕ) (words : List Word) (rd : ReadWord p is marked dec fine.text at) (term : Term) → piece_of N rd.reading ≡ TermPiece term → IsSuffix (at + 4) words → K at ≡ true → term_goes_on term ≡ true → (ys : List Line) × (rest_lines (Cut (at + 4) words) ≡ Name (at + 4) ∷ ys)
+  slot_at : (at : ℕ) (words : List Word) (rd : ReadWord p is marked dec fine.text at) (term : Term) → form_of N rd.reading ≡ TermForm term → IsSuffix (at + 4) words → K at ≡ true → term_goes_on term ≡ true → (ys : List Line) × (rest_lines (Cut (at + 4) words) ≡ Name (at + 4) ∷ ys)
   slot_at at words rd term e suffix k g =
       slot_behind at words rd.word rd.reading rd.sound suffix k rd.there rd.reads
-      (goes_of at rd (subst (λ q. closes (piece_line q) ≡ false) (sym e) (open_term term g)))
-      (subst (λ q. Contains (piece_leads at q) (at + 4)) (sym e) (goes_lead at term g))
+      (goes_of at rd (subst (λ q. closes (form_line q) ≡ false) (sym e) (open_term term g)))
+      (subst (λ q. Contains (form_leads at q) (at + 4)) (sym e) (goes_lead at term g))
 
-  named_term : (at : ℕ) (rd : ReadWord p is marked dec fine.text at) (piece : Piece) → piece_of N rd.reading ≡ piece → K at ≡ true → (y : ℕ) → Contains (piece_uses piece) y → IsNamed T N G y
-  named_term at rd piece e k y c = named_used at y rd k (subst (λ q. Contains (piece_uses q) y) (sym e) c)
+  named_term : (at : ℕ) (rd : ReadWord p is marked dec fine.text at) (shape : Form) → form_of N rd.reading ≡ shape → K at ≡ true → (y : ℕ) → Contains (form_uses shape) y → IsNamed T N G y
+  named_term at rd shape e k y c = named_used at y rd k (subst (λ q. Contains (form_uses q) y) (sym e) c)
 
   enter_good : (number to : ℕ) (rest : List Line) → procedure_at N to ≡ Some number → LinksDieIn G (Enter number ∷ rest) → Good (Enter number) rest
   enter_good number to rest e dies =
@@ -420,34 +423,34 @@ module _ (p : Program) (is : ℕ → Bool) (marked : IsMarkedText p.text) (dec :
       let good = good_note is p number n.0 fine.notes n.1 in
       (procedure_of T n.0, h, λ live. dies.0 (procedure_of T n.0) h (live_body G n.0.link n.0.link (body_from T n.0.address n.0.length) rest (body_quiet n.0.address n.0.link n.0.length good.reached good.body) live))
 
-  line_good : (at : ℕ) (words : List Word) (rd : ReadWord p is marked dec fine.text at) → IsSuffix (at + 4) words → K at ≡ true → MakeTargets G (piece_line (piece_of N rd.reading) ∷ rest_lines (Cut (at + 4) words)) → LinksDieIn G (piece_line (piece_of N rd.reading) ∷ rest_lines (Cut (at + 4) words)) → Good (piece_line (piece_of N rd.reading)) (rest_lines (Cut (at + 4) words))
+  line_good : (at : ℕ) (words : List Word) (rd : ReadWord p is marked dec fine.text at) → IsSuffix (at + 4) words → K at ≡ true → MakeTargets G (form_line (form_of N rd.reading) ∷ rest_lines (Cut (at + 4) words)) → LinksDieIn G (form_line (form_of N rd.reading) ∷ rest_lines (Cut (at + 4) words)) → Good (form_line (form_of N rd.reading)) (rest_lines (Cut (at + 4) words))
   line_good at words rd suffix k makes dies = go rd.reading refl
     where
       rest : List Line
       rest = rest_lines (Cut (at + 4) words)
 
-      call_good : (link to : ℕ) (o : Option ℕ) → procedure_at N to ≡ o → rd.reading ≡ Links link to → Good (piece_line (link_piece link to o)) rest
+      call_good : (link to : ℕ) (o : Option ℕ) → procedure_at N to ≡ o → rd.reading ≡ Links link to → Good (form_line (link_form link to o)) rest
       call_good link to (Some number) e q =
-          let f : piece_of N rd.reading ≡ ItemPiece (Out number) = rw (q, e) refl in
-          enter_good number to rest e (subst (λ q. LinksDieIn G (piece_line q ∷ rest)) f dies)
+          let f : form_of N rd.reading ≡ ItemForm (Out number) = rw (q, e) refl in
+          enter_good number to rest e (subst (λ q. LinksDieIn G (form_line q ∷ rest)) f dies)
       call_good link to None e q =
-          let f : piece_of N rd.reading ≡ TermPiece (Call link to) = rw (q, e) refl in
-          let makes' : MakeTargets G (End (Call link to) ∷ rest) = subst (λ q. MakeTargets G (piece_line q ∷ rest)) f makes in
-          (named_term at rd (TermPiece (Call link to)) f k to (one to), slot_where (links (Call link to)) at rest (λ l. slot_at at words rd (Call link to) f suffix k refl) makes'.0)
+          let f : form_of N rd.reading ≡ TermForm (Call link to) = rw (q, e) refl in
+          let makes' : MakeTargets G (End (Call link to) ∷ rest) = subst (λ q. MakeTargets G (form_line q ∷ rest)) f makes in
+          (named_term at rd (TermForm (Call link to)) f k to (one to), slot_where (links (Call link to)) at rest (λ l. slot_at at words rd (Call link to) f suffix k refl) makes'.0)
 
-      go : (r : Reading) → rd.reading ≡ r → Good (piece_line (piece_of N rd.reading)) rest
+      go : (r : Reading) → rd.reading ≡ r → Good (form_line (form_of N rd.reading)) rest
       go (IsItem item) q =
-          let f : piece_of N rd.reading ≡ ItemPiece item = rw q refl in
+          let f : form_of N rd.reading ≡ ItemForm item = rw q refl in
           let form : IsReadItem item = subst IsForm q (form_at at rd) in
-          subst (λ q. Good (piece_line q) rest) (sym f)
-          (item_good item rest form (λ y c. named_term at rd (ItemPiece item) f k y c) (subst (λ q. MakeTargets G (piece_line q ∷ rest)) f makes) rest)
+          subst (λ q. Good (form_line q) rest) (sym f)
+          (item_good item rest form (λ y c. named_term at rd (ItemForm item) f k y c) (subst (λ q. MakeTargets G (form_line q ∷ rest)) f makes) rest)
       go (IsTerm term) q =
-          let f : piece_of N rd.reading ≡ TermPiece term = rw q refl in
+          let f : form_of N rd.reading ≡ TermForm term = rw q refl in
           let form : IsReadTerm term = subst IsForm q (form_at at rd) in
-          let makes' : MakeTargets G (End term ∷ rest) = subst (λ q. MakeTargets G (piece_line q ∷ rest)) f makes in
-          subst (λ q. Good (piece_line q) rest) (sym f)
-          (term_good at term rest form (λ y c. named_term at rd (TermPiece term) f k y c) (slot_where (links term) at rest (λ l. slot_at at words rd term f suffix k (links_go term l)) makes'.0))
-      go (Links link to) q = subst (λ r. Good (piece_line (piece_of N r)) rest) (sym q) (call_good link to (procedure_at N to) refl q)
+          let makes' : MakeTargets G (End term ∷ rest) = subst (λ q. MakeTargets G (form_line q ∷ rest)) f makes in
+          subst (λ q. Good (form_line q) rest) (sym f)
+          (term_good at term rest form (λ y c. named_term at rd (TermForm term) f k y c) (slot_where (links term) at rest (λ l. slot_at at words rd term f suffix k (links_go term l)) makes'.0))
+      go (Links link to) q = subst (λ r. Good (form_line (form_of N r)) rest) (sym q) (call_good link to (procedure_at N to) refl q)
 
   -- a `jal` to a noted address has the procedure's link
   is_door : (at : ℕ) (rd : ReadWord p is marked dec fine.text at) → K at ≡ true → IsDoor T N G rd.reading
@@ -480,27 +483,27 @@ module _ (p : Program) (is : ℕ → Bool) (marked : IsMarkedText p.text) (dec :
   abbrev Came : Option ℕ → ℕ → Type 0
   Came o at = ((o ≡ Some at) × (K at ≡ true)) ⊎ ((o ≡ None) × (K at ≡ true → L at ≡ true))
 
-  closed_lead : (at : ℕ) (rd : ReadWord p is marked dec fine.text at) → closes (piece_line (piece_of N rd.reading)) ≡ true → K (at + 4) ≡ true → L (at + 4) ≡ true
+  closed_lead : (at : ℕ) (rd : ReadWord p is marked dec fine.text at) → closes (form_line (form_of N rd.reading)) ≡ true → K (at + 4) ≡ true → L (at + 4) ≡ true
   closed_lead at rd e k = lead_if (at + 4) (λ l. true_not_false (sym e ∙ (before_is at k l).1 rd.word rd.reading rd.there rd.reads))
 
-  came_next : (at : ℕ) (rd : ReadWord p is marked dec fine.text at) → K at ≡ true → Came (onward (piece_line (piece_of N rd.reading)) at) (at + 4)
-  came_next at rd k = go (closes (piece_line (piece_of N rd.reading))) refl
+  came_next : (at : ℕ) (rd : ReadWord p is marked dec fine.text at) → K at ≡ true → Came (onward (form_line (form_of N rd.reading)) at) (at + 4)
+  came_next at rd k = go (closes (form_line (form_of N rd.reading))) refl
     where
-      go : (b : Bool) → closes (piece_line (piece_of N rd.reading)) ≡ b → Came (if b then None else Some (at + 4)) (at + 4)
+      go : (b : Bool) → closes (form_line (form_of N rd.reading)) ≡ b → Came (if b then None else Some (at + 4)) (at + 4)
       go true e = inr (refl, closed_lead at rd e)
       go false e = inl (refl, next_kept p is marked dec fine at rd.word rd.sound k rd.there (goes_of at rd e))
 
   -- behind a term a block begins
-  term_lead : (at : ℕ) (rd : ReadWord p is marked dec fine.text at) (piece : Piece) → piece_of N rd.reading ≡ piece → IsTermPiece piece → K at ≡ true → K (at + 4) ≡ true → L (at + 4) ≡ true
-  term_lead at rd (ItemPiece item) e f k k' = absurd f
-  term_lead at rd (TermPiece term) e f k k' = go (term_goes_on term) refl
+  term_lead : (at : ℕ) (rd : ReadWord p is marked dec fine.text at) (shape : Form) → form_of N rd.reading ≡ shape → IsTermForm shape → K at ≡ true → K (at + 4) ≡ true → L (at + 4) ≡ true
+  term_lead at rd (ItemForm item) e f k k' = absurd f
+  term_lead at rd (TermForm term) e f k k' = go (term_goes_on term) refl
     where
       go : (b : Bool) → term_goes_on term ≡ b → L (at + 4) ≡ true
-      go true g = lead_of p is marked dec fine at (at + 4) rd.word rd.reading (kept_is p is marked dec fine at k).0 rd.there rd.reads (subst (λ q. Contains (piece_leads at q) (at + 4)) (sym e) (goes_lead at term g))
-      go false g = closed_lead at rd (subst (λ q. closes (piece_line q) ≡ true) (sym e) (ap not g)) k'
+      go true g = lead_of p is marked dec fine at (at + 4) rd.word rd.reading (kept_is p is marked dec fine at k).0 rd.there rd.reads (subst (λ q. Contains (form_leads at q) (at + 4)) (sym e) (goes_lead at term g))
+      go false g = closed_lead at rd (subst (λ q. closes (form_line q) ≡ true) (sym e) (ap not g)) k'
 
-  piece_rest : (at : ℕ) (words : List Word) (rd : ReadWord p is marked dec fine.text at) → K at ≡ true → rest_lines (with_piece (piece_of N rd.reading) (Cut (at + 4) words)) ≡ piece_line (piece_of N rd.reading) ∷ rest_lines (Cut (at + 4) words)
-  piece_rest at words rd k = piece_lines N rd.reading (Cut (at + 4) words) (form_at at rd) (λ f. closed_cut (at + 4) words (λ k'. term_lead at rd (piece_of N rd.reading) refl f k k'))
+  form_rest : (at : ℕ) (words : List Word) (rd : ReadWord p is marked dec fine.text at) → K at ≡ true → rest_lines (with_form (form_of N rd.reading) (Cut (at + 4) words)) ≡ form_line (form_of N rd.reading) ∷ rest_lines (Cut (at + 4) words)
+  form_rest at words rd k = form_lines N rd.reading (Cut (at + 4) words) (form_at at rd) (λ f. closed_cut (at + 4) words (λ k'. term_lead at rd (form_of N rd.reading) refl f k k'))
 
   lifts_cut : (at : ℕ) (words : List Word) → IsSuffix at words → MakeTargets G (rest_lines (Cut at words)) → LinksDieIn G (rest_lines (Cut at words)) → (o : Option ℕ) → Came o at → Reads o (rest_lines (Cut at words))
   lifts_cut at [] suffix makes dies o (inl c) =
@@ -517,14 +520,14 @@ module _ (p : Program) (is : ℕ → Bool) (marked : IsMarkedText p.text) (dec :
       skipped k (inr c) = inr (c.0, lead_skipped at k)
 
       -- the line at this word, and the name before it
-      kept_line : (rd : ReadWord p is marked dec fine.text at) → K at ≡ true → MakeTargets G (piece_line (piece_of N rd.reading) ∷ rest_lines (Cut (at + 4) words)) → LinksDieIn G (piece_line (piece_of N rd.reading) ∷ rest_lines (Cut (at + 4) words)) → (MakeTargets G (rest_lines (Cut (at + 4) words)) → LinksDieIn G (rest_lines (Cut (at + 4) words)) → (o' : Option ℕ) → Came o' (at + 4) → Reads o' (rest_lines (Cut (at + 4) words))) → Reads (Some at) (piece_line (piece_of N rd.reading) ∷ rest_lines (Cut (at + 4) words))
+      kept_line : (rd : ReadWord p is marked dec fine.text at) → K at ≡ true → MakeTargets G (form_line (form_of N rd.reading) ∷ rest_lines (Cut (at + 4) words)) → LinksDieIn G (form_line (form_of N rd.reading) ∷ rest_lines (Cut (at + 4) words)) → (MakeTargets G (rest_lines (Cut (at + 4) words)) → LinksDieIn G (rest_lines (Cut (at + 4) words)) → (o' : Option ℕ) → Came o' (at + 4) → Reads o' (rest_lines (Cut (at + 4) words))) → Reads (Some at) (form_line (form_of N rd.reading) ∷ rest_lines (Cut (at + 4) words))
       kept_line rd k makes dies rec =
           lift_line at rd.word rd.reading refl rd.there rd.reads refl (is_door at rd k) (line_good at words rd (tail_suffix at w words suffix) k makes dies)
-          (rec (line_makes (piece_of N rd.reading) makes) (line_dies (piece_of N rd.reading) dies) (onward (piece_line (piece_of N rd.reading)) at) (came_next at rd k))
+          (rec (line_makes (form_of N rd.reading) makes) (line_dies (form_of N rd.reading) dies) (onward (form_line (form_of N rd.reading)) at) (came_next at rd k))
         where
-          line_makes : (piece : Piece) → MakeTargets G (piece_line piece ∷ rest_lines (Cut (at + 4) words)) → MakeTargets G (rest_lines (Cut (at + 4) words))
-          line_makes (ItemPiece item) h = item_tail item (rest_lines (Cut (at + 4) words)) h
-          line_makes (TermPiece term) h = h.1
+          line_makes : (shape : Form) → MakeTargets G (form_line shape ∷ rest_lines (Cut (at + 4) words)) → MakeTargets G (rest_lines (Cut (at + 4) words))
+          line_makes (ItemForm item) h = item_tail item (rest_lines (Cut (at + 4) words)) h
+          line_makes (TermForm term) h = h.1
 
           item_dies : (item : Item) (ys : List Line) → LinksDieIn G (line_of item ∷ ys) → LinksDieIn G ys
           item_dies (Op insn) ys h = h
@@ -532,9 +535,9 @@ module _ (p : Program) (is : ℕ → Bool) (marked : IsMarkedText p.text) (dec :
           item_dies (Lo rd rs to) ys h = h
           item_dies (Out procedure) ys h = h.1
 
-          line_dies : (piece : Piece) → LinksDieIn G (piece_line piece ∷ rest_lines (Cut (at + 4) words)) → LinksDieIn G (rest_lines (Cut (at + 4) words))
-          line_dies (ItemPiece item) h = item_dies item (rest_lines (Cut (at + 4) words)) h
-          line_dies (TermPiece term) h = h
+          line_dies : (shape : Form) → LinksDieIn G (form_line shape ∷ rest_lines (Cut (at + 4) words)) → LinksDieIn G (rest_lines (Cut (at + 4) words))
+          line_dies (ItemForm item) h = item_dies item (rest_lines (Cut (at + 4) words)) h
+          line_dies (TermForm term) h = h
 
       begun : (b : Bool) (rest : Rest) → L at ≡ b → K at ≡ true → Came o at → Reads (Some at) (rest_lines rest) → Reads o (rest_lines (begun_if b at rest))
       begun true rest l k (inl c) h = lift_name (rw c.0 refl) (has_name_of at k l) h
@@ -557,7 +560,7 @@ module _ (p : Program) (is : ℕ → Bool) (marked : IsMarkedText p.text) (dec :
           let same : rd.word ≡ w = let u : Some rd.word ≡ Some w = sym rd.there ∙ own in cc in
           let reads : reading_of T at w ≡ Some rd.reading = subst (λ w. reading_of T at w ≡ Some rd.reading) same rd.reads in
           let rest : Rest = with_reading N (reading_of T at w) (Cut (at + 4) words) in
-          let lines : rest_lines rest ≡ piece_line (piece_of N rd.reading) ∷ rest_lines (Cut (at + 4) words) = ap (λ o. rest_lines (with_reading N o (Cut (at + 4) words))) reads ∙ piece_rest at words rd k in
+          let lines : rest_lines rest ≡ form_line (form_of N rd.reading) ∷ rest_lines (Cut (at + 4) words) = ap (λ o. rest_lines (with_reading N o (Cut (at + 4) words))) reads ∙ form_rest at words rd k in
           begun (L at) rest refl k c (subst (Reads (Some at)) (sym lines) (kept_line rd k (subst (MakeTargets G) lines (begun_makes (L at) rest makes)) (subst (LinksDieIn G) lines (begun_dies (L at) rest dies)) rec))
 
   pub lifts_whole : MakeTargets G (lines_of G.blocks) → LinksDieIn G (lines_of G.blocks) → Reads None (lines_of G.blocks)

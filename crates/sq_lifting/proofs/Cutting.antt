@@ -1,37 +1,25 @@
 -- The lines that are cut from a program's words are the readings of these words.
-use Rattle.std.proofs.Common.{MatchBool, ◌≡◌, ◌≢◌, ◌⊎◌, inl, inr, ℕ, ℤ, zero, suc, ◌+◌, ◌≤◌, ◌<◌, pos, Bool, true, false, not, ◌==◌, ◌&&◌, ◌||◌, List, [], ◌∷◌, ◌++◌, map, length, Option, Some, None, slice_get, if◌then◌else◌, refl, sym, ap, ◌∙◌, subst, arith}
-use Rattle.std.specs.Option.{option_map, option_and_then}
+use Rattle.std.proofs.Common.{◌≡◌, ◌⊎◌, inl, inr, ℕ, ℤ, suc, ◌+◌, Bool, true, false, not, ◌==◌, ◌&&◌, ◌||◌, List, [], ◌∷◌, ◌++◌, map, Some, slice_get, if◌then◌else◌, refl, sym, ap, ◌∙◌, subst, arith}
 use Rattle.std.specs.List.{Contains, list_any}
-use Rattle.std.proofs.lemmas.Bool.{cond_both, eqb-true, and_parts, and_from, or_left, or_right}
-use Rattle.std.proofs.lemmas.Bool.Decides.{nat_tests}
-use Rattle.std.proofs.lemmas.Option.{slice_get-map}
-use Rattle.std.proofs.lemmas.List.Elements.{Contains-append_left, Contains-append_right, Contains-append_cases}
+use Rattle.std.proofs.lemmas.Bool.{eqb-true, and_parts, and_from, or_left, or_right}
+use Rattle.std.proofs.lemmas.List.Elements.{Contains-append_left, Contains-append_cases}
 use Rattle.sq_isa.specs.Registers.{is_among}
 use Rattle.sq_isa.specs.declared.instructions.Insn.{Insn}
 use Rattle.sq_isa.specs.declared.instructions.Insn.TheVariants.{Jal}
-use Rattle.sq_isa.specs.declared.instructions.Insn.TheVariants as insns
-use Rattle.sq_graph.specs.declared.item.Item.{Item}
-use Rattle.sq_graph.specs.declared.item.Item.TheVariants.{Op, Hi, Lo, Out}
-use Rattle.sq_graph.specs.declared.item.Term.{Term}
-use Rattle.sq_graph.specs.declared.item.Term.TheVariants.{Fall, Jump, Branch, Call, PartJump, Indirect, Stop}
-use Rattle.sq_graph.specs.Graph.{Block, Procedure, Graph}
-use Rattle.sq_graph.specs.Terms.{goes_on as term_goes_on, links}
-use Rattle.sq_graph.specs.Uses.{item_uses, term_uses}
-use Rattle.sq_graph.specs.Rules.{mentions}
-use Rattle.sq_graph.specs.Lines.{Line, Name, Do, Enter, Return, End, line_of, term_lines, body_lines, lines_of, inside, has_name, slot_name}
-use Rattle.sq_graph.specs.Soundness.{LinksDieIn}
-use Rattle.sq_patch.specs.LiveAgreement.{MakeTargets}
-use Rattle.sq_program.specs.Programs.{Word, Text, Note, Program, word_from, word_at, IsWord, is_in_text, insn_in, target_of}
-use Rattle.sq_program.specs.Reached.{reached_from, jump_target, half_target, goes_on, next_word, leads_from, insn_leads, marked_leads, word_leads, IsReached, entry, code_word, walk, Decides}
-use Rattle.sq_program.specs.Readings.{Reading, IsItem, IsTerm, Links, marked_reading, reading_of}
-use Rattle.sq_program.specs.Notes.{used_notes, is_in_procedure, is_in_procedures, is_within, is_call, enters_from_outside, insn_enters, marked_enters, has_body}
-use Rattle.sq_program.specs.Lifted.{Piece, ItemPiece, TermPiece, link_piece, piece_of, piece_leads, reading_leads, words_lead, is_leader, is_kept, Rest, between, with_piece, with_reading, begun_if, cut, lifted, procedure_at}
+use Rattle.sq_graph.specs.Terms.{goes_on as term_goes_on}
+use Rattle.sq_graph.specs.Uses.{term_uses}
+use Rattle.sq_graph.specs.Lines.{Line, line_of, term_lines, lines_of}
+use Rattle.sq_program.specs.Programs.{Word, Text, Note, Program, word_from, word_at, insn_in, target_of}
+use Rattle.sq_program.specs.Reached.{target_from, jump_target, half_target, insn_goes_on, next_word, insn_leads, marked_leads, word_leads, IsReached, entry, code_word, walk, Decides}
+use Rattle.sq_program.specs.Readings.{Reading, Links, marked_reading, reading_of}
+use Rattle.sq_program.specs.Notes.{used_notes, is_in_procedure, is_in_procedures, is_within, is_call, enters_from_outside, insn_enters, marked_enters}
+use Rattle.sq_program.specs.Lifted.{Form, ItemForm, TermForm, link_form, form_of, form_leads, reading_leads, words_lead, is_leader, is_kept, Rest, procedure_at}
 use Rattle.sq_lifting.specs.Lifting.{IsMarkedText, IsFine}
-use Rattle.sq_lifting.proofs.Lifts.{HasName, piece_line, closes, onward}
-use Rattle.sq_lifting.proofs.TextWords.{same_itself, at_here, at_later, stood, in_text_of}
-use Rattle.sq_lifting.proofs.Facts.{or_false, any_none, one, one_is, none_in, reading_uses, IsSoundWord, UsedBy, ReadWord, sound_word, read_word, reached_word, marked_of, used, used_reached, next_reached}
-use Rattle.sq_lifting.proofs.NoteFacts.{Found, notes_have, notes_find, noted_at, at_number, in_procedure_start, within_next, IsGoodNote, good_note, or_cases}
-use Rattle.sq_lifting.proofs.ReadingFacts.{contains_among, piece_uses, piece_used, used_piece, jump_used, half_used, goes_alike, jal_links, reading_form, IsForm}
+use Rattle.sq_lifting.proofs.Lifts.{form_line, closes}
+use Rattle.sq_lifting.proofs.TextWords.{same_itself, in_text_of}
+use Rattle.sq_lifting.proofs.Facts.{or_false, any_none, one, one_is, none_in, reading_uses, IsSoundWord, UsedBy, ReadWord, read_word, marked_of, used, used_reached, next_reached}
+use Rattle.sq_lifting.proofs.NoteFacts.{notes_have, notes_find, noted_at, at_number, in_procedure_start, within_next, good_note}
+use Rattle.sq_lifting.proofs.ReadingFacts.{contains_among, form_uses, form_used, used_form, jump_used, half_used, goes_alike, jal_links}
 
 -- the lines from a place on
 abbrev pub rest_lines : Rest → List Line
@@ -121,7 +109,7 @@ module _ (p : Program) (is : ℕ → Bool) (marked : IsMarkedText p.text) (dec :
       or_false (list_any (is_in_procedure n) (next_word x s.insn)) (list_any (λ z. is_in_procedure n z && not (is_call n s.insn z)) (jump_target x s.insn))
       (subst (λ b. (not b && (list_any (is_in_procedure n) (next_word x s.insn) || list_any (λ z. is_in_procedure n z && not (is_call n s.insn z)) (jump_target x s.insn))) ≡ false) o a.1)
 
-  next_out : (x : ℕ) (w : Word) (s : Sound x w) → keep x ≡ true → word_at t x ≡ Some w → goes_on s.insn ≡ true → is_in_procedures ns (x + 4) ≡ false
+  next_out : (x : ℕ) (w : Word) (s : Sound x w) → keep x ≡ true → word_at t x ≡ Some w → insn_goes_on s.insn ≡ true → is_in_procedures ns (x + 4) ≡ false
   next_out x w s k e g = when_false (is_in_procedures ns (x + 4)) (λ b.
       let f = notes_find ns (x + 4) b in
       let a = outside x w s f.number f.note k e f.there in
@@ -141,30 +129,30 @@ module _ (p : Program) (is : ℕ → Bool) (marked : IsMarkedText p.text) (dec :
 
   -- KEPT WORDS
 
-  pub next_kept : (x : ℕ) (w : Word) (s : Sound x w) → keep x ≡ true → word_at t x ≡ Some w → goes_on s.insn ≡ true → keep (x + 4) ≡ true
+  pub next_kept : (x : ℕ) (w : Word) (s : Sound x w) → keep x ≡ true → word_at t x ≡ Some w → insn_goes_on s.insn ≡ true → keep (x + 4) ≡ true
   next_kept x w s k e g = kept_from (x + 4) (next_reached p is marked dec fine.text x w s (kept_is x k).0 e g) (next_out x w s k e g)
 
-  -- what a piece uses is no procedure's word
-  jump_out : (x y : ℕ) (w : Word) (r : Reading) (s : Sound x w) → keep x ≡ true → word_at t x ≡ Some w → reading_of t x w ≡ Some r → Contains (piece_uses (piece_of ns r)) y → Contains (jump_target x s.insn) y → is_in_procedures ns y ≡ false
+  -- what a form uses is no procedure's word
+  jump_out : (x y : ℕ) (w : Word) (r : Reading) (s : Sound x w) → keep x ≡ true → word_at t x ≡ Some w → reading_of t x w ≡ Some r → Contains (form_uses (form_of ns r)) y → Contains (jump_target x s.insn) y → is_in_procedures ns y ≡ false
   jump_out x y w r s k e rd c j = when_false (is_in_procedures ns y) (λ b.
       let f = notes_find ns y b in
       let d = door x y w s f.number f.note k e f.there j f.holds in
       let good = good_note is p f.number f.note fine.notes f.there in
       let m : marked_reading t x w.mark (Jal f.note.link d.0) ≡ Some r = subst (λ i. marked_reading t x w.mark i ≡ Some r) d.1 (marked_of p is marked dec fine.text x w r s rd) in
       let l = jal_links t x f.note.link d.0 w.mark r good.link m in
-      let u : Contains (reading_uses r) y = piece_used ns r y c in
-      linked f.note (reached_from x d.0) r l c u (noted_at ns f.number f.note f.there) d.2)
+      let u : Contains (reading_uses r) y = form_used ns r y c in
+      linked f.note (target_from x d.0) r l c u (noted_at ns f.number f.note f.there) d.2)
     where
-      linked : (n : Note) (to : ℕ) (r : Reading) → r ≡ Links n.link to → Contains (piece_uses (piece_of ns r)) y → Contains (reading_uses r) y → (q : ℕ) × (procedure_at ns n.address ≡ Some q) → y ≡ n.address → ⊥
+      linked : (n : Note) (to : ℕ) (r : Reading) → r ≡ Links n.link to → Contains (form_uses (form_of ns r)) y → Contains (reading_uses r) y → (q : ℕ) × (procedure_at ns n.address ≡ Some q) → y ≡ n.address → ⊥
       linked n to r l c u q a =
           let v : to ≡ y = one_is to y (subst (λ r. Contains (reading_uses r) y) l u) in
           let h : procedure_at ns to ≡ Some q.0 = rw (v ∙ a) q.1 in
-          let d : Contains (piece_uses (piece_of ns (Links n.link to))) y = subst (λ r. Contains (piece_uses (piece_of ns r)) y) l c in
-          none_in y (subst (λ o. Contains (piece_uses (link_piece n.link to o)) y) h d)
+          let d : Contains (form_uses (form_of ns (Links n.link to))) y = subst (λ r. Contains (form_uses (form_of ns r)) y) l c in
+          none_in y (subst (λ o. Contains (form_uses (link_form n.link to o)) y) h d)
 
-  pub used_kept : (x y : ℕ) (w : Word) (r : Reading) (s : Sound x w) → keep x ≡ true → word_at t x ≡ Some w → reading_of t x w ≡ Some r → Contains (piece_uses (piece_of ns r)) y → keep y ≡ true
+  pub used_kept : (x y : ℕ) (w : Word) (r : Reading) (s : Sound x w) → keep x ≡ true → word_at t x ≡ Some w → reading_of t x w ≡ Some r → Contains (form_uses (form_of ns r)) y → keep y ≡ true
   used_kept x y w r s k e rd c =
-      let u = used p is marked dec fine.text x y w r s rd (piece_used ns r y c) in
+      let u = used p is marked dec fine.text x y w r s rd (form_used ns r y c) in
       kept_from y (used_reached p is marked dec fine.text x y w s (kept_is x k).0 e u) (go u)
     where
       go : UsedBy t x w.mark s.insn y → is_in_procedures ns y ≡ false
@@ -173,17 +161,17 @@ module _ (p : Program) (is : ℕ → Bool) (marked : IsMarkedText p.text) (dec :
 
   -- LEADERS
 
-  pub lead_of : (x y : ℕ) (w : Word) (r : Reading) → is x ≡ true → word_at t x ≡ Some w → reading_of t x w ≡ Some r → Contains (piece_leads x (piece_of ns r)) y → lead y ≡ true
+  pub lead_of : (x y : ℕ) (w : Word) (r : Reading) → is x ≡ true → word_at t x ≡ Some w → reading_of t x w ≡ Some r → Contains (form_leads x (form_of ns r)) y → lead y ≡ true
   lead_of x y w r i e rd c =
       or_right (p.entry == y || is_among (map target_of p.code_words) y) (words_lead is ns t t.lo t.words y)
-      (leads_by is ns t x t.lo y w t.words i e (rw rd (contains_among (piece_leads x (piece_of ns r)) y c)))
+      (leads_by is ns t x t.lo y w t.words i e (rw rd (contains_among (form_leads x (form_of ns r)) y c)))
 
-  uses_lead : (x y : ℕ) (piece : Piece) → Contains (piece_uses piece) y → Contains (piece_leads x piece) y
-  uses_lead x y (ItemPiece item) c = c
-  uses_lead x y (TermPiece term) c = Contains-append_left (term_uses term) (if term_goes_on term then (x + 4) ∷ [] else []) y c
+  uses_lead : (x y : ℕ) (shape : Form) → Contains (form_uses shape) y → Contains (form_leads x shape) y
+  uses_lead x y (ItemForm item) c = c
+  uses_lead x y (TermForm term) c = Contains-append_left (term_uses term) (if term_goes_on term then (x + 4) ∷ [] else []) y c
 
-  pub lead_used : (x y : ℕ) (w : Word) (r : Reading) → is x ≡ true → word_at t x ≡ Some w → reading_of t x w ≡ Some r → Contains (piece_uses (piece_of ns r)) y → lead y ≡ true
-  lead_used x y w r i e rd c = lead_of x y w r i e rd (uses_lead x y (piece_of ns r) c)
+  pub lead_used : (x y : ℕ) (w : Word) (r : Reading) → is x ≡ true → word_at t x ≡ Some w → reading_of t x w ≡ Some r → Contains (form_uses (form_of ns r)) y → lead y ≡ true
+  lead_used x y w r i e rd c = lead_of x y w r i e rd (uses_lead x y (form_of ns r) c)
 
   pub lead_entry : lead p.entry ≡ true
   lead_entry = or_left (p.entry == p.entry || is_among (map target_of p.code_words) p.entry) (words_lead is ns t t.lo t.words p.entry) (or_left (p.entry == p.entry) (is_among (map target_of p.code_words) p.entry) (same_itself p.entry))
@@ -199,7 +187,7 @@ module _ (p : Program) (is : ℕ → Bool) (marked : IsMarkedText p.text) (dec :
     pub next : pc + 4 ≡ y
     pub kept : keep pc ≡ true
     pub read : Read pc
-    pub goes : closes (piece_line (piece_of ns read.reading)) ≡ false
+    pub goes : closes (form_line (form_of ns read.reading)) ≡ false
 
   pub behind : (y : ℕ) → IsReached p y → is_in_procedures ns y ≡ false → lead y ≡ false → IsBehind y
   behind y (entry w) n l = true_not_false (sym lead_entry ∙ l)
@@ -215,22 +203,22 @@ module _ (p : Program) (is : ℕ → Bool) (marked : IsMarkedText p.text) (dec :
       go_there x w i e f c = subst (λ o. Contains (marked_leads x w.mark o) y) f (subst (λ o. Contains (word_leads x o) y) e c)
 
       named : (x : ℕ) → is x ≡ true → (rd : Read x) → Contains (reading_uses rd.reading) y → IsBehind y
-      named x i rd u = pick (used_piece ns rd.reading y u)
+      named x i rd u = pick (used_form ns rd.reading y u)
         where
-          pick : Contains (piece_uses (piece_of ns rd.reading)) y ⊎ ((q : ℕ) × (procedure_at ns y ≡ Some q)) → IsBehind y
+          pick : Contains (form_uses (form_of ns rd.reading)) y ⊎ ((q : ℕ) × (procedure_at ns y ≡ Some q)) → IsBehind y
           pick (inl c) = true_not_false (sym (lead_used x y rd.word rd.reading i rd.there rd.reads c) ∙ l)
           pick (inr q) =
               let a = at_number ns y q.0 q.1 in
               true_not_false (sym (notes_have ns q.0 y a.0 a.1 (subst (λ z. is_in_procedure a.0 z ≡ true) a.2 (in_procedure_start a.0))) ∙ n)
 
-      onto : (x : ℕ) → is x ≡ true → (rd : Read x) → goes_on rd.sound.insn ≡ true → x + 4 ≡ y → IsBehind y
+      onto : (x : ℕ) → is x ≡ true → (rd : Read x) → insn_goes_on rd.sound.insn ≡ true → x + 4 ≡ y → IsBehind y
       onto x i rd g e = pick (is_in_procedures ns x) refl
         where
           m : marked_reading t x rd.word.mark rd.sound.insn ≡ Some rd.reading
           m = marked_of p is marked dec fine.text x rd.word rd.reading rd.sound rd.reads
 
           pick : (b : Bool) → is_in_procedures ns x ≡ b → IsBehind y
-          pick false k = record { pc = x; next = e; kept = kept_from x i k; read = rd; goes = not_twice (closes (piece_line (piece_of ns rd.reading))) (goes_alike ns t x rd.word.mark rd.sound.insn rd.reading m ∙ g) }
+          pick false k = record { pc = x; next = e; kept = kept_from x i k; read = rd; goes = not_twice (closes (form_line (form_of ns rd.reading))) (goes_alike ns t x rd.word.mark rd.sound.insn rd.reading m ∙ g) }
           pick true k =
               let f = notes_find ns x k in
               let good = good_note is p f.number f.note fine.notes f.there in
@@ -239,10 +227,10 @@ module _ (p : Program) (is : ℕ → Bool) (marked : IsMarkedText p.text) (dec :
               let there = within_next t f.note.link f.note.address f.note.length x rd.word rd.sound.insn good.body here rd.there rd.sound.is g in
               true_not_false (sym (notes_have ns f.number y f.note f.there (subst (λ z. is_in_procedure f.note z ≡ true) e (subst (λ z. is_within f.note.address z (x + 4) ≡ true) (sym len) there))) ∙ n)
 
-      next_is : (x : ℕ) (i : Insn) → Contains (next_word x i) y → (goes_on i ≡ true) × (x + 4 ≡ y)
-      next_is x i c = pick (goes_on i) refl c
+      next_is : (x : ℕ) (i : Insn) → Contains (next_word x i) y → (insn_goes_on i ≡ true) × (x + 4 ≡ y)
+      next_is x i c = pick (insn_goes_on i) refl c
         where
-          pick : (b : Bool) → goes_on i ≡ b → Contains (if b then (x + 4) ∷ [] else []) y → (goes_on i ≡ true) × (x + 4 ≡ y)
+          pick : (b : Bool) → insn_goes_on i ≡ b → Contains (if b then (x + 4) ∷ [] else []) y → (insn_goes_on i ≡ true) × (x + 4 ≡ y)
           pick true g c = (g, one_is (x + 4) y c)
           pick false g c = none_in y c
 

@@ -1,34 +1,29 @@
 -- What holds of the reached words of a program that is not refused.
-use Rattle.std.proofs.Common.{◌≡◌, ◌≢◌, ◌⊎◌, inl, inr, ℕ, ℤ, zero, suc, ◌+◌, ◌%◌, ◌<◌, ◌≤◌, pos, Bool, true, false, not, ◌==◌, ◌&&◌, ◌||◌, List, [], ◌∷◌, ◌++◌, map, length, Option, Some, None, slice_get, if◌then◌else◌, refl, sym, ap, ◌∙◌, subst, arith, nat_le, nat_lt, is_some}
+use Rattle.std.proofs.Common.{◌≡◌, ◌⊎◌, inl, inr, ℕ, ℤ, zero, suc, ◌+◌, ◌%◌, ◌<◌, Bool, true, false, not, ◌==◌, ◌&&◌, ◌||◌, List, [], ◌∷◌, ◌++◌, Option, Some, None, if◌then◌else◌, refl, sym, subst, arith, is_some}
 use Rattle.std.specs.Option.{option_or, option_and_then}
-use Rattle.std.specs.Ordering.{int_eq}
 use Rattle.std.specs.List.{Contains, list_any}
-use Rattle.std.proofs.lemmas.Bool.{eqb-true, and_parts, and_from, or_left, or_right}
-use Rattle.std.proofs.lemmas.Bool.Decides.{nat_tests, Decides-int_eq}
+use Rattle.std.proofs.lemmas.Bool.{eqb-true}
 use Rattle.std.proofs.lemmas.List.Elements.{Contains-append_left, Contains-append_right}
 use Rattle.sq_num.specs.declared.refusal.Refusal.{Refusal}
 use Rattle.sq_num.specs.declared.refusal.Refusal.TheVariants.{UnsupportedInstruction, BadTarget, FallsOffText, UnrelocatedAuipc, ReadsText, ConflictingReloc, LoneHalf}
 use Rattle.sq_num.specs.Halves.{high_half, low_half}
 use Rattle.sq_isa.specs.declared.instructions.Insn.{Insn}
 use Rattle.sq_isa.specs.declared.instructions.Insn.TheVariants.{Lui, Auipc, Jal, Jalr, Branch, Load, Store, OpImm, Op as OpInsn, Fence, Ecall, Ebreak, Unimp, Atomic}
-use Rattle.sq_isa.specs.declared.instructions.ImmOp.{ImmOp}
-use Rattle.sq_isa.specs.declared.instructions.ImmOp.TheVariants.{Addi, Slti, Sltiu, Xori, Ori, Andi, Slli, Srli, Srai}
+use Rattle.sq_isa.specs.declared.instructions.ImmOp.TheVariants.{Addi}
 use Rattle.sq_reloc.specs.declared.mark.Mark.{Mark}
 use Rattle.sq_reloc.specs.declared.mark.Mark.TheVariants.{Plain, Hi as HiMark, Lo as LoMark, Unsupported, Disagrees, Conflict, Lone}
 use Rattle.sq_reloc.specs.Marks.{IsMarked}
 use Rattle.sq_reloc.specs.Required.{loads_upper, takes_low}
-use Rattle.sq_graph.specs.declared.item.Item.{Item}
-use Rattle.sq_graph.specs.declared.item.Item.TheVariants.{Op, Hi, Lo, Out}
-use Rattle.sq_graph.specs.declared.item.Term.{Term}
+use Rattle.sq_graph.specs.declared.item.Item.TheVariants.{Op, Hi, Lo}
 use Rattle.sq_graph.specs.declared.item.Term.TheVariants.{Jump, PartJump, Indirect}
 use Rattle.sq_graph.specs.Uses.{item_uses, term_uses}
-use Rattle.sq_program.specs.Programs.{Word, Text, Note, Program, word_from, word_at, is_word, IsWord, end_of, is_in_text, insn_in, target_of}
-use Rattle.sq_program.specs.Reached.{reached_from, jump_target, half_target, goes_on, next_word, insn_leads, marked_leads, word_leads, leads_from, IsReached, entry, code_word, walk, Decides}
-use Rattle.sq_program.specs.Readings.{Reading, IsItem, IsTerm, Links, jal_reading, upper_item, plain_reading, upper_reading, lower_reading, marked_reading, reading_of, reading_at}
+use Rattle.sq_program.specs.Programs.{Word, Text, Program, word_from, word_at, is_word, IsWord, end_of, is_in_text, insn_in}
+use Rattle.sq_program.specs.Reached.{target_from, jump_target, half_target, insn_goes_on, next_word, insn_leads, leads_from, IsReached, entry, code_word, walk, Decides}
+use Rattle.sq_program.specs.Readings.{Reading, IsItem, IsTerm, Links, jal_reading, upper_item, plain_reading, upper_reading, lower_reading, marked_reading, reading_of}
 use Rattle.sq_program.specs.Notes.{is_plain}
 use Rattle.sq_program.specs.Faults.{refuse_if, mark_refusal, insn_is, is_astray, falls_off, is_auipc, is_access, is_lower_in_text, is_conflict, is_lone, fault_of, fault_from, text_refusal}
 use Rattle.sq_lifting.specs.Lifting.{IsMarkedText}
-use Rattle.sq_lifting.proofs.TextWords.{same_itself, some_is, is_there, in_text_word, next_there}
+use Rattle.sq_lifting.proofs.TextWords.{some_is, in_text_word, next_there}
 
 -- Tests
 
@@ -130,7 +125,7 @@ fault_free is t x at w (v ∷ words) e i f =
 has_plain : (at : ℕ) (i : Insn) → (is_auipc i && true) ≡ false → (r : Reading) × (plain_reading at i ≡ Some r)
 has_plain at (Lui rd upper) e = (IsItem (Op (Lui rd upper)), refl)
 has_plain at (Auipc rd upper) e = absurd (cc)
-has_plain at (Jal rd offset) e = (jal_reading rd (reached_from at offset), refl)
+has_plain at (Jal rd offset) e = (jal_reading rd (target_from at offset), refl)
 has_plain at (Jalr rd rs offset) e = (IsTerm (Indirect rd rs offset), refl)
 has_plain at (Branch c a b offset) e = (_, refl)
 has_plain at (Load kind rd rs offset) e = (IsItem (Op (Load kind rd rs offset)), refl)
@@ -183,7 +178,7 @@ abbrev uses_of : Option Reading → List ℕ
 uses_of None = []
 uses_of (Some r) = reading_uses r
 
-jal_used : (c : Bool) (t : Text) (at link y : ℕ) (offset : ℤ) → Contains (reading_uses (if c then IsTerm (Jump (reached_from at offset)) else Links link (reached_from at offset))) y → UsedBy t at Plain (Jal link offset) y
+jal_used : (c : Bool) (t : Text) (at link y : ℕ) (offset : ℤ) → Contains (reading_uses (if c then IsTerm (Jump (target_from at offset)) else Links link (target_from at offset))) y → UsedBy t at Plain (Jal link offset) y
 jal_used true t at link y offset h = inl h
 jal_used false t at link y offset h = inl h
 
@@ -318,7 +313,7 @@ module _ (p : Program) (is : ℕ → Bool) (marked : IsMarkedText p.text) (dec :
   used_reached x y w s i e u = led x y w s i e (used_leads x y w.mark s.insn u) (used_word x y w s u)
 
   -- and so is the next word, where it goes on
-  pub next_reached : (x : ℕ) (w : Word) (s : IsSoundWord p.text x w) → is x ≡ true → word_at p.text x ≡ Some w → goes_on s.insn ≡ true → is (x + 4) ≡ true
+  pub next_reached : (x : ℕ) (w : Word) (s : IsSoundWord p.text x w) → is x ≡ true → word_at p.text x ≡ Some w → insn_goes_on s.insn ≡ true → is (x + 4) ≡ true
   next_reached x w s i e g =
       let f : (x + 4 == end_of p.text) ≡ false = subst (λ c. (c && x + 4 == end_of p.text) ≡ false) g s.falls in
       let c : Contains (next_word x s.insn) (x + 4) = rw g (one (x + 4)) in

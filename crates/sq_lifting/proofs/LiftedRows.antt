@@ -1,13 +1,12 @@
 -- What an instruction of the program makes, and what the line that it reads as makes.
-use Rattle.std.proofs.Common.{◌≡◌, ℕ, ◌+◌, ◌*◌, ◌%◌, ◌^◌, ◌<◌, ◌≤◌, ◌-◌, ◌-ℤ◌, ℤ, pos, negsuc, Bool, true, false, ◌==◌, ◌&&◌, Option, Some, None, if◌then◌else◌, List, refl, sym, ap, ◌∙◌, subst, arith, nat_lt}
+use Rattle.std.proofs.Common.{◌≡◌, ℕ, ◌+◌, ◌%◌, ◌^◌, ◌<◌, ◌≤◌, ◌-◌, ◌-ℤ◌, ℤ, pos, negsuc, Bool, true, false, ◌==◌, Option, Some, None, if◌then◌else◌, List, refl, sym, subst, arith, nat_lt}
 use Rattle.std.proofs.lemmas.Int.{ints}
-use Rattle.std.proofs.lemmas.Bool.{and_parts, and_from, eqb-true}
+use Rattle.std.proofs.lemmas.Bool.{and_parts, eqb-true}
 use Rattle.std.proofs.lemmas.Bool.Decides.{nat_tests}
-use Rattle.std.specs.Int.{cast_unsigned, w32}
 use Rattle.sq_num.specs.Halves.{high_half, low_half}
 use Rattle.sq_isa.specs.Words.{wrapped, unsigned, upper_word}
 use Rattle.sq_isa.specs.Values.{value_imm_of}
-use Rattle.sq_isa.specs.Uses.{sources_of, destination_of}
+use Rattle.sq_isa.specs.Uses.{destination_of}
 use Rattle.sq_isa.specs.Forms.{first_of, second_of}
 use Rattle.sq_isa.specs.declared.instructions.Insn.{Insn}
 use Rattle.sq_isa.specs.declared.instructions.Insn.TheVariants.{Lui, Load, Store as StoreInsn, OpImm, Op}
@@ -28,9 +27,8 @@ use Rattle.sq_follow.specs.Rows.{Operands, address_value, at_upper_half, row_of}
 use Rattle.sq_follow.specs.Worlds.{all_names}
 use Rattle.sq_patch.specs.Agreement.{Ties, SameValue, SameStore, SameMade, IsTied}
 use Rattle.sq_patch.specs.LiveAgreement.{everywhere}
-use Rattle.sq_patch.specs.Registers.{with_registers}
 use Rattle.sq_patch.proofs.Loading.{with_code, gives_rel, load_rel, store_rel}
-use Rattle.sq_patch.proofs.Rows.{first_source, plain_rel, IsLowerTied, lower_rel}
+use Rattle.sq_patch.proofs.Rows.{first_source, plain_rel, lower_rel}
 use Rattle.sq_patch.proofs.LiveSteps.{own_registers}
 use Rattle.sq_program.specs.Programs.{Text, Note, is_in_text}
 use Rattle.sq_program.specs.Monitored.{setting_of}

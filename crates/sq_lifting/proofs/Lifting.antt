@@ -1,12 +1,12 @@
 -- The graph of a program does what the monitored program does, word for word and step for step.
-use Rattle.std.proofs.Common.{MatchBool, ◌≡◌, ◌≢◌, ℕ, zero, suc, ◌+◌, ◌^◌, ◌<◌, ℤ, pos, Bool, true, false, not, ◌==◌, ◌&&◌, ◌||◌, List, [], ◌∷◌, ◌++◌, Option, Some, None, map, slice_get, if◌then◌else◌, refl, sym, ap, ◌∙◌, subst, inl, inr, arith}
+use Rattle.std.proofs.Common.{MatchBool, ◌≡◌, ◌≢◌, ℕ, zero, suc, ◌+◌, ◌^◌, ◌<◌, ℤ, pos, Bool, true, false, not, ◌==◌, ◌&&◌, List, [], ◌∷◌, ◌++◌, Option, Some, None, map, slice_get, if◌then◌else◌, refl, sym, ap, ◌∙◌, subst, inl, inr, arith}
 use Rattle.std.specs.Option.{option_and_then}
 use Rattle.std.specs.Ordering.{int_eq}
-use Rattle.std.specs.List.{Contains, list_any}
+use Rattle.std.specs.List.{list_any}
 use Rattle.std.proofs.lemmas.Bool.{eqb-true}
 use Rattle.std.proofs.lemmas.Bool.Decides.{nat_tests}
 use Rattle.sq_num.specs.Halves.{high_half, low_half}
-use Rattle.sq_isa.specs.Words.{wrapped, unsigned, upper_word, even}
+use Rattle.sq_isa.specs.Words.{wrapped, unsigned, even}
 use Rattle.sq_isa.specs.Registers.{written, is_among_but_x0}
 use Rattle.sq_isa.specs.Uses.{sources_of, destination_of}
 use Rattle.sq_isa.specs.declared.instructions.Insn.{Insn}
@@ -15,56 +15,52 @@ use Rattle.sq_isa.specs.declared.instructions.ImmOp.TheVariants.{Addi}
 use Rattle.sq_isa.specs.declared.instructions.Cond.{Cond}
 use Rattle.sq_isa.specs.declared.instructions.LoadKind.{LoadKind}
 use Rattle.sq_isa.specs.declared.instructions.StoreKind.{StoreKind}
-use Rattle.sq_runs.specs.Runs.{Next, Went, Ended, Broke}
+use Rattle.sq_runs.specs.Runs.{Went, Ended, Broke}
 use Rattle.sq_runs.specs.Simulation.{Matches}
 use Rattle.sq_runs.specs.Follows.{LocksWith}
 use Rattle.sq_runs.proofs.Simulate.{locks_by}
 use Rattle.sq_system.specs.World.{World, is_executable}
-use Rattle.sq_system.specs.declared.event.Halt.TheVariants.{Fetch}
 use Rattle.sq_reloc.specs.declared.mark.Mark.{Mark}
 use Rattle.sq_reloc.specs.declared.mark.Mark.TheVariants.{Plain as PlainMark, Hi as HiMark, Lo as LoMark}
 use Rattle.sq_graph.specs.declared.item.Item.{Item}
 use Rattle.sq_graph.specs.declared.item.Item.TheVariants.{Op, Hi, Lo, Out}
 use Rattle.sq_graph.specs.declared.item.Term.{Term}
-use Rattle.sq_graph.specs.declared.item.Term.TheVariants.{Fall, Jump, Branch, Call, PartJump, Indirect, Stop}
+use Rattle.sq_graph.specs.declared.item.Term.TheVariants.{Jump, Branch, Call, PartJump, Indirect, Stop}
 use Rattle.sq_graph.specs.Graph.{Procedure, Graph}
 use Rattle.sq_graph.specs.Terms.{links}
-use Rattle.sq_graph.specs.Lines.{AddressHalf, Plain, Upper, Lower, Line, Name, Do, Enter, Return, End, line_of, has_name, lines_of, inside, behind_name, block_lines, slot_name}
-use Rattle.sq_graph.specs.Walks.{IsLive, read_here, live_behind, Goes, code_targets, line_writes, is_register, is_link_of, term_sources, term_link}
+use Rattle.sq_graph.specs.Lines.{AddressHalf, Plain, Upper, Lower, Line, Name, Do, Enter, Return, End, line_of, has_name, lines_of, inside, behind_name, block_lines}
+use Rattle.sq_graph.specs.Walks.{IsLive, read_here, live_behind, Goes, line_writes, is_register, is_link_of, term_sources, term_link}
 use Rattle.sq_follow.specs.declared.kind.Kind.TheVariants.{Half, Jump as JumpBreak}
 use Rattle.sq_follow.specs.Values.{Code, Part, Value, Num, Tagged, Held, Holds, Lost}
-use Rattle.sq_follow.specs.Settings.{Setting, Store}
+use Rattle.sq_follow.specs.Settings.{Setting}
 use Rattle.sq_follow.specs.Arithmetic.{is_taken, is_upper_half}
 use Rattle.sq_follow.specs.Accesses.{Step}
 use Rattle.sq_follow.specs.Rows.{row_of}
-use Rattle.sq_follow.specs.Jumps.{ToName, ToNumber, Jumped, number_jump, name_jump, indirect_jump, part_jump, stop}
-use Rattle.sq_follow.specs.GraphRuns.{Core, State, At, Fetching, Moves, is_lost, lost_in, register_value, reads_lost, with_register, operands, finish, do_line, enter, link_to, with_link, land, jump, branch, term_step, term_line, lines_step, graph_step}
-use Rattle.sq_patch.specs.Agreement.{SameValue, SameHeld, SameCore, SameMade}
-use Rattle.sq_patch.specs.Registers.{AreSources, IsWritten}
+use Rattle.sq_follow.specs.Jumps.{ToName, ToNumber, number_jump, name_jump, indirect_jump, part_jump}
+use Rattle.sq_follow.specs.GraphRuns.{Core, State, At, Fetching, Moves, is_lost, lost_in, register_value, reads_lost, with_register, operands, finish, do_line, enter, with_link, jump, branch, lines_step, graph_step}
+use Rattle.sq_patch.specs.Agreement.{SameValue, SameHeld}
 use Rattle.sq_patch.specs.LiveAgreement.{everywhere, StandsLive}
-use Rattle.sq_patch.proofs.Memories.{if_rel}
 use Rattle.sq_patch.proofs.Deeds.{written_test, sources_rel, operand_at, registers_rel, taken_rel}
 use Rattle.sq_patch.proofs.LiveSteps.{own_sources, no_link, not_zero}
 use Rattle.sq_program.specs.Programs.{Word, Text, Note, word_at, is_in_text, insn_in}
-use Rattle.sq_program.specs.Reached.{reached_from}
+use Rattle.sq_program.specs.Reached.{target_from}
 use Rattle.sq_program.specs.Readings.{Reading, IsItem, IsTerm, Links, ebreak_word, upper_item, plain_reading, upper_reading, lower_reading, marked_reading, reading_of, jal_reading}
-use Rattle.sq_program.specs.Lifted.{Piece, ItemPiece, TermPiece, link_piece, piece_of, procedure_at}
+use Rattle.sq_program.specs.Lifted.{Form, ItemForm, TermForm, link_form, form_of, procedure_at}
 use Rattle.sq_program.specs.Monitored as monitored
 use Rattle.sq_program.specs.Monitored.{Watched, Watches, half_of, upper_value, at_address, jumped, branched, finished, jalr_jump, insn_step, marked_step, word_step, monitored_step}
 use Rattle.sq_lifting.specs.Lifting.{MarkFits}
-use Rattle.sq_lifting.proofs.Lifts.{HasName, piece_line, closes, onward, IsAt, GoodLine, GoodTerm, SlotIf, IsNamed, IsTarget, BodyReads, ProcedureReads, IsDoor, Lifts, lift_end, lift_name, lift_line, Place, out, within, NeverLost, Same, IsLiftOf}
-use Rattle.sq_lifting.proofs.LiftedRows.{T, s, s', laws, SameStep, SameOperands, SameStores, plain_row_lift, upper_text, upper_outside, addi_text, addi_outside, load_outside, store_outside, at_upper, IsUpper, in_text_upper, outside_upper, upper_is, halves_add}
-
+use Rattle.sq_lifting.proofs.Lifts.{HasName, form_line, onward, IsAt, GoodLine, SlotIf, IsNamed, IsTarget, ProcedureReads, IsDoor, Lifts, lift_end, lift_name, lift_line, Place, out, within, NeverLost, Same, IsLiftOf}
+use Rattle.sq_lifting.proofs.LiftedRows.{T, s, s', SameStep, SameOperands, SameStores, plain_row_lift, upper_text, upper_outside, addi_text, addi_outside, load_outside, store_outside, in_text_upper, outside_upper, upper_is, halves_add}
 use Rattle.sq_patch.specs.Agreement.{Ties}
 use Rattle.sq_follow.specs.Worlds.{all_names}
 
--- the line of a piece is no name
-no_name : (n : ℕ) (p : Piece) → has_name n (piece_line p) ≡ false
-no_name n (ItemPiece (Op insn)) = refl
-no_name n (ItemPiece (Hi rd to)) = refl
-no_name n (ItemPiece (Lo rd rs to)) = refl
-no_name n (ItemPiece (Out procedure)) = refl
-no_name n (TermPiece term) = refl
+-- the line of a form is no name
+no_name : (n : ℕ) (p : Form) → has_name n (form_line p) ≡ false
+no_name n (ItemForm (Op insn)) = refl
+no_name n (ItemForm (Hi rd to)) = refl
+no_name n (ItemForm (Lo rd rs to)) = refl
+no_name n (ItemForm (Out procedure)) = refl
+no_name n (TermForm term) = refl
 
 -- writing x0 changes nothing
 nothing_written : (v : Held) (k : ℕ → Held) (r : ℕ) → written 0 v k r ≡ k r
@@ -153,7 +149,7 @@ module _ (t : Text) (notes : List Note) (g : Graph) (layout : World) (start : Op
   lifts_behind n has lift_end = absurd has
   lifts_behind n has (lift_name {n = m} {xs = xs} e k h) = named_here n m xs (m == n) refl has h (λ x. lifts_behind n x h)
   lifts_behind n has (lift_line at {l = l} {xs = xs} w r e f i p d k h) =
-      let q : has_name n l ≡ false = ap (has_name n) p ∙ no_name n (piece_of notes r) in
+      let q : has_name n l ≡ false = ap (has_name n) p ∙ no_name n (form_of notes r) in
       subst (Reads (Some n)) (sym (behind_line n l xs q)) (lifts_behind n (line_skipped n l xs q has) h)
 
   lifts_at : (n : ℕ) → IsNamed t notes g n → Reads (Some n) (block_lines g n)
@@ -266,7 +262,7 @@ module _ (t : Text) (notes : List Note) (g : Graph) (layout : World) (start : Op
 
   abbrev LineGoal : ℕ → List Line → Core → Core → Watches → Reading → Type 0
   LineGoal at rest a b x r =
-      IsDoor t notes g r → GoodLine t notes g (piece_line (piece_of notes r)) rest → Reads (onward (piece_line (piece_of notes r)) at) rest → Kept a.registers → Alike (piece_line (piece_of notes r) ∷ rest) a b → Match x (lines_step S' g (piece_line (piece_of notes r) ∷ rest) b)
+      IsDoor t notes g r → GoodLine t notes g (form_line (form_of notes r)) rest → Reads (onward (form_line (form_of notes r)) at) rest → Kept a.registers → Alike (form_line (form_of notes r) ∷ rest) a b → Match x (lines_step S' g (form_line (form_of notes r) ∷ rest) b)
 
   -- to a block
   to_block_lift : (n : ℕ) (a b : Core) → IsNamed t notes g n → Kept a.registers → Alike (block_lines g n) a b → Match (at_address n a) (Went None (At (block_lines g n) b))
@@ -299,15 +295,17 @@ module _ (t : Text) (notes : List Note) (g : Graph) (layout : World) (start : Op
   written_own d v k e = let f : (d == d && not (d == 0)) ≡ true = written_test d d ∙ own_link d e in rw f refl
 
   enter_step : (at to number : ℕ) (p : Procedure) (rest : List Line) (a b : Core) → slice_get g.procedures number ≡ Some p → (¬ IsLive g p.link (inside p rest)) → ProcedureReads t notes g to p.link p → Reads (Some (at + 4)) rest → Kept a.registers → Alike (Enter number ∷ rest) a b → Match (at_address to (monitored.with_link p.link at a)) (enter (Some p) rest b)
-  enter_step at to number p rest a b e dead reads onwards kept h =
-      (refl, (
-        within {registers = written p.link (Holds (Tagged (Code (at + 4)))) a.registers} p.link p.body rest (at + 4) reads.body reads.real (written_own p.link (Holds (Tagged (Code (at + 4)))) a.registers reads.real) onwards,
-        kept_written p.link (Tagged (Code (at + 4))) a.registers kept,
-        record {
-          registers = λ r q n. other r q n.0 n.1 (is_register p.link r) refl;
-          store = h.store;
-        },
-      ))
+  enter_step at to number p rest a b e dead reads onwards kept h = (
+    refl,
+    (
+      within {registers = written p.link (Holds (Tagged (Code (at + 4)))) a.registers} p.link p.body rest (at + 4) reads.body reads.real (written_own p.link (Holds (Tagged (Code (at + 4)))) a.registers reads.real) onwards,
+      kept_written p.link (Tagged (Code (at + 4))) a.registers kept,
+      record {
+        registers = λ r q n. other r q n.0 n.1 (is_register p.link r) refl;
+        store = h.store;
+      },
+    ),
+  )
     where
       other : (r q : ℕ) → q ≡ r → IsLive g r (inside p rest) → (c : Bool) → is_register p.link r ≡ c → SameHeld Tied (written p.link (Holds (Tagged (Code (at + 4)))) a.registers r) (written p.link Lost b.registers q)
       other r q same live true f = absurd (dead (subst (λ x. IsLive g x (inside p rest)) (real_link p.link r reads.real f) live))
@@ -319,7 +317,7 @@ module _ (t : Text) (notes : List Note) (g : Graph) (layout : World) (start : Op
   links_goal : (at link to : ℕ) (rest : List Line) (a b : Core) → LineGoal at rest a b (at_address to (monitored.with_link link at a)) (Links link to)
   links_goal at link to rest a b = go (procedure_at notes to) refl
     where
-      go : (o : Option ℕ) → procedure_at notes to ≡ o → IsDoor t notes g (Links link to) → GoodLine t notes g (piece_line (link_piece link to o)) rest → Reads (onward (piece_line (link_piece link to o)) at) rest → Kept a.registers → Alike (piece_line (link_piece link to o) ∷ rest) a b → Match (at_address to (monitored.with_link link at a)) (lines_step S' g (piece_line (link_piece link to o) ∷ rest) b)
+      go : (o : Option ℕ) → procedure_at notes to ≡ o → IsDoor t notes g (Links link to) → GoodLine t notes g (form_line (link_form link to o)) rest → Reads (onward (form_line (link_form link to o)) at) rest → Kept a.registers → Alike (form_line (link_form link to o) ∷ rest) a b → Match (at_address to (monitored.with_link link at a)) (lines_step S' g (form_line (link_form link to o) ∷ rest) b)
       go None e door good reads kept h = call_step at link to rest a b good reads kept h
       go (Some number) e door good reads kept h =
           let p = good.0 in
@@ -444,9 +442,9 @@ module _ (t : Text) (notes : List Note) (g : Graph) (layout : World) (start : Op
   plain_goal : (at : ℕ) (insn : Insn) (r : Reading) (rest : List Line) (a b : Core) → plain_reading at insn ≡ Some r → ReadingGoal at rest a b (insn_step S at Plain insn a) r
   plain_goal at (Lui rd upper) r rest a b e = read_as (ReadingGoal at rest a b (insn_step S at Plain (Lui rd upper) a)) r (IsItem (Op (Lui rd upper))) e (op_goal at (Lui rd upper) rest a b)
   plain_goal at (Auipc rd upper) r rest a b e = absurd (cc)
-  plain_goal at (Jal rd offset) r rest a b e = read_as (ReadingGoal at rest a b (insn_step S at Plain (Jal rd offset) a)) r (jal_reading rd (reached_from at offset)) e (jal_goal at rd (reached_from at offset) rest a b)
+  plain_goal at (Jal rd offset) r rest a b e = read_as (ReadingGoal at rest a b (insn_step S at Plain (Jal rd offset) a)) r (jal_reading rd (target_from at offset)) e (jal_goal at rd (target_from at offset) rest a b)
   plain_goal at (Jalr rd rs offset) r rest a b e = read_as (ReadingGoal at rest a b (insn_step S at Plain (Jalr rd rs offset) a)) r (IsTerm (Indirect rd rs offset)) e (indirect_goal at rd rs offset rest a b)
-  plain_goal at (BranchInsn cond x y offset) r rest a b e = read_as (ReadingGoal at rest a b (insn_step S at Plain (BranchInsn cond x y offset) a)) r (IsTerm (Branch cond x y (reached_from at offset))) e (branch_goal at (reached_from at offset) x y cond rest a b)
+  plain_goal at (BranchInsn cond x y offset) r rest a b e = read_as (ReadingGoal at rest a b (insn_step S at Plain (BranchInsn cond x y offset) a)) r (IsTerm (Branch cond x y (target_from at offset))) e (branch_goal at (target_from at offset) x y cond rest a b)
   plain_goal at (Load kind rd rs offset) r rest a b e = read_as (ReadingGoal at rest a b (insn_step S at Plain (Load kind rd rs offset) a)) r (IsItem (Op (Load kind rd rs offset))) e (op_goal at (Load kind rd rs offset) rest a b)
   plain_goal at (StoreInsn kind rs src offset) r rest a b e = read_as (ReadingGoal at rest a b (insn_step S at Plain (StoreInsn kind rs src offset) a)) r (IsItem (Op (StoreInsn kind rs src offset))) e (op_goal at (StoreInsn kind rs src offset) rest a b)
   plain_goal at (OpImm op rd rs imm) r rest a b e = read_as (ReadingGoal at rest a b (insn_step S at Plain (OpImm op rd rs imm) a)) r (IsItem (Op (OpImm op rd rs imm))) e (op_goal at (OpImm op rd rs imm) rest a b)

@@ -1,19 +1,16 @@
 -- Where the monitored program and its graph stand alike.
-use Rattle.std.proofs.Common.{MatchBool, ◌≡◌, ◌≢◌, ℕ, ◌+◌, ◌^◌, ◌<◌, Bool, true, false, not, List, [], ◌∷◌, ◌++◌, Option, Some, None, map, slice_get, if◌then◌else◌, pos, refl, arith}
+use Rattle.std.proofs.Common.{MatchBool, ◌≡◌, ◌≢◌, ℕ, ◌+◌, ◌^◌, ◌<◌, Bool, true, false, not, List, [], ◌∷◌, ◌++◌, Option, Some, None, map, slice_get, if◌then◌else◌, pos, arith}
 use Rattle.std.specs.List.{Contains}
 use Rattle.sq_num.specs.Halves.{high_half}
 use Rattle.sq_isa.specs.Words.{upper_word}
-use Rattle.sq_isa.specs.declared.instructions.Insn.{Insn}
 use Rattle.sq_isa.specs.declared.instructions.Insn.TheVariants.{Jalr}
-use Rattle.sq_system.specs.World.{World}
-use Rattle.sq_reloc.specs.declared.mark.Mark.{Mark}
-use Rattle.sq_reloc.specs.declared.mark.Mark.TheVariants.{Plain as PlainMark, Hi, Lo}
+use Rattle.sq_reloc.specs.declared.mark.Mark.TheVariants.{Plain as PlainMark}
 use Rattle.sq_graph.specs.declared.item.Item.{Item}
 use Rattle.sq_graph.specs.declared.item.Term.{Term}
 use Rattle.sq_graph.specs.declared.item.Term.TheVariants.{Fall, Jump, Branch, Call, PartJump, Indirect, Stop}
 use Rattle.sq_graph.specs.Graph.{Procedure, Graph}
 use Rattle.sq_graph.specs.Terms.{goes_on, links}
-use Rattle.sq_graph.specs.Lines.{AddressHalf, Plain, Upper, Lower, Line, Name, Do, Enter, Return, End, line_of, has_name, lines_of, inside}
+use Rattle.sq_graph.specs.Lines.{Plain, Upper, Lower, Line, Name, Do, Enter, Return, End, line_of, has_name, lines_of, inside}
 use Rattle.sq_graph.specs.Walks.{IsLive, code_targets, line_writes}
 use Rattle.sq_follow.specs.Values.{Code, Part, Value, Num, Tagged, Held, Holds}
 use Rattle.sq_follow.specs.Settings.{Setting}
@@ -22,18 +19,18 @@ use Rattle.sq_patch.specs.Agreement.{Ties, SameCore, IsTied}
 use Rattle.sq_patch.specs.LiveAgreement.{everywhere, StandsLive}
 use Rattle.sq_program.specs.Programs.{Word, Text, Note, word_at, is_in_text, insn_in}
 use Rattle.sq_program.specs.Readings.{Reading, IsItem, IsTerm, Links, reading_of}
-use Rattle.sq_program.specs.Lifted.{Piece, ItemPiece, TermPiece, piece_of, procedure_at}
-use Rattle.sq_program.specs.Monitored.{Watched, setting_of}
+use Rattle.sq_program.specs.Lifted.{Form, ItemForm, TermForm, form_of, procedure_at}
+use Rattle.sq_program.specs.Monitored.{Watched}
 
 -- the name stands among the lines
 abbrev pub HasName : ℕ → List Line → Type 0
 HasName n [] = ⊥
 HasName n (line ∷ lines) = MatchBool (has_name n line) (Unit {0}) (HasName n lines)
 
--- the line of a piece
-abbrev pub piece_line : Piece → Line
-piece_line (ItemPiece item) = line_of item
-piece_line (TermPiece term) = End term
+-- the line of a form
+abbrev pub form_line : Form → Line
+form_line (ItemForm item) = line_of item
+form_line (TermForm term) = End term
 
 -- nothing goes on to what stands behind the line
 abbrev pub closes : Line → Bool
@@ -120,7 +117,7 @@ module _ (t : Text) (notes : List Note) (g : Graph) where
   pub data Lifts : Option ℕ → List Line → Type 0 where
     lift_end : Lifts None []
     lift_name : {o : Option ℕ} {n : ℕ} {xs : List Line} → IsAt o n → IsNamed n → Lifts (Some n) xs → Lifts o (Name n ∷ xs)
-    lift_line : {o : Option ℕ} (at : ℕ) {l : Line} {xs : List Line} (w : Word) (r : Reading) → o ≡ Some at → word_at t at ≡ Some w → reading_of t at w ≡ Some r → l ≡ piece_line (piece_of notes r) → IsDoor r → GoodLine l xs → Lifts (onward l at) xs → Lifts o (l ∷ xs)
+    lift_line : {o : Option ℕ} (at : ℕ) {l : Line} {xs : List Line} (w : Word) (r : Reading) → o ≡ Some at → word_at t at ≡ Some w → reading_of t at w ≡ Some r → l ≡ form_line (form_of notes r) → IsDoor r → GoodLine l xs → Lifts (onward l at) xs → Lifts o (l ∷ xs)
 
   -- where the program is, in the lines
   pub data Place : ℕ → (ℕ → Held) → List Line → Type 0 where

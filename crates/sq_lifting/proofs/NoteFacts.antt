@@ -1,24 +1,21 @@
 -- What holds of the noted procedures of a program that is not refused.
-use Rattle.std.proofs.Common.{◌≡◌, ◌≢◌, ◌⊎◌, inl, inr, ℕ, ℤ, zero, suc, ◌+◌, ◌<◌, pos, Bool, true, false, not, ◌==◌, ◌&&◌, ◌||◌, List, [], ◌∷◌, ◌++◌, map, length, Option, Some, None, slice_get, if◌then◌else◌, refl, sym, ap, ◌∙◌, subst, arith, nat_lt, ne_eqb}
-use Rattle.std.specs.Option.{option_map, option_and_then}
+use Rattle.std.proofs.Common.{◌≡◌, ◌≢◌, ◌⊎◌, inl, inr, ℕ, zero, suc, ◌+◌, ◌<◌, pos, Bool, true, false, not, ◌==◌, ◌&&◌, ◌||◌, List, [], ◌∷◌, map, Option, Some, None, slice_get, if◌then◌else◌, refl, sym, ap, ◌∙◌, subst, arith, nat_lt, ne_eqb}
+use Rattle.std.specs.Option.{option_map}
 use Rattle.std.specs.Ordering.{int_eq}
 use Rattle.std.specs.List.{Contains, list_any}
-use Rattle.std.proofs.lemmas.Bool.{eqb-true, and_parts, and_from, or_left, or_right}
+use Rattle.std.proofs.lemmas.Bool.{eqb-true, and_parts, or_left, or_right}
 use Rattle.std.proofs.lemmas.Bool.Decides.{nat_tests, Decides-int_eq}
 use Rattle.sq_isa.specs.declared.instructions.Insn.{Insn}
 use Rattle.sq_isa.specs.declared.instructions.Insn.TheVariants.{Jal, Jalr, Branch}
-use Rattle.sq_isa.specs.declared.instructions.Insn.TheVariants as insns
-use Rattle.sq_isa.specs.declared.instructions.ImmOp.TheVariants.{Addi}
 use Rattle.sq_reloc.specs.declared.mark.Mark.{Mark}
 use Rattle.sq_reloc.specs.declared.mark.Mark.TheVariants.{Plain, Hi as HiMark, Lo as LoMark, Unsupported, Disagrees, Conflict, Lone}
 use Rattle.sq_graph.specs.declared.item.Item.{Item}
-use Rattle.sq_graph.specs.declared.item.Item.TheVariants.{Op, Hi, Lo, Out}
 use Rattle.sq_graph.specs.Rules.{mentions}
-use Rattle.sq_program.specs.Programs.{Word, Text, Note, Program, word_from, word_at, is_word, IsWord, is_in_text, insn_in, target_of}
+use Rattle.sq_program.specs.Programs.{Word, Text, Note, Program, word_from, word_at, is_word, insn_in, target_of}
 use Rattle.sq_graph.specs.declared.item.Term.TheVariants.{Jump}
-use Rattle.sq_program.specs.Reached.{reached_from, jump_target, half_target, goes_on, next_word}
-use Rattle.sq_program.specs.Readings.{Reading, IsItem, IsTerm, Links, jal_reading, marked_reading, reading_of, reading_at}
-use Rattle.sq_program.specs.Notes.{used_notes, is_within, is_in_procedure, is_in_procedures, is_above, is_register, is_in_order, is_item_but, returns_through, is_plain, is_return, has_body, is_procedure, is_call, enters_from_outside, insn_enters, marked_enters, words_enter, is_entered, is_good_note, bad_note_from, bad_note}
+use Rattle.sq_program.specs.Reached.{target_from, jump_target, insn_goes_on}
+use Rattle.sq_program.specs.Readings.{Reading, IsItem, IsTerm, Links, marked_reading, reading_at}
+use Rattle.sq_program.specs.Notes.{used_notes, is_within, is_in_procedure, is_in_procedures, is_above, is_real_register, is_in_order, is_item_without, returns_through, is_plain, is_return, has_body, is_procedure, marked_enters, words_enter, is_entered, is_good_note, bad_note_from, bad_note}
 use Rattle.sq_program.specs.Lifted.{procedure_at}
 use Rattle.sq_lifting.proofs.TextWords.{same_itself}
 use Rattle.sq_lifting.proofs.Facts.{or_false, any_none}
@@ -88,7 +85,7 @@ jal_no_item false rd to item e = absurd (cc)
 
 -- Readings of items lead to no jump, and none is an Out
 pub item_jumps : (t : Text) (at : ℕ) (mark : Mark) (i : Insn) (item : Item) → marked_reading t at mark i ≡ Some (IsItem item) → jump_target at i ≡ []
-item_jumps t at Plain (Jal rd offset) item e = absurd (jal_no_item (rd == 0) rd (reached_from at offset) item e)
+item_jumps t at Plain (Jal rd offset) item e = absurd (jal_no_item (rd == 0) rd (target_from at offset) item e)
 item_jumps t at (HiMark to) (Jal rd offset) item e = absurd (cc)
 item_jumps t at (LoMark to) (Jal rd offset) item e = absurd (cc)
 item_jumps t at (Unsupported kind) (Jal rd offset) item e = absurd (cc)
@@ -106,7 +103,7 @@ item_jumps t at mark i item e = refl
 
 -- The words of a body
 
-pub read_item : (link : ℕ) (o : Option Reading) → is_item_but link o ≡ true → (item : Item) × (o ≡ Some (IsItem item)) × (mentions item link ≡ false)
+pub read_item : (link : ℕ) (o : Option Reading) → is_item_without link o ≡ true → (item : Item) × (o ≡ Some (IsItem item)) × (mentions item link ≡ false)
 read_item link None e = absurd (cc)
 read_item link (Some (IsItem item)) e = (item, refl, not_true_is (mentions item link) e)
   where
@@ -160,10 +157,10 @@ body_word t link a zero x e h = go (or_cases (a == x) false h)
     go (inl h) = let q : a ≡ x = eqb-true a x h in subst (BodyWord t link) q (return_word (return_is t a link (word_at t a) refl e))
     go (inr h) = absurd (cc)
 body_word t link a (suc n) x e h =
-    let b = and_parts (is_item_but link (reading_at t a)) (has_body t link (a + 4) n) e in
+    let b = and_parts (is_item_without link (reading_at t a)) (has_body t link (a + 4) n) e in
     go b.0 (or_cases (a == x) (is_within (a + 4) (suc n) x) h) (λ h. body_word t link (a + 4) n x b.1 h)
   where
-    go : is_item_but link (reading_at t a) ≡ true → ((a == x) ≡ true) ⊎ (is_within (a + 4) (suc n) x ≡ true) → (is_within (a + 4) (suc n) x ≡ true → BodyWord t link x) → BodyWord t link x
+    go : is_item_without link (reading_at t a) ≡ true → ((a == x) ≡ true) ⊎ (is_within (a + 4) (suc n) x ≡ true) → (is_within (a + 4) (suc n) x ≡ true → BodyWord t link x) → BodyWord t link x
     go b (inl h) rec =
         let q : a ≡ x = eqb-true a x h in
         let i = read_item link (reading_at t a) b in
@@ -171,7 +168,7 @@ body_word t link a (suc n) x e h =
     go b (inr h) rec = rec h
 
 -- behind a word of a procedure that goes on stands another
-pub within_next : (t : Text) (link a n x : ℕ) (w : Word) (i : Insn) → has_body t link a n ≡ true → is_within a (suc n) x ≡ true → word_at t x ≡ Some w → insn_in w ≡ Some i → goes_on i ≡ true → is_within a (suc n) (x + 4) ≡ true
+pub within_next : (t : Text) (link a n x : ℕ) (w : Word) (i : Insn) → has_body t link a n ≡ true → is_within a (suc n) x ≡ true → word_at t x ≡ Some w → insn_in w ≡ Some i → insn_goes_on i ≡ true → is_within a (suc n) (x + 4) ≡ true
 within_next t link a zero x w i e h f k g = go (or_cases (a == x) false h)
   where
     go : ((a == x) ≡ true) ⊎ (false ≡ true) → is_within a 1 (x + 4) ≡ true
@@ -183,9 +180,9 @@ within_next t link a zero x w i e h f k g = go (or_cases (a == x) false h)
         let u : r.word ≡ w = cc in
         let v : Some (Jalr 0 link (pos 0)) ≡ Some i = sym r.insn ∙ ap insn_in u ∙ k in
         let z : Jalr 0 link (pos 0) ≡ i = cc in
-        let no_way : goes_on (Jalr 0 link (pos 0)) ≡ true = subst (λ i. goes_on i ≡ true) (sym z) g in absurd (cc)
+        let no_way : insn_goes_on (Jalr 0 link (pos 0)) ≡ true = subst (λ i. insn_goes_on i ≡ true) (sym z) g in absurd (cc)
 within_next t link a (suc n) x w i e h f k g =
-    let b = and_parts (is_item_but link (reading_at t a)) (has_body t link (a + 4) n) e in
+    let b = and_parts (is_item_without link (reading_at t a)) (has_body t link (a + 4) n) e in
     go (or_cases (a == x) (is_within (a + 4) (suc n) x) h) (λ h. within_next t link (a + 4) n x w i b.1 h f k g)
   where
     go : ((a == x) ≡ true) ⊎ (is_within (a + 4) (suc n) x ≡ true) → (is_within (a + 4) (suc n) x ≡ true → is_within (a + 4) (suc n) (x + 4) ≡ true) → is_within a (suc (suc n)) (x + 4) ≡ true
@@ -259,7 +256,7 @@ good_note is p q n e h =
     let b = if_reached (is n.address) (is_procedure p.text n && not (is_entered is p n)) u.reached a.1 in
     let c = and_parts (is_procedure p.text n) (not (is_entered is p n)) b in
     let d = and_parts (nat_lt 0 n.length) (has_body p.text n.link n.address n.length) c.0 in
-    let o = and_parts (is_word p.text n.address && is_above u.before n.address) (is_register n.link) a.0 in
+    let o = and_parts (is_word p.text n.address && is_above u.before n.address) (is_real_register n.link) a.0 in
     let f = or_false (is_in_procedure n p.entry || list_any (is_in_procedure n) (map target_of p.code_words)) (words_enter is n p.text.lo p.text.words) (not_both (is_entered is p n) c.1) in
     let g = or_false (is_in_procedure n p.entry) (list_any (is_in_procedure n) (map target_of p.code_words)) f.0 in
     let r = and_parts (nat_lt 0 n.link) (nat_lt n.link 32) o.1 in
@@ -278,7 +275,7 @@ good_note is p q n e h =
 ascends : (is : ℕ → Bool) (p : Program) (before : Option ℕ) (n : Note) → is_good_note is p before n ≡ true → is_above before n.address ≡ true
 ascends is p before n e =
     let a = and_parts (is_in_order p.text before n) (not (is n.address) || is_procedure p.text n && not (is_entered is p n)) e in
-    let b = and_parts (is_word p.text n.address && is_above before n.address) (is_register n.link) a.0 in
+    let b = and_parts (is_word p.text n.address && is_above before n.address) (is_real_register n.link) a.0 in
     (and_parts (is_word p.text n.address) (is_above before n.address) b.0).1
 
 later_good : (is : ℕ → Bool) (p : Program) (before : Option ℕ) (number : ℕ) (m : Note) (notes : List Note) → bad_note_from is p before number (m ∷ notes) ≡ None → (is_good_note is p before m ≡ true) × (bad_note_from is p (Some m.address) (number + 1) notes ≡ None)

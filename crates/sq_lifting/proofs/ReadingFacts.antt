@@ -1,8 +1,7 @@
--- What a reading tells of its word, and the piece that it is.
-use Rattle.std.proofs.Common.{◌≡◌, ◌≢◌, ◌⊎◌, inl, inr, ℕ, ℤ, zero, suc, ◌+◌, pos, Bool, true, false, not, ◌==◌, ◌&&◌, ◌||◌, List, [], ◌∷◌, ◌++◌, Option, Some, None, if◌then◌else◌, refl, sym, ap, ◌∙◌, subst, arith}
+-- What a reading tells of its word, and the form that it is.
+use Rattle.std.proofs.Common.{◌≡◌, ◌≢◌, ◌⊎◌, inl, inr, ℕ, ℤ, zero, suc, Bool, true, false, not, ◌==◌, List, [], ◌∷◌, Option, Some, None, if◌then◌else◌, refl, sym, ap, subst, arith}
 use Rattle.std.specs.List.{Contains}
 use Rattle.std.proofs.lemmas.Bool.{eqb-true, or_left, or_right}
-use Rattle.std.proofs.lemmas.Bool.Decides.{nat_tests}
 use Rattle.sq_num.specs.Halves.{high_half, low_half}
 use Rattle.sq_isa.specs.Registers.{is_among}
 use Rattle.sq_isa.specs.declared.instructions.Insn.{Insn}
@@ -14,13 +13,12 @@ use Rattle.sq_graph.specs.declared.item.Item.{Item}
 use Rattle.sq_graph.specs.declared.item.Item.TheVariants.{Op, Hi, Lo, Out}
 use Rattle.sq_graph.specs.declared.item.Term.{Term}
 use Rattle.sq_graph.specs.declared.item.Term.TheVariants.{Fall, Jump, Branch, Call, PartJump, Indirect, Stop}
-use Rattle.sq_graph.specs.Terms.{goes_on as term_goes_on}
 use Rattle.sq_graph.specs.Uses.{item_uses, term_uses}
 use Rattle.sq_program.specs.Programs.{Text, Note, is_in_text}
-use Rattle.sq_program.specs.Reached.{reached_from, jump_target, half_target, goes_on}
-use Rattle.sq_program.specs.Readings.{Reading, IsItem, IsTerm, Links, jal_reading, plain_reading, upper_reading, lower_reading, marked_reading}
-use Rattle.sq_program.specs.Lifted.{Piece, ItemPiece, TermPiece, link_piece, piece_of, procedure_at}
-use Rattle.sq_lifting.proofs.Lifts.{piece_line, closes}
+use Rattle.sq_program.specs.Reached.{target_from, jump_target, half_target, insn_goes_on}
+use Rattle.sq_program.specs.Readings.{Reading, IsItem, IsTerm, Links, plain_reading, upper_reading, lower_reading, marked_reading}
+use Rattle.sq_program.specs.Lifted.{Form, ItemForm, TermForm, link_form, form_of, procedure_at}
+use Rattle.sq_lifting.proofs.Lifts.{form_line, closes}
 use Rattle.sq_lifting.proofs.TextWords.{same_itself}
 use Rattle.sq_lifting.proofs.Facts.{one, one_is, none_in, reading_uses}
 
@@ -30,7 +28,6 @@ pub contains_among : (xs : List ℕ) (y : ℕ) → Contains xs y → is_among xs
 contains_among [] y c = none_in y c
 contains_among (x ∷ xs) y (zero, h, g) = let q : x ≡ y = g in or_left (x == y) (is_among xs y) (subst (λ z. (x == z) ≡ true) q (same_itself x))
 contains_among (x ∷ xs) y (suc i, h, g) = or_right (x == y) (is_among xs y) (contains_among xs y (i, omega (arith, h), g))
-
 
 -- of a reading that is there
 abbrev uses_of : Option Reading → List ℕ
@@ -44,7 +41,7 @@ jal_uses true link to y c = c
 jal_uses false link to y c = c
 
 pub jump_used : (t : Text) (at : ℕ) (mark : Mark) (i : Insn) (r : Reading) (y : ℕ) → marked_reading t at mark i ≡ Some r → Contains (jump_target at i) y → Contains (reading_uses r) y
-jump_used t at Plain (Jal rd offset) r y e c = subst (λ o. Contains (uses_of o) y) e (jal_uses (rd == 0) rd (reached_from at offset) y c)
+jump_used t at Plain (Jal rd offset) r y e c = subst (λ o. Contains (uses_of o) y) e (jal_uses (rd == 0) rd (target_from at offset) y c)
 jump_used t at (HiMark to) (Jal rd offset) r y e c = absurd (cc)
 jump_used t at (LoMark to) (Jal rd offset) r y e c = absurd (cc)
 jump_used t at (Unsupported kind) (Jal rd offset) r y e c = absurd (cc)
@@ -86,46 +83,46 @@ half_used t at mark i r y e c f = absurd (cc)
 
 -- Pieces
 
-abbrev pub piece_uses : Piece → List ℕ
-piece_uses (ItemPiece item) = item_uses item
-piece_uses (TermPiece term) = term_uses term
+abbrev pub form_uses : Form → List ℕ
+form_uses (ItemForm item) = item_uses item
+form_uses (TermForm term) = term_uses term
 
-link_uses : (link to y : ℕ) (o : Option ℕ) → Contains (piece_uses (link_piece link to o)) y → Contains (to ∷ []) y
+link_uses : (link to y : ℕ) (o : Option ℕ) → Contains (form_uses (link_form link to o)) y → Contains (to ∷ []) y
 link_uses link to y None c = c
 link_uses link to y (Some q) c = none_in y c
 
-pub piece_used : (ns : List Note) (r : Reading) (y : ℕ) → Contains (piece_uses (piece_of ns r)) y → Contains (reading_uses r) y
-piece_used ns (IsItem item) y c = c
-piece_used ns (IsTerm term) y c = c
-piece_used ns (Links link to) y c = link_uses link to y (procedure_at ns to) c
+pub form_used : (ns : List Note) (r : Reading) (y : ℕ) → Contains (form_uses (form_of ns r)) y → Contains (reading_uses r) y
+form_used ns (IsItem item) y c = c
+form_used ns (IsTerm term) y c = c
+form_used ns (Links link to) y c = link_uses link to y (procedure_at ns to) c
 
--- a reading's name is its piece's, or that of a procedure
-abbrev pub PieceOrNote : List Note → Piece → ℕ → Type 0
-PieceOrNote ns piece y = Contains (piece_uses piece) y ⊎ ((q : ℕ) × (procedure_at ns y ≡ Some q))
+-- a reading's name is its form's, or that of a procedure
+abbrev pub FormOrNote : List Note → Form → ℕ → Type 0
+FormOrNote ns shape y = Contains (form_uses shape) y ⊎ ((q : ℕ) × (procedure_at ns y ≡ Some q))
 
-pub used_piece : (ns : List Note) (r : Reading) (y : ℕ) → Contains (reading_uses r) y → PieceOrNote ns (piece_of ns r) y
-used_piece ns (IsItem item) y c = inl c
-used_piece ns (IsTerm term) y c = inl c
-used_piece ns (Links link to) y c = go (procedure_at ns to) refl
+pub used_form : (ns : List Note) (r : Reading) (y : ℕ) → Contains (reading_uses r) y → FormOrNote ns (form_of ns r) y
+used_form ns (IsItem item) y c = inl c
+used_form ns (IsTerm term) y c = inl c
+used_form ns (Links link to) y c = go (procedure_at ns to) refl
   where
-    go : (o : Option ℕ) → procedure_at ns to ≡ o → PieceOrNote ns (link_piece link to o) y
+    go : (o : Option ℕ) → procedure_at ns to ≡ o → FormOrNote ns (link_form link to o) y
     go None e = inl c
     go (Some q) e = let i : to ≡ y = one_is to y c in inr (q, subst (λ z. procedure_at ns z ≡ Some q) i e)
 
 -- Going on
 
 abbrev is_open : List Note → Reading → Bool
-is_open ns r = not (closes (piece_line (piece_of ns r)))
+is_open ns r = not (closes (form_line (form_of ns r)))
 
 abbrev open_of : List Note → Option Reading → Bool
 open_of ns None = false
 open_of ns (Some r) = is_open ns r
 
-link_open : (link to : ℕ) (o : Option ℕ) → closes (piece_line (link_piece link to o)) ≡ false
+link_open : (link to : ℕ) (o : Option ℕ) → closes (form_line (link_form link to o)) ≡ false
 link_open link to None = refl
 link_open link to (Some q) = refl
 
-jal_open : (ns : List Note) (b : Bool) (link to : ℕ) → not (closes (piece_line (piece_of ns (if b then IsTerm (Jump to) else Links link to)))) ≡ not b
+jal_open : (ns : List Note) (b : Bool) (link to : ℕ) → not (closes (form_line (form_of ns (if b then IsTerm (Jump to) else Links link to)))) ≡ not b
 jal_open ns true link to = refl
 jal_open ns false link to = ap not (link_open link to (procedure_at ns to))
 
@@ -149,10 +146,10 @@ if_open : (ns : List Note) (b : Bool) (outer r : Reading) → (if b then None el
 if_open ns true outer r e f = absurd (cc)
 if_open ns false outer r e f = subst (λ o. open_of ns o ≡ true) e f
 
-plain_goes : (ns : List Note) (at : ℕ) (i : Insn) (r : Reading) → plain_reading at i ≡ Some r → is_open ns r ≡ goes_on i
+plain_goes : (ns : List Note) (at : ℕ) (i : Insn) (r : Reading) → plain_reading at i ≡ Some r → is_open ns r ≡ insn_goes_on i
 plain_goes ns at (Lui rd upper) r e = subst (λ o. open_of ns o ≡ true) e refl
 plain_goes ns at (Auipc rd upper) r e = absurd (cc)
-plain_goes ns at (Jal rd offset) r e = subst (λ o. open_of ns o ≡ not (rd == 0)) e (jal_open ns (rd == 0) rd (reached_from at offset))
+plain_goes ns at (Jal rd offset) r e = subst (λ o. open_of ns o ≡ not (rd == 0)) e (jal_open ns (rd == 0) rd (target_from at offset))
 plain_goes ns at (Jalr rd rs offset) r e = subst (λ o. open_of ns o ≡ not (rd == 0)) e (not_not (not (rd == 0)))
 plain_goes ns at (BranchInsn cond a b offset) r e = subst (λ o. open_of ns o ≡ true) e refl
 plain_goes ns at (Load kind rd rs offset) r e = subst (λ o. open_of ns o ≡ true) e refl
@@ -165,30 +162,30 @@ plain_goes ns at Ebreak r e = subst (λ o. open_of ns o ≡ false) e refl
 plain_goes ns at (Unimp word) r e = subst (λ o. open_of ns o ≡ false) e refl
 plain_goes ns at (Atomic op order rd rs src) r e = subst (λ o. open_of ns o ≡ true) e refl
 
-upper_goes : (ns : List Note) (t : Text) (to : ℕ) (i : Insn) (r : Reading) → upper_reading t to i ≡ Some r → is_open ns r ≡ goes_on i
+upper_goes : (ns : List Note) (t : Text) (to : ℕ) (i : Insn) (r : Reading) → upper_reading t to i ≡ Some r → is_open ns r ≡ insn_goes_on i
 upper_goes ns t to (Lui rd upper) r e = subst (λ o. open_of ns o ≡ true) e (upper_open ns (is_in_text t to) to rd)
 upper_goes ns t to (Auipc rd upper) r e = subst (λ o. open_of ns o ≡ true) e (upper_open ns (is_in_text t to) to rd)
 upper_goes ns t to i r e = absurd (cc)
 
-lower_goes : (ns : List Note) (t : Text) (to : ℕ) (i : Insn) (r : Reading) → lower_reading t to i ≡ Some r → is_open ns r ≡ goes_on i
+lower_goes : (ns : List Note) (t : Text) (to : ℕ) (i : Insn) (r : Reading) → lower_reading t to i ≡ Some r → is_open ns r ≡ insn_goes_on i
 lower_goes ns t to (OpImm Addi rd rs imm) r e = subst (λ o. open_of ns o ≡ true) e (addi_open ns (is_in_text t to) to rd rs)
 lower_goes ns t to (Load kind rd rs imm) r e = if_open ns (is_in_text t to) (IsItem (Op (Load kind rd rs (low_half to)))) r e refl
 lower_goes ns t to (Store kind rs src imm) r e = if_open ns (is_in_text t to) (IsItem (Op (Store kind rs src (low_half to)))) r e refl
 lower_goes ns t to (Jalr rd rs imm) r e = subst (λ o. open_of ns o ≡ not (rd == 0)) e (jalr_open ns (is_in_text t to) to rd rs)
 lower_goes ns t to i r e = absurd (cc)
 
--- the piece goes on exactly where the instruction does
-pub goes_alike : (ns : List Note) (t : Text) (at : ℕ) (mark : Mark) (i : Insn) (r : Reading) → marked_reading t at mark i ≡ Some r → not (closes (piece_line (piece_of ns r))) ≡ goes_on i
+-- the form goes on exactly where the instruction does
+pub goes_alike : (ns : List Note) (t : Text) (at : ℕ) (mark : Mark) (i : Insn) (r : Reading) → marked_reading t at mark i ≡ Some r → not (closes (form_line (form_of ns r))) ≡ insn_goes_on i
 goes_alike ns t at Plain i r e = plain_goes ns at i r e
 goes_alike ns t at (HiMark to) i r e = upper_goes ns t to i r e
 goes_alike ns t at (LoMark to) i r e = lower_goes ns t to i r e
 goes_alike ns t at mark i r e = absurd (cc)
 
 -- a `jal` with a link reads as one
-pub jal_links : (t : Text) (at link : ℕ) (offset : ℤ) (mark : Mark) (r : Reading) → link ≢ 0 → marked_reading t at mark (Jal link offset) ≡ Some r → r ≡ Links link (reached_from at offset)
+pub jal_links : (t : Text) (at link : ℕ) (offset : ℤ) (mark : Mark) (r : Reading) → link ≢ 0 → marked_reading t at mark (Jal link offset) ≡ Some r → r ≡ Links link (target_from at offset)
 jal_links t at link offset Plain r n e = go (link == 0) refl e
   where
-    go : (b : Bool) → (link == 0) ≡ b → Some (if b then IsTerm (Jump (reached_from at offset)) else Links link (reached_from at offset)) ≡ Some r → r ≡ Links link (reached_from at offset)
+    go : (b : Bool) → (link == 0) ≡ b → Some (if b then IsTerm (Jump (target_from at offset)) else Links link (target_from at offset)) ≡ Some r → r ≡ Links link (target_from at offset)
     go true f h = absurd (n (eqb-true link 0 f))
     go false f h = cc
 jal_links t at link offset (HiMark to) r n e = absurd (cc)
@@ -221,18 +218,18 @@ IsForm (IsItem item) = IsReadItem item
 IsForm (IsTerm term) = IsReadTerm term
 IsForm (Links link to) = Unit {0}
 
-abbrev form_of : Option Reading → Type 0
-form_of None = Unit {0}
-form_of (Some r) = IsForm r
+abbrev form_when : Option Reading → Type 0
+form_when None = Unit {0}
+form_when (Some r) = IsForm r
 
 jal_form : (b : Bool) (link to : ℕ) → IsForm (if b then IsTerm (Jump to) else Links link to)
 jal_form true link to = tt
 jal_form false link to = tt
 
-plain_form : (at : ℕ) (i : Insn) → form_of (plain_reading at i)
+plain_form : (at : ℕ) (i : Insn) → form_when (plain_reading at i)
 plain_form at (Lui rd upper) = tt
 plain_form at (Auipc rd upper) = tt
-plain_form at (Jal rd offset) = jal_form (rd == 0) rd (reached_from at offset)
+plain_form at (Jal rd offset) = jal_form (rd == 0) rd (target_from at offset)
 plain_form at (Jalr rd rs offset) = tt
 plain_form at (BranchInsn cond a b offset) = tt
 plain_form at (Load kind rd rs offset) = tt
@@ -249,7 +246,7 @@ upper_item_form : (b : Bool) (to rd : ℕ) → IsReadItem (if b then Hi rd to el
 upper_item_form true to rd = tt
 upper_item_form false to rd = tt
 
-upper_form : (t : Text) (to : ℕ) (i : Insn) → form_of (upper_reading t to i)
+upper_form : (t : Text) (to : ℕ) (i : Insn) → form_when (upper_reading t to i)
 upper_form t to (Lui rd upper) = upper_item_form (is_in_text t to) to rd
 upper_form t to (Auipc rd upper) = upper_item_form (is_in_text t to) to rd
 upper_form t to i = tt
@@ -262,22 +259,22 @@ jalr_form : (b : Bool) (to rd rs : ℕ) → IsReadTerm (if b then PartJump rd rs
 jalr_form true to rd rs = tt
 jalr_form false to rd rs = tt
 
-op_form : (b : Bool) (i : Insn) → form_of (if b then None else Some (IsItem (Op i)))
+op_form : (b : Bool) (i : Insn) → form_when (if b then None else Some (IsItem (Op i)))
 op_form true i = tt
 op_form false i = tt
 
-lower_form : (t : Text) (to : ℕ) (i : Insn) → form_of (lower_reading t to i)
+lower_form : (t : Text) (to : ℕ) (i : Insn) → form_when (lower_reading t to i)
 lower_form t to (OpImm Addi rd rs imm) = addi_form (is_in_text t to) to rd rs
 lower_form t to (Load kind rd rs imm) = op_form (is_in_text t to) (Load kind rd rs (low_half to))
 lower_form t to (Store kind rs src imm) = op_form (is_in_text t to) (Store kind rs src (low_half to))
 lower_form t to (Jalr rd rs imm) = jalr_form (is_in_text t to) to rd rs
 lower_form t to i = tt
 
-marked_form : (t : Text) (at : ℕ) (mark : Mark) (i : Insn) → form_of (marked_reading t at mark i)
+marked_form : (t : Text) (at : ℕ) (mark : Mark) (i : Insn) → form_when (marked_reading t at mark i)
 marked_form t at Plain i = plain_form at i
 marked_form t at (HiMark to) i = upper_form t to i
 marked_form t at (LoMark to) i = lower_form t to i
 marked_form t at mark i = tt
 
 pub reading_form : (t : Text) (at : ℕ) (mark : Mark) (i : Insn) (r : Reading) → marked_reading t at mark i ≡ Some r → IsForm r
-reading_form t at mark i r e = subst form_of e (marked_form t at mark i)
+reading_form t at mark i r e = subst form_when e (marked_form t at mark i)

@@ -1,8 +1,8 @@
 -- Words of text by their addresses.
-use Rattle.std.proofs.Common.{◌≡◌, ℕ, ◌+◌, ◌*◌, ◌%◌, ◌<◌, ◌≤◌, Bool, true, false, ◌==◌, ◌&&◌, ◌||◌, not, List, [], ◌∷◌, length, Option, Some, None, if◌then◌else◌, refl, sym, ap, ◌∙◌, subst, arith, ne_eqb, nat_le, nat_lt, is_some}
+use Rattle.std.proofs.Common.{◌≡◌, ℕ, ◌+◌, ◌*◌, ◌%◌, ◌<◌, ◌≤◌, Bool, true, false, ◌==◌, List, [], ◌∷◌, length, Option, Some, None, if◌then◌else◌, refl, sym, ap, ◌∙◌, arith, ne_eqb, nat_le, nat_lt, is_some}
 use Rattle.std.proofs.lemmas.Bool.{eqb-true, and_parts}
 use Rattle.std.proofs.lemmas.Bool.Decides.{nat_tests}
-use Rattle.sq_program.specs.Programs.{Word, Text, word_from, word_at, IsWord, is_word, end_of, is_in_text}
+use Rattle.sq_program.specs.Programs.{Word, Text, word_from, word_at, IsWord, end_of, is_in_text}
 
 pub same_itself : (x : ℕ) → (x == x) ≡ true
 same_itself x = grind (arith, nat_tests)

@@ -1,5 +1,5 @@
 -- The plain machine does what the monitored run of a program does.
-use Rattle.std.proofs.Common.{◌≡◌, ◌≢◌, ◌⊎◌, inl, inr, ℕ, zero, suc, ◌+◌, ◌-◌, ◌*◌, ◌%◌, ◌^◌, ◌<◌, ◌≤◌, ℤ, pos, Bool, true, false, not, ◌==◌, ◌&&◌, ◌||◌, List, [], ◌∷◌, length, map, Option, Some, None, if◌then◌else◌, refl, sym, ap, ◌∙◌, subst, arith, nat_lt, nat_le}
+use Rattle.std.proofs.Common.{◌≡◌, ◌≢◌, ◌⊎◌, inl, inr, ℕ, zero, suc, ◌+◌, ◌*◌, ◌%◌, ◌^◌, ◌<◌, ◌≤◌, ℤ, pos, Bool, true, false, not, ◌==◌, ◌&&◌, length, map, Option, Some, None, if◌then◌else◌, refl, sym, ap, ◌∙◌, subst, arith, nat_lt, nat_le}
 use Rattle.std.specs.Option.{unwrap_or, option_map}
 use Rattle.std.specs.Ordering.{int_eq}
 use Rattle.std.specs.List.{Contains}
@@ -8,55 +8,55 @@ use Rattle.std.proofs.lemmas.Bool.Decides.{nat_tests, Decides-int_eq}
 use Rattle.sq_isa.specs.Words.{wrapped, unsigned, upper_word, even}
 use Rattle.sq_isa.specs.Registers.{written}
 use Rattle.sq_isa.specs.Ranges.{IsUnimp, FieldsFit}
-use Rattle.sq_isa.specs.Uses.{sources_of, destination_of}
+use Rattle.sq_isa.specs.Uses.{destination_of}
 use Rattle.sq_isa.specs.Branches.{taken_of}
-use Rattle.sq_isa.specs.Table.{insn_of}
 use Rattle.sq_isa.specs.Accesses.{bytes_number}
 use Rattle.sq_isa.proofs.Encoded.{FieldsFit-insn_of}
 use Rattle.sq_isa.specs.declared.instructions.Cond.{Cond}
 use Rattle.sq_isa.specs.declared.instructions.Insn.{Insn}
 use Rattle.sq_isa.specs.declared.instructions.Insn.TheVariants.{Lui, Auipc, Jal, Jalr, Branch as BranchInsn, Load, Store as StoreInsn, OpImm, Op as OpInsn, Fence, Ecall, Ebreak, Unimp, Atomic}
 use Rattle.sq_isa.specs.declared.instructions.ImmOp.TheVariants.{Addi}
-use Rattle.sq_runs.specs.Runs.{Next, Went, Ended, Broke}
+use Rattle.sq_runs.specs.Runs.{Went, Ended, Broke}
 use Rattle.sq_runs.specs.Simulation.{Matches}
 use Rattle.sq_runs.specs.Follows.{LocksWith}
 use Rattle.sq_runs.proofs.Simulate.{locks_by}
-use Rattle.sq_memory.specs.Cells.{Cells, cells_from, Agree}
+use Rattle.sq_memory.specs.Cells.{Cells, Agree}
 use Rattle.sq_memory.specs.Regions.{get}
 use Rattle.sq_memory.proofs.RangeLaws.{cells_from-same}
 use Rattle.sq_system.specs.Starts.{Start, stack_pointer}
 use Rattle.sq_system.specs.World.{World as Layout, is_executable, are_all, is_range}
-use Rattle.sq_system.specs.declared.event.Halt.TheVariants.{Fetch, Illegal, Breakpoint}
-use Rattle.sq_machine.specs.State.{State, number_at, aligned_number, with_register, jump, next_pc, advance, finish, address_of, target_of as plain_target}
+use Rattle.sq_system.specs.declared.event.Halt.TheVariants.{Fetch, Illegal}
+use Rattle.sq_machine.specs.State.{State, number_at, aligned_number, with_register, jump, next_pc, address_of, target_of as plain_target}
 use Rattle.sq_machine.specs.Rows as plain
 use Rattle.sq_machine.specs.Steps.{fetched, insn_step, word_step, step_of}
 use Rattle.sq_reloc.specs.declared.mark.Mark.{Mark}
-use Rattle.sq_reloc.specs.declared.mark.Mark.TheVariants.{Plain as PlainMark, Hi, Lo}
+use Rattle.sq_reloc.specs.declared.mark.Mark.TheVariants.{Hi, Lo}
 use Rattle.sq_reloc.specs.Marks.{IsMarked}
 use Rattle.sq_graph.specs.Lines.{AddressHalf, Plain, Upper, Lower}
 use Rattle.sq_follow.specs.declared.kind.Kind.TheVariants.{Half, Jump as JumpBreak}
 use Rattle.sq_follow.specs.Values.{Code, Part, Value, Num, Tagged, Cell, Byte, Held, Holds, Lost}
-use Rattle.sq_follow.specs.Settings.{Setting, Store, Made}
-use Rattle.sq_follow.specs.Arithmetic.{is_taken, is_upper_half, word_fits}
+use Rattle.sq_follow.specs.Settings.{Setting}
+use Rattle.sq_follow.specs.Arithmetic.{is_taken, is_upper_half}
 use Rattle.sq_follow.specs.Accesses.{Step}
 use Rattle.sq_follow.specs.Rows.{source, address_value, row_of}
-use Rattle.sq_follow.specs.Jumps.{ToName, ToNumber, Jumped, number_jump, name_jump, indirect_jump, part_jump, stop}
-use Rattle.sq_follow.specs.GraphRuns.{Core, is_lost, value_in, register_value, operands}
-use Rattle.sq_follow.specs.Worlds.{World, layout_of, core_at_start, first_registers, regions_at_start}
+use Rattle.sq_follow.specs.Jumps.{ToName, ToNumber, number_jump, name_jump, indirect_jump, part_jump, stop}
+use Rattle.sq_follow.specs.GraphRuns.{is_lost, value_in, register_value, operands}
+use Rattle.sq_follow.specs.Worlds.{World, layout_of, first_registers, regions_at_start}
 use Rattle.sq_patch.specs.LiveAgreement.{everywhere}
-use Rattle.sq_erasure.specs.Erasure.{Erasing, IsErasing, IsErased, IsErasedHeld, IsErasedCell, IsErasedStore, IsErasedCore, IsErasedSetting}
-use Rattle.sq_erasure.proofs.Accessing.{Plainly, IsErasedMade, nothing_written}
+use Rattle.sq_erasure.specs.Erasure.{Erasing, IsErasing, IsErased, IsErasedHeld, IsErasedCell, IsErasedCore, IsErasedSetting}
+use Rattle.sq_erasure.proofs.Accessing.{Plainly, IsErasedMade}
 use Rattle.sq_erasure.proofs.Rows.{AddUp, plain_erased, upper_erased, addi_erased, load_half_erased, store_half_erased, taken_erased}
-use Rattle.sq_erasure.proofs.TextKept.{Keeps, KeepsText, row_kept}
-use Rattle.sq_program.specs.Programs.{Word, Text, Program, word_at, IsWord, is_in_text, insn_in, end_of, target_of}
-use Rattle.sq_program.specs.Reached.{reached_from, jump_target, half_target, goes_on, Decides, entry}
+use Rattle.sq_erasure.proofs.TextKept.{Keeps, row_kept}
+use Rattle.sq_program.specs.Programs.{Word, Text, Program, word_at, is_in_text, end_of, target_of}
+use Rattle.sq_program.specs.Reached.{target_from, jump_target, half_target, insn_goes_on, Decides, entry}
 use Rattle.sq_program.specs.Faults.{text_refusal}
 use Rattle.sq_program.specs.Monitored as monitored
 use Rattle.sq_program.specs.Monitored.{Watched, Watches, half_of, upper_value, at_address, jumped, branched, finished, jalr_jump, monitored_step}
-use Rattle.sq_lifting.specs.Lifting.{MarkFits, IsLinked, watched_start}
-use Rattle.sq_lifting.specs.Watching.{own_names, IsLaidOut, IsPlainStart, WatchingErases}
+use Rattle.sq_program.specs.FileRuns.{watched_start}
+use Rattle.sq_lifting.specs.Lifting.{MarkFits, IsLinked}
+use Rattle.sq_lifting.specs.Watching.{own_names, IsPlainStart, WatchingErases}
 use Rattle.sq_lifting.proofs.TextWords.{some_is, is_there, stood, in_text_of}
-use Rattle.sq_lifting.proofs.Facts.{one, ReadWord, IsSoundWord, UsedBy, read_word, sound_word, used_reached, next_reached, reached_word}
+use Rattle.sq_lifting.proofs.Facts.{one, IsSoundWord, sound_word, used_reached, next_reached, reached_word}
 
 module _ (p : Program) (is : ℕ → Bool) (linked : IsLinked p) (dec : Decides p is) (fine : text_refusal is p ≡ None) (w : World) (start : Start) (plain_world : Layout) (first : State) (begins : IsPlainStart is w start p plain_world first) where
   abbrev t : Text
@@ -155,17 +155,20 @@ module _ (p : Program) (is : ℕ → Bool) (linked : IsLinked p) (dec : Decides 
   finish_watch d half insn a b y h i m = go (row_of S half insn (operands insn a.core.registers) a.core.store) y (row_kept S half insn (operands insn a.core.registers) a.core.store) m
     where
       go : (x : Step) (y : Plainly) → Keeps S a.core.store x → Matches (IsErasedMade everywhere E S plain_world naming laid d (next_pc b) b.registers) x y → Match (finished a.pc d a.core x) y
-      go (Went e made) (Went f c) k m = (m.0, record {
-        pc = m.1.pc_is ∙ next_small a b h.pc i;
-        core = record {
-          registers = λ r. subst (IsErasedHeld E (written d (Holds made.value) a.core.registers r)) (sym (m.1.registers r)) (held_written d m.1.value made.value (a.core.registers r) (b.registers r) (r == d && not (d == 0)) m.1.value_is (h.core.registers r));
-          zero = m.1.registers 0 ∙ zero_written d m.1.value b.registers h.core.zero;
-          store = m.1.store;
-        };
-        kept = kept_written d made.value a.core.registers h.kept;
-        text = λ x e. k x e ∙ h.text x e;
-        place = inl i;
-      })
+      go (Went e made) (Went f c) k m = (
+        m.0,
+        record {
+          pc = m.1.pc_is ∙ next_small a b h.pc i;
+          core = record {
+            registers = λ r. subst (IsErasedHeld E (written d (Holds made.value) a.core.registers r)) (sym (m.1.registers r)) (held_written d m.1.value made.value (a.core.registers r) (b.registers r) (r == d && not (d == 0)) m.1.value_is (h.core.registers r));
+            zero = m.1.registers 0 ∙ zero_written d m.1.value b.registers h.core.zero;
+            store = m.1.store;
+          };
+          kept = kept_written d made.value a.core.registers h.kept;
+          text = λ x e. k x e ∙ h.text x e;
+          place = inl i;
+        },
+      )
       go (Went e made) (Ended g) k m = absurd m
       go (Went e made) (Broke c) k m = absurd m
       go (Ended g) (Went e c) k m = absurd m
@@ -204,17 +207,20 @@ module _ (p : Program) (is : ℕ → Bool) (linked : IsLinked p) (dec : Decides 
   -- to an address, with the link written
   jump_watch : (link x pc : ℕ) (a : Watched) (b : State) → IsErasureOf a b → (link ≢ 0 → is (a.pc + 4) ≡ true) → pc ≡ x → (is x ≡ true) ⊎ (is_executable plain_world x ≡ false) → Match (at_address x (monitored.with_link link a.pc a.core)) (Went None (jump pc (with_register link (next_pc b) b)))
   unfolding jump with_register
-  jump_watch link x pc a b h next e place = (refl, record {
-    pc = e;
-    core = record {
-      registers = λ r. held link r (a.core.registers r) (b.registers r) next (h.core.registers r);
-      zero = zero_written link (next_pc b) b.registers h.core.zero;
-      store = record { memory = h.core.store.memory; input = h.core.store.input; reservation = h.core.store.reservation };
-    };
-    kept = kept_written link (Tagged (Code (a.pc + 4))) a.core.registers h.kept;
-    text = h.text;
-    place = place;
-  })
+  jump_watch link x pc a b h next e place = (
+    refl,
+    record {
+      pc = e;
+      core = record {
+        registers = λ r. held link r (a.core.registers r) (b.registers r) next (h.core.registers r);
+        zero = zero_written link (next_pc b) b.registers h.core.zero;
+        store = record { memory = h.core.store.memory; input = h.core.store.input; reservation = h.core.store.reservation };
+      };
+      kept = kept_written link (Tagged (Code (a.pc + 4))) a.core.registers h.kept;
+      text = h.text;
+      place = place;
+    },
+  )
     where
       held : (link r : ℕ) (u : Held) (y : ℕ) → (link ≢ 0 → is (a.pc + 4) ≡ true) → IsErasedHeld E u y → IsErasedHeld E (if r == link && not (link == 0) then Holds (Tagged (Code (a.pc + 4))) else u) (if r == link && not (link == 0) then next_pc b else y)
       held link r u y f k = go (r == link && not (link == 0)) refl
@@ -273,13 +279,16 @@ module _ (p : Program) (is : ℕ → Bool) (linked : IsLinked p) (dec : Decides 
   -- a branch: neither side writes a register
   step_watch : (x pc : ℕ) (a : Watched) (b : State) → IsErasureOf a b → pc ≡ x → is x ≡ true → Match (at_address x a.core) (Went None (jump pc b))
   unfolding jump
-  step_watch x pc a b h e i = (refl, record {
-    pc = e;
-    core = record { registers = h.core.registers; zero = h.core.zero; store = record { memory = h.core.store.memory; input = h.core.store.input; reservation = h.core.store.reservation } };
-    kept = h.kept;
-    text = h.text;
-    place = inl i;
-  })
+  step_watch x pc a b h e i = (
+    refl,
+    record {
+      pc = e;
+      core = record { registers = h.core.registers; zero = h.core.zero; store = record { memory = h.core.store.memory; input = h.core.store.input; reservation = h.core.store.reservation } };
+      kept = h.kept;
+      text = h.text;
+      place = inl i;
+    },
+  )
 
   branch_watch : (cond : Cond) (x y to : ℕ) (offset : ℤ) (a : Watched) (b : State) (o : Option Bool) → IsErasureOf a b → is (a.pc + 4) ≡ true → is to ≡ true → plain_target offset b ≡ to → ((c : Bool) → o ≡ Some c → taken_of cond (b.registers x) (b.registers y) ≡ c) → Match (branched a.pc to a.core o) (plain.branch_row cond x y offset b)
   branch_watch cond x y to offset a b None h next i e taken = tt
@@ -290,7 +299,7 @@ module _ (p : Program) (is : ℕ → Bool) (linked : IsLinked p) (dec : Decides 
 
   -- what is known of the instruction at a reached word
   record Known (a : Watched) (mark : Mark) (insn : Insn) : Type 0 where
-    next : goes_on insn ≡ true → is (a.pc + 4) ≡ true
+    next : insn_goes_on insn ≡ true → is (a.pc + 4) ≡ true
     target : (to : ℕ) → Contains (jump_target a.pc insn) to → is to ≡ true
     half : (to : ℕ) → Contains (half_target mark) to → IsErased E (address_value S to) to
     inside : (to : ℕ) → Contains (half_target mark) to → is_in_text t to ≡ true → is to ≡ true
@@ -306,7 +315,7 @@ module _ (p : Program) (is : ℕ → Bool) (linked : IsLinked p) (dec : Decides 
       finish_watch (destination_of insn) Plain insn a b (plain.row_of plain_world b insn) h i
       (plain_erased everywhere E S plain_world naming laid insn (operands insn a.core.registers) a.core.store b h.core.zero (operands_erased insn a b h) h.core.store)
 
-  target_is : (a : Watched) (b : State) (offset : ℤ) → b.pc ≡ a.pc → plain_target offset b ≡ reached_from a.pc offset
+  target_is : (a : Watched) (b : State) (offset : ℤ) → b.pc ≡ a.pc → plain_target offset b ≡ target_from a.pc offset
   target_is a b offset e = ap (λ pc. wrapped (pc + unsigned offset)) e
 
   unimp_is : (word : ℕ) → IsUnimp word → Illegal ≡ stop word
@@ -317,10 +326,10 @@ module _ (p : Program) (is : ℕ → Bool) (linked : IsLinked p) (dec : Decides 
   plain_watch (Lui rd upper) mark a b h k = item_watch (Lui rd upper) a b h (k.next refl)
   plain_watch (Auipc rd upper) mark a b h k = tt
   plain_watch (Jal rd offset) mark a b h k =
-      jump_watch rd (reached_from a.pc offset) (plain_target offset b) a b h (λ n. k.next (goes_link rd n)) (target_is a b offset h.pc) (inl (k.target (reached_from a.pc offset) (one (reached_from a.pc offset))))
+      jump_watch rd (target_from a.pc offset) (plain_target offset b) a b h (λ n. k.next (goes_link rd n)) (target_is a b offset h.pc) (inl (k.target (target_from a.pc offset) (one (target_from a.pc offset))))
   plain_watch (Jalr rd rs offset) mark a b h k = away_watch rd rs offset a b (register_value rs a.core.registers) h (λ n. k.next (goes_link rd n)) (read_value a b h rs)
   plain_watch (BranchInsn cond x y offset) mark a b h k =
-      branch_watch cond x y (reached_from a.pc offset) offset a b (is_taken S cond (register_value x a.core.registers) (register_value y a.core.registers)) h (k.next refl) (k.target (reached_from a.pc offset) (one (reached_from a.pc offset))) (target_is a b offset h.pc)
+      branch_watch cond x y (target_from a.pc offset) offset a b (is_taken S cond (register_value x a.core.registers) (register_value y a.core.registers)) h (k.next refl) (k.target (target_from a.pc offset) (one (target_from a.pc offset))) (target_is a b offset h.pc)
       (λ c e. taken_erased everywhere E S plain_world naming laid cond (register_value x a.core.registers) (register_value y a.core.registers) (b.registers x) (b.registers y) c (read_value a b h x) (read_value a b h y) e)
   plain_watch (Load kind rd rs offset) mark a b h k = item_watch (Load kind rd rs offset) a b h (k.next refl)
   plain_watch (StoreInsn kind rs src offset) mark a b h k = item_watch (StoreInsn kind rs src offset) a b h (k.next refl)

@@ -1,42 +1,37 @@
 -- Lifting keeps runs: the start, and all put together.
-use Rattle.std.proofs.Common.{◌≡◌, ℕ, zero, suc, ◌+◌, ◌<◌, Bool, true, false, not, ◌==◌, ◌&&◌, ◌||◌, List, [], ◌∷◌, ◌++◌, map, Option, Some, None, slice_get, if◌then◌else◌, refl, sym, ap, ap₂, ◌∙◌, subst, arith, nat_lt, ne_eqb}
+use Rattle.std.proofs.Common.{◌≡◌, ℕ, zero, suc, Bool, true, false, not, ◌==◌, ◌&&◌, List, [], ◌∷◌, map, Option, Some, None, slice_get, if◌then◌else◌, refl, sym, ap, ◌∙◌, subst, arith}
 use Rattle.std.specs.Option.{option_map}
 use Rattle.std.specs.List.{Contains}
-use Rattle.std.proofs.lemmas.Bool.{and_parts, eqb-true}
-use Rattle.std.proofs.lemmas.Bool.Decides.{nat_tests}
 use Rattle.std.proofs.lemmas.Option.{slice_get-map}
-use Rattle.sq_isa.specs.Registers.{written}
 use Rattle.sq_runs.specs.Follows.{LocksWith}
-use Rattle.sq_memory.specs.Cells.{Cells}
 use Rattle.sq_memory.specs.Regions.{get}
 use Rattle.sq_system.specs.Starts.{Start, stack_pointer}
-use Rattle.sq_system.specs.World.{is_executable}
 use Rattle.sq_reloc.specs.declared.mark.CodeWord.{CodeWord}
 use Rattle.sq_graph.specs.Graph.{Procedure, Graph}
-use Rattle.sq_graph.specs.Lines.{Line, Name, Do, Enter, Return, End, lines_of, block_lines}
-use Rattle.sq_graph.specs.Walks.{IsLive, code_targets, word_name}
+use Rattle.sq_graph.specs.Lines.{Line, Name, Do, Enter, Return, End, lines_of}
+use Rattle.sq_graph.specs.Walks.{IsLive, word_name}
 use Rattle.sq_graph.specs.Soundness.{LinksDieIn}
-use Rattle.sq_follow.specs.Values.{Cell, Held, Holds, Num}
+use Rattle.sq_follow.specs.Values.{Holds, Num}
 use Rattle.sq_follow.specs.Worlds.{World, all_names, layout_of, setting_of, core_at_start, first_registers, regions_at_start}
-use Rattle.sq_follow.specs.GraphRuns.{Core, At, is_lost, graph_step}
+use Rattle.sq_follow.specs.GraphRuns.{is_lost, graph_step}
 use Rattle.sq_follow.specs.Follows.{state_at_start}
 use Rattle.sq_patch.specs.Agreement.{SameHeld, SameMemory}
 use Rattle.sq_patch.specs.LiveAgreement.{everywhere}
 use Rattle.sq_patch.proofs.Loading.{with_code}
 use Rattle.sq_patch.proofs.LiveTargets.{lines_make, word_target}
 use Rattle.sq_patch.proofs.Starts.{start_memory_rel}
-use Rattle.sq_program.specs.Programs.{Word, Text, Note, Program, word_at, IsWord, target_of}
+use Rattle.sq_program.specs.Programs.{Note, Program, target_of}
 use Rattle.sq_program.specs.Reached.{entry, code_word, Decides}
-use Rattle.sq_program.specs.Notes.{used_notes, is_in_procedure, is_in_procedures, is_above, is_in_order, is_good_note, is_procedure, is_entered, is_register, bad_note_from}
-use Rattle.sq_program.specs.Lifted.{procedure_at, procedure_of, code_ref, lifted}
-use Rattle.sq_program.specs.FilePrograms.{LinkDies, NoteDies}
+use Rattle.sq_program.specs.Notes.{used_notes, is_in_procedure, is_in_procedures}
+use Rattle.sq_program.specs.Lifted.{procedure_of, code_ref, lifted}
+use Rattle.sq_program.specs.FilePrograms.{LinkDies}
 use Rattle.sq_program.specs.Monitored as monitored
 use Rattle.sq_program.specs.Monitored.{Watched, monitored_step}
-use Rattle.sq_lifting.specs.Lifting.{IsLinked, IsFine, IsWorldOf, watched_start, LiftingKeepsRuns}
-use Rattle.sq_lifting.proofs.Lifts.{ties, IsNamed, NeverLost, IsLiftOf}
-use Rattle.sq_lifting.proofs.TextWords.{same_itself}
-use Rattle.sq_lifting.proofs.NoteFacts.{notes_find, IsGoodNote, good_note, IsUsedNote, used_good, own_number}
-use Rattle.sq_lifting.proofs.Cutting.{true_not_false, when_false, ns, keep, lead, kept_from, lead_entry, lead_code}
+use Rattle.sq_program.specs.FileRuns.{watched_start}
+use Rattle.sq_lifting.specs.Lifting.{IsLinked, IsFine, IsWorldOf, LiftingKeepsRuns}
+use Rattle.sq_lifting.proofs.Lifts.{ties, IsNamed, NeverLost}
+use Rattle.sq_lifting.proofs.NoteFacts.{notes_find, IsGoodNote, good_note, used_good, own_number}
+use Rattle.sq_lifting.proofs.Cutting.{true_not_false, when_false, kept_from, lead_entry, lead_code}
 use Rattle.sq_lifting.proofs.CutLines.{has_name_of, lifts_whole}
 use Rattle.sq_lifting.proofs.Lifting.{lifted_locks, starts_alike}
 

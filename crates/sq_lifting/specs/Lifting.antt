@@ -1,5 +1,5 @@
 -- Lifting keeps runs.
-use Rattle.std.specs.Prelude.{◌≡◌, ℕ, ◌%◌, ◌^◌, ◌<◌, Bool, false, None, Some, slice_get, length, map}
+use Rattle.std.specs.Prelude.{◌≡◌, ℕ, ◌%◌, ◌^◌, ◌<◌, Bool, false, None, Some, slice_get, map}
 use Rattle.std.specs.List.{Contains}
 use Rattle.sq_runs.specs.Follows.{LocksWith}
 use Rattle.sq_system.specs.Starts.{Start}
@@ -7,7 +7,7 @@ use Rattle.sq_system.specs.World.{is_executable}
 use Rattle.sq_reloc.specs.declared.mark.Mark.{Mark}
 use Rattle.sq_reloc.specs.declared.mark.Mark.TheVariants.{Hi, Lo}
 use Rattle.sq_reloc.specs.Marks.{IsMarked}
-use Rattle.sq_follow.specs.Worlds.{World, layout_of, setting_of, core_at_start}
+use Rattle.sq_follow.specs.Worlds.{World, layout_of, setting_of}
 use Rattle.sq_follow.specs.GraphRuns.{graph_step}
 use Rattle.sq_follow.specs.Follows.{state_at_start}
 use Rattle.sq_program.specs.Programs.{Word, Text, Note, Program, word_at, IsWord, insn_in, end_of, target_of}
@@ -16,7 +16,8 @@ use Rattle.sq_program.specs.Notes.{bad_note}
 use Rattle.sq_program.specs.Faults.{text_refusal}
 use Rattle.sq_program.specs.Lifted.{lifted}
 use Rattle.sq_program.specs.FilePrograms.{NoteDies}
-use Rattle.sq_program.specs.Monitored.{Watched, monitored_step}
+use Rattle.sq_program.specs.Monitored.{monitored_step}
+use Rattle.sq_program.specs.FileRuns.{watched_start}
 
 -- a half is that of an address below 2^32
 abbrev pub MarkFits : Mark → Type 0
@@ -49,10 +50,6 @@ pub record IsWorldOf (w : World) (start : Start) (p : Program) : Type 0 where
   pub lo : w.lo ≡ p.text.lo
   pub hi : w.hi ≡ end_of p.text
   pub executable : (x : ℕ) → is_executable (layout_of w start) x ≡ false → word_at p.text x ≡ None
-
--- pc is the entry, and the code words hold their targets
-abbrev pub watched_start : World → Program → Start → Watched
-watched_start w p start = record { pc = p.entry; core = core_at_start w (map target_of p.code_words) start }
 
 -- The run of the lifted graph shows what the monitored run of the program shows, after each number of steps, while that
 -- is unbroken.

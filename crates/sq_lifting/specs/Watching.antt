@@ -1,5 +1,5 @@
 -- The erasure law for the run of a program: the monitor sees what the plain machine does.
-use Rattle.std.specs.Prelude.{◌≡◌, ℕ, ◌^◌, ◌≤◌, Bool, true, Option, Some, None, map}
+use Rattle.std.specs.Prelude.{◌≡◌, ℕ, ◌^◌, ◌≤◌, Bool, true, Some, None, map}
 use Rattle.std.specs.Option.{unwrap_or}
 use Rattle.sq_isa.specs.Registers.{written}
 use Rattle.sq_isa.specs.Words.{wrapped}
@@ -18,7 +18,8 @@ use Rattle.sq_program.specs.Programs.{Word, Program, word_at, is_in_text, end_of
 use Rattle.sq_program.specs.Reached.{Decides}
 use Rattle.sq_program.specs.Faults.{text_refusal}
 use Rattle.sq_program.specs.Monitored.{monitored_step}
-use Rattle.sq_lifting.specs.Lifting.{IsLinked, watched_start}
+use Rattle.sq_program.specs.FileRuns.{watched_start}
+use Rattle.sq_lifting.specs.Lifting.{IsLinked}
 
 -- each reached word stands for its own address, and an upper half keeps its word
 abbrev pub own_names : (ℕ → Bool) → Erasing

@@ -1,16 +1,16 @@
 -- What refuses a program: a fault of a reached word of text, the one of least address, and of its faults the one of
 -- least number.
-use Rattle.std.specs.Prelude.{◌≡◌, ℕ, ◌+◌, ◌%◌, Bool, true, false, not, ◌==◌, ◌&&◌, ◌||◌, List, [], ◌∷◌, ◌++◌, Option, Some, None, if◌then◌else◌}
-use Rattle.std.specs.Option.{option_map, option_or, is_some}
+use Rattle.std.specs.Prelude.{ℕ, ◌+◌, ◌%◌, Bool, true, false, not, ◌==◌, ◌&&◌, ◌||◌, List, [], ◌∷◌, Option, Some, None, if◌then◌else◌}
+use Rattle.std.specs.Option.{option_or, is_some}
 use Rattle.std.specs.List.{list_any}
 use Rattle.sq_num.specs.declared.refusal.Refusal.{Refusal}
 use Rattle.sq_num.specs.declared.refusal.Refusal.TheVariants.{UnsupportedReloc, RelocDisagrees, UnsupportedInstruction, BadTarget, FallsOffText, UnrelocatedAuipc, ReadsText, ConflictingReloc, LoneHalf}
 use Rattle.sq_isa.specs.declared.instructions.Insn.{Insn}
 use Rattle.sq_isa.specs.declared.instructions.Insn.TheVariants.{Auipc, Load, Store}
 use Rattle.sq_reloc.specs.declared.mark.Mark.{Mark}
-use Rattle.sq_reloc.specs.declared.mark.Mark.TheVariants.{Plain, Lo, Unsupported, Disagrees, Conflict, Lone}
+use Rattle.sq_reloc.specs.declared.mark.Mark.TheVariants.{Lo, Unsupported, Disagrees, Conflict, Lone}
 use Rattle.sq_program.specs.Programs.{Word, Text, Program, is_word, is_in_text, insn_in, end_of}
-use Rattle.sq_program.specs.Reached.{jump_target, half_target, goes_on}
+use Rattle.sq_program.specs.Reached.{jump_target, half_target, insn_goes_on}
 use Rattle.sq_program.specs.Notes.{is_plain}
 
 -- the refusal where the test holds, or else the later one
@@ -35,19 +35,19 @@ is_astray t at mark insn =
 
 -- 22: the instruction goes on, or calls, and text ends behind it
 abbrev pub falls_off : Text → ℕ → Insn → Bool
-falls_off t at insn = goes_on insn && at + 4 == end_of t
+falls_off t at insn = insn_goes_on insn && at + 4 == end_of t
 
--- 23: an `auipc` with no half of an address
 abbrev pub is_auipc : Insn → Bool
 is_auipc (Auipc rd upper) = true
 is_auipc insn = false
 
--- 24: a load or a store at an address in text
+-- a load or a store
 abbrev pub is_access : Insn → Bool
 is_access (Load kind rd rs offset) = true
 is_access (Store kind rs src offset) = true
 is_access insn = false
 
+-- the lower half of an address in text
 abbrev pub is_lower_in_text : Text → Mark → Bool
 is_lower_in_text t (Lo to) = is_in_text t to
 is_lower_in_text t mark = false
@@ -61,7 +61,8 @@ abbrev pub is_lone : Mark → Bool
 is_lone Lone = true
 is_lone mark = false
 
--- THE fault of a word at an address, by ascending numbers
+-- THE fault of a word at an address, by ascending numbers. 23: an `auipc` with no half of an address. 24: a load or a store
+-- at an address in text
 abbrev pub fault_of : Text → ℕ → Word → Option Refusal
 fault_of t at w =
     option_or (mark_refusal at w.mark)

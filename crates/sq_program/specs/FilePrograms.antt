@@ -1,12 +1,14 @@
 -- The program of a file, and the refusals of its text and its note.
-use Rattle.std.specs.Prelude.{◌≡◌, ℕ, zero, suc, ◌+◌, ◌-◌, ◌/◌, ◌<◌, Bool, List, [], ◌∷◌, length, Option, Some, None, slice_get}
+use Rattle.std.specs.Prelude.{◌≡◌, ℕ, zero, suc, ◌+◌, ◌-◌, ◌/◌, ◌<◌, Bool, List, [], ◌∷◌, Option, Some, None, slice_get}
 use Rattle.std.specs.Option.{unwrap_or, option_or, option_map}
 use Rattle.sq_num.specs.declared.refusal.Refusal.{Refusal}
 use Rattle.sq_num.specs.declared.refusal.Refusal.TheVariants.{BadNote}
 use Rattle.sq_elf.specs.Headers.{entry_of}
 use Rattle.sq_elf.specs.Text.{text_of as text_range}
 use Rattle.sq_elf.specs.Reading.{word_of}
+use Rattle.sq_elf.specs.Refusing.{file_refusal_of}
 use Rattle.sq_reloc.specs.CodeWords.{AreCodeWords}
+use Rattle.sq_reloc.specs.Refusing.{reloc_refusal_of}
 use Rattle.sq_reloc.specs.Marks.{mark_of}
 use Rattle.sq_graph.specs.Graph.{Graph}
 use Rattle.sq_graph.specs.Lines.{Line, Name, Do, Enter, Return, End, lines_of}
@@ -58,7 +60,7 @@ LinkDies g procedure link (Do half insn ∷ rest) = LinkDies g procedure link re
 LinkDies g procedure link (Return r ∷ rest) = LinkDies g procedure link rest
 LinkDies g procedure link (End term ∷ rest) = LinkDies g procedure link rest
 
--- the last condition of a note whose procedure is reached: behind each `jal` to it the link is dead
+-- what is asked of the graph where a note's address is reached: behind each `jal` to it the link is dead
 abbrev pub NoteDies : (ℕ → Bool) → Program → Note → Type 0
 NoteDies is p note =
     (procedure : ℕ) → procedure_at (used_notes is p.notes) note.address ≡ Some procedure → LinkDies (lifted is p) procedure note.link (lines_of (lifted is p).blocks)
@@ -70,17 +72,25 @@ pub record IsFirstAlive (is : ℕ → Bool) (p : Program) (i : ℕ) : Type 0 whe
   pub there : slice_get p.notes i ≡ Some note
   pub alive : ¬ NoteDies is p note
 
+-- the file passes what is asked before its text, p is its program, and the test decides which words are reached
+pub record IsReadAs (bytes : List ℕ) (is : ℕ → Bool) (p : Program) : Type 0 where
+  pub file : file_refusal_of bytes ≡ None
+  pub relocs : reloc_refusal_of bytes ≡ None
+  pub program : IsProgramOf bytes p
+  pub reached : Decides p is
+
 -- THE refusal of a file by its text and its note; each entry of the note is counted from 1
 pub data IsLiftRefusal (bytes : List ℕ) (is : ℕ → Bool) (p : Program) : Refusal → Type 0 where
-  early : {refusal : Refusal} → early_refusal bytes is p ≡ Some refusal → IsLiftRefusal bytes is p refusal
-  alive : {i : ℕ} → early_refusal bytes is p ≡ None → IsFirstAlive is p i → IsLiftRefusal bytes is p (BadNote (i + 1))
+  early : {refusal : Refusal} → IsReadAs bytes is p → early_refusal bytes is p ≡ Some refusal → IsLiftRefusal bytes is p refusal
+  alive : {i : ℕ} → IsReadAs bytes is p → early_refusal bytes is p ≡ None → IsFirstAlive is p i → IsLiftRefusal bytes is p (BadNote (i + 1))
 
--- text and note refuse nothing
+-- nothing of the file is refused
 pub record IsAccepted (bytes : List ℕ) (is : ℕ → Bool) (p : Program) : Type 0 where
+  pub read : IsReadAs bytes is p
   pub early : early_refusal bytes is p ≡ None
   pub dies : (i : ℕ) (note : Note) → slice_get p.notes i ≡ Some note → NoteDies is p note
 
--- THE lifted graph of a file, but for the names of blocks
+-- g is THE lifted graph of the file, but for the names of blocks
 pub record IsLiftedFrom (bytes : List ℕ) (is : ℕ → Bool) (p : Program) (g : Graph) : Type 0 where
   pub accepted : IsAccepted bytes is p
   pub alike : AreAlike (lifted is p) g

@@ -1,10 +1,9 @@
--- Runs of files under the monitor, and when two files behave the same.
-use Rattle.std.specs.Prelude.{◌≡◌, ℕ, suc, ◌+◌, ◌-◌, ◌%◌, ◌==◌, List, [], ◌∷◌, ◌++◌, length, replicate, map, Option, Some, None, if◌then◌else◌, nat_lt}
+-- Runs of files under the monitor. p is the program of the file.
+use Rattle.std.specs.Prelude.{ℕ, suc, ◌+◌, ◌-◌, ◌%◌, ◌==◌, List, [], ◌∷◌, ◌++◌, length, replicate, map, Option, Some, None, if◌then◌else◌, nat_lt}
 use Rattle.std.specs.Option.{option_map}
 use Rattle.std.specs.List.{flat_map}
 use Rattle.sq_runs.specs.Runs.{Trace, trace, IsUnbroken}
-use Rattle.sq_runs.specs.Follows.{SameRuns}
-use Rattle.sq_system.specs.Starts.{Start, IsValidStart}
+use Rattle.sq_system.specs.Starts.{Start}
 use Rattle.sq_system.specs.World.{World as Layout}
 use Rattle.sq_system.specs.declared.event.Event.{Event}
 use Rattle.sq_system.specs.declared.event.Halt.{Halt}
@@ -14,7 +13,7 @@ use Rattle.sq_elf.specs.Segments.{copy_size}
 use Rattle.sq_reloc.specs.declared.mark.CodeWord.{CodeWord}
 use Rattle.sq_reloc.specs.Outside.{is_stale, word_start}
 use Rattle.sq_follow.specs.Worlds.{StartByte, Given, OfWord, StaleByte, StartPiece, World, layout_of, core_at_start}
-use Rattle.sq_program.specs.Programs.{Text, Program, end_of, target_of}
+use Rattle.sq_program.specs.Programs.{Program, end_of, target_of}
 use Rattle.sq_program.specs.Monitored.{Watched, monitored_step}
 
 -- the number of the code word at an address
@@ -60,10 +59,9 @@ world_of bytes p = record {
   code_words = length p.code_words;
 }
 
--- the start of the monitored run: pc is the entry, and the code words hold their targets
-abbrev pub watched_at_start : List ℕ → Program → Start → Watched
-watched_at_start bytes p start =
-    record { pc = p.entry; core = core_at_start (world_of bytes p) (map target_of p.code_words) start }
+-- the start of the monitored run of a program over a world: pc is the entry, and the code words hold their targets
+abbrev pub watched_start : World → Program → Start → Watched
+watched_start w p start = record { pc = p.entry; core = core_at_start w (map target_of p.code_words) start }
 
 abbrev pub watched_layout : List ℕ → Program → Start → Layout
 watched_layout bytes p start = layout_of (world_of bytes p) start
@@ -71,7 +69,7 @@ watched_layout bytes p start = layout_of (world_of bytes p) start
 -- THE monitored trace of a file: the events of the first n steps, and Running, the halt, or a break
 abbrev pub monitored_trace : List ℕ → Program → Start → ℕ → Trace Event Halt
 monitored_trace bytes p start n =
-    trace (monitored_step (watched_layout bytes p start) p.text) n (watched_at_start bytes p start)
+    trace (monitored_step (watched_layout bytes p start) p.text) n (watched_start (world_of bytes p) p start)
 
 -- none of the first n monitored steps is a break
 abbrev pub IsUnbrokenRun : List ℕ → Program → Start → ℕ → Type 0

@@ -1,7 +1,6 @@
 -- The graph of a program. Names are addresses: of a block that of its first word.
-use Rattle.std.specs.Prelude.{◌≡◌, ℕ, zero, suc, ◌+◌, Bool, true, false, not, ◌==◌, ◌&&◌, ◌||◌, List, [], ◌∷◌, ◌++◌, Option, Some, None, map, if◌then◌else◌}
+use Rattle.std.specs.Prelude.{ℕ, zero, suc, ◌+◌, Bool, true, false, not, ◌==◌, ◌&&◌, ◌||◌, List, [], ◌∷◌, ◌++◌, Option, Some, None, map, if◌then◌else◌}
 use Rattle.std.specs.Option.{option_map}
-use Rattle.std.specs.List.{list_any}
 use Rattle.sq_isa.specs.Registers.{is_among}
 use Rattle.sq_reloc.specs.declared.mark.CodeWord.{CodeWord}
 use Rattle.sq_graph.specs.declared.item.Item.{Item}
@@ -22,29 +21,29 @@ procedure_at [] x = None
 procedure_at (note ∷ notes) x = if note.address == x then Some 0 else option_map suc (procedure_at notes x)
 
 -- an item, or a term
-pub data Piece : Type 0 where
-  ItemPiece : Item → Piece
-  TermPiece : Term → Piece
+pub data Form : Type 0 where
+  ItemForm : Item → Form
+  TermForm : Term → Form
 
 -- a `jal` with a link: an Out where its target is noted, else a Call
-abbrev pub link_piece : ℕ → ℕ → Option ℕ → Piece
-link_piece link to None = TermPiece (Call link to)
-link_piece link to (Some procedure) = ItemPiece (Out procedure)
+abbrev pub link_form : ℕ → ℕ → Option ℕ → Form
+link_form link to None = TermForm (Call link to)
+link_form link to (Some procedure) = ItemForm (Out procedure)
 
-abbrev pub piece_of : List Note → Reading → Piece
-piece_of notes (IsItem item) = ItemPiece item
-piece_of notes (IsTerm term) = TermPiece term
-piece_of notes (Links link to) = link_piece link to (procedure_at notes to)
+abbrev pub form_of : List Note → Reading → Form
+form_of notes (IsItem item) = ItemForm item
+form_of notes (IsTerm term) = TermForm term
+form_of notes (Links link to) = link_form link to (procedure_at notes to)
 
 -- Leaders: the entry, the targets of code words, of Hi and Lo, of Jump, Branch, Call and PartJump, and the word behind a
 -- Branch, a Call, or a PartJump or Indirect whose link isn't x0
-abbrev pub piece_leads : ℕ → Piece → List ℕ
-piece_leads at (ItemPiece item) = item_uses item
-piece_leads at (TermPiece term) = term_uses term ++ (if goes_on term then (at + 4) ∷ [] else [])
+abbrev pub form_leads : ℕ → Form → List ℕ
+form_leads at (ItemForm item) = item_uses item
+form_leads at (TermForm term) = term_uses term ++ (if goes_on term then (at + 4) ∷ [] else [])
 
 abbrev pub reading_leads : List Note → ℕ → Option Reading → List ℕ
 reading_leads notes at None = []
-reading_leads notes at (Some reading) = piece_leads at (piece_of notes reading)
+reading_leads notes at (Some reading) = form_leads at (form_of notes reading)
 
 -- a reached word of these, which stand from `at` on, makes x a leader
 abbrev pub words_lead : (ℕ → Bool) → List Note → Text → ℕ → List Word → ℕ → Bool
@@ -71,20 +70,21 @@ abbrev pub between : List Block → Rest
 between blocks = record { items = []; term = Fall; blocks = blocks }
 
 -- an item stands before the rest of its block; a term is the end of its block
-abbrev pub with_piece : Piece → Rest → Rest
-with_piece (ItemPiece item) rest = record rest { items = item ∷ rest.items }
-with_piece (TermPiece term) rest = record { items = []; term = term; blocks = rest.blocks }
+abbrev pub with_form : Form → Rest → Rest
+with_form (ItemForm item) rest = record rest { items = item ∷ rest.items }
+with_form (TermForm term) rest = record { items = []; term = term; blocks = rest.blocks }
 
 abbrev pub with_reading : List Note → Option Reading → Rest → Rest
 with_reading notes None rest = rest
-with_reading notes (Some reading) rest = with_piece (piece_of notes reading) rest
+with_reading notes (Some reading) rest = with_form (form_of notes reading) rest
 
 -- the block that begins here, where a leader does
 abbrev pub begun_if : Bool → ℕ → Rest → Rest
 begun_if true at rest = between (record { name = at; items = rest.items; term = rest.term } ∷ rest.blocks)
 begun_if false at rest = rest
 
--- a block is a leader and what follows up to a term, or to the next leader and then with Fall
+-- a block is a leader and what follows up to a term, or to the next leader and then with Fall. Where nothing is refused,
+-- only a leader follows a term or a word that isn't kept, and each kept word reads
 abbrev pub cut : (ℕ → Bool) → (ℕ → Bool) → List Note → Text → ℕ → List Word → Rest
 cut keeps leads notes t at [] = between []
 cut keeps leads notes t at (w ∷ words) =

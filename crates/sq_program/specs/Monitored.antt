@@ -1,5 +1,5 @@
 -- The monitored run of a program: the table of tagged values over the words of its text, where names are addresses.
-use Rattle.std.specs.Prelude.{◌≡◌, ℕ, ℤ, zero, suc, ◌+◌, Bool, true, false, ◌==◌, Option, Some, None, if◌then◌else◌}
+use Rattle.std.specs.Prelude.{ℕ, ℤ, ◌+◌, Bool, true, false, Option, Some, None}
 use Rattle.sq_isa.specs.Words.{wrapped, upper_word}
 use Rattle.sq_isa.specs.Uses.{destination_of}
 use Rattle.sq_isa.specs.Registers.{written}
@@ -11,11 +11,11 @@ use Rattle.sq_system.specs.declared.event.Event.{Event}
 use Rattle.sq_system.specs.declared.event.Halt.{Halt}
 use Rattle.sq_system.specs.declared.event.Halt.TheVariants.{Fetch, Illegal}
 use Rattle.sq_reloc.specs.declared.mark.Mark.{Mark}
-use Rattle.sq_reloc.specs.declared.mark.Mark.TheVariants.{Plain as PlainMark, Hi, Lo}
+use Rattle.sq_reloc.specs.declared.mark.Mark.TheVariants.{Hi, Lo}
 use Rattle.sq_graph.specs.Lines.{AddressHalf, Plain, Upper, Lower}
 use Rattle.sq_follow.specs.declared.kind.Kind.{Kind}
 use Rattle.sq_follow.specs.declared.kind.Kind.TheVariants.{Arithmetic}
-use Rattle.sq_follow.specs.Values.{Code, Value, Num, Tagged, Held, Holds}
+use Rattle.sq_follow.specs.Values.{Code, Value, Tagged, Holds}
 use Rattle.sq_follow.specs.Settings.{Setting}
 use Rattle.sq_follow.specs.Arithmetic.{is_taken}
 use Rattle.sq_follow.specs.Accesses.{Step}
@@ -23,7 +23,7 @@ use Rattle.sq_follow.specs.Rows.{row_of}
 use Rattle.sq_follow.specs.Jumps.{Destination, ToName, ToNumber, Jumped, indirect_jump, part_jump, stop}
 use Rattle.sq_follow.specs.GraphRuns.{Core, register_value, operands}
 use Rattle.sq_program.specs.Programs.{Word, Text, word_at, insn_in, is_in_text, end_of}
-use Rattle.sq_program.specs.Reached.{reached_from}
+use Rattle.sq_program.specs.Reached.{target_from}
 
 -- the address of the instruction that comes, and the registers and the store
 pub record Watched : Type 0 where
@@ -90,11 +90,11 @@ jalr_jump s Plain offset value = indirect_jump s offset value
 
 -- what an instruction does
 abbrev pub insn_step : Setting → ℕ → AddressHalf → Insn → Core → Watches
-insn_step s at half (Jal rd offset) core = at_address (reached_from at offset) (with_link rd at core)
+insn_step s at half (Jal rd offset) core = at_address (target_from at offset) (with_link rd at core)
 insn_step s at half (Jalr rd rs offset) core =
     jumped rd at core (jalr_jump s half offset (register_value rs core.registers))
 insn_step s at half (Branch cond a b offset) core =
-    branched at (reached_from at offset) core (is_taken s cond (register_value a core.registers) (register_value b core.registers))
+    branched at (target_from at offset) core (is_taken s cond (register_value a core.registers) (register_value b core.registers))
 insn_step s at half Ebreak core = Ended (stop 0x00100073)
 insn_step s at half (Unimp word) core = Ended (stop word)
 insn_step s at half insn core =

@@ -1,5 +1,5 @@
 -- The note of a file: a section that lists procedures. Its format is this project's own.
-use Rattle.std.specs.Prelude.{◌≡◌, ℕ, zero, suc, ◌+◌, ◌*◌, Bool, false, true, ◌==◌, ◌&&◌, nat_le, List, [], ◌∷◌, ◌++◌, length, Option, Some, None, if◌then◌else◌}
+use Rattle.std.specs.Prelude.{ℕ, zero, suc, ◌+◌, ◌*◌, Bool, false, true, ◌==◌, ◌&&◌, nat_le, List, [], ◌∷◌, ◌++◌, length, Option, Some, None, if◌then◌else◌}
 use Rattle.sq_elf.specs.declared.section.Section.{Section}
 use Rattle.sq_elf.specs.Fields.{u32_field}
 use Rattle.sq_elf.specs.Headers.{shnum_of}
@@ -42,6 +42,7 @@ abbrev pub item_run_from : Text → ℕ → ℕ → List Word → ℕ
 item_run_from t x at [] = 0
 item_run_from t x at (w ∷ words) = if x == at then item_run t at (w ∷ words) else item_run_from t x (at + 4) words
 
+-- the body has no items where the address is no word of text
 abbrev pub short_note : Text → List ℕ → ℕ → Note
 short_note t note at = record {
   address = u32_field note at;
@@ -71,10 +72,10 @@ magic_1 = 0x315a5153
 abbrev pub magic_2 : ℕ
 magic_2 = 0x325a5153
 
--- a note is its version, the number of its entries, and these; its size is just theirs
+-- a note is its version, the number of its entries, and these, with nothing behind
 abbrev pub is_note_of : ℕ → ℕ → List ℕ → Bool
-is_note_of magic size note =
-    nat_le 8 (length note) && u32_field note 0 == magic && length note == 8 + size * u32_field note 4
+is_note_of magic entry_size note =
+    nat_le 8 (length note) && u32_field note 0 == magic && length note == 8 + entry_size * u32_field note 4
 
 abbrev pub notes_in : Text → List ℕ → Option (List Note)
 notes_in t note =

@@ -1,18 +1,18 @@
--- Noted procedures, and what is asked of each.
-use Rattle.std.specs.Prelude.{◌≡◌, ℕ, zero, suc, pos, ◌+◌, Bool, true, false, not, ◌==◌, ◌&&◌, ◌||◌, nat_lt, nat_le, List, [], ◌∷◌, ◌++◌, Option, Some, None, map, if◌then◌else◌}
+-- Noted procedures, and what is asked of each: its place in the note, its body, and that nothing leads into it but its
+-- calls. That its link is dead behind each call is asked of the graph.
+use Rattle.std.specs.Prelude.{ℕ, zero, suc, pos, ◌+◌, Bool, true, false, not, ◌==◌, ◌&&◌, ◌||◌, nat_lt, List, [], ◌∷◌, Option, Some, None, map, if◌then◌else◌}
 use Rattle.std.specs.Ordering.{int_eq}
 use Rattle.std.specs.List.{list_any}
 use Rattle.sq_isa.specs.declared.instructions.Insn.{Insn}
 use Rattle.sq_isa.specs.declared.instructions.Insn.TheVariants.{Jal, Jalr}
 use Rattle.sq_reloc.specs.declared.mark.Mark.{Mark}
 use Rattle.sq_reloc.specs.declared.mark.Mark.TheVariants.{Plain}
-use Rattle.sq_graph.specs.declared.item.Item.{Item}
 use Rattle.sq_graph.specs.Rules.{mentions}
 use Rattle.sq_program.specs.Programs.{Word, Text, Note, Program, word_at, is_word, insn_in, target_of}
 use Rattle.sq_program.specs.Reached.{jump_target, half_target, next_word}
 use Rattle.sq_program.specs.Readings.{Reading, IsItem, IsTerm, Links, reading_at}
 
--- the notes whose procedures are reached, by a test of addresses
+-- the notes whose addresses are reached, by a test
 abbrev pub used_notes : (ℕ → Bool) → List Note → List Note
 used_notes is [] = []
 used_notes is (note ∷ notes) = if is note.address then note ∷ used_notes is notes else used_notes is notes
@@ -29,23 +29,24 @@ is_in_procedure note x = is_within note.address (note.length + 1) x
 abbrev pub is_in_procedures : List Note → ℕ → Bool
 is_in_procedures notes x = list_any (λ note. is_in_procedure note x) notes
 
--- 1: the address is that of a word of text and above that of the note before, and the link is a register but x0
+-- The place: the address is that of a word of text and above that of the note before, and the link is a register but x0
 abbrev pub is_above : Option ℕ → ℕ → Bool
 is_above None address = true
 is_above (Some before) address = nat_lt before address
 
-abbrev pub is_register : ℕ → Bool
-is_register r = nat_lt 0 r && nat_lt r 32
+abbrev pub is_real_register : ℕ → Bool
+is_real_register r = nat_lt 0 r && nat_lt r 32
 
 abbrev pub is_in_order : Text → Option ℕ → Note → Bool
-is_in_order t before note = is_word t note.address && is_above before note.address && is_register note.link
+is_in_order t before note = is_word t note.address && is_above before note.address && is_real_register note.link
 
--- 2: at its address stand its items, none of which mentions the link, and behind them `jalr x0,0(link)`, with no half
-abbrev pub is_item_but : ℕ → Option Reading → Bool
-is_item_but link None = false
-is_item_but link (Some (IsItem item)) = not (mentions item link)
-is_item_but link (Some (IsTerm term)) = false
-is_item_but link (Some (Links r to)) = false
+-- The body: at its address stand its items, none of which mentions the link, and behind them `jalr x0,0(link)`, with no
+-- half of an address
+abbrev pub is_item_without : ℕ → Option Reading → Bool
+is_item_without link None = false
+is_item_without link (Some (IsItem item)) = not (mentions item link)
+is_item_without link (Some (IsTerm term)) = false
+is_item_without link (Some (Links r to)) = false
 
 abbrev pub returns_through : ℕ → Option Insn → Bool
 returns_through link (Some (Jalr rd rs offset)) = rd == 0 && rs == link && int_eq offset (pos 0)
@@ -61,26 +62,26 @@ is_return link (Some w) = is_plain w.mark && returns_through link (insn_in w)
 
 abbrev pub has_body : Text → ℕ → ℕ → ℕ → Bool
 has_body t link at zero = is_return link (word_at t at)
-has_body t link at (suc n) = is_item_but link (reading_at t at) && has_body t link (at + 4) n
+has_body t link at (suc n) = is_item_without link (reading_at t at) && has_body t link (at + 4) n
 
 abbrev pub is_procedure : Text → Note → Bool
 is_procedure t note = nat_lt 0 note.length && has_body t note.link note.address note.length
 
--- 3: nothing leads into the procedure but a `jal link` to its first word
+-- Its calls: nothing leads into the procedure but a `jal link` to its first word
 
 -- the instruction is a `jal` with the link, and x is the procedure's first word
 abbrev pub is_call : Note → Insn → ℕ → Bool
 is_call note (Jal rd offset) x = rd == note.link && x == note.address
 is_call note insn x = false
 
--- a reached word outside the procedure leads to a word of it: by its next word, or as a target, but by such a `jal`
+-- a reached word outside the procedure leads to a word of it, by its next word or as a target, other than as a call
 abbrev pub enters_from_outside : Note → ℕ → Insn → Bool
 enters_from_outside note at insn =
     not (is_in_procedure note at)
     && (list_any (is_in_procedure note) (next_word at insn)
-        || list_any (λ x. is_in_procedure note x && not (is_call note insn x)) (jump_target at insn))
+    || list_any (λ x. is_in_procedure note x && not (is_call note insn x)) (jump_target at insn))
 
--- a half of an address that is in the procedure, or such a word
+-- an instruction with this mark enters: its half is that of a word of the procedure, or it leads in from outside
 abbrev pub insn_enters : Note → ℕ → Mark → Insn → Bool
 insn_enters note at mark insn =
     list_any (is_in_procedure note) (half_target mark) || enters_from_outside note at insn

@@ -1,7 +1,7 @@
 -- A linked program as lifting and the monitor see it: words of text, what relocations say of them, and what names
 -- them from outside.
 use Rattle.std.specs.Prelude.{◌≡◌, ℕ, ◌+◌, ◌*◌, true, Bool, ◌&&◌, ◌==◌, nat_le, nat_lt, List, [], ◌∷◌, length, Option, Some, None, if◌then◌else◌}
-use Rattle.std.specs.Option.{option_map, option_and_then, is_some}
+use Rattle.std.specs.Option.{option_and_then, is_some}
 use Rattle.sq_isa.specs.Table.{insn_of}
 use Rattle.sq_isa.specs.declared.instructions.Insn.{Insn}
 use Rattle.sq_reloc.specs.declared.mark.Mark.{Mark}

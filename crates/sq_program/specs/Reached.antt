@@ -10,13 +10,13 @@ use Rattle.sq_reloc.specs.declared.mark.Mark.TheVariants.{Hi, Lo}
 use Rattle.sq_program.specs.Programs.{Word, Text, Program, word_at, IsWord, insn_in, target_of}
 
 -- the address that an offset gives from the instruction at `at`
-abbrev pub reached_from : ℕ → ℤ → ℕ
-reached_from at offset = wrapped (at + unsigned offset)
+abbrev pub target_from : ℕ → ℤ → ℕ
+target_from at offset = wrapped (at + unsigned offset)
 
 -- the target of a branch or a `jal` at this address
 abbrev pub jump_target : ℕ → Insn → List ℕ
-jump_target at (Jal rd offset) = reached_from at offset ∷ []
-jump_target at (Branch cond a b offset) = reached_from at offset ∷ []
+jump_target at (Jal rd offset) = target_from at offset ∷ []
+jump_target at (Branch cond a b offset) = target_from at offset ∷ []
 jump_target at insn = []
 
 -- the address that a half stands for
@@ -26,16 +26,16 @@ half_target (Lo t) = t ∷ []
 half_target mark = []
 
 -- a run may go on to the next word, at once or when what is called returns: the instruction is no `jal x0`, no `jalr`
--- with rd x0, no EBREAK and no word that stands for no instruction
-abbrev pub goes_on : Insn → Bool
-goes_on (Jal rd offset) = not (rd == 0)
-goes_on (Jalr rd rs offset) = not (rd == 0)
-goes_on Ebreak = false
-goes_on (Unimp word) = false
-goes_on insn = true
+-- with rd x0, no EBREAK and no `unimp`
+abbrev pub insn_goes_on : Insn → Bool
+insn_goes_on (Jal rd offset) = not (rd == 0)
+insn_goes_on (Jalr rd rs offset) = not (rd == 0)
+insn_goes_on Ebreak = false
+insn_goes_on (Unimp word) = false
+insn_goes_on insn = true
 
 abbrev pub next_word : ℕ → Insn → List ℕ
-next_word at insn = if goes_on insn then (at + 4) ∷ [] else []
+next_word at insn = if insn_goes_on insn then (at + 4) ∷ [] else []
 
 -- where an instruction with this mark leads
 abbrev pub insn_leads : ℕ → Mark → Insn → List ℕ
@@ -60,7 +60,7 @@ pub data IsReached (p : Program) : ℕ → Type 0 where
   code_word : {x : ℕ} → Contains (map target_of p.code_words) x → IsWord p.text x → IsReached p x
   walk : {x y : ℕ} → IsReached p x → Contains (leads_from p.text x) y → IsWord p.text y → IsReached p y
 
--- a test that holds of the reached words alone
+-- a test that holds of exactly the reached words
 pub record Decides (p : Program) (is : ℕ → Bool) : Type 0 where
   pub only : (x : ℕ) → is x ≡ true → IsReached p x
   pub all : (x : ℕ) → IsReached p x → is x ≡ true

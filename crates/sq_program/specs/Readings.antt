@@ -1,6 +1,6 @@
 -- How words of text are read.
-use Rattle.std.specs.Prelude.{◌≡◌, ℕ, ℤ, pos, Bool, ◌==◌, List, Option, Some, None, if◌then◌else◌}
-use Rattle.std.specs.Option.{option_and_then, option_map_or}
+use Rattle.std.specs.Prelude.{ℕ, ◌==◌, Option, Some, None, if◌then◌else◌}
+use Rattle.std.specs.Option.{option_and_then}
 use Rattle.sq_num.specs.Halves.{high_half, low_half}
 use Rattle.sq_isa.specs.declared.instructions.Insn.{Insn}
 use Rattle.sq_isa.specs.declared.instructions.Insn.TheVariants.{Lui, Auipc, Jal, Jalr, Branch as BranchInsn, Load, Store, OpImm, Op as OpInsn, Fence, Ecall, Ebreak, Unimp, Atomic}
@@ -12,7 +12,7 @@ use Rattle.sq_graph.specs.declared.item.Item.TheVariants.{Op, Hi, Lo}
 use Rattle.sq_graph.specs.declared.item.Term.{Term}
 use Rattle.sq_graph.specs.declared.item.Term.TheVariants.{Jump, Branch, PartJump, Indirect, Stop}
 use Rattle.sq_program.specs.Programs.{Word, Text, word_at, is_in_text, insn_in}
-use Rattle.sq_program.specs.Reached.{reached_from}
+use Rattle.sq_program.specs.Reached.{target_from}
 
 -- an item, a term, or a `jal` with this link to this address, which is an Out or a Call. Names are addresses
 pub data Reading : Type 0 where
@@ -32,9 +32,9 @@ ebreak_word = 0x00100073
 abbrev pub plain_reading : ℕ → Insn → Option Reading
 plain_reading at (Lui rd upper) = Some (IsItem (Op (Lui rd upper)))
 plain_reading at (Auipc rd upper) = None
-plain_reading at (Jal rd offset) = Some (jal_reading rd (reached_from at offset))
+plain_reading at (Jal rd offset) = Some (jal_reading rd (target_from at offset))
 plain_reading at (Jalr rd rs offset) = Some (IsTerm (Indirect rd rs offset))
-plain_reading at (BranchInsn cond a b offset) = Some (IsTerm (Branch cond a b (reached_from at offset)))
+plain_reading at (BranchInsn cond a b offset) = Some (IsTerm (Branch cond a b (target_from at offset)))
 plain_reading at (Load kind rd rs offset) = Some (IsItem (Op (Load kind rd rs offset)))
 plain_reading at (Store kind rs src offset) = Some (IsItem (Op (Store kind rs src offset)))
 plain_reading at (OpImm op rd rs imm) = Some (IsItem (Op (OpImm op rd rs imm)))
@@ -54,8 +54,8 @@ upper_reading t to (Lui rd upper) = Some (IsItem (upper_item t to rd))
 upper_reading t to (Auipc rd upper) = Some (IsItem (upper_item t to rd))
 upper_reading t to insn = None
 
--- the lower half of an address: where it is in text a Lo, and a PartJump; else the instruction with this half. A load or
--- a store in text is not packed
+-- the lower half of an address: where it is in text a Lo, and a PartJump; else the instruction with this half. A load
+-- from text or a store to it has no reading
 abbrev pub lower_reading : Text → ℕ → Insn → Option Reading
 lower_reading t to (OpImm Addi rd rs imm) =
     Some (IsItem (if is_in_text t to then Lo rd rs to else Op (OpImm Addi rd rs (low_half to))))
