@@ -1,4 +1,4 @@
--- Operations and comparisons on tagged values. Destination there is no answer, the run breaks.
+-- Operations and comparisons on tagged values. Where there is no answer, the run breaks.
 use Rattle.std.specs.Prelude.{ℕ, ℤ, pos, ◌+◌, Bool, true, false, not, ◌==◌, ◌&&◌, Option, Some, None, if◌then◌else◌}
 use Rattle.std.specs.Ordering.{int_eq}
 use Rattle.sq_isa.specs.Values.{value_of, value_imm_of}

@@ -1,4 +1,4 @@
--- Destination jumps go on tagged values.
+-- Where jumps go, on tagged values.
 use Rattle.std.specs.Prelude.{ℕ, ℤ, ◌+◌, pos, None, ◌==◌, if◌then◌else◌}
 use Rattle.std.specs.Ordering.{int_eq}
 use Rattle.sq_isa.specs.Words.{wrapped, unsigned, even}

@@ -1,11 +1,11 @@
-mod Memories
-mod Loading
-mod Calling
-mod Rows
-mod Deeds
-mod LiveTargets
-mod LiveSteps
-mod Starts
+pub mod Memories
+pub mod Loading
+pub mod Calling
+pub mod Rows
+pub mod Deeds
+pub mod LiveTargets
+pub mod LiveSteps
+pub mod Starts
 mod Patch
 mod Shrink
 mod Keeping

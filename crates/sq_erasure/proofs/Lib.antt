@@ -1,0 +1,5 @@
+mod Cells
+pub mod Accessing
+mod Calling
+pub mod Rows
+pub mod TextKept

@@ -1,0 +1,11 @@
+pub mod Programs
+pub mod Reached
+pub mod Readings
+pub mod Notes
+pub mod NoteSections
+pub mod Faults
+pub mod Lifted
+pub mod Alike
+pub mod FilePrograms
+pub mod Monitored
+pub mod FileRuns
