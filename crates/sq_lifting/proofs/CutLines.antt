@@ -40,14 +40,14 @@ match_or : (b : Bool) (A : Type 0) → A → MatchBool b (Unit {0}) A
 match_or true A h = tt
 match_or false A h = h
 
-items_no_name : (x : ℕ) (items : List Item) (ls : List Line) → HasName x (map line_of items ++ ls) → HasName x ls
+pub items_no_name : (x : ℕ) (items : List Item) (ls : List Line) → HasName x (map line_of items ++ ls) → HasName x ls
 items_no_name x [] ls h = h
 items_no_name x (Op insn ∷ items) ls h = items_no_name x items ls h
 items_no_name x (Hi rd to ∷ items) ls h = items_no_name x items ls h
 items_no_name x (Lo rd rs to ∷ items) ls h = items_no_name x items ls h
 items_no_name x (Out procedure ∷ items) ls h = items_no_name x items ls h
 
-term_no_name : (x : ℕ) (term : Term) (ls : List Line) → HasName x (term_lines term ls) → HasName x ls
+pub term_no_name : (x : ℕ) (term : Term) (ls : List Line) → HasName x (term_lines term ls) → HasName x ls
 term_no_name x Fall ls h = h
 term_no_name x (Jump to) ls h = h
 term_no_name x (Branch cond a b to) ls h = h
@@ -99,7 +99,7 @@ has_cut keeps leads ns t x at w (v ∷ words) k l e = go (x == at) refl e (λ h.
         cond_both (keeps at) (begun_if (leads at) at (with_reading ns (reading_of t at v) (cut keeps leads ns t (at + 4) words))) (cut keeps leads ns t (at + 4) words) (λ r. HasName x (rest_lines r))
         (λ _. begun_named (leads at) at x (with_reading ns (reading_of t at v) (cut keeps leads ns t (at + 4) words)) (reading_named ns (reading_of t at v) x (cut keeps leads ns t (at + 4) words) (rec h))) (λ _. rec h)
 
-head_cut : (keeps leads : ℕ → Bool) (ns : List Note) (t : Text) (at : ℕ) (w : Word) (words : List Word) → keeps at ≡ true → leads at ≡ true → word_from at at words ≡ Some w → (ys : List Line) × (rest_lines (cut keeps leads ns t at words) ≡ Name at ∷ ys)
+pub head_cut : (keeps leads : ℕ → Bool) (ns : List Note) (t : Text) (at : ℕ) (w : Word) (words : List Word) → keeps at ≡ true → leads at ≡ true → word_from at at words ≡ Some w → (ys : List Line) × (rest_lines (cut keeps leads ns t at words) ≡ Name at ∷ ys)
 head_cut keeps leads ns t at w [] k l e = absurd (cc)
 head_cut keeps leads ns t at w (v ∷ words) k l e = (rest_lines (with_reading ns (reading_of t at v) (cut keeps leads ns t (at + 4) words)), rw (k, l) refl)
 
@@ -115,7 +115,7 @@ term_first (PartJump link part to) rest f e = ap (λ r. End (PartJump link part 
 term_first (Indirect link at offset) rest f e = ap (λ r. End (Indirect link at offset) ∷ rest_lines r) (sym e)
 term_first (Stop word) rest f e = ap (λ r. End (Stop word) ∷ rest_lines r) (sym e)
 
-abbrev IsTermForm : Form → Type 0
+abbrev pub IsTermForm : Form → Type 0
 IsTermForm (ItemForm item) = ⊥
 IsTermForm (TermForm term) = Unit {0}
 
@@ -130,7 +130,7 @@ form_lines ns (Links link to) rest f e = link_lines link to (procedure_at ns to)
 
 -- THE DEAD LINK OF A BODY
 
-among_parts : (x : ℕ) (xs : List ℕ) (r : ℕ) → is_among_but_x0 (x ∷ xs) r ≡ false → (is_among_but_x0 xs r ≡ false) × (is_among_but_x0 (x ∷ []) r ≡ false)
+pub among_parts : (x : ℕ) (xs : List ℕ) (r : ℕ) → is_among_but_x0 (x ∷ xs) r ≡ false → (is_among_but_x0 xs r ≡ false) × (is_among_but_x0 (x ∷ []) r ≡ false)
 among_parts x xs r e = go (not (r == 0)) (x == r) (is_among xs r) e
   where
     go : (a b c : Bool) → (a && (b || c)) ≡ false → ((a && c) ≡ false) × ((a && (b || false)) ≡ false)
@@ -151,7 +151,7 @@ not_written ps (Lo rd rs to) link f e = (among_parts rd (rs ∷ []) link e).1
 not_written ps (Out procedure) link f e = absurd f
 
 -- an item that is read doesn't mention the link
-abbrev IsQuiet : ℕ → List Item → Type 0
+abbrev pub IsQuiet : ℕ → List Item → Type 0
 IsQuiet link [] = Unit {0}
 IsQuiet link (item ∷ items) = IsReadItem item × (mentions item link ≡ false) × IsQuiet link items
 
@@ -174,22 +174,22 @@ live_body g link back [] rest q h = live_return g link back rest h
 live_body g link back (item ∷ items) rest q h = live_body g link back items rest q.2 (live_past g item link (map line_of items ++ (Return back ∷ rest)) q.0 q.1 h)
 
 module _ (p : Program) (is : ℕ → Bool) (marked : IsMarkedText p.text) (dec : Decides p is) (fine : IsFine is p) where
-  abbrev T : Text
+  abbrev pub T : Text
   T = p.text
 
-  abbrev N : List Note
+  abbrev pub N : List Note
   N = ns p is marked dec fine
 
-  abbrev K : ℕ → Bool
+  abbrev pub K : ℕ → Bool
   K = keep p is marked dec fine
 
-  abbrev L : ℕ → Bool
+  abbrev pub L : ℕ → Bool
   L = lead p is marked dec fine
 
-  abbrev G : Graph
+  abbrev pub G : Graph
   G = lifted is p
 
-  abbrev Cut : ℕ → List Word → Rest
+  abbrev pub Cut : ℕ → List Word → Rest
   Cut at words = cut K L N T at words
 
   abbrev Good : Line → List Line → Type 0
@@ -199,10 +199,10 @@ module _ (p : Program) (is : ℕ → Bool) (marked : IsMarkedText p.text) (dec :
   Reads o xs = Lifts T N G o xs
 
   -- the words of a suffix of text
-  abbrev IsSuffix : ℕ → List Word → Type 0
+  abbrev pub IsSuffix : ℕ → List Word → Type 0
   IsSuffix at words = (x : ℕ) → at ≤ x → word_at T x ≡ word_from x at words
 
-  tail_suffix : (at : ℕ) (w : Word) (words : List Word) → IsSuffix at (w ∷ words) → IsSuffix (at + 4) words
+  pub tail_suffix : (at : ℕ) (w : Word) (words : List Word) → IsSuffix at (w ∷ words) → IsSuffix (at + 4) words
   tail_suffix at w words h = λ x le. h x (omega (arith, le)) ∙ at_later x at w words le
 
   -- what goes on to a kept word that is no leader stands before it, and is kept
@@ -224,18 +224,18 @@ module _ (p : Program) (is : ℕ → Bool) (marked : IsMarkedText p.text) (dec :
             subst (λ r. closes (form_line (form_of N r)) ≡ false) z b.goes,
       )
 
-  lead_if : (y : ℕ) → (L y ≡ false → ⊥) → L y ≡ true
+  pub lead_if : (y : ℕ) → (L y ≡ false → ⊥) → L y ≡ true
   lead_if y f = go (L y) refl
     where
       go : (b : Bool) → L y ≡ b → b ≡ true
       go true e = refl
       go false e = absurd (f e)
 
-  lead_skipped : (at : ℕ) → K at ≡ false → K (at + 4) ≡ true → L (at + 4) ≡ true
+  pub lead_skipped : (at : ℕ) → K at ≡ false → K (at + 4) ≡ true → L (at + 4) ≡ true
   lead_skipped at n k = lead_if (at + 4) (λ l. true_not_false (sym (before_is at k l).0 ∙ n))
 
   -- where only a leader may stand, the cut begins a block
-  closed_cut : (at : ℕ) (words : List Word) → (K at ≡ true → L at ≡ true) → Cut at words ≡ between (Cut at words).blocks
+  pub closed_cut : (at : ℕ) (words : List Word) → (K at ≡ true → L at ≡ true) → Cut at words ≡ between (Cut at words).blocks
   closed_cut at [] h = refl
   closed_cut at (w ∷ words) h = go (K at) refl (λ f. closed_cut (at + 4) words f)
     where
@@ -249,7 +249,7 @@ module _ (p : Program) (is : ℕ → Bool) (marked : IsMarkedText p.text) (dec :
 
   -- NAMES OF THE GRAPH
 
-  first_lead : K T.lo ≡ true → L T.lo ≡ true
+  pub first_lead : K T.lo ≡ true → L T.lo ≡ true
   first_lead k = lead_if T.lo (λ l.
       let i = kept_is p is marked dec fine T.lo k in
       let b = behind p is marked dec fine T.lo (dec.only T.lo i.0) i.1 l in
@@ -259,7 +259,7 @@ module _ (p : Program) (is : ℕ → Bool) (marked : IsMarkedText p.text) (dec :
       let no_way : ⊥ = omega arith in no_way)
 
   -- the whole graph is the cut from the first word on
-  whole_cut : rest_lines (Cut T.lo T.words) ≡ lines_of G.blocks
+  pub whole_cut : rest_lines (Cut T.lo T.words) ≡ lines_of G.blocks
   whole_cut = ap rest_lines (closed_cut T.lo T.words first_lead)
 
   pub has_name_of : (x : ℕ) → K x ≡ true → L x ≡ true → IsNamed T N G x
@@ -268,14 +268,14 @@ module _ (p : Program) (is : ℕ → Bool) (marked : IsMarkedText p.text) (dec :
       subst (HasName x) whole_cut (has_cut K L N T x T.lo w.0 T.words k l w.1)
 
   -- a name that a form uses
-  named_used : (x y : ℕ) (rd : ReadWord p is marked dec fine.text x) → K x ≡ true → Contains (form_uses (form_of N rd.reading)) y → IsNamed T N G y
+  pub named_used : (x y : ℕ) (rd : ReadWord p is marked dec fine.text x) → K x ≡ true → Contains (form_uses (form_of N rd.reading)) y → IsNamed T N G y
   named_used x y rd k c =
       has_name_of y (used_kept p is marked dec fine x y rd.word rd.reading rd.sound k rd.there rd.reads c)
       (lead_used p is marked dec fine x y rd.word rd.reading (kept_is p is marked dec fine x k).0 rd.there rd.reads c)
 
   -- BODIES OF PROCEDURES
 
-  body_quiet : (at link n : ℕ) → is at ≡ true → has_body T link at n ≡ true → IsQuiet link (body_from T at n)
+  pub body_quiet : (at link n : ℕ) → is at ≡ true → has_body T link at n ≡ true → IsQuiet link (body_from T at n)
   body_quiet at link zero i b = tt
   body_quiet at link (suc n) i b =
       let c = and_parts (is_item_without link (reading_at T at)) (has_body T link (at + 4) n) b in
@@ -362,7 +362,7 @@ module _ (p : Program) (is : ℕ → Bool) (marked : IsMarkedText p.text) (dec :
   -- THE LINES
 
   -- a line that goes on to a kept leader has its name behind it
-  slot_behind : (at : ℕ) (words : List Word) (w : Word) (r : Reading) (s : IsSoundWord T at w) → IsSuffix (at + 4) words → K at ≡ true → word_at T at ≡ Some w → reading_of T at w ≡ Some r → insn_goes_on s.insn ≡ true → Contains (form_leads at (form_of N r)) (at + 4) → (ys : List Line) × (rest_lines (Cut (at + 4) words) ≡ Name (at + 4) ∷ ys)
+  pub slot_behind : (at : ℕ) (words : List Word) (w : Word) (r : Reading) (s : IsSoundWord T at w) → IsSuffix (at + 4) words → K at ≡ true → word_at T at ≡ Some w → reading_of T at w ≡ Some r → insn_goes_on s.insn ≡ true → Contains (form_leads at (form_of N r)) (at + 4) → (ys : List Line) × (rest_lines (Cut (at + 4) words) ≡ Name (at + 4) ∷ ys)
   slot_behind at words w r s suffix k e rd g c =
       let k' = next_kept p is marked dec fine at w s k e g in
       let l' = lead_of p is marked dec fine at (at + 4) w r (kept_is p is marked dec fine at k).0 e rd c in
@@ -383,7 +383,7 @@ module _ (p : Program) (is : ℕ → Bool) (marked : IsMarkedText p.text) (dec :
   links_go (Indirect link at offset) e = e
   links_go (Stop word) e = absurd (cc)
 
-  goes_lead : (at : ℕ) (term : Term) → term_goes_on term ≡ true → Contains (form_leads at (TermForm term)) (at + 4)
+  pub goes_lead : (at : ℕ) (term : Term) → term_goes_on term ≡ true → Contains (form_leads at (TermForm term)) (at + 4)
   goes_lead at term e = Contains-append_right (term_uses term) (if term_goes_on term then (at + 4) ∷ [] else []) (at + 4) (rw e (one (at + 4)))
 
   term_good : (at : ℕ) (term : Term) (rest : List Line) → IsReadTerm term → ((y : ℕ) → Contains (term_uses term) y → IsNamed T N G y) → SlotIf T N G (links term) rest → Good (End term) rest
@@ -397,10 +397,10 @@ module _ (p : Program) (is : ℕ → Bool) (marked : IsMarkedText p.text) (dec :
 
   -- A line reads
 
-  goes_of : (at : ℕ) (rd : ReadWord p is marked dec fine.text at) → closes (form_line (form_of N rd.reading)) ≡ false → insn_goes_on rd.sound.insn ≡ true
+  pub goes_of : (at : ℕ) (rd : ReadWord p is marked dec fine.text at) → closes (form_line (form_of N rd.reading)) ≡ false → insn_goes_on rd.sound.insn ≡ true
   goes_of at rd e = sym (goes_alike N T at rd.word.mark rd.sound.insn rd.reading (marked_of p is marked dec fine.text at rd.word rd.reading rd.sound rd.reads)) ∙ ap not e
 
-  form_at : (at : ℕ) (rd : ReadWord p is marked dec fine.text at) → IsForm rd.reading
+  pub form_at : (at : ℕ) (rd : ReadWord p is marked dec fine.text at) → IsForm rd.reading
   form_at at rd = reading_form T at rd.word.mark rd.sound.insn rd.reading (marked_of p is marked dec fine.text at rd.word rd.reading rd.sound rd.reads)
 
   open_term : (term : Term) → term_goes_on term ≡ true → closes (End term) ≡ false
@@ -483,7 +483,7 @@ module _ (p : Program) (is : ℕ → Bool) (marked : IsMarkedText p.text) (dec :
   abbrev Came : Option ℕ → ℕ → Type 0
   Came o at = ((o ≡ Some at) × (K at ≡ true)) ⊎ ((o ≡ None) × (K at ≡ true → L at ≡ true))
 
-  closed_lead : (at : ℕ) (rd : ReadWord p is marked dec fine.text at) → closes (form_line (form_of N rd.reading)) ≡ true → K (at + 4) ≡ true → L (at + 4) ≡ true
+  pub closed_lead : (at : ℕ) (rd : ReadWord p is marked dec fine.text at) → closes (form_line (form_of N rd.reading)) ≡ true → K (at + 4) ≡ true → L (at + 4) ≡ true
   closed_lead at rd e k = lead_if (at + 4) (λ l. true_not_false (sym e ∙ (before_is at k l).1 rd.word rd.reading rd.there rd.reads))
 
   came_next : (at : ℕ) (rd : ReadWord p is marked dec fine.text at) → K at ≡ true → Came (onward (form_line (form_of N rd.reading)) at) (at + 4)
@@ -494,7 +494,7 @@ module _ (p : Program) (is : ℕ → Bool) (marked : IsMarkedText p.text) (dec :
       go false e = inl (refl, next_kept p is marked dec fine at rd.word rd.sound k rd.there (goes_of at rd e))
 
   -- behind a term a block begins
-  term_lead : (at : ℕ) (rd : ReadWord p is marked dec fine.text at) (shape : Form) → form_of N rd.reading ≡ shape → IsTermForm shape → K at ≡ true → K (at + 4) ≡ true → L (at + 4) ≡ true
+  pub term_lead : (at : ℕ) (rd : ReadWord p is marked dec fine.text at) (shape : Form) → form_of N rd.reading ≡ shape → IsTermForm shape → K at ≡ true → K (at + 4) ≡ true → L (at + 4) ≡ true
   term_lead at rd (ItemForm item) e f k k' = absurd f
   term_lead at rd (TermForm term) e f k k' = go (term_goes_on term) refl
     where

@@ -32,7 +32,7 @@ pub when_false : (b : Bool) → (b ≡ true → ⊥) → b ≡ false
 when_false true f = absurd (f refl)
 when_false false f = refl
 
-not_twice : (b : Bool) → not b ≡ true → b ≡ false
+pub not_twice : (b : Bool) → not b ≡ true → b ≡ false
 not_twice true e = absurd (cc)
 not_twice false e = refl
 
@@ -57,7 +57,7 @@ leads_by is ns t x at y w (v ∷ words) i e l = go (x == at) refl e (λ h. leads
     go false b h rec = or_right (is at && is_among (reading_leads ns at (reading_of t at v)) y) (words_lead is ns t (at + 4) words y) (rec h)
 
 module _ (p : Program) (is : ℕ → Bool) (marked : IsMarkedText p.text) (dec : Decides p is) (fine : IsFine is p) where
-  abbrev t : Text
+  abbrev pub t : Text
   t = p.text
 
   abbrev pub ns : List Note
@@ -69,10 +69,10 @@ module _ (p : Program) (is : ℕ → Bool) (marked : IsMarkedText p.text) (dec :
   abbrev pub lead : ℕ → Bool
   lead = is_leader is ns p
 
-  abbrev Sound : ℕ → Word → Type 0
+  abbrev pub Sound : ℕ → Word → Type 0
   Sound x w = IsSoundWord p.text x w
 
-  abbrev Read : ℕ → Type 0
+  abbrev pub Read : ℕ → Type 0
   Read x = ReadWord p is marked dec fine.text x
 
   pub kept_is : (x : ℕ) → keep x ≡ true → (is x ≡ true) × (is_in_procedures ns x ≡ false)

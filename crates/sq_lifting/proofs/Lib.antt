@@ -1,11 +1,11 @@
 pub mod Lifts
-mod LiftedRows
-mod Lifting
-mod TextWords
-mod Facts
-mod NoteFacts
-mod ReadingFacts
-mod Cutting
-mod CutLines
-mod Whole
-mod Watched
+pub mod LiftedRows
+pub mod Lifting
+pub mod TextWords
+pub mod Facts
+pub mod NoteFacts
+pub mod ReadingFacts
+pub mod Cutting
+pub mod CutLines
+pub mod Whole
+pub mod Watched

@@ -44,17 +44,17 @@ module _ (p : Program) (is : ℕ → Bool) (linked : IsLinked p) (dec : Decides 
 
   -- THE LINKS OF PROCEDURES ARE DEAD
 
-  abbrev DieAll : List Line → Type 0
+  abbrev pub DieAll : List Line → Type 0
   DieAll lines = (q : ℕ) (n : Note) → slice_get N q ≡ Some n → LinkDies G q n.link lines
 
   note_of : (q : ℕ) (procedure : Procedure) (o : Option Note) → slice_get N q ≡ o → option_map (procedure_of p.text) o ≡ Some procedure → (n : Note) × (slice_get N q ≡ Some n) × (procedure_of p.text n ≡ procedure)
   note_of q procedure None e h = absurd (cc)
   note_of q procedure (Some n) e h = (n, e, cc)
 
-  noted : (q : ℕ) (procedure : Procedure) → slice_get G.procedures q ≡ Some procedure → (n : Note) × (slice_get N q ≡ Some n) × (procedure_of p.text n ≡ procedure)
+  pub noted : (q : ℕ) (procedure : Procedure) → slice_get G.procedures q ≡ Some procedure → (n : Note) × (slice_get N q ≡ Some n) × (procedure_of p.text n ≡ procedure)
   noted q procedure h = note_of q procedure (slice_get N q) refl (sym (slice_get-map (procedure_of p.text) N q) ∙ h)
 
-  dies_lines : (lines : List Line) → DieAll lines → LinksDieIn G lines
+  pub dies_lines : (lines : List Line) → DieAll lines → LinksDieIn G lines
   dies_lines [] f = tt
   dies_lines (Name n ∷ rest) f = dies_lines rest f
   dies_lines (Do half insn ∷ rest) f = dies_lines rest f
@@ -67,7 +67,7 @@ module _ (p : Program) (is : ℕ → Bool) (linked : IsLinked p) (dec : Decides 
     dies_lines rest (λ q n e. (f q n e).1),
   )
 
-  die_all : DieAll (lines_of G.blocks)
+  pub die_all : DieAll (lines_of G.blocks)
   die_all q n e =
       let u = used_good is p None 1 p.notes q n fine.notes e in
       fine.dies u.index n u.there q (own_number is p None 1 p.notes q n fine.notes e)
@@ -77,13 +77,13 @@ module _ (p : Program) (is : ℕ → Bool) (linked : IsLinked p) (dec : Decides 
   outside : (x : ℕ) → ((q : ℕ) (n : Note) → IsGoodNote is p n → is_in_procedure n x ≡ false) → is_in_procedures N x ≡ false
   outside x f = when_false (is_in_procedures N x) (λ b. let h = notes_find N x b in true_not_false (sym h.holds ∙ f h.number h.note (good_note is p h.number h.note fine.notes h.there)))
 
-  entry_named : IsNamed p.text N G p.entry
+  pub entry_named : IsNamed p.text N G p.entry
   entry_named =
       has_name_of p is linked.text dec fine p.entry
       (kept_from p is linked.text dec fine p.entry (dec.all p.entry (entry linked.entry)) (outside p.entry (λ q n g. g.entry)))
       (lead_entry p is linked.text dec fine)
 
-  code_named : (x : ℕ) → Contains (map target_of p.code_words) x → IsNamed p.text N G x
+  pub code_named : (x : ℕ) → Contains (map target_of p.code_words) x → IsNamed p.text N G x
   code_named x c =
       has_name_of p is linked.text dec fine x
       (kept_from p is linked.text dec fine x (dec.all x (code_word c (linked.code_words x c))) (outside x (λ q n g. g.codes x c)))
@@ -91,7 +91,7 @@ module _ (p : Program) (is : ℕ → Bool) (linked : IsLinked p) (dec : Decides 
 
   -- THE START
 
-  names_are : (words : List CodeWord) → map word_name (map code_ref words) ≡ map target_of words
+  pub names_are : (words : List CodeWord) → map word_name (map code_ref words) ≡ map target_of words
   names_are [] = refl
   names_are (word ∷ words) = ap (λ xs. word.to ∷ xs) (names_are words)
 
@@ -99,7 +99,7 @@ module _ (p : Program) (is : ℕ → Bool) (linked : IsLinked p) (dec : Decides 
   map_own [] = refl
   map_own (x ∷ xs) = ap (λ ys. x ∷ ys) (map_own xs)
 
-  contains_at : (xs : List ℕ) (i n : ℕ) → slice_get xs i ≡ Some n → Contains xs n
+  pub contains_at : (xs : List ℕ) (i n : ℕ) → slice_get xs i ≡ Some n → Contains xs n
   contains_at [] i n e = absurd (cc)
   contains_at (x ∷ xs) zero n e = (0, omega arith, cc)
   contains_at (x ∷ xs) (suc i) n e = let c = contains_at xs i n e in (suc c.0, omega (arith, c.1), c.2)
