@@ -1,7 +1,7 @@
 -- The lines of a lifted graph, each the reading of its word.
 use Rattle.std.proofs.Common.{MatchBool, ◌≡◌, ◌⊎◌, inl, inr, ℕ, zero, suc, ◌+◌, ◌≤◌, Bool, true, false, not, ◌==◌, ◌&&◌, ◌||◌, List, [], ◌∷◌, ◌++◌, map, Option, Some, None, slice_get, if◌then◌else◌, refl, sym, ap, ◌∙◌, subst, arith}
 use Rattle.std.specs.Option.{option_map}
-use Rattle.std.specs.List.{Contains}
+use Rattle.std.specs.List.{Contains, AllByRecursion}
 use Rattle.std.proofs.lemmas.Bool.{cond_both, eqb-true, and_parts}
 use Rattle.std.proofs.lemmas.Option.{slice_get-map}
 use Rattle.std.proofs.lemmas.List.Elements.{Contains-append_right}
@@ -152,8 +152,7 @@ not_written ps (Out procedure) link f e = absurd f
 
 -- an item that is read doesn't mention the link
 abbrev pub IsQuiet : ℕ → List Item → Type 0
-IsQuiet link [] = Unit {0}
-IsQuiet link (item ∷ items) = IsReadItem item × (mentions item link ≡ false) × IsQuiet link items
+IsQuiet link items = AllByRecursion (λ item. IsReadItem item × (mentions item link ≡ false)) items
 
 -- what is live before an item that leaves it alone is live behind
 live_past : (g : Graph) (item : Item) (link : ℕ) (rest : List Line) → IsReadItem item → mentions item link ≡ false → IsLive g link (line_of item ∷ rest) → IsLive g link rest
@@ -171,7 +170,7 @@ live_return g link back rest (live_behind w go h) = subst (IsLive g link) go h
 
 live_body : (g : Graph) (link back : ℕ) (items : List Item) (rest : List Line) → IsQuiet link items → IsLive g link (map line_of items ++ (Return back ∷ rest)) → IsLive g link rest
 live_body g link back [] rest q h = live_return g link back rest h
-live_body g link back (item ∷ items) rest q h = live_body g link back items rest q.2 (live_past g item link (map line_of items ++ (Return back ∷ rest)) q.0 q.1 h)
+live_body g link back (item ∷ items) rest q h = live_body g link back items rest q.1 (live_past g item link (map line_of items ++ (Return back ∷ rest)) q.0.0 q.0.1 h)
 
 module _ (p : Program) (is : ℕ → Bool) (marked : IsMarkedText p.text) (dec : Decides p is) (fine : IsFine is p) where
   abbrev pub T : Text
@@ -275,9 +274,33 @@ module _ (p : Program) (is : ℕ → Bool) (marked : IsMarkedText p.text) (dec :
 
   -- BODIES OF PROCEDURES
 
-  pub body_quiet : (at link n : ℕ) → is at ≡ true → has_body T link at n ≡ true → IsQuiet link (body_from T at n)
-  body_quiet at link zero i b = tt
-  body_quiet at link (suc n) i b =
+  item_open : (item : Item) → closes (line_of item) ≡ false
+  item_open (Op insn) = refl
+  item_open (Hi rd to) = refl
+  item_open (Lo rd rs to) = refl
+  item_open (Out procedure) = refl
+
+  -- an item has no jump, so that what it uses is the target of its half
+  half_of : (at : ℕ) (rd : ReadWord p is marked dec fine.text at) (item : Item) → rd.reading ≡ IsItem item → (y : ℕ) → UsedBy T at rd.word.mark rd.sound.insn y → Contains (half_target rd.word.mark) y
+  half_of at rd item q y (inr h) = h.0
+  half_of at rd item q y (inl j) =
+      let m : marked_reading T at rd.word.mark rd.sound.insn ≡ Some (IsItem item) = subst (λ r. marked_reading T at rd.word.mark rd.sound.insn ≡ Some r) q (marked_of p is marked dec fine.text at rd.word rd.reading rd.sound rd.reads) in
+      none_in y (subst (λ xs. Contains xs y) (item_jumps T at rd.word.mark rd.sound.insn item m) j)
+
+  -- a name that an item of a body uses
+  pub body_name : (at : ℕ) (rd : ReadWord p is marked dec fine.text at) → is at ≡ true → (item : Item) → rd.reading ≡ IsItem item → (y : ℕ) → Contains (item_uses item) y → IsNamed T N G y
+  body_name at rd i item q y c =
+      let c' : Contains (reading_uses rd.reading) y = subst (λ r. Contains (reading_uses r) y) (sym q) c in
+      let u = used p is marked dec fine.text at y rd.word rd.reading rd.sound rd.reads c' in
+      let c'' : Contains (form_uses (form_of N rd.reading)) y = subst (λ r. Contains (form_uses (form_of N r)) y) (sym q) c in
+      has_name_of y
+      (kept_from p is marked dec fine y (used_reached p is marked dec fine.text at y rd.word rd.sound i rd.there u) (halves_out p is marked dec fine at y rd.word rd.sound i rd.there (half_of at rd item q y u)))
+      (lead_used p is marked dec fine at y rd.word rd.reading i rd.there rd.reads c'')
+
+  -- what holds of each word that reads as an item without the link holds of each item of a body
+  pub body_each : (P : Item → Type 0) (link : ℕ) → ((at : ℕ) (rd : ReadWord p is marked dec fine.text at) → is at ≡ true → (item : Item) → rd.reading ≡ IsItem item → mentions item link ≡ false → P item) → (at n : ℕ) → is at ≡ true → has_body T link at n ≡ true → AllByRecursion P (body_from T at n)
+  body_each P link each at zero i b = tt
+  body_each P link each at (suc n) i b =
       let c = and_parts (is_item_without link (reading_at T at)) (has_body T link (at + 4) n) b in
       let item = read_item link (reading_at T at) c.0 in
       let rd = read_at p is marked dec fine at i in
@@ -285,14 +308,15 @@ module _ (p : Program) (is : ℕ → Bool) (marked : IsMarkedText p.text) (dec :
       let q : rd.reading ≡ IsItem item.0 = let h : Some rd.reading ≡ Some (IsItem item.0) = sym e ∙ item.1 in cc in
       let m : marked_reading T at rd.word.mark rd.sound.insn ≡ Some (IsItem item.0) = subst (λ r. marked_reading T at rd.word.mark rd.sound.insn ≡ Some r) q (marked_of p is marked dec fine.text at rd.word rd.reading rd.sound rd.reads) in
       let next = next_reached p is marked dec fine.text at rd.word rd.sound i rd.there (sym (goes_alike N T at rd.word.mark rd.sound.insn (IsItem item.0) m) ∙ ap not (item_open item.0)) in
-      subst (λ o. IsQuiet link (with_item o (body_from T (at + 4) n))) (sym item.1)
-      (reading_form T at rd.word.mark rd.sound.insn (IsItem item.0) m, item.2, body_quiet (at + 4) link n next c.1)
-    where
-      item_open : (item : Item) → closes (line_of item) ≡ false
-      item_open (Op insn) = refl
-      item_open (Hi rd to) = refl
-      item_open (Lo rd rs to) = refl
-      item_open (Out procedure) = refl
+      subst (λ o. AllByRecursion P (with_item o (body_from T (at + 4) n))) (sym item.1)
+      (each at rd i item.0 q item.2, body_each P link each (at + 4) n next c.1)
+
+  -- no reading is an Out
+  pub item_read : (at : ℕ) (rd : ReadWord p is marked dec fine.text at) (item : Item) → rd.reading ≡ IsItem item → IsReadItem item
+  item_read at rd item q = subst IsForm q (reading_form T at rd.word.mark rd.sound.insn rd.reading (marked_of p is marked dec fine.text at rd.word rd.reading rd.sound rd.reads))
+
+  pub body_quiet : (at link n : ℕ) → is at ≡ true → has_body T link at n ≡ true → IsQuiet link (body_from T at n)
+  body_quiet at link n i b = body_each (λ item. IsReadItem item × (mentions item link ≡ false)) link (λ at rd i item q m. (item_read at rd item q, m)) at n i b
 
   -- what an item of a body is
   item_good : (item : Item) (ys : List Line) → IsReadItem item → ((y : ℕ) → Contains (item_uses item) y → IsNamed T N G y) → MakeTargets G (line_of item ∷ ys) → (zs : List Line) → Good (line_of item) zs
@@ -324,27 +348,6 @@ module _ (p : Program) (is : ℕ → Bool) (marked : IsMarkedText p.text) (dec :
         (rd.word, rd.there, subst (λ r. reading_of T at rd.word ≡ Some r) q rd.reads, item_good item.0 (map line_of (body_from T (at + 4) n) ++ ys) f names makes' [], not_written G.procedures item.0 link f item.2),
         body_reads (at + 4) link n ys next c.1 (item_tail item.0 (map line_of (body_from T (at + 4) n) ++ ys) makes'),
       )
-    where
-      item_open : (item : Item) → closes (line_of item) ≡ false
-      item_open (Op insn) = refl
-      item_open (Hi rd to) = refl
-      item_open (Lo rd rs to) = refl
-      item_open (Out procedure) = refl
-
-      half_of : (at : ℕ) (rd : ReadWord p is marked dec fine.text at) (item : Item) → rd.reading ≡ IsItem item → (y : ℕ) → UsedBy T at rd.word.mark rd.sound.insn y → Contains (half_target rd.word.mark) y
-      half_of at rd item q y (inr h) = h.0
-      half_of at rd item q y (inl j) =
-          let m : marked_reading T at rd.word.mark rd.sound.insn ≡ Some (IsItem item) = subst (λ r. marked_reading T at rd.word.mark rd.sound.insn ≡ Some r) q (marked_of p is marked dec fine.text at rd.word rd.reading rd.sound rd.reads) in
-          none_in y (subst (λ xs. Contains xs y) (item_jumps T at rd.word.mark rd.sound.insn item m) j)
-
-      body_name : (at : ℕ) (rd : ReadWord p is marked dec fine.text at) → is at ≡ true → (item : Item) → rd.reading ≡ IsItem item → (y : ℕ) → Contains (item_uses item) y → IsNamed T N G y
-      body_name at rd i item q y c =
-          let c' : Contains (reading_uses rd.reading) y = subst (λ r. Contains (reading_uses r) y) (sym q) c in
-          let u = used p is marked dec fine.text at y rd.word rd.reading rd.sound rd.reads c' in
-          let c'' : Contains (form_uses (form_of N rd.reading)) y = subst (λ r. Contains (form_uses (form_of N r)) y) (sym q) c in
-          has_name_of y
-          (kept_from p is marked dec fine y (used_reached p is marked dec fine.text at y rd.word rd.sound i rd.there u) (halves_out p is marked dec fine at y rd.word rd.sound i rd.there (half_of at rd item q y u)))
-          (lead_used p is marked dec fine at y rd.word rd.reading i rd.there rd.reads c'')
 
   -- a noted procedure stands at its address
   procedure_reads : (number : ℕ) (n : Note) (q : Procedure) → slice_get N number ≡ Some n → slice_get G.procedures number ≡ Some q → ProcedureReads T N G n.address n.link q
