@@ -1,0 +1,5 @@
+use Rattle.sq_lifted.proofs.Graphs.{lifted_good}
+use Rattle.sq_lifted.proofs.lifted_is_good.Goals as goal
+
+pub returns : goal.returns
+returns c = λ p is linked ascending dec fine. lifted_good p is linked ascending dec fine
