@@ -1,12 +1,12 @@
 -- When the rules hold after a call, for callers: each asks no more than what is new about the graph.
-use Rattle.std.proofs.Common.{◌≡◌, ◌≢◌, ℕ, zero, suc, ◌+◌, ◌-◌, ◌<◌, ◌==◌, nat_lt, true, false, List, [], ◌∷◌, ◌++◌, map, length, take, drop, Option, None, Some, IsSome, refl, sym, ap, ◌∙◌, subst, inl, inr, arith, length-append, append_assoc}
+use Rattle.std.proofs.Common.{◌≡◌, ◌≢◌, ℕ, zero, suc, ◌+◌, ◌-◌, ◌<◌, ◌==◌, nat_lt, true, false, List, [], ◌∷◌, ◌++◌, map, length, take, drop, Option, None, Some, IsSome, is_some, refl, sym, ap, ◌∙◌, subst, inl, inr, arith, length-append, append_assoc}
 use Rattle.std.specs.List.{All, slice_get, slice_range, remove}
 use Rattle.std.proofs.lemmas.Bool.{cases_Bool, eqb-false, eq-eqb, ne_eqb, ltb-true, ltb-false}
-use Rattle.std.proofs.lemmas.List.{length-map}
+use Rattle.std.proofs.lemmas.List.{length-map, map-append}
 use Rattle.std.proofs.lemmas.List.Edits.{length-remove}
 use Rattle.std.proofs.lemmas.List.Elements.{All-nil, All-cons, All-head, All-tail, All-append, All-same, All-map, All-take, All-drop, All-push, All-weaker}
-use Rattle.sq_arena.specs.Entries.{keys, HasDistinctKeys, value_of, before, through, starting_at, behind, run, without_run, IsRun, move_run_after, first_key, next_key}
-use Rattle.sq_arena.proofs.EntriesLaws.{HasDistinctKeys-insert, behind-append, HasDistinctKeys-move_run_after, KeepsValues-move_run_after}
+use Rattle.sq_arena.specs.Entries.{keys, HasDistinctKeys, value_of, ContainsKey, before, through, starting_at, behind, run, without_run, IsRun, move_run_after, first_key, next_key}
+use Rattle.sq_arena.proofs.EntriesLaws.{HasDistinctKeys-insert, behind-append, starting_at-append, absent_ahead, IsRun-one, HasDistinctKeys-move_run_after, KeepsValues-move_run_after}
 use Rattle.sq_graph.specs.declared.item.Item.{Item}
 use Rattle.sq_graph.specs.declared.item.Item.TheVariants.{Op, Hi, Lo, Out}
 use Rattle.sq_graph.specs.declared.item.Term.{Term}
@@ -23,6 +23,7 @@ use Rattle.sq_graph.proofs.Eachs.{All-left, All-right}
 use Rattle.sq_graph.proofs.Changes.{with_blocks-at}
 use Rattle.sq_graph.proofs.RetargetRules.{uses-other, other_rules}
 use Rattle.sq_graph.proofs.SplitRules.{keeps_names, last_goes_on-append, distinct_by_keys}
+use Rattle.sq_graph.proofs.BackWalks.{is_in}
 use Rattle.sq_graph.proofs.Bypassing.{distinct_without}
 use Rattle.sq_graph.proofs.RulesByBlock.{ItemStands, BlockStands, BodyStands, IsByBlock, by_block, all_called, from_blocks, blocks_stay, bodies_stay, by_stays}
 
@@ -445,3 +446,69 @@ moved_after_rules g first last after rules is_run ends =
       blocks = All-map B (λ (e : ℕ × Block). e.1) moved (All-moved {T = Block} (λ e. BlockStands N C e.1) (named g.blocks) first last after blocks);
       bodies = by.bodies;
     }))
+
+-- a block and the next one change places, where another one follows
+pub record MovesOn (g : Graph) (name next : ℕ) : Type 0 where
+  pub run : IsRun (named g.blocks) name name
+  pub after : ContainsKey (without_run (named g.blocks) name name) next
+  pub rules : IsGraph (moved_after g name name next)
+
+blocks_again : (bs : List Block) → map (λ e. e.1) (named bs) ≡ bs
+blocks_again [] = refl
+blocks_again (b ∷ bs) = ap (λ cs. b ∷ cs) (blocks_again bs)
+
+pub moves_on : (g : Graph) (name next : ℕ) → IsGraph g → HasBlock g name → next_of g name ≡ Some next → IsSome (next_of g next) → MovesOn g name next
+moves_on g name next rules has follows more =
+    let at = located g.blocks name has in
+    moves_at at.front at.block at.back (at.whole) at.has_name (sym (next_of-at g.blocks name at) ∙ follows)
+  where
+    ends_moved : (front : List Block) (b c : Block) (back : List Block) → IsSome (first_key (named back)) → last_goes_on (front ++ b ∷ c ∷ back) ≡ false → last_goes_on (map (λ e. e.1) ((named front ++ (next, c) ∷ []) ++ ((name, b) ∷ [] ++ named back))) ≡ false
+    ends_moved front b c [] some ends = absurd (cc)
+    ends_moved front b c (d ∷ back) some ends =
+        let X : List Block = map (λ (e : ℕ × Block). e.1) (named front ++ (next, c) ∷ []) in
+        let old : last_goes_on (d ∷ back) ≡ false = sym (last_goes_on-append front b (c ∷ d ∷ back)) ∙ ends in
+        ap last_goes_on (map-append (λ (e : ℕ × Block). e.1) (named front ++ (next, c) ∷ []) ((name, b) ∷ [] ++ named (d ∷ back)))
+        ∙ last_goes_on-append X b (map (λ (e : ℕ × Block). e.1) (named (d ∷ back)))
+        ∙ ap last_goes_on (blocks_again (d ∷ back))
+        ∙ old
+
+    moves_at : (front : List Block) (b : Block) (back : List Block) → g.blocks ≡ front ++ b ∷ back → b.name ≡ name → first_key (named back) ≡ Some next → MovesOn g name next
+    moves_at front b [] whole is first = absurd (cc)
+    moves_at front b (c ∷ back) whole is first =
+        let is_next : c.name ≡ next = cc in
+        let F = named front in
+        let one : List (ℕ × Block) = (name, b) ∷ [] in
+        let parts : named g.blocks ≡ named front ++ (name, b) ∷ (next, c) ∷ named back =
+        ap named whole ∙ named-append front (b ∷ c ∷ back)
+        ∙ ap (λ k. named front ++ (k, b) ∷ (c.name, c) ∷ named back) is
+        ∙ ap (λ k. named front ++ (name, b) ∷ (k, c) ∷ named back) is_next in
+        let distinct : HasDistinctKeys (named front ++ (name, b) ∷ (next, c) ∷ named back) = subst (λ (es : List (ℕ × Block)). HasDistinctKeys es) parts rules.distinct in
+        let whole' : named front ++ (name, b) ∷ (next, c) ∷ named back ≡ (named front ++ (name, b) ∷ []) ++ (next, c) ∷ named back = sym (append_assoc (named front) ((name, b) ∷ []) ((next, c) ∷ named back)) in
+        let distinct' : HasDistinctKeys ((named front ++ (name, b) ∷ []) ++ (next, c) ∷ named back) = subst (λ (es : List (ℕ × Block)). HasDistinctKeys es) whole' distinct in
+        let first_at = is_in (named front) ((next, c) ∷ named back) name b distinct in
+        let next_at = is_in (named front ++ (name, b) ∷ []) (named back) next c distinct' in
+        let here : (name == name) ≡ true = eq-eqb name name refl in
+        let started : starting_at (named g.blocks) name ≡ (name, b) ∷ (next, c) ∷ named back =
+        ap (λ es. starting_at es name) parts ∙ starting_at-append (named front) ((next, c) ∷ named back) name b (absent_ahead (named front) ((next, c) ∷ named back) name b distinct) in
+        let run_is : run (named g.blocks) name name ≡ (name, b) ∷ [] = ap (λ es. through es name) started ∙ rw here refl in
+        let rest_is : behind (starting_at (named g.blocks) name) name ≡ (next, c) ∷ named back = ap (λ es. behind es name) started ∙ rw here refl in
+        let left_is : without_run (named g.blocks) name name ≡ named front ++ (next, c) ∷ named back =
+        ap (λ es. es ++ behind (starting_at (named g.blocks) name) name) (ap (λ es. before es name) parts ∙ first_at.ahead_is) ∙ ap (λ es. named front ++ es) rest_is in
+        let left_distinct : HasDistinctKeys (named front ++ (next, c) ∷ named back) = distinct_without (named front) ((next, c) ∷ named back) (name, b) distinct in
+        let left_at = is_in (named front) (named back) next c left_distinct in
+        let is_run : IsRun (named g.blocks) name name = IsRun-one (named g.blocks) name has in
+        let moved_is : move_run_after (named g.blocks) name name next ≡ (named front ++ (next, c) ∷ []) ++ ((name, b) ∷ [] ++ named back) =
+        ap (λ es. through es next ++ (run (named g.blocks) name name ++ behind es next)) left_is
+        ∙ ap (λ es. es ++ (run (named g.blocks) name name ++ behind (named front ++ (next, c) ∷ named back) next)) left_at.up_to_is
+        ∙ ap (λ es. (named front ++ (next, c) ∷ []) ++ (es ++ behind (named front ++ (next, c) ∷ named back) next)) run_is
+        ∙ ap (λ es. (named front ++ (next, c) ∷ []) ++ ((name, b) ∷ [] ++ es)) left_at.behind_is in
+        let behind_next : next_of g next ≡ first_key (named back) =
+        ap (λ es. first_key (behind es next)) (parts ∙ whole') ∙ ap first_key next_at.behind_is in
+        record {
+          run = is_run;
+          after = rw left_is (ap is_some left_at.found);
+          rules =
+              moved_after_rules g name name next rules is_run
+              (ap (λ es. last_goes_on (map (λ e. e.1) es)) moved_is
+              ∙ ends_moved front b c back (subst (λ o. IsSome o) behind_next more) (sym (ap last_goes_on whole) ∙ rules.ends));
+        }

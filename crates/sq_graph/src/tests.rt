@@ -1,14 +1,14 @@
-use super::*;
-use sq_isa::{Insn, Reg, RegOp};
-use std::alloc::Global;
-use std::process::Abort;
-use std::test::Fail;
-
 ghost use Rattle.std.specs.Prelude.{◌≡◌, ◌≢◌, Some, IsSome, IfSome, IsTrue};
 ghost use Rattle.std.specs.List.{All};
 ghost use Rattle.sq_graph.specs.Blocks.{HasBlock};
 ghost use Rattle.sq_graph.specs.Uses.{uses, calls};
 ghost use Rattle.sq_graph.specs.Operations.{called_at};
+
+use super::*;
+use sq_isa::{Cond, Insn, Reg, RegOp};
+use std::alloc::{AllocError, Global};
+use std::process::Abort;
+use std::test::Fail;
 
 fn is_block(graph: &Graph, name: u32) -> bool
     ensures { IsTrue result → HasBlock graph.now.graph name }
@@ -105,8 +105,10 @@ fn move_on(graph: &mut Graph, block: u32) -> Option<()> {
 
 // Puts two items in the place of one.
 fn double(graph: &mut Graph, block: u32, at: u32) -> Option<()> {
-    let slot = *graph.links().get(block)?;
-    if slot.length <= at || graph.spare().items == 0 {
+    if !is_block(graph, block) {
+        return None;
+    }
+    if graph.items(block).len() <= at as usize || graph.spare().items == 0 {
         return None;
     }
     let _entry = graph.entry();
@@ -202,51 +204,92 @@ const SUM: Insn = Insn::Op {
     b: Reg::A1,
 };
 
-const BRANCH: Term = Term::Branch {
-    cond: sq_isa::Cond::Beq,
-    a: Reg::A0,
-    b: Reg::A1,
-    to: 2,
+const UPPER: Item = Item::Hi { rd: Reg::A2, to: 1 };
+
+const ADD: Item = Item::Op(SUM);
+
+const CALL: Item = Item::Out { procedure: 0 };
+
+const BRANCHES: BlockPart = BlockPart {
+    length: 2,
+    term: Term::Branch {
+        cond: Cond::Beq,
+        a: Reg::A0,
+        b: Reg::A1,
+        to: 2,
+    },
 };
 
-// A branch over a call of a procedure, and a stop that a code word names.
-fn sample(alloc: Global, room: Room) -> Result<Graph, Fail> {
+const FALLS: BlockPart = BlockPart {
+    length: 1,
+    term: Term::Fall,
+};
+
+const BARE: BlockPart = BlockPart {
+    length: 0,
+    term: Term::Fall,
+};
+
+const STOPS: BlockPart = BlockPart {
+    length: 0,
+    term: Term::Stop { word: 0 },
+};
+
+const WORD: CodeRef = CodeRef {
+    at: 0x20000,
+    block: 2,
+};
+
+const ADDS: ProcedurePart = ProcedurePart {
+    link: Reg::A7,
+    length: 1,
+};
+
+fn jumps(length: u32, to: u32) -> BlockPart {
+    BlockPart {
+        length,
+        term: Term::Jump { to },
+    }
+}
+
+fn branches(length: u32, to: u32) -> BlockPart {
+    BlockPart {
+        length,
+        term: Term::Branch {
+            cond: Cond::Beq,
+            a: Reg::A0,
+            b: Reg::A1,
+            to,
+        },
+    }
+}
+
+fn upper(to: u32) -> Item {
+    Item::Hi { rd: Reg::A2, to }
+}
+
+fn word(block: u32) -> CodeRef {
+    CodeRef { at: 0x20000, block }
+}
+
+// A branch over a call of a procedure, and a stop that a code word names, with so much room.
+fn sample(alloc: Global, blocks: u32, items: u32, procedures: u32) -> Result<Graph, Fail> {
     let mut graph = Graph::from_parts(
         alloc,
         &Parts {
-            blocks: &[
-                BlockPart {
-                    length: 2,
-                    term: BRANCH,
-                },
-                BlockPart {
-                    length: 1,
-                    term: Term::Fall,
-                },
-                BlockPart {
-                    length: 0,
-                    term: Term::Stop { word: 0 },
-                },
-            ],
-            items: &[
-                Item::Hi { rd: Reg::A2, to: 1 },
-                Item::Op(SUM),
-                Item::Out { procedure: 0 },
-                Item::Op(SUM),
-            ],
+            blocks: &[BRANCHES, FALLS, STOPS],
+            items: &[UPPER, ADD, CALL, ADD],
             entry: 0,
-            code_words: &[CodeRef {
-                at: 0x20000,
-                block: 2,
-            }],
-            procedures: &[ProcedurePart {
-                link: Reg::A7,
-                length: 1,
-            }],
+            code_words: &[WORD],
+            procedures: &[ADDS],
         },
     )?;
-    if room.blocks < 1_000_000 && room.items < 1_000_000 && room.procedures < 1000 {
-        graph.reserve(room)?;
+    if blocks < 1_000_000 && items < 1_000_000 && procedures < 1_000_000 {
+        graph.reserve(Room {
+            blocks,
+            items,
+            procedures,
+        })?;
     }
     Ok(graph)
 }
@@ -294,49 +337,240 @@ fn placed_item(names: &[u32], item: Item) -> Item {
     }
 }
 
-// Compares the four parts with these, in which the names of blocks are their positions.
-fn check(
-    rt: &impl Abort,
-    alloc: Global,
-    graph: &Graph,
-    parts: &Parts<'_>,
-) -> Result<(), Fail> {
-    let names = names(alloc, graph)?;
+fn placed_blocks(alloc: Global, graph: &Graph, names: &[u32]) -> Result<Vec<BlockPart>, Fail> {
     let mut blocks = Vec::new(alloc);
-    let mut all = Vec::new(alloc);
-    for name in &names {
-        let slot = *graph.links().get(*name).ok_or("a slot")?;
-        let term = placed_term(&names, slot.term);
+    for name in names {
+        let slot = *graph.links().get(*name).ok_or("a block")?;
         blocks.push(BlockPart {
             length: slot.length,
-            term,
+            term: placed_term(names, slot.term),
         })?;
-        for item in items(graph, *name).ok_or("items")? {
-            all.push(placed_item(&names, *item))?;
-        }
     }
-    let mut procedures = Vec::new(alloc);
+    Ok(blocks)
+}
+
+fn push_placed(placed: &mut Vec<Item>, names: &[u32], items: &[Item]) -> Result<(), AllocError> {
+    for item in items {
+        placed.push(placed_item(names, *item))?;
+    }
+    Ok(())
+}
+
+// The items of all blocks, and behind them the bodies of all procedures.
+fn placed_items(alloc: Global, graph: &Graph, names: &[u32]) -> Result<Vec<Item>, Fail> {
+    let mut placed = Vec::new(alloc);
+    for name in names {
+        push_placed(&mut placed, names, items(graph, *name).ok_or("a block")?)?;
+    }
     for number in 0..graph.procedures() {
-        let body = graph.body(number);
-        for item in body {
-            all.push(placed_item(&names, *item))?;
-        }
-        procedures.push(ProcedurePart {
-            link: graph.link(number),
-            length: u32::try_from(body.len()).unwrap_or(u32::MAX),
-        })?;
+        push_placed(&mut placed, names, graph.body(number))?;
     }
+    Ok(placed)
+}
+
+fn placed_words(alloc: Global, graph: &Graph, names: &[u32]) -> Result<Vec<CodeRef>, AllocError> {
     let mut words = Vec::new(alloc);
     for word in graph.code_words() {
         words.push(CodeRef {
             at: word.at,
-            block: position(&names, word.block),
+            block: position(names, word.block),
         })?;
     }
+    Ok(words)
+}
+
+fn procedures(alloc: Global, graph: &Graph) -> Result<Vec<ProcedurePart>, AllocError> {
+    let mut procedures = Vec::new(alloc);
+    for number in 0..graph.procedures() {
+        procedures.push(ProcedurePart {
+            link: graph.link(number),
+            length: u32::try_from(graph.body(number).len()).unwrap_or(u32::MAX),
+        })?;
+    }
+    Ok(procedures)
+}
+
+// Compares the four parts with these, in which the names of blocks are their positions.
+fn check(rt: &impl Abort, alloc: Global, graph: &Graph, parts: &Parts<'_>) -> Result<(), Fail> {
+    let names = names(alloc, graph)?;
+    let blocks = placed_blocks(alloc, graph, &names)?;
     assert_eq!(rt; blocks.as_slice(), parts.blocks);
-    assert_eq!(rt; all.as_slice(), parts.items);
+    let items = placed_items(alloc, graph, &names)?;
+    assert_eq!(rt; items.as_slice(), parts.items);
     assert_eq!(rt; position(&names, graph.entry()), parts.entry);
+    let words = placed_words(alloc, graph, &names)?;
     assert_eq!(rt; words.as_slice(), parts.code_words);
+    let procedures = procedures(alloc, graph)?;
     assert_eq!(rt; procedures.as_slice(), parts.procedures);
+    Ok(())
+}
+
+#[test]
+fn moves_and_jumps(rt: HostRuntime) -> Result<(), Fail> {
+    let alloc = rt.alloc();
+    let mut graph = sample(alloc, 0, 0, 0)?;
+    let first = graph.first();
+    let second = next(&graph, first).ok_or("a second block")?;
+    move_on(&mut graph, first).ok_or("a move")?;
+    set_jump(&mut graph, first, second).ok_or("a jump")?;
+    check(
+        &rt,
+        alloc,
+        &graph,
+        &Parts {
+            blocks: &[FALLS, jumps(2, 0), STOPS],
+            items: &[CALL, upper(0), ADD, ADD],
+            entry: 1,
+            code_words: &[WORD],
+            procedures: &[ADDS],
+        },
+    )
+}
+
+#[test]
+fn inserts_and_removes(rt: HostRuntime) -> Result<(), Fail> {
+    let alloc = rt.alloc();
+    let mut graph = sample(alloc, 1, 0, 0)?;
+    let first = graph.first();
+    let second = next(&graph, first).ok_or("a second block")?;
+    let third = next(&graph, second).ok_or("a third block")?;
+    insert_jump(&mut graph, second, third).ok_or("room")?;
+    redirect(&mut graph, second, first).ok_or("a name")?;
+    let redirected = Parts {
+        blocks: &[branches(2, 3), FALLS, jumps(0, 3), STOPS],
+        items: &[upper(0), ADD, CALL, ADD],
+        entry: 0,
+        code_words: &[word(3)],
+        procedures: &[ADDS],
+    };
+    check(&rt, alloc, &graph, &redirected)?;
+    remove(&mut graph, second, first).ok_or("a block")?;
+    let removed = Parts {
+        blocks: &[BRANCHES, jumps(0, 2), STOPS],
+        items: &[upper(0), ADD, ADD],
+        entry: 0,
+        code_words: &[WORD],
+        procedures: &[ADDS],
+    };
+    check(&rt, alloc, &graph, &removed)
+}
+
+const ADDED: ProcedurePart = ProcedurePart {
+    link: Reg::A2,
+    length: 1,
+};
+
+#[test]
+fn replaces_and_outlines(rt: HostRuntime) -> Result<(), Fail> {
+    let alloc = rt.alloc();
+    let mut graph = sample(alloc, 0, 2, 1)?;
+    let first = graph.first();
+    double(&mut graph, first, 1).ok_or("an item")?;
+    outline(&mut graph, first, 1, Reg::A2).ok_or("an item")?;
+    redirect_calls(&mut graph, 0, 1).ok_or("a number")?;
+    check(
+        &rt,
+        alloc,
+        &graph,
+        &Parts {
+            blocks: &[branches(3, 2), FALLS, STOPS],
+            items: &[UPPER, ADD, ADD, Item::Out { procedure: 1 }, ADD, ADD],
+            entry: 0,
+            code_words: &[WORD],
+            procedures: &[ADDS, ADDED],
+        },
+    )
+}
+
+#[test]
+fn removes_and_inlines_procedures(rt: HostRuntime) -> Result<(), Fail> {
+    let alloc = rt.alloc();
+    let mut graph = sample(alloc, 0, 1, 1)?;
+    let first = graph.first();
+    let second = next(&graph, first).ok_or("a second block")?;
+    outline(&mut graph, first, 1, Reg::A2).ok_or("an item")?;
+    remove_procedure(&mut graph, 0, 1).ok_or("a number")?;
+    let removed = Parts {
+        blocks: &[BRANCHES, FALLS, STOPS],
+        items: &[UPPER, ADD, CALL, ADD],
+        entry: 0,
+        code_words: &[WORD],
+        procedures: &[ADDED],
+    };
+    check(&rt, alloc, &graph, &removed)?;
+    inline(&mut graph, second, 0).ok_or("a call")?;
+    let inlined = Parts {
+        blocks: &[BRANCHES, FALLS, STOPS],
+        items: &[UPPER, ADD, ADD, ADD],
+        entry: 0,
+        code_words: &[WORD],
+        procedures: &[ADDED],
+    };
+    check(&rt, alloc, &graph, &inlined)
+}
+
+#[test]
+fn joins_what_was_split(rt: HostRuntime) -> Result<(), Fail> {
+    let alloc = rt.alloc();
+    let mut graph = sample(alloc, 2, 0, 0)?;
+    let copy = graph.copy(alloc)?;
+    let first = graph.first();
+    let second = split(&mut graph, first, 1).ok_or("a half")?;
+    let third = next(&graph, second).ok_or("a third block")?;
+    let last = next(&graph, third).ok_or("a last block")?;
+    split(&mut graph, last, 0).ok_or("a half")?;
+    check(
+        &rt,
+        alloc,
+        &graph,
+        &Parts {
+            blocks: &[FALLS, branches(1, 3), FALLS, BARE, STOPS],
+            items: &[upper(2), ADD, CALL, ADD],
+            entry: 0,
+            code_words: &[word(3)],
+            procedures: &[ADDS],
+        },
+    )?;
+    graph.canonical();
+    let parts = Parts {
+        blocks: &[BRANCHES, FALLS, STOPS],
+        items: &[UPPER, ADD, CALL, ADD],
+        entry: 0,
+        code_words: &[WORD],
+        procedures: &[ADDS],
+    };
+    check(&rt, alloc, &graph, &parts)?;
+    check(&rt, alloc, &copy, &parts)?;
+    assert_eq!(rt; graph.spare(), copy.spare());
+    Ok(())
+}
+
+const MANY: u32 = 262_144;
+
+#[test]
+fn joins_many(rt: HostRuntime) -> Result<(), Fail> {
+    let mut graph = sample(rt.alloc(), MANY + MANY / 2, MANY, 0)?;
+    let first = graph.first();
+    for _ in 0..MANY / 1024 {
+        lengthen(&mut graph, first).ok_or("room")?;
+    }
+    let mut place = first;
+    for _ in 0..MANY {
+        place = split(&mut graph, place, 1).ok_or("room")?;
+    }
+    let mut place = first;
+    for _ in 0..MANY / 2 {
+        let half = split(&mut graph, place, 0).ok_or("room")?;
+        let second = next(&graph, half).ok_or("a block")?;
+        place = next(&graph, second).ok_or("a block")?;
+    }
+    assert_eq!(rt; graph.spare().blocks, 0);
+    assert_eq!(rt; graph.links().len(), MANY + MANY / 2 + 3);
+    graph.canonical();
+    assert_eq!(rt; graph.spare().blocks, MANY + MANY / 2);
+    assert_eq!(rt; graph.links().len(), 3);
+    let joined = items(&graph, graph.first()).ok_or("a block")?;
+    assert_eq!(rt; joined.len(), MANY as usize + 2);
+    assert_eq!(rt; joined.last().copied(), Some(ADD));
     Ok(())
 }
