@@ -1,5 +1,5 @@
 -- What the canonical graph of a graph keeps, and that it is canonical.
-use Rattle.std.proofs.Common.{◌≡◌, ℕ, ◌+◌, ◌≤◌, ◌==◌, Bool, true, false, not, ◌||◌, ◌⊎◌, get_or, List, [], ◌∷◌, ◌++◌, map, length, IsSome, refl, sym, ap, ◌∙◌, subst, inl, inr, arith}
+use Rattle.std.proofs.Common.{◌≡◌, ℕ, ◌≤◌, ◌==◌, Bool, true, false, not, ◌||◌, ◌⊎◌, get_or, List, [], ◌∷◌, ◌++◌, map, length, IsSome, refl, sym, ap, ◌∙◌, subst, inl, inr, arith}
 use Rattle.std.proofs.lemmas.Bool.{cases_Bool, or_left, or_right, eq-eqb}
 use Rattle.std.proofs.lemmas.List.{length-map}
 use Rattle.std.proofs.lemmas.List.Elements.{All-nil, All-cons, All-head, All-tail, All-map, All-same, All-weaker, All-filter}
@@ -15,7 +15,7 @@ use Rattle.sq_graph.specs.Blocks.{named, HasBlock, HasProcedure, items_of_bodies
 use Rattle.sq_graph.specs.Uses.{terms_uses, items_uses, code_word_uses, uses, item_calls}
 use Rattle.sq_graph.specs.Rules.{IsGraph, ItemFits, TermFits}
 use Rattle.sq_graph.specs.Words.{term_words, block_words, procedure_words, words_of}
-use Rattle.sq_graph.specs.Renames.{retargeted_item, retargeted_items, retargeted_term, retargeted_block, retargeted_procedure, retargeted}
+use Rattle.sq_graph.specs.Renames.{retargeted_item, retargeted_items, retargeted_term, retargeted_block, retargeted_procedure, retargeted_words, retargeted}
 use Rattle.sq_graph.specs.Leaders.{is_fall, is_bare, is_leader, follows_a_term, FallsIntoLeaders, IsCanonical}
 use Rattle.sq_graph.specs.Canonical.{bypassed_each, joined_onto, joined_blocks, joined, canonical_of}
 use Rattle.sq_graph.specs.Bypasses.{kept, passed, all_bypassed}
@@ -118,17 +118,18 @@ among (y ∷ ys) =
     (or_left (y == y) (is_among ys y) (eq-eqb y y refl))
     (All-weaker (λ x. is_among ys x ≡ true) (λ x. is_among (y ∷ ys) x ≡ true) (λ x there. or_right (y == x) (is_among ys x) there) ys (among ys))
 
+pub used_are_leaders : (g : Graph) → All (λ x. is_leader g x ≡ true) (uses g)
+used_are_leaders g = All-weaker (λ x. is_among (uses g) x ≡ true) (λ x. is_leader g x ≡ true) (λ x there. or_left (is_among (uses g) x) (follows_a_term g.blocks x) there) (uses g) (among (uses g))
+
 pub joined_is_graph : (g : Graph) → IsGraph g → IsGraph (joined g)
 joined_is_graph g rules =
     let leads = is_leader g in
     let items = all_items-joined g in
-    let leaders : All (λ x. is_leader g x ≡ true) (uses g) =
-    All-weaker (λ x. is_among (uses g) x ≡ true) (λ x. is_leader g x ≡ true) (λ x there. or_left (is_among (uses g) x) (follows_a_term g.blocks x) there) (uses g) (among (uses g)) in
     record {
       distinct = distinct-joined leads g.blocks rules.distinct;
       named_all =
           subst (λ us. All (HasBlock (joined g)) us) (sym (uses-joined g))
-          (λ k d below. leader-joined leads g.blocks (get_or (uses g) k d) (leaders k d below) (rules.named_all k d below));
+          (λ k d below. leader-joined leads g.blocks (get_or (uses g) k d) (used_are_leaders g k d below) (rules.named_all k d below));
       called_all = subst (λ (is : List Item). All (HasProcedure g) (flat_map item_calls is)) (sym items) rules.called_all;
       ends = ends-joined leads g.blocks ∙ rules.ends;
       code_words = rules.code_words;
@@ -213,6 +214,17 @@ canonical_keeps_words g rules =
 pub canonical_items : (g : Graph) → IsGraph g → all_items (canonical_of g) ≡ retargeted_items (passed g.blocks) (all_items g)
 canonical_items g rules = ap all_items (canonical_is_joined g rules) ∙ all_items-joined (all_bypassed g) ∙ all_bypassed_items g
 
+-- the other parts have the names to which theirs are passed
+pub canonical_entry : (g : Graph) → IsGraph g → (canonical_of g).entry ≡ passed g.blocks g.entry
+canonical_entry g rules = ap (λ (h : Graph). h.entry) (canonical_is_joined g rules)
+
+pub canonical_code_words : (g : Graph) → IsGraph g → (canonical_of g).code_words ≡ retargeted_words (passed g.blocks) g.code_words
+canonical_code_words g rules = ap (λ (h : Graph). h.code_words) (canonical_is_joined g rules)
+
+pub canonical_procedures : (g : Graph) → IsGraph g → (canonical_of g).procedures ≡ map (retargeted_procedure (passed g.blocks)) g.procedures
+canonical_procedures g rules = ap (λ (h : Graph). h.procedures) (canonical_is_joined g rules)
+
+-- no more blocks
 pub canonical_length : (g : Graph) → IsGraph g → length (canonical_of g).blocks ≤ length g.blocks
 canonical_length g rules =
     omega (

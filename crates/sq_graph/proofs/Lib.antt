@@ -35,3 +35,4 @@ pub mod Joining
 pub mod Kept
 pub mod Joined
 pub mod CanonicalLaws
+pub mod CanonicalReach

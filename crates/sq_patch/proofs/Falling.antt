@@ -19,7 +19,7 @@ use Rattle.sq_patch.proofs.Changing.{IsTurned, Turns, turned_follows, ahead, in_
 use Rattle.sq_patch.proofs.Used.{contains_first, contains_later}
 
 -- names ahead of a block
-named_split : (front : List Block) (x : Block) (bs : List Block) → named (front ++ (x ∷ bs)) ≡ named front ++ (x.name, x) ∷ named bs
+pub named_split : (front : List Block) (x : Block) (bs : List Block) → named (front ++ (x ∷ bs)) ≡ named front ++ (x.name, x) ∷ named bs
 named_split [] x bs = refl
 named_split (y ∷ front) x bs = ap (λ rest. (y.name, y) ∷ rest) (named_split front x bs)
 

@@ -17,3 +17,7 @@ mod Falling
 mod Dropping
 mod Hastening
 mod Inlining
+mod Moving
+mod Dying
+mod Bypassing
+mod Joining

@@ -7,8 +7,10 @@ use Rattle.sq_graph.specs.Graph.{Graph}
 use Rattle.sq_graph.specs.Blocks.{items_of, next_of, term_of}
 use Rattle.sq_graph.specs.Rules.{IsGraph}
 use Rattle.sq_graph.specs.Operations.{IsNew, split_at, replaced, inlined, with_term}
+use Rattle.sq_graph.specs.Canonical.{canonical_of}
 use Rattle.sq_graph.specs.Lines.{place_lines}
 use Rattle.sq_graph.specs.Walks.{IsLive}
+use Rattle.sq_graph.specs.Soundness.{IsSound}
 use Rattle.sq_follow.specs.Follows.{Follows}
 
 -- A graph with one block split follows it.
@@ -35,3 +37,11 @@ HastenFollows = (g : Graph) (block link part to : ℕ) → IsGraph g → term_of
 -- A graph in which the body of a procedure stands in place of a call of it follows it.
 abbrev pub InlineFollows : Type 0
 InlineFollows = (g : Graph) (block at procedure : ℕ) → IsGraph g → slice_get (items_of g block) at ≡ Some (Out procedure) → Follows g (inlined g block at)
+
+-- The canonical graph of a graph follows it.
+abbrev pub CanonicalFollows : Type 0
+CanonicalFollows = (g : Graph) → IsGraph g → Follows g (canonical_of g)
+
+-- The canonical graph of a graph is sound where the graph is.
+abbrev pub CanonicalIsSound : Type 0
+CanonicalIsSound = (g : Graph) → IsGraph g → IsSound g → IsSound (canonical_of g)

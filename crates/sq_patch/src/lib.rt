@@ -2,12 +2,13 @@
 //!
 //! To the layers above it promises that two runs of one graph which agree on memory and on the registers
 //! that are live go on to agree: what is dead may differ, and what the first run has lost may be anything; and
-//! that five operations on graphs keep runs: a split, a Jump to the next slot that becomes Fall, a dead upper
-//! half that goes, a jump by an upper half that becomes a Call or a Jump, and a body in place of its call.
+//! that six operations on graphs keep runs: a split, a Jump to the next slot that becomes Fall, a dead upper
+//! half that goes, a jump by an upper half that becomes a Call or a Jump, a body in place of its call, and the
+//! canonical form.
 #![tactic(auto)]
 
 ghost use Rattle.sq_patch.specs.LiveAgreement.{StepsAgree, PlacesMakeTargets};
-ghost use Rattle.sq_patch.specs.Operations.{SplitFollows, FallFollows, DropFollows, HastenFollows, InlineFollows};
+ghost use Rattle.sq_patch.specs.Operations.{SplitFollows, FallFollows, DropFollows, HastenFollows, InlineFollows, CanonicalFollows, CanonicalIsSound};
 
 /// From states that agree on what is live, a graph steps to such states again, with the same event or to the
 /// same end.
@@ -43,4 +44,15 @@ pub fn hasten_keeps_runs()
 /// A graph in which the body of a procedure stands in place of a call of it follows it.
 pub fn inline_keeps_runs()
     ensures { InlineFollows }
+{}
+
+/// The canonical graph of a graph follows it: without the blocks that are empty with Fall, and with each block
+/// that is fallen into and is no leader joined to the one before.
+pub fn canonical_keeps_runs()
+    ensures { CanonicalFollows }
+{}
+
+/// The canonical graph of a graph is sound where the graph is.
+pub fn canonical_keeps_soundness()
+    ensures { CanonicalIsSound }
 {}
