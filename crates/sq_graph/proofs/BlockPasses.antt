@@ -22,7 +22,8 @@ use Rattle.sq_graph.specs.Canonical.{joined_onto, joined_blocks}
 use Rattle.sq_graph.specs.Bypasses.{kept, passed}
 use Rattle.sq_graph.specs.CanonicalSlots.{is_bare_slot, aim, aimed, start_of, full_slots, marked, joined_slot_onto, joined_slots}
 use Rattle.sq_graph.proofs.Located.{named-append}
-use Rattle.sq_graph.proofs.Marks.{absent_behind, distinct_rest}
+use Rattle.sq_graph.proofs.Kept.{absent_behind}
+use Rattle.sq_graph.proofs.Marks.{distinct_rest}
 use Rattle.sq_graph.proofs.Bypassing.{is_fall-other, falls_on, bare_falls, ends_tail, passed-other, passed-bare, passed-kept}
 
 -- Where uses go

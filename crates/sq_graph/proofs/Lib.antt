@@ -11,6 +11,8 @@ pub mod Marks
 pub mod SlotPasses
 pub mod BlockPasses
 pub mod CanonicalShows
+pub mod RulesByBlock
+pub mod OperationRules
 pub mod SlotWalks
 pub mod Changes
 pub mod BlockWrites

@@ -5,14 +5,14 @@ use Rattle.std.proofs.lemmas.Bool.{cases_Bool, eqb-true, eqb-false, eq-eqb, ne_e
 use Rattle.std.proofs.lemmas.List.{append-nil, map-append, length-map, take_more}
 use Rattle.std.proofs.lemmas.List.Concat.{flat_map-append}
 use Rattle.sq_arena.specs.Entries.{keys, HasDistinctKeys, value_of, with_value, last_key, previous_key}
-use Rattle.sq_arena.proofs.Paths.{once_same}
-use Rattle.sq_arena.proofs.EntriesLaws.{times_at_most_once, value_of-absent, distinct_back}
+use Rattle.sq_arena.proofs.EntriesLaws.{distinct_back}
 use Rattle.sq_isa.specs.Registers.{is_among}
 use Rattle.sq_graph.specs.declared.slot.Slot.{Slot}
 use Rattle.sq_graph.specs.declared.parts.CodeRef.{CodeRef}
 use Rattle.sq_graph.specs.Uses.{term_uses, code_word_uses}
 use Rattle.sq_graph.specs.Cursor.{slot_uses}
 use Rattle.sq_graph.specs.CanonicalSlots.{marked_slot, marked}
+use Rattle.sq_graph.proofs.Kept.{absent_behind}
 use Rattle.sq_graph.proofs.BackWalks.{up_to, last_of, no_last, IsIn, is_in, up_to_last}
 
 or_assoc : (a b c : Bool) → (a || (b || c)) ≡ ((a || b) || c)
@@ -66,9 +66,6 @@ marked_absent name (e ∷ es) none =
           let other : (name == e.0) ≡ false = ne_eqb name e.0 (λ same. eqb-false e.0 name apart (sym same)) in
           rw other (ap (λ fs. e ∷ fs) (marked_absent name es (rw apart at none)))
     ]
-
-pub absent_behind : {T : Type 0} (e : ℕ × T) (rest : List (ℕ × T)) → HasDistinctKeys (e ∷ rest) → value_of rest e.0 ≡ None
-absent_behind e rest distinct = value_of-absent rest e.0 (omega (arith, times_at_most_once (e ∷ rest) distinct (Some e.0), once_same (Some e.0)))
 
 pub distinct_rest : {T : Type 0} (e : ℕ × T) (rest : List (ℕ × T)) → HasDistinctKeys (e ∷ rest) → HasDistinctKeys rest
 distinct_rest e rest distinct = distinct_back (e ∷ []) rest distinct

@@ -22,8 +22,8 @@ use crate::slots;
 use sq_arena::Arena;
 
 impl Graph {
-    /// Makes the graph canonical: no block is empty with `Fall`, and no block that nothing leads to but the
-    /// one before is apart from it.
+    /// Makes the graph canonical: each block that is empty with `Fall` gives its names to the next slot and
+    /// goes, and then each block that is fallen into and is no leader is joined to the one before.
     pub fn canonical(&mut self)
         ensures graph { self.new.graph ≡ canonical_of self.old.graph }
         ensures spare { self.new.spare ≡ record self.old.spare { blocks = self.old.spare.blocks + length self.old.graph.blocks - length self.new.graph.blocks } }
@@ -39,6 +39,7 @@ impl Graph {
         rename::retarget_words(&mut self.code_words, &aims);
         self.entry = aims.name(self.entry);
         unlink_bare(&mut self.slots);
+        // A block that is fallen into stands behind no other term: it is a leader where its name is used.
         mark(&mut self.slots, self.entry);
         mark_words(&mut self.slots, &self.code_words);
         mark_terms(&mut self.slots);
