@@ -46,10 +46,10 @@ module _ (P : Item → Type 0) (Q : Term → Type 0) where
   abbrev pub EachBlock : List Block → Type 0
   EachBlock blocks = AllByRecursion IsBlockGood blocks
 
-  record IsRestGood (rest : Rest) : Type 0 where
-    items : AllByRecursion P rest.items
-    term : Q rest.term
-    blocks : EachBlock rest.blocks
+  pub record IsRestGood (rest : Rest) : Type 0 where
+    pub items : AllByRecursion P rest.items
+    pub term : Q rest.term
+    pub blocks : EachBlock rest.blocks
 
   form_good : (f : Form) (rest : Rest) → IsFormGood f → IsRestGood rest → IsRestGood (with_form f rest)
   form_good (ItemForm item) rest f h = record { items = (f, h.items); term = h.term; blocks = h.blocks }
@@ -91,7 +91,7 @@ module _ (p : Program) (is : ℕ → Bool) (marked : IsMarkedText p.text) (dec :
   -- WHAT EACH ITEM AND TERM IS
 
   -- the word that is read at the head of a suffix
-  reads_here : (at : ℕ) (w : Word) (words : List Word) → Suffix at (w ∷ words) → (rd : ReadWord p is marked dec fine.text at) → reading_of t at w ≡ Some rd.reading
+  pub reads_here : (at : ℕ) (w : Word) (words : List Word) → Suffix at (w ∷ words) → (rd : ReadWord p is marked dec fine.text at) → reading_of t at w ≡ Some rd.reading
   reads_here at w words suffix rd =
       let own : word_at t at ≡ Some w = suffix at (omega arith) ∙ at_here at w words in
       let same : rd.word ≡ w = let u : Some rd.word ≡ Some w = sym rd.there ∙ own in cc in
@@ -130,7 +130,7 @@ module _ (p : Program) (is : ℕ → Bool) (marked : IsMarkedText p.text) (dec :
   form_blocks (ItemForm item) rest = refl
   form_blocks (TermForm term) rest = refl
 
-  reading_blocks : (o : Option Reading) (rest : Rest) → (with_reading ns o rest).blocks ≡ rest.blocks
+  pub reading_blocks : (o : Option Reading) (rest : Rest) → (with_reading ns o rest).blocks ≡ rest.blocks
   reading_blocks None rest = refl
   reading_blocks (Some r) rest = form_blocks (form_of ns r) rest
 

@@ -27,7 +27,6 @@ use Rattle.sq_lifting.proofs.NoteFacts.{at_number, read_item, IsGoodNote, good_n
 use Rattle.sq_lifting.proofs.ReadingFacts.{form_uses, IsReadItem}
 use Rattle.sq_lifting.proofs.CutLines.{N, K, G, named_used, body_name, body_each, item_read}
 use Rattle.sq_lifting.proofs.Whole.{entry_named, code_named, names_are, contains_at, dies_lines, die_all}
-use Rattle.sq_lifted.specs.Lifted.{LiftedIsGood}
 use Rattle.sq_lifted.proofs.Fits.{ReadingFits, reading_fits}
 use Rattle.sq_lifted.proofs.Blocks.{has_block, IsFormGood, IsBlockGood, EachBlock, blocks_good, names_distinct, last_ends}
 
@@ -234,6 +233,3 @@ module _ (p : Program) (is : ℕ → Bool) (linked : IsLinked p) (dec : Decides 
     bodies = All-from_recursion IsSoundBody g.procedures (each_map (procedure_of t) IsSoundBody ns (each_weaker (IsGoodNote is p) (λ n. IsSoundBody (procedure_of t n)) sound_body ns notes_are));
     links_die = dies_lines p is linked dec fine (lines_of g.blocks) (die_all p is linked dec fine);
   }
-
-pub lifted_good : LiftedIsGood
-lifted_good p is linked ascending dec fine = record { graph = is_graph p is linked dec fine ascending; sound = is_sound p is linked dec fine }

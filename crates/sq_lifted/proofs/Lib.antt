@@ -1,3 +1,4 @@
 pub mod Fits
 pub mod Blocks
 pub mod Graphs
+pub mod Canonical

@@ -1,4 +1,4 @@
-use Rattle.sq_lifted.proofs.Graphs.{lifted_good}
+use Rattle.sq_lifted.proofs.Canonical.{lifted_good}
 use Rattle.sq_lifted.proofs.lifted_is_good.Goals as goal
 
 pub returns : goal.returns
