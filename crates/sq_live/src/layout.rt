@@ -28,7 +28,7 @@ pub(crate) fn block_names(alloc: Global, g: &Graph) -> Result<Vec<u32>, Memory>
     Ok(names)
 }
 
-/// The position of each name.
+/// The position of each name. Of equal names, which a graph doesn't have, the first would count.
 pub(crate) fn positions(alloc: Global, names: &[u32]) -> Result<HashMap<u32, usize>, Memory>
     ensures { IfOk result (λ positions. (name : ℕ) → get nat_eq positions name ≡ position_in names.now 0 name) }
 {

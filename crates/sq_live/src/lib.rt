@@ -7,5 +7,7 @@ mod layout;
 mod liveness;
 mod places;
 mod search;
+#[cfg(test)]
+mod tests;
 
 pub use liveness::{Liveness, live};

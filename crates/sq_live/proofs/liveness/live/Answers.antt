@@ -5,7 +5,8 @@ use Rattle.sq_isa.specs.Registers.{is_member}
 use Rattle.sq_live.specs.Search.{list_at, lists, Leads}
 use Rattle.sq_live.specs.Places.{AreBlockPlaces}
 use Rattle.sq_live.proofs.Searches.{length-lists}
-use Rattle.sq_live.proofs.Exactness.{lay_out, exits_there, exits_length, exact_liveness}
+use Rattle.sq_live.proofs.Nodes.{exits_there, exits_length}
+use Rattle.sq_live.proofs.Exactness.{lay_out, exact_liveness}
 use Rattle.sq_live.proofs.liveness.live.Goals as goal
 
 pub live_sets-requires-clause-count : goal.live_sets-requires-clause-count

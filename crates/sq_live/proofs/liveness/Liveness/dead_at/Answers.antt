@@ -7,7 +7,7 @@ use Rattle.sq_graph.specs.Walks.{IsLive}
 use Rattle.sq_live.specs.Search.{lists}
 use Rattle.sq_live.specs.Liveness.{places_of}
 use Rattle.sq_live.proofs.Searches.{length-lists, read_list}
-use Rattle.sq_live.proofs.Exactness.{table_of, table_places, table_within, table_misses, zero_dead, dead_is, is_nonzero}
+use Rattle.sq_live.proofs.Tables.{table_of, table_places, table_within, table_misses, zero_dead, dead_is, is_nonzero}
 use Rattle.sq_live.proofs.liveness.Liveness.dead_at.Goals as goal
 
 pub index-requires : goal.index-requires
