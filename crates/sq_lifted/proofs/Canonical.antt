@@ -28,14 +28,12 @@ use Rattle.sq_lifting.proofs.ReadingFacts.{IsReadTerm, IsForm}
 use Rattle.sq_lifting.proofs.Cutting.{kept_is, kept_from, read_at, next_kept, true_not_false, when_false}
 use Rattle.sq_lifting.proofs.CutLines.{N, K, L, G, Cut, IsSuffix, tail_suffix, form_at, IsTermForm, term_lead, goes_of, closed_cut, first_lead}
 use Rattle.sq_lifting.proofs.Whole.{names_are}
-use Rattle.sq_lifted.specs.Lifted.{LiftedIsGood}
-use Rattle.sq_lifted.proofs.Graphs.{is_graph, is_sound}
 use Rattle.sq_lifted.proofs.Blocks.{IsFormGood, IsBlockGood, IsRestGood, reads_here, reading_blocks}
 
 -- NO BLOCK IS BARE
 
 -- no term that is read is Fall
-abbrev IsReal : Form → Type 0
+abbrev pub IsReal : Form → Type 0
 IsReal (ItemForm item) = Unit {0}
 IsReal (TermForm term) = is_fall term ≡ false
 
@@ -52,7 +50,7 @@ link_real : (link to : ℕ) (o : Option ℕ) → IsReal (link_form link to o)
 link_real link to None = refl
 link_real link to (Some q) = tt
 
-form_real : (ns : List Note) (r : Reading) → IsForm r → IsReal (form_of ns r)
+pub form_real : (ns : List Note) (r : Reading) → IsForm r → IsReal (form_of ns r)
 form_real ns (IsItem item) f = tt
 form_real ns (IsTerm term) f = term_real term f
 form_real ns (Links link to) f = link_real link to (procedure_at ns to)
@@ -182,7 +180,7 @@ module _ (p : Program) (is : ℕ → Bool) (linked : IsLinked p) (dec : Decides 
   abbrev Here : ℕ → Word → List Word → Rest
   Here at w words = with_reading ns (reading_of t at w) (Tail (at + 4) words)
 
-  here_is : (at : ℕ) (w : Word) (words : List Word) → Suffix at (w ∷ words) → (rd : Read at) → Here at w words ≡ with_form (form_of ns rd.reading) (Tail (at + 4) words)
+  pub here_is : (at : ℕ) (w : Word) (words : List Word) → Suffix at (w ∷ words) → (rd : Read at) → Here at w words ≡ with_form (form_of ns rd.reading) (Tail (at + 4) words)
   here_is at w words suffix rd = ap (λ o. with_reading ns o (Tail (at + 4) words)) (reads_here p is linked.text dec fine at w words suffix rd)
 
   -- a block that isn't bare, and is a leader of the program
@@ -211,7 +209,7 @@ module _ (p : Program) (is : ℕ → Bool) (linked : IsLinked p) (dec : Decides 
 
   -- FROM BLOCKS TO WORDS
 
-  closed_next : (at : ℕ) (words : List Word) (rd : Read at) (f : Form) → form_of ns rd.reading ≡ f → IsTermForm f → keep at ≡ true → Tail (at + 4) words ≡ between (Tail (at + 4) words).blocks
+  pub closed_next : (at : ℕ) (words : List Word) (rd : Read at) (f : Form) → form_of ns rd.reading ≡ f → IsTermForm f → keep at ≡ true → Tail (at + 4) words ≡ between (Tail (at + 4) words).blocks
   closed_next at words rd f e i k = closed_cut p is linked.text dec fine (at + 4) words (λ k'. term_lead p is linked.text dec fine at rd f e i k k')
 
   -- what holds of each item and term of the blocks holds at each kept word
@@ -418,10 +416,3 @@ module _ (p : Program) (is : ℕ → Bool) (linked : IsLinked p) (dec : Decides 
 
   pub is_canonical : IsCanonical g
   is_canonical = record { no_bare = All-from_recursion (λ b. is_bare b ≡ false) g.blocks (bares g.blocks blocks_full); leaders = falls g.blocks blocks_full }
-
-pub lifted_good : LiftedIsGood
-lifted_good p is linked ascending dec fine = record {
-  graph = is_graph p is linked dec fine ascending;
-  canonical = is_canonical p is linked dec fine;
-  sound = is_sound p is linked dec fine;
-}

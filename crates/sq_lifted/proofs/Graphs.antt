@@ -102,7 +102,7 @@ module _ (p : Program) (is : ℕ → Bool) (linked : IsLinked p) (dec : Decides 
   each_in : (P : ℕ → Type 0) (xs : List ℕ) → ((x : ℕ) → Contains xs x → P x) → AllByRecursion P xs
   each_in P xs f = each_at P xs (λ q x e. f x (contains_at p is linked dec fine xs q x e))
 
-  read_fits : (at : ℕ) (rd : Read at) → ReadingFits rd.reading
+  pub read_fits : (at : ℕ) (rd : Read at) → ReadingFits at rd.reading
   read_fits at rd =
       reading_fits t at rd.word.mark rd.sound.insn rd.reading
       (FieldsFit-insn_of rd.word.number rd.sound.insn (linked.text.numbers at rd.word rd.there) rd.sound.is)
@@ -131,16 +131,16 @@ module _ (p : Program) (is : ℕ → Bool) (linked : IsLinked p) (dec : Decides 
 
       go : (r : Reading) → rd.reading ≡ r → IsFormGoodIn g (form_of ns r)
       go (IsItem item) e = record {
-        fits = subst ReadingFits e (read_fits at rd);
+        fits = subst (ReadingFits at) e (read_fits at rd);
         names = subst (λ r. (x : ℕ) → Contains (form_uses (form_of ns r)) x → HasBlock g x) e (names_there at rd k);
         calls = λ q c. none_in q (subst (λ xs. Contains xs q) (read_calls item (item_read p is linked.text dec fine at rd item e)) c);
       }
       go (IsTerm term) e = record {
-        fits = subst ReadingFits e (read_fits at rd);
+        fits = (subst (ReadingFits at) e (read_fits at rd)).0;
         names = subst (λ r. (x : ℕ) → Contains (form_uses (form_of ns r)) x → HasBlock g x) e (names_there at rd k);
       }
       go (Links link to) e =
-          link_good link to (procedure_at ns to) refl (subst ReadingFits e (read_fits at rd))
+          link_good link to (procedure_at ns to) refl (subst (ReadingFits at) e (read_fits at rd))
           (subst (λ r. (x : ℕ) → Contains (form_uses (form_of ns r)) x → HasBlock g x) e (names_there at rd k))
 
   pub blocks_are : EachBlock (IsItemGood g) (IsTermGood g) g.blocks
@@ -156,7 +156,7 @@ module _ (p : Program) (is : ℕ → Bool) (linked : IsLinked p) (dec : Decides 
       each : (at : ℕ) (rd : Read at) → is at ≡ true → (item : Item) → rd.reading ≡ IsItem item → mentions item n.link ≡ false → IsBodyItem n item
       each at rd i item e m = let none = read_calls item (item_read p is linked.text dec fine at rd item e) in (
         record {
-          fits = subst ReadingFits e (read_fits at rd);
+          fits = subst (ReadingFits at) e (read_fits at rd);
           names = λ x c. has_block p is linked.text dec fine x (body_name p is linked.text dec fine at rd i item e x c);
           calls = λ q c. none_in q (subst (λ xs. Contains xs q) none c);
         },

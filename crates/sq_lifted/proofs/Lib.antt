@@ -2,3 +2,4 @@ pub mod Fits
 pub mod Blocks
 pub mod Graphs
 pub mod Canonical
+pub mod Reaching

@@ -1,5 +1,5 @@
-use Rattle.sq_lifted.proofs.Canonical.{lifted_good}
+use Rattle.sq_lifted.proofs.Reaching.{lifted_good}
 use Rattle.sq_lifted.proofs.lifted_is_good.Goals as goal
 
 pub returns : goal.returns
-returns c = λ p is linked ascending dec fine. lifted_good p is linked ascending dec fine
+returns c = λ p is linked short ascending dec fine. lifted_good p is linked short ascending dec fine
