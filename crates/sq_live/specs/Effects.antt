@@ -1,4 +1,5 @@
--- What items do to a register: whether they read it before they write it, and whether they write it.
+-- What items do to a register: whether they read it before they write it, and whether they write it. No public
+-- clause cites this module.
 use Rattle.std.specs.Prelude.{◌≡◌, ◌<◌, ℕ, pos, Bool, false, not, ◌||◌, ◌&&◌, List, [], ◌∷◌, Option, Some, None, slice_get}
 use Rattle.sq_isa.specs.Registers.{is_member, is_among_but_x0}
 use Rattle.sq_isa.specs.Uses.{is_read, is_written}

@@ -1,5 +1,5 @@
 -- Where blocks lead, by nodes: the positions of blocks in layout order, and behind these the node that leads to each
--- code target.
+-- code target. No public clause cites this module.
 use Rattle.std.specs.Prelude.{ℕ, ◌+◌, ◌==◌, List, [], ◌∷◌, ◌++◌, Option, Some, None, if◌then◌else◌, option_to_list}
 use Rattle.std.specs.List.{flat_map}
 use Rattle.sq_graph.specs.declared.item.Term.{Term}

@@ -1,4 +1,4 @@
--- The sets before the places of blocks.
+-- The sets before the places of blocks. No public clause cites this module.
 use Rattle.std.specs.Prelude.{◌≡◌, ℕ, ◌<◌, ◌≤◌, ◌+◌, Bool, false, not, ◌||◌, ◌&&◌, List, [], ◌∷◌, Some, length, drop, slice_index, slice_get}
 use Rattle.sq_isa.specs.Registers.{is_member, is_among_but_x0}
 use Rattle.sq_graph.specs.declared.item.Item.{Item}

@@ -1,4 +1,4 @@
--- The nodes from which a read is led to, and the search for them.
+-- The nodes from which a read is led to, and the search for them. No public clause cites this module.
 use Rattle.std.specs.Prelude.{◌≡◌, ℕ, ◌+◌, Bool, true, false, List, [], ◌⊎◌, ◌↔◌, map, length, slice_get, slice_index_or, sum_by, Vec, if◌then◌else◌}
 use Rattle.std.specs.List.{Contains}
 use Rattle.sq_live.specs.declared.effect.Effect.{Effect}
