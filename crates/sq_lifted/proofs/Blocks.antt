@@ -63,6 +63,13 @@ module _ (P : Item → Type 0) (Q : Term → Type 0) where
     begun_good true at rest h = between_good (record { name = at; items = rest.items; term = rest.term } ∷ rest.blocks) (record { items = h.items; term = h.term }, h.blocks)
     begun_good false at rest h = h
 
+-- an item goes on
+pub item_open : (item : Item) → closes (line_of item) ≡ false
+item_open (Op insn) = refl
+item_open (Hi rd to) = refl
+item_open (Lo rd rs to) = refl
+item_open (Out procedure) = refl
+
 module _ (p : Program) (is : ℕ → Bool) (marked : IsMarkedText p.text) (dec : Decides p is) (fine : IsFine is p) where
   abbrev t : Text
   t = T p is marked dec fine
@@ -193,12 +200,6 @@ module _ (p : Program) (is : ℕ → Bool) (marked : IsMarkedText p.text) (dec :
   form_ends : (at : ℕ) (words : List Word) (rd : ReadWord p is marked dec fine.text at) → keep at ≡ true → (f : Form) → form_of ns rd.reading ≡ f → (keep (at + 4) ≡ true → Ends (Tail (at + 4) words)) → EndsBehind (Tail (at + 4) words) → Ends (with_form f (Tail (at + 4) words)) × EndsBehind (with_form f (Tail (at + 4) words))
   form_ends at words rd k (ItemForm item) e h b = (item_ends (Tail (at + 4) words) (h next), b)
     where
-      item_open : (item : Item) → closes (line_of item) ≡ false
-      item_open (Op insn) = refl
-      item_open (Hi rd to) = refl
-      item_open (Lo rd rs to) = refl
-      item_open (Out procedure) = refl
-
       next : keep (at + 4) ≡ true
       next = next_kept p is marked dec fine at rd.word rd.sound k rd.there (goes_of p is marked dec fine at rd (subst (λ f. closes (form_line f) ≡ false) (sym e) (item_open item)))
 

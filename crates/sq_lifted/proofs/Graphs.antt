@@ -48,7 +48,7 @@ each_map : {X Y : Type 0} (f : X → Y) (P : Y → Type 0) (xs : List X) → All
 each_map f P [] h = tt
 each_map f P (x ∷ xs) h = (h.0, each_map f P xs h.1)
 
-each_at : {X : Type 0} (P : X → Type 0) (xs : List X) → ((q : ℕ) (x : X) → slice_get xs q ≡ Some x → P x) → AllByRecursion P xs
+pub each_at : {X : Type 0} (P : X → Type 0) (xs : List X) → ((q : ℕ) (x : X) → slice_get xs q ≡ Some x → P x) → AllByRecursion P xs
 each_at P [] f = tt
 each_at P (x ∷ xs) f = (f 0 x refl, each_at P xs (λ q y e. f (suc q) y e))
 

@@ -3,3 +3,4 @@ pub mod Blocks
 pub mod Graphs
 pub mod Canonical
 pub mod Reaching
+pub mod Counting

@@ -21,10 +21,10 @@ use Rattle.sq_lifting.proofs.Facts.{one, ReadWord}
 use Rattle.sq_lifting.proofs.ReadingFacts.{form_uses}
 use Rattle.sq_lifting.proofs.Cutting.{kept_is, read_at, used_kept, lead_used, true_not_false}
 use Rattle.sq_lifting.proofs.CutLines.{N, K, L, G, Cut, IsSuffix, tail_suffix, form_at, IsTermForm, closed_cut, first_lead}
-use Rattle.sq_lifted.specs.Lifted.{IsShort, LiftedIsGood}
+use Rattle.sq_lifted.specs.Lifted.{IsShort}
 use Rattle.sq_lifted.proofs.Fits.{LeadsBy, ReadingFits}
-use Rattle.sq_lifted.proofs.Graphs.{read_fits, is_graph, is_sound}
-use Rattle.sq_lifted.proofs.Canonical.{IsReal, form_real, here_is, closed_next, is_canonical}
+use Rattle.sq_lifted.proofs.Graphs.{read_fits}
+use Rattle.sq_lifted.proofs.Canonical.{IsReal, form_real, here_is, closed_next}
 
 -- how far a branch leads that doesn't wrap
 pub span : (at to : ℕ) (offset : ℤ) → IsSigned 13 offset → to ≡ target_from at offset → at < 2 ^ 32 → to < at + 2 ^ 20 → at < to + 2 ^ 20 → (to ≤ at + 4095) × (at ≤ to + 4096)
@@ -37,9 +37,19 @@ span at to (negsuc k) s e small far near =
     let f : to ≡ (at + (2 ^ 32 - suc k)) % 2 ^ 32 = e in
     (omega arith, omega arith)
 
+-- a term that is read takes a word
+pub real_word : (term : Term) → is_fall term ≡ false → term_words term ≡ 1
+real_word Fall e = absurd (cc)
+real_word (Jump to) e = refl
+real_word (Branch cond a b to) e = refl
+real_word (Call link to) e = refl
+real_word (PartJump link part to) e = refl
+real_word (Indirect link register offset) e = refl
+real_word (Stop word) e = refl
+
 -- HOW MANY WORDS STAND BELOW AN ADDRESS
 
-abbrev one_if : Bool → ℕ
+abbrev pub one_if : Bool → ℕ
 one_if true = 1
 one_if false = 0
 
@@ -150,15 +160,6 @@ module _ (p : Program) (is : ℕ → Bool) (linked : IsLinked p) (dec : Decides 
   -- the address of a block, where what stands from here on begins at `at`
   abbrev address : ℕ → Rest → ℕ → Option ℕ
   address at rest x = address_in rest.blocks (at + 4 * size rest) x
-
-  real_word : (term : Term) → is_fall term ≡ false → term_words term ≡ 1
-  real_word Fall e = absurd (cc)
-  real_word (Jump to) e = refl
-  real_word (Branch cond a b to) e = refl
-  real_word (Call link to) e = refl
-  real_word (PartJump link part to) e = refl
-  real_word (Indirect link register offset) e = refl
-  real_word (Stop word) e = refl
 
   form_address : (f : Form) (rest : Rest) (n x : ℕ) → IsReal f → (IsTermForm f → rest ≡ between rest.blocks) → address (4 * n) (with_form f rest) x ≡ address (4 * (n + 1)) rest x
   form_address (ItemForm item) rest n x real closed = ap (λ at. address_in rest.blocks at x) (omega arith)
@@ -305,11 +306,3 @@ module _ (p : Program) (is : ℕ → Bool) (linked : IsLinked p) (dec : Decides 
 
   pub in_reach : IsInReach g
   in_reach = (subst (RestReaches 0) whole (cut_reaches t.lo t.words (λ x h. refl) 0 (λ x le. omega arith))).blocks
-
-pub lifted_good : LiftedIsGood
-lifted_good p is linked short ascending dec fine = record {
-  graph = is_graph p is linked dec fine ascending;
-  canonical = is_canonical p is linked dec fine;
-  sound = is_sound p is linked dec fine;
-  reach = in_reach p is linked dec fine short;
-}

@@ -1,4 +1,4 @@
-use Rattle.sq_lifted.proofs.Reaching.{lifted_good}
+use Rattle.sq_lifted.proofs.Counting.{lifted_good}
 use Rattle.sq_lifted.proofs.lifted_is_good.Goals as goal
 
 pub returns : goal.returns
