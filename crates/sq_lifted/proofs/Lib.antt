@@ -4,3 +4,4 @@ pub mod Graphs
 pub mod Canonical
 pub mod Reaching
 pub mod Counting
+pub mod Files
