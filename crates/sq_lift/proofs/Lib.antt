@@ -1,0 +1,5 @@
+pub mod Placed
+pub mod Flagged
+pub mod Reaching
+pub mod Searches
+pub mod FileTexts
