@@ -3,3 +3,5 @@ pub mod Flagged
 pub mod Reaching
 pub mod Searches
 pub mod FileTexts
+pub mod CodeWordLists
+pub mod FilePrograms

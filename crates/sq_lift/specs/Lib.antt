@@ -1,3 +1,4 @@
 pub mod Places
 pub mod Flags
 pub mod Search
+pub mod Refused

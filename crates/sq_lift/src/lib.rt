@@ -5,12 +5,16 @@
 //! refused by its text exactly where one of them has a fault.
 #![tactic(auto)]
 
+mod faults;
 mod leads;
 mod places;
+mod program;
 mod reached;
 mod search;
 mod text;
 
+pub use faults::text_fault;
+pub use program::{Program, read_program};
 pub use reached::Reached;
 pub use search::reached_words;
 pub use text::{Text, TextWord, read_text};
