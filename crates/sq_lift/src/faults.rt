@@ -58,100 +58,39 @@ fn falls_off(text: &Text, at: u32, insn: &Insn) -> bool
 fn is_auipc(insn: &Insn) -> bool
     ensures { result ≡ is_auipc insn.now }
 {
-    match *insn {
-        Insn::Auipc { .. } => true,
-        Insn::Lui { .. }
-        | Insn::Jal { .. }
-        | Insn::Jalr { .. }
-        | Insn::Branch { .. }
-        | Insn::Load { .. }
-        | Insn::Store { .. }
-        | Insn::OpImm { .. }
-        | Insn::Op { .. }
-        | Insn::Fence { .. }
-        | Insn::Ecall
-        | Insn::Ebreak
-        | Insn::Unimp { .. }
-        | Insn::Atomic { .. } => false,
-    }
+    matches!(*insn, Insn::Auipc { .. })
 }
 
 /// Whether the instruction is a load or a store.
 fn is_access(insn: &Insn) -> bool
     ensures { result ≡ is_access insn.now }
 {
-    match *insn {
-        Insn::Load { .. } | Insn::Store { .. } => true,
-        Insn::Lui { .. }
-        | Insn::Auipc { .. }
-        | Insn::Jal { .. }
-        | Insn::Jalr { .. }
-        | Insn::Branch { .. }
-        | Insn::OpImm { .. }
-        | Insn::Op { .. }
-        | Insn::Fence { .. }
-        | Insn::Ecall
-        | Insn::Ebreak
-        | Insn::Unimp { .. }
-        | Insn::Atomic { .. } => false,
-    }
+    matches!(*insn, Insn::Load { .. } | Insn::Store { .. })
 }
 
 fn is_plain(mark: &Mark) -> bool
     ensures { result ≡ is_plain mark.now }
 {
-    match *mark {
-        Mark::Plain => true,
-        Mark::Hi(_)
-        | Mark::Lo(_)
-        | Mark::Unsupported(_)
-        | Mark::Disagrees(_)
-        | Mark::Conflict
-        | Mark::Lone => false,
-    }
+    matches!(*mark, Mark::Plain)
 }
 
 /// Whether the mark is the lower half of an address in text.
 fn is_lower_in_text(text: &Text, mark: &Mark) -> bool
     ensures { result ≡ is_lower_in_text text.now mark.now }
 {
-    match *mark {
-        Mark::Lo(target) => text.contains(target),
-        Mark::Plain
-        | Mark::Hi(_)
-        | Mark::Unsupported(_)
-        | Mark::Disagrees(_)
-        | Mark::Conflict
-        | Mark::Lone => false,
-    }
+    matches!(*mark, Mark::Lo(target) if text.contains(target))
 }
 
 fn is_conflict(mark: &Mark) -> bool
     ensures { result ≡ is_conflict mark.now }
 {
-    match *mark {
-        Mark::Conflict => true,
-        Mark::Plain
-        | Mark::Hi(_)
-        | Mark::Lo(_)
-        | Mark::Unsupported(_)
-        | Mark::Disagrees(_)
-        | Mark::Lone => false,
-    }
+    matches!(*mark, Mark::Conflict)
 }
 
 fn is_lone(mark: &Mark) -> bool
     ensures { result ≡ is_lone mark.now }
 {
-    match *mark {
-        Mark::Lone => true,
-        Mark::Plain
-        | Mark::Hi(_)
-        | Mark::Lo(_)
-        | Mark::Unsupported(_)
-        | Mark::Disagrees(_)
-        | Mark::Conflict => false,
-    }
+    matches!(*mark, Mark::Lone)
 }
 
 /// The fault of an instruction: of several the one of the least number.

@@ -18,3 +18,6 @@ pub use program::{Program, read_program};
 pub use reached::Reached;
 pub use search::reached_words;
 pub use text::{Text, TextWord, read_text};
+
+#[cfg(test)]
+mod tests;

@@ -28,6 +28,7 @@ pub fn read_program(alloc: Global, elf: &Elf<'_>, relocs: &Relocs<'_>) -> Result
     ensures refused { (refusal : Refusal) → result ≡ Err (Denied.Refused refusal) → IsTextRefusal elf.now refusal }
     ensures exact { (refusal : Refusal) → IsTextRefusal elf.now refusal → (result ≡ Err (Denied.Refused refusal)) ⊎ (result ≡ Err Denied.Memory) }
 {
+    // Whoever holds an `Elf` knows that nothing before text refuses the file: this call's contract says so.
     let _bytes = elf.bytes();
     let text = read_text(alloc, elf, relocs)?;
     let reached = reached_words(alloc, &text, elf.entry(), relocs.code_words())?;
