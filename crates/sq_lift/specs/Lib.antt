@@ -2,3 +2,4 @@ pub mod Places
 pub mod Flags
 pub mod Search
 pub mod Refused
+pub mod Read

@@ -1,19 +1,24 @@
 //! Where an instruction leads.
 
 ghost use Rattle.std.specs.Prelude.{◌≡◌, option_to_list};
-ghost use Rattle.sq_program.specs.Reached.{jump_target, half_target, insn_goes_on};
+ghost use Rattle.sq_program.specs.Reached.{target_from, jump_target, half_target, insn_goes_on};
 
 use sq_isa::Insn;
 use sq_reloc::Mark;
+
+/// The address that an offset gives from the instruction at `at`.
+pub(crate) fn target_from(at: u32, offset: i32) -> u32
+    ensures { result ≡ target_from at offset }
+{
+    at.wrapping_add(offset.cast_unsigned())
+}
 
 /// The target of a branch or a `jal` at this address.
 pub(crate) fn jump_target(at: u32, insn: &Insn) -> Option<u32>
     ensures { option_to_list result ≡ jump_target at insn.now }
 {
     match *insn {
-        Insn::Jal { offset, .. } | Insn::Branch { offset, .. } => {
-            Some(at.wrapping_add(offset.cast_unsigned()))
-        }
+        Insn::Jal { offset, .. } | Insn::Branch { offset, .. } => { Some(target_from(at, offset)) }
         Insn::Lui { .. }
         | Insn::Auipc { .. }
         | Insn::Jalr { .. }

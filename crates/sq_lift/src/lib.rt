@@ -10,12 +10,14 @@ mod leads;
 mod places;
 mod program;
 mod reached;
+mod readings;
 mod search;
 mod text;
 
 pub use faults::text_fault;
 pub use program::{Program, read_program};
 pub use reached::Reached;
+pub use readings::{Reading, reading_of};
 pub use search::reached_words;
 pub use text::{Text, TextWord, read_text};
 
