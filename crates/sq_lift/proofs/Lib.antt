@@ -5,3 +5,5 @@ pub mod Searches
 pub mod FileTexts
 pub mod CodeWordLists
 pub mod FilePrograms
+pub mod NoteEntries
+pub mod NoteFacts

@@ -59,7 +59,7 @@ not_there lo x apart none (Some (suc k)) is =
     let there : place_of (lo + 4) x ≡ Some k = rw same (place_at (lo + 4) k) in
     absurd (cc)
 
-next_place : (lo x : ℕ) → (x == lo) ≡ false → (p : Option ℕ) → place_of (lo + 4) x ≡ p → place_of lo x ≡ option_map suc p
+pub next_place : (lo x : ℕ) → (x == lo) ≡ false → (p : Option ℕ) → place_of (lo + 4) x ≡ p → place_of lo x ≡ option_map suc p
 next_place lo x apart None is = not_there lo x apart is (place_of lo x) refl
 next_place lo x apart (Some k) is =
     let same : x ≡ lo + 4 * suc k = omega (arith, place_is (lo + 4) x k is) in

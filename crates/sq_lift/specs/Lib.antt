@@ -3,3 +3,4 @@ pub mod Flags
 pub mod Search
 pub mod Refused
 pub mod Read
+pub mod NoteReading

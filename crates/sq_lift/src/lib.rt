@@ -7,6 +7,7 @@
 
 mod faults;
 mod leads;
+mod notes;
 mod places;
 mod program;
 mod reached;
@@ -15,6 +16,7 @@ mod search;
 mod text;
 
 pub use faults::text_fault;
+pub use notes::{Note, notes_of};
 pub use program::{Program, read_program};
 pub use reached::Reached;
 pub use readings::{Reading, reading_of};
