@@ -1,14 +1,13 @@
 -- A file has one program, and one refusal by its text.
-use Rattle.std.proofs.Common.{◌≡◌, ℕ, ◌+◌, Bool, true, false, List, [], ◌∷◌, Option, Some, None, inl, inr, refl, sym, ap, ◌∙◌, subst, if◌then◌else◌}
+use Rattle.std.proofs.Common.{◌≡◌, ℕ, ◌+◌, Bool, true, false, List, [], ◌∷◌, Some, None, refl, sym, ap, ◌∙◌, subst, if◌then◌else◌}
 use Rattle.std.specs.Option.{unwrap_or, option_or}
-use Rattle.std.proofs.lemmas.Bool.{cases_Bool}
 use Rattle.sq_num.specs.declared.refusal.Refusal.{Refusal}
 use Rattle.sq_elf.specs.Headers.{entry_of}
 use Rattle.sq_elf.specs.Refusing.{file_refusal_of}
 use Rattle.sq_reloc.specs.Refusing.{reloc_refusal_of}
 use Rattle.sq_reloc.specs.declared.mark.CodeWord.{CodeWord}
 use Rattle.sq_reloc.specs.CodeWords.{AreCodeWords}
-use Rattle.sq_program.specs.Programs.{Word, Text, Note, Program}
+use Rattle.sq_program.specs.Programs.{Word, Text, Program}
 use Rattle.sq_program.specs.Reached.{Decides}
 use Rattle.sq_program.specs.NoteSections.{notes_of}
 use Rattle.sq_program.specs.Faults.{fault_of, fault_from, text_refusal}

@@ -1,6 +1,5 @@
 -- The words of a file, one after another.
-use Rattle.std.proofs.Common.{◌≡◌, ℕ, zero, suc, ◌+◌, ◌*◌, List, [], ◌∷◌, ◌++◌, length, refl, sym, ap, ◌∙◌, subst, arith}
-use Rattle.sq_program.specs.Programs.{Word}
+use Rattle.std.proofs.Common.{◌≡◌, ℕ, zero, suc, ◌+◌, ◌*◌, List, [], ◌∷◌, ◌++◌, length, refl, ap, arith}
 use Rattle.sq_program.specs.FilePrograms.{file_word, words_from}
 
 pub words_more : (bytes : List ℕ) (at n : ℕ) → words_from bytes at (n + 1) ≡ words_from bytes at n ++ file_word bytes (at + 4 * n) ∷ []

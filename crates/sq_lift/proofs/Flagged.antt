@@ -1,11 +1,11 @@
 -- One flag more.
-use Rattle.std.proofs.Common.{cond, get_or, ◌≡◌, ℕ, zero, suc, ◌+◌, ◌*◌, ◌<◌, ◌≤◌, Bool, true, false, not, ◌==◌, ◌&&◌, ◌||◌, List, [], ◌∷◌, length, Option, Some, None, inl, inr, refl, sym, ap, ◌∙◌, subst, arith, if◌then◌else◌}
+use Rattle.std.proofs.Common.{cond, get_or, ◌≡◌, ℕ, zero, suc, ◌+◌, ◌*◌, ◌≤◌, Bool, true, false, not, ◌==◌, List, [], ◌∷◌, length, Option, Some, None, refl, sym, ap, ◌∙◌, arith}
 use Rattle.std.specs.Prelude.{slice_get, slice_set, count_by, replicate}
 use Rattle.std.specs.Option.{option_and_then, unwrap_or, is_some}
 use Rattle.std.proofs.lemmas.Bool.{eqb-false}
 use Rattle.std.proofs.lemmas.List.Sums.{sum_by-set}
 use Rattle.std.proofs.lemmas.Option.{get_or_from_slice_get, slice_get_within}
-use Rattle.sq_program.specs.Programs.{Text, Word, word_at, is_word}
+use Rattle.sq_program.specs.Programs.{Text, is_word}
 use Rattle.sq_lift.specs.Places.{place_of}
 use Rattle.sq_lift.specs.Flags.{Flags, flag_at, has_word, is_flagged, is_unflagged, with_flag}
 use Rattle.sq_lift.specs.Search.{unflagged_count}

@@ -1,5 +1,5 @@
 -- The notes of a file by the section in which they stand.
-use Rattle.std.proofs.Common.{◌≡◌, ◌==◌, ◌*◌, inl, inr, ℕ, zero, suc, ◌+◌, ◌<◌, ◌≤◌, Bool, true, false, nat_lt, List, [], ◌∷◌, ◌++◌, map, Option, Some, None, refl, sym, ap, ◌∙◌, subst, arith, if◌then◌else◌, slice_get}
+use Rattle.std.proofs.Common.{◌≡◌, ◌==◌, ◌*◌, inl, inr, ℕ, zero, suc, ◌+◌, ◌<◌, ◌≤◌, Bool, true, false, nat_lt, List, [], ◌∷◌, ◌++◌, map, Option, Some, None, refl, sym, ap, ◌∙◌, arith, if◌then◌else◌, slice_get}
 use Rattle.std.specs.List.{AllByRecursion}
 use Rattle.std.specs.Option.{option_and_then, option_map, unwrap_or}
 use Rattle.std.proofs.lemmas.Bool.{cases_Bool}
@@ -10,7 +10,7 @@ use Rattle.sq_elf.specs.Fields.{u32_field}
 use Rattle.sq_elf.specs.Headers.{shnum_of, section_of}
 use Rattle.sq_elf.specs.Reading.{section_at, contents_in, contents_of}
 use Rattle.sq_program.specs.Programs.{Word, Text, Note}
-use Rattle.sq_program.specs.NoteSections.{is_note, note_if, note_sections_before, note_sections, notes_in_bytes, notes_in_sections, notes_of, item_run, item_run_from, short_note, short_notes}
+use Rattle.sq_program.specs.NoteSections.{is_note, note_if, note_sections_before, notes_in_bytes, notes_in_sections, notes_of, item_run, item_run_from, short_note, short_notes}
 use Rattle.sq_lift.specs.declared.notes.NoteSection.{NoteSection}
 use Rattle.sq_lift.specs.declared.notes.NoteSection.TheVariants.{Missing, At, Several}
 use Rattle.sq_lift.specs.NoteReading.{note_numbers_before, one_of, note_section_of, item_runs, run_at}

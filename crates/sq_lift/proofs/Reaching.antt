@@ -5,7 +5,7 @@ use Rattle.std.proofs.lemmas.Bool.{cases_Bool, eqb-true}
 use Rattle.std.proofs.lemmas.List.{take_more, length-append, map-append}
 use Rattle.std.proofs.lemmas.List.Folds.{list_any-append}
 use Rattle.sq_lift.specs.Flags.{Flags, flag_at, has_word, is_flagged, is_unflagged, with_flag}
-use Rattle.sq_lift.specs.Search.{Found, Reaches, is_among, unflagged_count}
+use Rattle.sq_lift.specs.Search.{Found, Reaches, is_among}
 use Rattle.sq_lift.proofs.Flagged.{IsOneMore, one_more}
 
 pub among-append : (xs ys : List ℕ) (x : ℕ) → is_among (xs ++ ys) x ≡ (is_among xs x || is_among ys x)

@@ -1,11 +1,9 @@
 -- The note of a file, as the code reads it. No public clause cites this module.
-use Rattle.std.specs.Prelude.{ℕ, zero, suc, ◌+◌, ◌*◌, List, [], ◌∷◌, ◌++◌, Option, Some, None, if◌then◌else◌, slice_get}
+use Rattle.std.specs.Prelude.{ℕ, zero, suc, ◌+◌, List, [], ◌∷◌, ◌++◌, if◌then◌else◌, slice_get}
 use Rattle.std.specs.Option.{option_and_then, unwrap_or}
 use Rattle.sq_elf.specs.Headers.{shnum_of, section_of}
-use Rattle.sq_elf.specs.Reading.{contents_of}
-use Rattle.sq_program.specs.Programs.{Word, Text, Note}
-use Rattle.sq_program.specs.Readings.{reading_of}
-use Rattle.sq_program.specs.NoteSections.{is_note, is_item, item_run, notes_in_bytes}
+use Rattle.sq_program.specs.Programs.{Word, Text}
+use Rattle.sq_program.specs.NoteSections.{is_note, item_run}
 use Rattle.sq_lift.specs.declared.notes.NoteSection.{NoteSection}
 use Rattle.sq_lift.specs.declared.notes.NoteSection.TheVariants.{Missing, At, Several}
 use Rattle.sq_lift.specs.Places.{place_of}

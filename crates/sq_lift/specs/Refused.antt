@@ -7,7 +7,7 @@ use Rattle.sq_reloc.specs.declared.mark.Mark.{Mark}
 use Rattle.sq_program.specs.Programs.{Text, Program}
 use Rattle.sq_program.specs.Reached.{Decides}
 use Rattle.sq_program.specs.Notes.{is_plain}
-use Rattle.sq_program.specs.Faults.{refuse_if, is_astray, falls_off, is_auipc, is_access, is_lower_in_text, is_conflict, is_lone, fault_from, text_refusal}
+use Rattle.sq_program.specs.Faults.{refuse_if, is_astray, falls_off, is_auipc, is_access, is_lower_in_text, is_conflict, is_lone, text_refusal}
 use Rattle.sq_program.specs.FilePrograms.{text_of, IsProgramOf, IsReadAs}
 use Rattle.sq_lift.specs.Flags.{Flags, is_flagged}
 

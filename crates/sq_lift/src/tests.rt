@@ -29,22 +29,24 @@ fn size_of(words: &[u32]) -> u32 {
     u32::try_from(words.len()).unwrap_or(0).wrapping_mul(4)
 }
 
-/// A file of one segment with this text, and with these entries of relocations, of three words each.
-fn file_of(alloc: Global, text: &[u32], entries: &[u32]) -> Result<Vec<u8>, Memory> {
+/// A file of one segment with this text, with these entries of relocations, of three words each, and with this note.
+fn file_of(alloc: Global, text: &[u32], entries: &[u32], note: &[u32]) -> Result<Vec<u8>, Memory> {
     let size = size_of(text);
     let symbols = size.wrapping_add(84);
     let relocs = symbols.wrapping_add(16);
-    let sections = relocs.wrapping_add(size_of(entries));
+    let noted = relocs.wrapping_add(size_of(entries));
+    let sections = noted.wrapping_add(size_of(note));
     let mut file = Vec::new(alloc);
     push_words(
         &mut file,
         &[0x464c457f, 0x00010101, 0, 0, 0x00f30002, 1, TEXT],
     )?;
-    push_words(&mut file, &[52, sections, 0, 0x00200034, 0x00280001, 4])?;
+    push_words(&mut file, &[52, sections, 0, 0x00200034, 0x00280001, 5])?;
     push_words(&mut file, &[1, 84, TEXT, TEXT, size, size, 5, 1])?;
     push_words(&mut file, text)?;
     push_words(&mut file, &[0; 4])?;
     push_words(&mut file, entries)?;
+    push_words(&mut file, note)?;
     push_words(&mut file, &[0; 10])?;
     push_words(&mut file, &[0, 1, 6, TEXT, 84, size, 0, 0, 4, 0])?;
     push_words(&mut file, &[0, 2, 0, 0, symbols, 16, 0, 1, 4, 16])?;
@@ -52,11 +54,15 @@ fn file_of(alloc: Global, text: &[u32], entries: &[u32]) -> Result<Vec<u8>, Memo
         &mut file,
         &[0, 4, 0, 0, relocs, size_of(entries), 2, 1, 4, 12],
     )?;
+    push_words(
+        &mut file,
+        &[0, 0x80515a31, 0, 0, noted, size_of(note), 0, 0, 4, 0],
+    )?;
     Ok(file)
 }
 
 fn program_of(alloc: Global, text: &[u32], entries: &[u32]) -> Result<Program, Denied> {
-    let file = file_of(alloc, text, entries)?;
+    let file = file_of(alloc, text, entries, &[0x315a5153, 0])?;
     let elf = read_elf(alloc, &file)?;
     let relocs = read_relocs(alloc, &elf)?;
     read_program(alloc, &elf, &relocs)
@@ -108,5 +114,29 @@ fn unreached_text_is_accepted(rt: HostRuntime) -> Result<(), Fail> {
     assert!(rt; program.reached.has(TEXT));
     assert!(rt; program.reached.has(0x1_000c));
     assert!(rt; !program.reached.has(0x1_0010));
+    Ok(())
+}
+
+fn first_note(alloc: Global, note: &[u32]) -> Result<Option<Note>, Denied> {
+    // `addi a0,a0,1` and `jalr x0,0(t0)`.
+    let file = file_of(alloc, &[0x0015_0513, 0x0002_8067], &[], note)?;
+    let elf = read_elf(alloc, &file)?;
+    let relocs = read_relocs(alloc, &elf)?;
+    let text = read_text(alloc, &elf, &relocs)?;
+    let notes = notes_of(alloc, &elf, &text)?;
+    Ok(notes.and_then(|list| list.first().copied()))
+}
+
+#[test]
+fn notes_are_read(rt: HostRuntime) -> Result<(), Fail> {
+    let alloc = rt.alloc();
+    let short = first_note(alloc, &[0x315a5153, 1, TEXT, 5])?.ok_or("an entry")?;
+    assert_eq!(rt; short.address, TEXT);
+    assert_eq!(rt; short.link, 5);
+    assert_eq!(rt; short.length, 1);
+    let full = first_note(alloc, &[0x325a5153, 1, TEXT, 5, 9])?.ok_or("an entry")?;
+    assert_eq!(rt; full.length, 9);
+    let too_long = first_note(alloc, &[0x325a5153, 1, TEXT, 5, 9, 0])?;
+    assert!(rt; too_long.is_none());
     Ok(())
 }

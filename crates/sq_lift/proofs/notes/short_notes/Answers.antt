@@ -1,8 +1,6 @@
-use Rattle.std.proofs.Common.{◌≡◌, ℕ, List, [], ◌∷◌, ◌++◌, ◌+◌, ◌*◌, ap, sym, ◌∙◌}
-use Rattle.sq_elf.specs.Fields.{u32_field}
+use Rattle.std.proofs.Common.{[], ◌∷◌, ◌++◌, ◌+◌, ◌*◌, ap, sym, ◌∙◌}
 use Rattle.sq_program.specs.Programs.{Note}
-use Rattle.sq_program.specs.NoteSections.{short_note, short_notes}
-use Rattle.sq_lift.specs.NoteReading.{item_runs, run_at}
+use Rattle.sq_program.specs.NoteSections.{short_notes}
 use Rattle.sq_lift.proofs.NoteFacts.{short_more, short_note_is}
 use Rattle.sq_lift.proofs.notes.short_notes.Goals as goal
 

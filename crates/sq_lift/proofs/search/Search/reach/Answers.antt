@@ -1,6 +1,6 @@
 use Rattle.std.proofs.Common.{[], ◌∷◌, sym, subst}
 use Rattle.sq_lift.specs.Search.{Found, Reaches}
-use Rattle.sq_lift.proofs.Reaching.{reaches_pushed, reaches_old}
+use Rattle.sq_lift.proofs.Reaching.{reaches_pushed}
 use Rattle.sq_lift.proofs.search.Search.reach.Goals as goal
 
 pub returns-in_ok-push : goal.returns-in_ok-push
