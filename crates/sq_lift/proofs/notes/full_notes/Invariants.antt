@@ -1,0 +1,6 @@
+use Rattle.std.proofs.Common.{◌≡◌}
+use Rattle.sq_program.specs.NoteSections.{full_notes}
+use Rattle.sq_lift.proofs.notes.full_notes.Given as goal
+
+abbrev pub invariant-loop-index : goal.invariant-loop-index
+invariant-loop-index l = l.notes.items ≡ full_notes l.note 8 l.index

@@ -1,0 +1,27 @@
+//! Lifting: a linked file as a program.
+//!
+//! To the layers above it promises that the text of a file is read as the definitions of programs say, that
+//! the reached words are exactly those to which the entry and the code words lead, and that a file is
+//! refused by its text exactly where one of them has a fault.
+#![tactic(auto)]
+
+mod faults;
+mod leads;
+mod notes;
+mod places;
+mod program;
+mod reached;
+mod readings;
+mod search;
+mod text;
+
+pub use faults::text_fault;
+pub use notes::{Note, notes_of};
+pub use program::{Program, read_program};
+pub use reached::Reached;
+pub use readings::{Reading, reading_of};
+pub use search::reached_words;
+pub use text::{Text, TextWord, read_text};
+
+#[cfg(test)]
+mod tests;

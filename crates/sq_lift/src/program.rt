@@ -1,0 +1,39 @@
+//! The program of a file.
+
+ghost use Rattle.std.specs.Prelude.{◌≡◌, ◌⊎◌, IfOk, Err};
+ghost use Rattle.sq_num.specs.declared.refusal.Refusal.{Refusal};
+ghost use Rattle.sq_lift.specs.Refused.{IsReadText, IsTextRefusal};
+
+use crate::faults::text_fault;
+use crate::reached::Reached;
+use crate::search::reached_words;
+use crate::text::{Text, read_text};
+use sq_elf::Elf;
+use sq_num::Denied;
+use sq_reloc::Relocs;
+use std::alloc::Global;
+
+/// The text of a program, and which of its words are reached.
+#[derive(Drop)]
+pub struct Program {
+    pub text: Text,
+    pub reached: Reached,
+}
+
+/// Reads the program of the file, or refuses it by its text: by the first reached word that has a fault, and of
+/// its faults by the one of the least number.
+pub fn read_program(alloc: Global, elf: &Elf<'_>, relocs: &Relocs<'_>) -> Result<Program, Denied>
+    requires { relocs.now ≡ elf.now }
+    ensures read { IfOk result (λ program. IsReadText elf.now program.text program.reached) }
+    ensures refused { (refusal : Refusal) → result ≡ Err (Denied.Refused refusal) → IsTextRefusal elf.now refusal }
+    ensures exact { (refusal : Refusal) → IsTextRefusal elf.now refusal → (result ≡ Err (Denied.Refused refusal)) ⊎ (result ≡ Err Denied.Memory) }
+{
+    // Whoever holds an `Elf` knows that nothing before text refuses the file: this call's contract says so.
+    let _bytes = elf.bytes();
+    let text = read_text(alloc, elf, relocs)?;
+    let reached = reached_words(alloc, &text, elf.entry(), relocs.code_words())?;
+    match text_fault(&text, &reached) {
+        Some(refusal) => Err(Denied::Refused(refusal)),
+        None => Ok(Program { text, reached }),
+    }
+}
