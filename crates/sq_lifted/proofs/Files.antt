@@ -32,7 +32,8 @@ use Rattle.sq_program.specs.Programs.{Word, Program, word_from, word_at, IsWord,
 use Rattle.sq_program.specs.FilePrograms.{file_word, words_from, text_of, IsReadAs}
 use Rattle.sq_lifting.specs.Lifting.{MarkFits, IsMarkedText}
 use Rattle.sq_lifting.proofs.TextWords.{same_itself, stood, in_text_word}
-use Rattle.sq_lifted.specs.Lifted.{IsShort, IsLinkedProgram, FilesAreLinked}
+use Rattle.sq_lifted.specs.Lifted.{IsShort}
+use Rattle.sq_lifted.specs.Files.{IsLinkedProgram, FilesAreLinked}
 
 -- WORDS ARE BELOW 2^32
 
@@ -161,13 +162,13 @@ listed (w ∷ words) x a (suc i, h, g) =
         go true q e rec = let less : w.at < v.at = a.0 in grind (arith, nat_tests)
         go false q e rec = rec e
 
-le_is : (a b : ℕ) → a ≤ b → nat_le a b ≡ true
+pub le_is : (a b : ℕ) → a ≤ b → nat_le a b ≡ true
 le_is a b h = grind (arith, nat_tests)
 
-lt_is : (a b : ℕ) → a < b → nat_lt a b ≡ true
+pub lt_is : (a b : ℕ) → a < b → nat_lt a b ≡ true
 lt_is a b h = grind (arith, nat_tests)
 
-module _ (bytes : List ℕ) (is : ℕ → Bool) (p : Program) (fit : AreBytes bytes) (read : IsReadAs bytes is p) where
+module _ (bytes : List ℕ) (is : ℕ → Bool) (p : Program) (read : IsReadAs bytes is p) where
   facts : TextFacts bytes read.file
   facts = text_facts bytes read.file
 
@@ -178,7 +179,7 @@ module _ (bytes : List ℕ) (is : ℕ → Bool) (p : Program) (fit : AreBytes by
   hi = (text_range bytes).hi
 
   -- the range of text in words
-  ends_at : end_of (text_of bytes) ≡ hi
+  pub ends_at : end_of (text_of bytes) ≡ hi
   ends_at =
       let n = how_many bytes lo ((hi - lo) / 4) in
       let a = facts.inside.some in
@@ -222,8 +223,8 @@ module _ (bytes : List ℕ) (is : ℕ → Bool) (p : Program) (fit : AreBytes by
           let here : IsMarked (insn_of v) (mark_of bytes x) = subst (λ o. IsMarked (option_and_then insn_of o) (mark_of bytes x)) e marked in
           subst (λ o. IsMarked (insn_of (unwrap_or o 0)) (mark_of bytes x)) (sym e) here
 
-  text_marked : IsMarkedText (text_of bytes)
-  text_marked = record {
+  text_marked : AreBytes bytes → IsMarkedText (text_of bytes)
+  text_marked fit = record {
     aligned = facts.inside.low_word;
     marked = word_marked;
     small = λ x w e. subst (λ w. MarkFits w.mark) (sym (words_are bytes x lo ((hi - lo) / 4) w e)) (mark_fits bytes x);
@@ -268,12 +269,12 @@ module _ (bytes : List ℕ) (is : ℕ → Bool) (p : Program) (fit : AreBytes by
     ends = let a = ends_at in let b = facts.high in omega arith;
   }
 
-  program_linked : IsLinkedProgram p
-  program_linked =
+  program_linked : AreBytes bytes → IsLinkedProgram p
+  program_linked fit =
       let same : text_of bytes ≡ p.text = sym read.program.text in
       record {
         linked = record {
-          text = subst IsMarkedText same text_marked;
+          text = subst IsMarkedText same (text_marked fit);
           entry = subst (λ e. IsWord p.text e) (sym read.program.entry) (subst (λ t. IsWord t (entry_of bytes)) same entry_there);
           code_words = λ x c. subst (λ t. IsWord t x) same (code_word_there x c);
         };
@@ -282,4 +283,4 @@ module _ (bytes : List ℕ) (is : ℕ → Bool) (p : Program) (fit : AreBytes by
       }
 
 pub files_linked : FilesAreLinked
-files_linked bytes is p fit read = program_linked bytes is p fit read
+files_linked bytes is p fit read = program_linked bytes is p read fit

@@ -5,3 +5,4 @@ pub mod Canonical
 pub mod Reaching
 pub mod Counting
 pub mod Files
+pub mod FileWorlds

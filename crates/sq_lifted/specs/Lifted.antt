@@ -1,6 +1,5 @@
 -- What the graph of a program is.
-use Rattle.std.specs.Prelude.{ℕ, ◌*◌, ◌^◌, ◌≤◌, ◌<◌, Bool, List, length}
-use Rattle.std.specs.List.{AllByRecursion}
+use Rattle.std.specs.Prelude.{ℕ, ◌*◌, ◌^◌, ◌≤◌, Bool, length}
 use Rattle.sq_reloc.specs.CodeWords.{IsAscending}
 use Rattle.sq_graph.specs.Rules.{IsGraph}
 use Rattle.sq_graph.specs.Leaders.{IsCanonical}
@@ -10,7 +9,6 @@ use Rattle.sq_graph.specs.Places.{IsInReach}
 use Rattle.sq_program.specs.Programs.{Text, Program, end_of}
 use Rattle.sq_program.specs.Reached.{Decides}
 use Rattle.sq_program.specs.Lifted.{lifted}
-use Rattle.sq_program.specs.FilePrograms.{IsReadAs}
 use Rattle.sq_lifting.specs.Lifting.{IsLinked, IsFine}
 
 -- Text as files have it: at most 1 MiB, which ends within the address space
@@ -30,14 +28,3 @@ pub record IsGoodGraph (is : ℕ → Bool) (p : Program) : Type 0 where
 abbrev pub LiftedIsGood : Type 0
 LiftedIsGood =
     (p : Program) (is : ℕ → Bool) → IsLinked p → IsShort p.text → IsAscending p.code_words → Decides p is → IsFine is p → IsGoodGraph is p
-
--- Accepted by all that is asked before its text, a file has a linked program: with text as relocations mark it, at most
--- 1 MiB long, and with code words that ascend.
-pub record IsLinkedProgram (p : Program) : Type 0 where
-  pub linked : IsLinked p
-  pub short : IsShort p.text
-  pub code_words : IsAscending p.code_words
-
-abbrev pub FilesAreLinked : Type 0
-FilesAreLinked =
-    (bytes : List ℕ) (is : ℕ → Bool) (p : Program) → AllByRecursion (λ b. b < 256) bytes → IsReadAs bytes is p → IsLinkedProgram p

@@ -1,11 +1,19 @@
 //! What holds of each file that is not refused, and of the graph that is read off it.
 //!
-//! To the layers above it promises that a file which passes what is asked before its text has a linked program; and
-//! that the graph of a program that is not refused keeps the rules of a graph, is canonical, sound and in reach, and
-//! has no more words than the program's text: what rewriting asks of the graph that it begins with.
+//! To the layers above it promises of such a file that its program is linked, as the laws of lifting ask; that the
+//! run of its graph over its world shows what its monitored run shows, while that is unbroken; and that the graph
+//! keeps the rules of a graph, is canonical, sound and in reach, and has no more words than the file's text: what
+//! rewriting asks of the graph that it begins with.
 #![tactic(auto)]
 
-ghost use Rattle.sq_lifted.specs.Lifted.{FilesAreLinked, LiftedIsGood};
+ghost use Rattle.sq_lifted.specs.Lifted.{LiftedIsGood};
+ghost use Rattle.sq_lifted.specs.Files.{FilesAreLinked, FileWorldsFit, LiftedFilesAreGood, LiftedFilesKeepRuns};
+
+/// The graph of a program that is not refused keeps the rules of a graph, is canonical, sound and in
+/// reach, and has no more words than the program's text.
+pub fn lifted_is_good()
+    ensures { LiftedIsGood }
+{}
 
 /// A file that passes what is asked before its text has a linked program: halves of addresses stand in
 /// instructions that hold them, the entry and the code words lead to words of text, code words ascend, and text
@@ -14,8 +22,18 @@ pub fn files_are_linked()
     ensures { FilesAreLinked }
 {}
 
-/// The graph of a program that is not refused keeps the rules of a graph, is canonical, sound and in
-/// reach, and has no more words than the program's text.
-pub fn lifted_is_good()
-    ensures { LiftedIsGood }
+/// The world of such a file has its program's text, and each word of text is executable.
+pub fn file_worlds_fit()
+    ensures { FileWorldsFit }
+{}
+
+/// The graph of a file that is not refused is good as that of its program.
+pub fn lifted_files_are_good()
+    ensures { LiftedFilesAreGood }
+{}
+
+/// The run of the graph of a file that is not refused, over the file's world, shows what the file's monitored run
+/// shows, after each number of steps, while that is unbroken.
+pub fn lifted_files_keep_runs()
+    ensures { LiftedFilesKeepRuns }
 {}

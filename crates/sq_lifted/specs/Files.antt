@@ -1,0 +1,44 @@
+-- What holds of each file that is not refused. The number of each of its bytes is below 256.
+use Rattle.std.specs.Prelude.{ℕ, ◌<◌, Bool, List}
+use Rattle.std.specs.List.{AllByRecursion}
+use Rattle.sq_runs.specs.Follows.{LocksWith}
+use Rattle.sq_system.specs.Starts.{Start}
+use Rattle.sq_reloc.specs.CodeWords.{IsAscending}
+use Rattle.sq_follow.specs.Worlds.{setting_of}
+use Rattle.sq_follow.specs.GraphRuns.{graph_step}
+use Rattle.sq_follow.specs.Follows.{state_at_start}
+use Rattle.sq_program.specs.Programs.{Program}
+use Rattle.sq_program.specs.Lifted.{lifted}
+use Rattle.sq_program.specs.FilePrograms.{IsReadAs, IsAccepted}
+use Rattle.sq_program.specs.Monitored.{monitored_step}
+use Rattle.sq_program.specs.FileRuns.{world_of, watched_start, watched_layout}
+use Rattle.sq_lifting.specs.Lifting.{IsLinked, IsWorldOf}
+use Rattle.sq_lifted.specs.Lifted.{IsShort, IsGoodGraph}
+
+-- Accepted by all that is asked before its text, a file has a linked program: with text as relocations mark it, at most
+-- 1 MiB long, and with code words that ascend.
+pub record IsLinkedProgram (p : Program) : Type 0 where
+  pub linked : IsLinked p
+  pub short : IsShort p.text
+  pub code_words : IsAscending p.code_words
+
+abbrev pub FilesAreLinked : Type 0
+FilesAreLinked =
+    (bytes : List ℕ) (is : ℕ → Bool) (p : Program) → AllByRecursion (λ b. b < 256) bytes → IsReadAs bytes is p → IsLinkedProgram p
+
+-- The world of a file has its program's text, each word of which is executable.
+abbrev pub FileWorldsFit : Type 0
+FileWorldsFit =
+    (bytes : List ℕ) (is : ℕ → Bool) (p : Program) → IsReadAs bytes is p → (start : Start) → IsWorldOf (world_of bytes p) start p
+
+-- The run of the lifted graph of a file that is not refused, over the file's world, shows what the monitored run of the
+-- file shows, after each number of steps, while that is unbroken.
+abbrev pub LiftedFilesKeepRuns : Type 0
+LiftedFilesKeepRuns =
+    (bytes : List ℕ) (is : ℕ → Bool) (p : Program) → AllByRecursion (λ b. b < 256) bytes → IsAccepted bytes is p → (start : Start)
+    → LocksWith (monitored_step (watched_layout bytes p start) p.text) (watched_start (world_of bytes p) p start) (graph_step (setting_of (world_of bytes p) start) (lifted is p)) (state_at_start (world_of bytes p) (lifted is p) start)
+
+-- The lifted graph of a file that is not refused is good.
+abbrev pub LiftedFilesAreGood : Type 0
+LiftedFilesAreGood =
+    (bytes : List ℕ) (is : ℕ → Bool) (p : Program) → AllByRecursion (λ b. b < 256) bytes → IsAccepted bytes is p → IsGoodGraph is p
