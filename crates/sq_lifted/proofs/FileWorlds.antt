@@ -27,8 +27,11 @@ use Rattle.sq_program.specs.FileRuns.{segment_pieces, world_of}
 use Rattle.sq_lifting.specs.Lifting.{IsFine, IsWorldOf}
 use Rattle.sq_lifting.proofs.TextWords.{stood}
 use Rattle.sq_lifting.proofs.Facts.{or_none}
+use Rattle.sq_follow.specs.Follows.{Follows}
+use Rattle.sq_patch.proofs.Renaming.{rename_follows}
+use Rattle.sq_program.specs.Lifted.{lifted}
 use Rattle.sq_lifting.proofs.Whole.{lifting_keeps}
-use Rattle.sq_lifted.specs.Files.{FileWorldsFit, LiftedFilesKeepRuns, LiftedFilesAreGood}
+use Rattle.sq_lifted.specs.Files.{FileWorldsFit, LiftedFilesKeepRuns, LiftedFilesAreGood, LiftedFilesFollow}
 use Rattle.sq_lifted.proofs.Files.{le_is, lt_is, ends_at, files_linked}
 use Rattle.sq_lifted.proofs.Counting.{lifted_good}
 
@@ -203,3 +206,7 @@ pub files_good : LiftedFilesAreGood
 files_good bytes is p fit a =
     let linked = files_linked bytes is p fit a.read in
     lifted_good p is linked.linked linked.short linked.code_words a.read.reached (accepted_fine bytes is p a)
+
+pub files_follow : LiftedFilesFollow
+files_follow bytes is p g fit from =
+    subst (Follows (lifted is p)) (sym from.alike.is) (rename_follows (lifted is p) from.alike.name (files_good bytes is p fit from.accepted).graph from.alike.one_to_one)

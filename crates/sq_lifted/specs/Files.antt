@@ -6,10 +6,11 @@ use Rattle.sq_system.specs.Starts.{Start}
 use Rattle.sq_reloc.specs.CodeWords.{IsAscending}
 use Rattle.sq_follow.specs.Worlds.{setting_of}
 use Rattle.sq_follow.specs.GraphRuns.{graph_step}
-use Rattle.sq_follow.specs.Follows.{state_at_start}
+use Rattle.sq_follow.specs.Follows.{state_at_start, Follows}
+use Rattle.sq_graph.specs.Graph.{Graph}
 use Rattle.sq_program.specs.Programs.{Program}
 use Rattle.sq_program.specs.Lifted.{lifted}
-use Rattle.sq_program.specs.FilePrograms.{IsReadAs, IsAccepted}
+use Rattle.sq_program.specs.FilePrograms.{IsReadAs, IsAccepted, IsLiftedFrom}
 use Rattle.sq_program.specs.Monitored.{monitored_step}
 use Rattle.sq_program.specs.FileRuns.{world_of, watched_start, watched_layout}
 use Rattle.sq_lifting.specs.Lifting.{IsLinked, IsWorldOf}
@@ -42,3 +43,8 @@ LiftedFilesKeepRuns =
 abbrev pub LiftedFilesAreGood : Type 0
 LiftedFilesAreGood =
     (bytes : List ℕ) (is : ℕ → Bool) (p : Program) → AllByRecursion (λ b. b < 256) bytes → IsAccepted bytes is p → IsGoodGraph is p
+
+-- A lifted graph of a file, whatever its blocks are called, follows the one that is named by addresses.
+abbrev pub LiftedFilesFollow : Type 0
+LiftedFilesFollow =
+    (bytes : List ℕ) (is : ℕ → Bool) (p : Program) (g : Graph) → AllByRecursion (λ b. b < 256) bytes → IsLiftedFrom bytes is p g → Follows (lifted is p) g

@@ -7,7 +7,7 @@
 #![tactic(auto)]
 
 ghost use Rattle.sq_lifted.specs.Lifted.{LiftedIsGood};
-ghost use Rattle.sq_lifted.specs.Files.{FilesAreLinked, FileWorldsFit, LiftedFilesAreGood, LiftedFilesKeepRuns};
+ghost use Rattle.sq_lifted.specs.Files.{FilesAreLinked, FileWorldsFit, LiftedFilesAreGood, LiftedFilesKeepRuns, LiftedFilesFollow};
 
 /// The graph of a program that is not refused keeps the rules of a graph, is canonical, sound and in
 /// reach, and has no more words than the program's text.
@@ -36,4 +36,10 @@ pub fn lifted_files_are_good()
 /// shows, after each number of steps, while that is unbroken.
 pub fn lifted_files_keep_runs()
     ensures { LiftedFilesKeepRuns }
+{}
+
+/// A lifted graph of a file that is not refused, whatever its blocks are called, follows the one that is named by
+/// addresses.
+pub fn lifted_files_follow()
+    ensures { LiftedFilesFollow }
 {}

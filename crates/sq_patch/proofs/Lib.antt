@@ -21,3 +21,4 @@ mod Moving
 mod Dying
 mod Bypassing
 mod Joining
+pub mod Renaming

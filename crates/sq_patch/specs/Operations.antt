@@ -4,9 +4,10 @@ use Rattle.sq_graph.specs.declared.item.Item.TheVariants.{Hi, Out}
 use Rattle.sq_graph.specs.declared.item.Term.{Term}
 use Rattle.sq_graph.specs.declared.item.Term.TheVariants.{Fall, Jump, Call, PartJump}
 use Rattle.sq_graph.specs.Graph.{Graph}
-use Rattle.sq_graph.specs.Blocks.{items_of, next_of, term_of}
+use Rattle.sq_graph.specs.Blocks.{HasBlock, items_of, next_of, term_of}
 use Rattle.sq_graph.specs.Rules.{IsGraph}
 use Rattle.sq_graph.specs.Operations.{IsNew, split_at, replaced, inlined, with_term}
+use Rattle.sq_graph.specs.Renames.{renamed}
 use Rattle.sq_graph.specs.Canonical.{canonical_of}
 use Rattle.sq_graph.specs.Lines.{place_lines}
 use Rattle.sq_graph.specs.Walks.{IsLive}
@@ -45,3 +46,8 @@ CanonicalFollows = (g : Graph) → IsGraph g → Follows g (canonical_of g)
 -- The canonical graph of a graph is sound where the graph is.
 abbrev pub CanonicalIsSound : Type 0
 CanonicalIsSound = (g : Graph) → IsGraph g → IsSound g → IsSound (canonical_of g)
+
+-- A graph whose blocks have other names, different ones different names, follows it.
+abbrev pub RenameFollows : Type 0
+RenameFollows =
+    (g : Graph) (f : ℕ → ℕ) → IsGraph g → ((m n : ℕ) → HasBlock g m → HasBlock g n → f m ≡ f n → m ≡ n) → Follows g (renamed f g)
