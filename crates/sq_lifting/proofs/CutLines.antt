@@ -78,9 +78,9 @@ form_named : (x : ℕ) (shape : Form) (rest : Rest) → HasName x (rest_lines re
 form_named x (ItemForm item) rest h = item_named x item (rest_lines rest) h
 form_named x (TermForm term) rest h = term_named x term (lines_of rest.blocks) (rest_blocks x rest h)
 
-reading_named : (ns : List Note) (o : Option Reading) (x : ℕ) (rest : Rest) → HasName x (rest_lines rest) → HasName x (rest_lines (with_reading ns o rest))
-reading_named ns None x rest h = h
-reading_named ns (Some r) x rest h = form_named x (form_of ns r) rest h
+reading_named : (notes : List Note) (o : Option Reading) (x : ℕ) (rest : Rest) → HasName x (rest_lines rest) → HasName x (rest_lines (with_reading notes o rest))
+reading_named notes None x rest h = h
+reading_named notes (Some r) x rest h = form_named x (form_of notes r) rest h
 
 begun_named : (b : Bool) (at x : ℕ) (rest : Rest) → HasName x (rest_lines rest) → HasName x (rest_lines (begun_if b at rest))
 begun_named true at x rest h = match_or (at == x) (HasName x (rest_lines rest)) h
@@ -123,10 +123,10 @@ link_lines : (link to : ℕ) (o : Option ℕ) (rest : Rest) → (IsTermForm (lin
 link_lines link to None rest e = ap (λ r. End (Call link to) ∷ rest_lines r) (sym (e tt))
 link_lines link to (Some q) rest e = refl
 
-form_lines : (ns : List Note) (r : Reading) (rest : Rest) → IsForm r → (IsTermForm (form_of ns r) → rest ≡ between rest.blocks) → rest_lines (with_form (form_of ns r) rest) ≡ form_line (form_of ns r) ∷ rest_lines rest
-form_lines ns (IsItem item) rest f e = refl
-form_lines ns (IsTerm term) rest f e = term_first term rest f (e tt)
-form_lines ns (Links link to) rest f e = link_lines link to (procedure_at ns to) rest e
+form_lines : (notes : List Note) (r : Reading) (rest : Rest) → IsForm r → (IsTermForm (form_of notes r) → rest ≡ between rest.blocks) → rest_lines (with_form (form_of notes r) rest) ≡ form_line (form_of notes r) ∷ rest_lines rest
+form_lines notes (IsItem item) rest f e = refl
+form_lines notes (IsTerm term) rest f e = term_first term rest f (e tt)
+form_lines notes (Links link to) rest f e = link_lines link to (procedure_at notes to) rest e
 
 -- THE DEAD LINK OF A BODY
 
