@@ -32,7 +32,7 @@ use Rattle.sq_patch.specs.Changes.{Change, Alike, ends, name_before, name_after}
 use Rattle.sq_patch.proofs.LiveTargets.{lines_make}
 use Rattle.sq_patch.proofs.Falling.{absent_from, found_at, name_at, named_split}
 use Rattle.sq_patch.proofs.Changing.{ahead, in_tail, tail_made}
-use Rattle.sq_patch.proofs.Moving.{M, SlotMoves, move_body, moved_follows}
+use Rattle.sq_patch.proofs.Moving.{M, SlotMoves, move_body, moved_follows, procedure_moved}
 use Rattle.sq_patch.proofs.Dying.{Backs, backs, links-moved, body_rest, body_dies, moved_sound}
 use Rattle.sq_patch.proofs.Used.{contains_first, from_all}
 
@@ -65,7 +65,7 @@ module _ (g : Graph) (rules : IsGraph g) where
   used n c = from_all (HasBlock g) (uses g) n rules.named_all c
 
   abbrev C : Change
-  C = M (HasBlock g) f g h rules used refl
+  C = M (HasBlock g) f g h rules used (procedure_moved f g.procedures)
 
   abbrev moved : List Block → List Block
   moved bs = map (retargeted_block f) bs
@@ -99,11 +99,11 @@ module _ (g : Graph) (rules : IsGraph g) where
     name : first.name ≡ f x.name
     alike : (b : Bool) → Alike C b None (body_lines x (lines_of bs)) (body_lines (retargeted_block f first) (lines_of (moved rest)))
 
-  body_goes : {b : Bool} (front : List Block) (x : Block) (bs : List Block) (ys : List Line) → front ++ (x ∷ bs) ≡ g.blocks → SlotMoves (HasBlock g) f g h rules used refl (slot_name (lines_of bs)) (slot_name ys) → Alike C b None (lines_of bs) ys → Alike C b None (body_lines x (lines_of bs)) (body_lines (retargeted_block f x) ys)
+  body_goes : {b : Bool} (front : List Block) (x : Block) (bs : List Block) (ys : List Line) → front ++ (x ∷ bs) ≡ g.blocks → SlotMoves (HasBlock g) f g h rules used (procedure_moved f g.procedures) (slot_name (lines_of bs)) (slot_name ys) → Alike C b None (lines_of bs) ys → Alike C b None (body_lines x (lines_of bs)) (body_lines (retargeted_block f x) ys)
   body_goes front x bs ys e s p =
       let c : Contains g.blocks x = subst (λ blocks. Contains blocks x) e (in_tail front (x ∷ bs) x (contains_first x bs)) in
       let m : MakeTargets g (lines_of (x ∷ bs)) = tail_made g front (x ∷ bs) (subst (λ blocks. MakeTargets g (lines_of blocks)) (sym e) (lines_make g)) in
-      move_body (HasBlock g) f g h rules used refl x (lines_of bs) ys c m (λ l. s) p
+      move_body (HasBlock g) f g h rules used (procedure_moved f g.procedures) x (lines_of bs) ys c m (λ l. s) p
 
   goes : (front : List Block) (x : Block) (bs : List Block) → front ++ (x ∷ bs) ≡ g.blocks → Goes x bs
   goes front x [] e =
@@ -166,7 +166,7 @@ module _ (g : Graph) (rules : IsGraph g) where
       (subst (λ lines. Alike C false None (body_lines at.block (lines_of at.back)) lines) (sym after) (to.alike false))
 
   pub bypassed_follows : Follows g h
-  bypassed_follows = moved_follows (HasBlock g) f g h rules used refl names refl refl
+  bypassed_follows = moved_follows (HasBlock g) f g h rules used (procedure_moved f g.procedures) names refl refl
 
   -- a slot behind a link leads to the one that is passed to
   first_passed : (front : List Block) (x : Block) (bs : List Block) → front ++ (x ∷ bs) ≡ g.blocks → (n : ℕ) → Contains (first_name (moved (kept (x ∷ bs)))) n → n ≡ f x.name
@@ -237,11 +237,11 @@ module _ (g : Graph) (rules : IsGraph g) where
       let to = goes front x bs e in
       subst (λ blocks. Alike C true None (lines_of (x ∷ bs)) (lines_of (moved blocks))) (sym to.are) (name_before (name_after (to.alike true)))
 
-  rest_slot : (front bs : List Block) → front ++ bs ≡ g.blocks → SlotMoves (HasBlock g) f g h rules used refl (slot_name (lines_of bs)) (slot_name (lines_of (moved (kept bs))))
+  rest_slot : (front bs : List Block) → front ++ bs ≡ g.blocks → SlotMoves (HasBlock g) f g h rules used (procedure_moved f g.procedures) (slot_name (lines_of bs)) (slot_name (lines_of (moved (kept bs))))
   rest_slot front [] e = tt
   rest_slot front (x ∷ bs) e =
       let to = goes front x bs e in
-      subst (λ blocks. SlotMoves (HasBlock g) f g h rules used refl (Some x.name) (slot_name (lines_of (moved blocks)))) (sym to.are) (to.name, there front x bs e)
+      subst (λ blocks. SlotMoves (HasBlock g) f g h rules used (procedure_moved f g.procedures) (Some x.name) (slot_name (lines_of (moved blocks)))) (sym to.are) (to.name, there front x bs e)
 
   -- links die behind calls as before
   die : (front bs : List Block) → front ++ bs ≡ g.blocks → LinksDieIn g (lines_of bs) → LinksDieIn h (lines_of (moved (kept bs)))

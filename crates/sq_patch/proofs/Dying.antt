@@ -119,19 +119,23 @@ term_rest g (Stop word) lines die = die
 pub body_rest : (g : Graph) (b : Block) (lines : List Line) → LinksDieIn g (body_lines b lines) → LinksDieIn g lines
 body_rest g b lines die = term_rest g b.term lines (items_rest g b.items (term_lines b.term lines) die)
 
+-- each call leads to the same body under other names, where all procedures are those of the graph
+pub called_by : (f : ℕ → ℕ) (g h : Graph) → h.procedures ≡ map (retargeted_procedure f) g.procedures → (q : ℕ) (p : Procedure) → slice_get g.procedures q ≡ Some p → slice_get h.procedures q ≡ Some (retargeted_procedure f p)
+called_by f g h same q p e = ap (λ procedures. slice_get procedures q) same ∙ procedure_moved f g.procedures q p e
+
 module _ (K : ℕ → Type 0) (f : ℕ → ℕ) (g h : Graph) (rules : IsGraph g) (used : (n : ℕ) → Contains (uses g) n → K n) (same : h.procedures ≡ map (retargeted_procedure f) g.procedures) where
   -- what is live at a place of the second graph is live where the first goes on like it
   abbrev pub Backs : Type 0
-  Backs = (q : ℕ) (ys : List Line) → IsLive h q ys → IsBacked (M K f g h rules used same) q ys
+  Backs = (q : ℕ) (ys : List Line) → IsLive h q ys → IsBacked (M K f g h rules used (called_by f g h same)) q ys
 
   abbrev MovesTo : List Line → List Line → Type 0
-  MovesTo xs ys = Alike (M K f g h rules used same) true None xs ys
+  MovesTo xs ys = Alike (M K f g h rules used (called_by f g h same)) true None xs ys
 
   some_same : (a b : Procedure) → Some a ≡ Some b → a ≡ b
   some_same a b e = cc
 
   -- the link that was dead behind a call is dead
-  call_dies : Backs → (q : ℕ) (xs ys : List Line) → ItemMoves K f g h rules used same (Out q) → MovesTo xs ys → ((p : Procedure) → slice_get g.procedures q ≡ Some p → ¬ IsLive g p.link xs) → (p : Procedure) → slice_get h.procedures q ≡ Some p → ¬ IsLive h p.link ys
+  call_dies : Backs → (q : ℕ) (xs ys : List Line) → ItemMoves K f g h rules used (called_by f g h same) (Out q) → MovesTo xs ys → ((p : Procedure) → slice_get g.procedures q ≡ Some p → ¬ IsLive g p.link xs) → (p : Procedure) → slice_get h.procedures q ≡ Some p → ¬ IsLive h p.link ys
   call_dies backs q xs ys t k dead p e live =
       let found : slice_get h.procedures q ≡ Some (retargeted_procedure f t.0) = ap (λ procedures. slice_get procedures q) same ∙ procedure_moved f g.procedures q t.0 t.1.0 in
       let link : p.link ≡ t.0.link = ap (λ (d : Procedure). d.link) (some_same p (retargeted_procedure f t.0) (sym e ∙ found)) in
@@ -139,27 +143,27 @@ module _ (K : ℕ → Type 0) (f : ℕ → ℕ) (g h : Graph) (rules : IsGraph g
       let is : p.link ≡ o.0 = o.1.0 in
       dead t.0 t.1.0 (subst (λ r. IsLive g r xs) (sym is ∙ link) o.1.1)
 
-  pub items_die : Backs → (items : List Item) (xs ys : List Line) → AreOf K f g h rules used same (ItemMoves K f g h rules used same) items → MovesTo xs ys → LinksDieIn g (map line_of items ++ xs) → LinksDieIn h ys → LinksDieIn h (map line_of (retargeted_items f items) ++ ys)
+  pub items_die : Backs → (items : List Item) (xs ys : List Line) → AreOf K f g h rules used (called_by f g h same) (ItemMoves K f g h rules used (called_by f g h same)) items → MovesTo xs ys → LinksDieIn g (map line_of items ++ xs) → LinksDieIn h ys → LinksDieIn h (map line_of (retargeted_items f items) ++ ys)
   items_die backs [] xs ys each k die die' = die'
   items_die backs (Op insn ∷ items) xs ys each k die die' = items_die backs items xs ys (λ item c. each item (contains_later (Op insn) item items c)) k die die'
   items_die backs (Hi rd to ∷ items) xs ys each k die die' = items_die backs items xs ys (λ item c. each item (contains_later (Hi rd to) item items c)) k die die'
   items_die backs (Lo rd rs to ∷ items) xs ys each k die die' = items_die backs items xs ys (λ item c. each item (contains_later (Lo rd rs to) item items c)) k die die'
   items_die backs (Out q ∷ items) xs ys each k die die' =
       let later = λ (item : Item) (c : Contains items item). each item (contains_later (Out q) item items c) in (
-        call_dies backs q (map line_of items ++ xs) (map line_of (retargeted_items f items) ++ ys) (each (Out q) (contains_first (Out q) items)) (move_items K f g h rules used same items xs ys later k) die.0,
+        call_dies backs q (map line_of items ++ xs) (map line_of (retargeted_items f items) ++ ys) (each (Out q) (contains_first (Out q) items)) (move_items K f g h rules used (called_by f g h same) items xs ys later k) die.0,
         items_die backs items xs ys later k die.1 die',
       )
 
   -- the items of a block of the graph in front of lines in which links die
   pub front_dies : Backs → (x : Block) (rest xs ys : List Line) → Contains g.blocks x → MakeTargets g (map line_of x.items ++ rest) → MovesTo xs ys → LinksDieIn g (map line_of x.items ++ xs) → LinksDieIn h ys → LinksDieIn h (map line_of (retargeted_items f x.items) ++ ys)
-  front_dies backs x rest xs ys c m k die die' = items_die backs x.items xs ys (items_move K f g h rules used same x rest c m) k die die'
+  front_dies backs x rest xs ys c m k die die' = items_die backs x.items xs ys (items_move K f g h rules used (called_by f g h same) x rest c m) k die die'
 
-  pub body_dies : Backs → (x : Block) (xs ys : List Line) → Contains g.blocks x → MakeTargets g (body_lines x xs) → (links x.term ≡ true → SlotMoves K f g h rules used same (slot_name xs) (slot_name ys)) → MovesTo xs ys → LinksDieIn g (body_lines x xs) → LinksDieIn h ys → LinksDieIn h (body_lines (retargeted_block f x) ys)
+  pub body_dies : Backs → (x : Block) (xs ys : List Line) → Contains g.blocks x → MakeTargets g (body_lines x xs) → (links x.term ≡ true → SlotMoves K f g h rules used (called_by f g h same) (slot_name xs) (slot_name ys)) → MovesTo xs ys → LinksDieIn g (body_lines x xs) → LinksDieIn h ys → LinksDieIn h (body_lines (retargeted_block f x) ys)
   body_dies backs x xs ys c m s k die die' =
       front_dies backs x (term_lines x.term xs) (term_lines x.term xs) (term_lines (retargeted_term f x.term) ys) c m
-      (term_moves K f g h rules used same x xs ys c m s k) die (term_dies h (retargeted_term f x.term) ys die')
+      (term_moves K f g h rules used (called_by f g h same) x xs ys c m s k) die (term_dies h (retargeted_term f x.term) ys die')
 
-  module _ (names : (n : ℕ) → K n → Alike (M K f g h rules used same) false None (block_lines g n) (block_lines h (f n))) (words : h.code_words ≡ retargeted_words f g.code_words) (items : items_of_blocks h.blocks ≡ retargeted_items f (items_of_blocks g.blocks)) (bodies : items_of_bodies h.procedures ≡ retargeted_items f (items_of_bodies g.procedures)) (slots : (n : ℕ) → Contains (link_names h.blocks) n → (m : ℕ) × (Contains (link_names g.blocks) m × (n ≡ f m))) (known : (n : ℕ) → Contains (link_names g.blocks) n → K n) where
+  module _ (names : (n : ℕ) → K n → Alike (M K f g h rules used (called_by f g h same)) false None (block_lines g n) (block_lines h (f n))) (words : h.code_words ≡ retargeted_words f g.code_words) (items : items_of_blocks h.blocks ≡ retargeted_items f (items_of_blocks g.blocks)) (bodies : items_of_bodies h.procedures ≡ retargeted_items f (items_of_bodies g.procedures)) (slots : (n : ℕ) → Contains (link_names h.blocks) n → (m : ℕ) × (Contains (link_names g.blocks) m × (n ≡ f m))) (known : (n : ℕ) → Contains (link_names g.blocks) n → K n) where
     abbrev Target : ℕ → Type 0
     Target n = (m : ℕ) × (Contains (code_targets g) m × ((n ≡ f m) × K m))
 
@@ -223,7 +227,7 @@ module _ (K : ℕ → Type 0) (f : ℕ → ℕ) (g h : Graph) (rules : IsGraph g
         (from_links n)
 
     pub backs : Backs
-    backs q ys live = shrinks (M K f g h rules used same) (steady K f g h rules used same names) targets (λ xs r l. tt) tt q live
+    backs q ys live = shrinks (M K f g h rules used (called_by f g h same)) (steady K f g h rules used (called_by f g h same) names) targets (λ xs r l. tt) tt q live
 
     pub moved_sound : IsSound g → LinksDieIn h (lines_of h.blocks) → IsSound h
     moved_sound sound die = record {

@@ -32,7 +32,7 @@ use Rattle.sq_patch.specs.Changes.{Change, Alike, ends, name_before, name_after}
 use Rattle.sq_patch.proofs.LiveTargets.{lines_make}
 use Rattle.sq_patch.proofs.Staying.{body_unnamed}
 use Rattle.sq_patch.proofs.Changing.{ahead, in_tail, tail_made}
-use Rattle.sq_patch.proofs.Moving.{M, SlotMoves, move_front, move_body, moved_follows}
+use Rattle.sq_patch.proofs.Moving.{M, SlotMoves, move_front, move_body, moved_follows, procedure_moved}
 use Rattle.sq_patch.proofs.Bypassing.{fall_lines, bypassed_sound, bypassed_follows}
 use Rattle.sq_patch.proofs.Dying.{Backs, backs as all_backed, links-moved, body_rest, front_dies, body_dies, moved_sound}
 use Rattle.sq_patch.proofs.Used.{contains_first, from_all}
@@ -101,7 +101,7 @@ module _ (g : Graph) (rules : IsGraph g) where
   used n c = from_all Leads (uses g) n (used_are_leaders g) c
 
   abbrev C : Change
-  C = M Leads same g h rules used refl
+  C = M Leads same g h rules used (procedure_moved same g.procedures)
 
   abbrev moved : List Block → List Block
   moved bs = map (retargeted_block same) bs
@@ -126,8 +126,8 @@ module _ (g : Graph) (rules : IsGraph g) where
   makes : (front : List Block) (b : Block) (bs : List Block) → front ++ (b ∷ bs) ≡ g.blocks → MakeTargets g (lines_of (b ∷ bs))
   makes front b bs e = tail_made g front (b ∷ bs) (subst (λ blocks. MakeTargets g (lines_of blocks)) (sym e) (lines_make g))
 
-  body_goes : {t : Bool} (front : List Block) (b : Block) (bs : List Block) (ys : List Line) → front ++ (b ∷ bs) ≡ g.blocks → (links b.term ≡ true → SlotMoves Leads same g h rules used refl (slot_name (lines_of bs)) (slot_name ys)) → Alike C t None (lines_of bs) ys → Alike C t None (body_lines b (lines_of bs)) (body_lines (retargeted_block same b) ys)
-  body_goes front b bs ys e s p = move_body Leads same g h rules used refl b (lines_of bs) ys (stands front b bs e) (makes front b bs e) s p
+  body_goes : {t : Bool} (front : List Block) (b : Block) (bs : List Block) (ys : List Line) → front ++ (b ∷ bs) ≡ g.blocks → (links b.term ≡ true → SlotMoves Leads same g h rules used (procedure_moved same g.procedures) (slot_name (lines_of bs)) (slot_name ys)) → Alike C t None (lines_of bs) ys → Alike C t None (body_lines b (lines_of bs)) (body_lines (retargeted_block same b) ys)
+  body_goes front b bs ys e s p = move_body Leads same g h rules used (procedure_moved same g.procedures) b (lines_of bs) ys (stands front b bs e) (makes front b bs e) s p
 
   slot_leads : (front : List Block) (b next : Block) (bs : List Block) → front ++ (b ∷ next ∷ bs) ≡ g.blocks → links b.term ≡ true → Leads next.name
   slot_leads front b next bs e link =
@@ -182,7 +182,7 @@ module _ (g : Graph) (rules : IsGraph g) where
               alike = λ t.
                   subst (λ xs. Alike C t None (map line_of b.items ++ xs) (body_lines (retargeted_block same (with_next leads b later.first)) (lines_of (moved later.rest)))) (sym (fall_lines b.term (lines_of (next ∷ bs)) fall))
                   (subst (λ ys. Alike C t None (map line_of b.items ++ lines_of (next ∷ bs)) ys) (sym (items_apart b.items later.first.items (term_lines (retargeted_term same later.first.term) (lines_of (moved later.rest)))))
-                  (move_front Leads same g h rules used refl b (term_lines b.term (lines_of (next ∷ bs))) (lines_of (next ∷ bs)) (body_lines (retargeted_block same later.first) (lines_of (moved later.rest))) (stands front b (next ∷ bs) e) (makes front b (next ∷ bs) e) (name_before (later.alike t))));
+                  (move_front Leads same g h rules used (procedure_moved same g.procedures) b (term_lines b.term (lines_of (next ∷ bs))) (lines_of (next ∷ bs)) (body_lines (retargeted_block same later.first) (lines_of (moved later.rest))) (stands front b (next ∷ bs) e) (makes front b (next ∷ bs) e) (name_before (later.alike t))));
               behind = λ n lead.
                   subst (λ xs. Alike C false None xs (behind_name n (lines_of (moved later.rest))))
                   (sym (passed_by next.name n bs next refl (λ is. let l : leads n ≡ false = subst (λ m. leads m ≡ false) is no_leader in cc)))
@@ -221,7 +221,7 @@ module _ (g : Graph) (rules : IsGraph g) where
   pub joined_follows : Follows g (joined g)
   joined_follows =
       subst (λ k. Follows g k) (retargeted_same (joined g))
-      (moved_follows Leads same g h rules used refl (λ n lead. leader_lines g.blocks refl n lead) refl refl)
+      (moved_follows Leads same g h rules used (procedure_moved same g.procedures) (λ n lead. leader_lines g.blocks refl n lead) refl refl)
 
   linked_all : (blocks : List Block) → blocks ≡ g.blocks → (n : ℕ) → Contains (link_names (moved (joined_blocks leads blocks))) n → Contains (link_names blocks) n
   linked_all [] e n c = c

@@ -77,7 +77,7 @@ other_names f (w ∷ ws) = ap (λ ns. f w.block ∷ ns) (other_names f ws)
 pub procedure_moved : (f : ℕ → ℕ) (ps : List Procedure) (q : ℕ) (p : Procedure) → slice_get ps q ≡ Some p → slice_get (map (retargeted_procedure f) ps) q ≡ Some (retargeted_procedure f p)
 procedure_moved f ps q p e = slice_get-map (retargeted_procedure f) ps q ∙ ap (option_map (retargeted_procedure f)) e
 
-module _ (K : ℕ → Type 0) (f : ℕ → ℕ) (g h : Graph) (rules : IsGraph g) (used : (n : ℕ) → Contains (uses g) n → K n) (same : h.procedures ≡ map (retargeted_procedure f) g.procedures) where
+module _ (K : ℕ → Type 0) (f : ℕ → ℕ) (g h : Graph) (rules : IsGraph g) (used : (n : ℕ) → Contains (uses g) n → K n) (called : (q : ℕ) (p : Procedure) → slice_get g.procedures q ≡ Some p → slice_get h.procedures q ≡ Some (retargeted_procedure f p)) where
   abbrev pub M : Change
   M = moving K f g h
 
@@ -120,7 +120,7 @@ module _ (K : ℕ → Type 0) (f : ℕ → ℕ) (g h : Graph) (rules : IsGraph g
 
   move_enter : {b : Bool} {xs ys : List Line} (q : ℕ) → CallMoves q → Alike M true None xs ys → Alike M b None (Enter q ∷ xs) (Enter q ∷ ys)
   move_enter {xs = xs} {ys = ys} q t p =
-      both_enter {m = None} {m' = None} t.0 (retargeted_procedure f t.0) t.1.0 (ap (λ procedures. slice_get procedures q) same ∙ procedure_moved f g.procedures q t.0 t.1.0)
+      both_enter {m = None} {m' = None} t.0 (retargeted_procedure f t.0) t.1.0 (called q t.0 t.1.0)
       (λ r s x n. (ap (is_register t.0.link) n, λ e. n)) (t.1.1 xs ys p)
 
   later_items : (item : Item) (items : List Item) → AreOf ItemMoves (item ∷ items) → AreOf ItemMoves items

@@ -1,23 +1,24 @@
--- A graph whose blocks have other names follows it.
-use Rattle.std.proofs.Common.{◌≡◌, ℕ, zero, suc, ◌<◌, Bool, true, false, ◌==◌, if◌then◌else◌, List, [], ◌∷◌, ◌++◌, Some, None, map, refl, sym, ap, ◌∙◌, subst, arith, ne_eqb}
+-- A graph whose blocks have other names, and that may have more procedures, follows it.
+use Rattle.std.proofs.Common.{◌≡◌, ℕ, zero, suc, ◌<◌, Bool, true, false, ◌==◌, if◌then◌else◌, List, [], ◌∷◌, ◌++◌, Some, None, map, slice_get, ◌+◌, refl, sym, ap, ◌∙◌, subst, arith, ne_eqb}
 use Rattle.std.specs.Prelude.{IsSome}
 use Rattle.std.proofs.lemmas.Bool.{eq-eqb, eqb-true, eqb-false}
-use Rattle.std.specs.List.{Contains}
+use Rattle.std.specs.List.{Contains, slice_range}
 use Rattle.sq_arena.specs.Entries.{value_of}
-use Rattle.sq_graph.specs.Graph.{Block, Graph}
-use Rattle.sq_graph.specs.Blocks.{HasBlock, named}
+use Rattle.sq_graph.specs.Graph.{Block, Procedure, Graph}
+use Rattle.sq_graph.specs.Blocks.{HasBlock, named, items_of}
 use Rattle.sq_graph.specs.Uses.{uses}
 use Rattle.sq_graph.specs.Rules.{IsGraph}
-use Rattle.sq_graph.specs.Renames.{renamed_block, renamed}
+use Rattle.sq_graph.specs.Renames.{retargeted_procedure, renamed_block, renamed}
 use Rattle.sq_graph.specs.Lines.{body_lines, lines_of, behind_name, slot_name}
 use Rattle.sq_follow.specs.Follows.{Follows}
 use Rattle.sq_patch.specs.LiveAgreement.{MakeTargets}
 use Rattle.sq_patch.specs.Changes.{Change, Alike, ends, name_before, name_after}
-use Rattle.sq_patch.specs.Operations.{RenameFollows}
+use Rattle.sq_patch.specs.Operations.{RenameFollows, OutlineFollows}
+use Rattle.sq_graph.proofs.Bypassing.{retargeted_same}
 use Rattle.sq_patch.proofs.LiveTargets.{lines_make}
 use Rattle.sq_patch.proofs.Staying.{body_unnamed}
 use Rattle.sq_patch.proofs.Changing.{ahead, in_tail, tail_made}
-use Rattle.sq_patch.proofs.Moving.{M, SlotMoves, move_body, moved_follows}
+use Rattle.sq_patch.proofs.Moving.{M, SlotMoves, move_body, moved_follows, procedure_moved}
 use Rattle.sq_patch.proofs.Used.{contains_first, from_all}
 
 -- a block of the list has its name
@@ -30,15 +31,15 @@ there (y ∷ blocks) x (suc i, l, e) = go (y.name == x.name) (there blocks x (i,
     go true h = refl
     go false h = h
 
-module _ (g : Graph) (f : ℕ → ℕ) (rules : IsGraph g) (apart : (m n : ℕ) → HasBlock g m → HasBlock g n → f m ≡ f n → m ≡ n) where
+module _ (g : Graph) (f : ℕ → ℕ) (rules : IsGraph g) (apart : (m n : ℕ) → HasBlock g m → HasBlock g n → f m ≡ f n → m ≡ n) (procedures : List Procedure) (called : (q : ℕ) (p : Procedure) → slice_get g.procedures q ≡ Some p → slice_get procedures q ≡ Some (retargeted_procedure f p)) where
   abbrev h : Graph
-  h = renamed f g
+  h = record (renamed f g) { procedures = procedures }
 
   used : (n : ℕ) → Contains (uses g) n → HasBlock g n
   used n c = from_all (HasBlock g) (uses g) n rules.named_all c
 
   abbrev C : Change
-  C = M (HasBlock g) f g h rules used refl
+  C = M (HasBlock g) f g h rules used called
 
   abbrev others : List Block → List Block
   others blocks = map (renamed_block f) blocks
@@ -52,12 +53,12 @@ module _ (g : Graph) (f : ℕ → ℕ) (rules : IsGraph g) (apart : (m n : ℕ) 
   made : (front bs : List Block) → front ++ bs ≡ g.blocks → MakeTargets g (lines_of bs)
   made front bs e = tail_made g front bs (subst (λ blocks. MakeTargets g (lines_of blocks)) (sym e) (lines_make g))
 
-  slots : (front bs : List Block) → front ++ bs ≡ g.blocks → SlotMoves (HasBlock g) f g h rules used refl (slot_name (lines_of bs)) (slot_name (lines_of (others bs)))
+  slots : (front bs : List Block) → front ++ bs ≡ g.blocks → SlotMoves (HasBlock g) f g h rules used called (slot_name (lines_of bs)) (slot_name (lines_of (others bs)))
   slots front [] e = tt
   slots front (x ∷ bs) e = (refl, has_name x (in_graph front x bs e))
 
   body : {b : Bool} (front : List Block) (x : Block) (bs : List Block) → front ++ (x ∷ bs) ≡ g.blocks → Alike C b None (lines_of bs) (lines_of (others bs)) → Alike C b None (body_lines x (lines_of bs)) (body_lines (renamed_block f x) (lines_of (others bs)))
-  body front x bs e p = move_body (HasBlock g) f g h rules used refl x (lines_of bs) (lines_of (others bs)) (in_graph front x bs e) (made front (x ∷ bs) e) (λ l. slots (front ++ x ∷ []) bs (ahead front x bs ∙ e)) p
+  body front x bs e p = move_body (HasBlock g) f g h rules used called x (lines_of bs) (lines_of (others bs)) (in_graph front x bs e) (made front (x ∷ bs) e) (λ l. slots (front ++ x ∷ []) bs (ahead front x bs ∙ e)) p
 
   all_lines : {b : Bool} (front bs : List Block) → front ++ bs ≡ g.blocks → Alike C b None (lines_of bs) (lines_of (others bs))
   all_lines front [] e = ends
@@ -79,7 +80,23 @@ module _ (g : Graph) (f : ℕ → ℕ) (rules : IsGraph g) (apart : (m n : ℕ) 
           (subst (λ ys. Alike C false None (behind_name n (lines_of bs)) ys) (sym (body_unnamed (f n) (renamed_block f x) (lines_of (others bs)))) rec))
 
   pub renamed_follows : Follows g h
-  renamed_follows = moved_follows (HasBlock g) f g h rules used refl (λ n has. behind n has [] g.blocks refl) refl refl
+  renamed_follows = moved_follows (HasBlock g) f g h rules used called (λ n has. behind n has [] g.blocks refl) refl refl
 
 pub rename_follows : RenameFollows
-rename_follows g f rules apart = renamed_follows g f rules apart
+rename_follows g f rules apart = renamed_follows g f rules apart (map (retargeted_procedure f) g.procedures) (procedure_moved f g.procedures)
+
+-- more procedures behind those of a list
+still_there : (ps more : List Procedure) (q : ℕ) (p : Procedure) → slice_get ps q ≡ Some p → slice_get (ps ++ more) q ≡ Some p
+still_there [] more q p e = absurd (cc)
+still_there (x ∷ ps) more zero p e = e
+still_there (x ∷ ps) more (suc q) p e = still_there ps more q p e
+
+abbrev own : ℕ → ℕ
+own n = n
+
+pub outline_follows : OutlineFollows
+outline_follows g block at length link rules =
+    let body : List Procedure = record { link = link; body = slice_range (items_of g block) at (at + length) } ∷ [] in
+    let moved : List Procedure = map (retargeted_procedure own) g.procedures in
+    subst (λ (k : Graph). Follows g (record k { procedures = k.procedures ++ body })) (retargeted_same g)
+    (renamed_follows g own rules (λ m n h k e. e) (moved ++ body) (λ q p e. still_there moved body q (retargeted_procedure own p) (procedure_moved own g.procedures q p e)))

@@ -6,7 +6,7 @@ use Rattle.sq_graph.specs.declared.item.Term.TheVariants.{Fall, Jump, Call, Part
 use Rattle.sq_graph.specs.Graph.{Graph}
 use Rattle.sq_graph.specs.Blocks.{HasBlock, items_of, next_of, term_of}
 use Rattle.sq_graph.specs.Rules.{IsGraph}
-use Rattle.sq_graph.specs.Operations.{IsNew, split_at, replaced, inlined, with_term}
+use Rattle.sq_graph.specs.Operations.{IsNew, split_at, replaced, inlined, outlined, with_term}
 use Rattle.sq_graph.specs.Renames.{renamed}
 use Rattle.sq_graph.specs.Canonical.{canonical_of}
 use Rattle.sq_graph.specs.Lines.{place_lines}
@@ -51,3 +51,7 @@ CanonicalIsSound = (g : Graph) → IsGraph g → IsSound g → IsSound (canonica
 abbrev pub RenameFollows : Type 0
 RenameFollows =
     (g : Graph) (f : ℕ → ℕ) → IsGraph g → ((m n : ℕ) → HasBlock g m → HasBlock g n → f m ≡ f n → m ≡ n) → Follows g (renamed f g)
+
+-- A graph with a body of its own items as one more procedure follows it.
+abbrev pub OutlineFollows : Type 0
+OutlineFollows = (g : Graph) (block at length link : ℕ) → IsGraph g → Follows g (outlined g block at length link)

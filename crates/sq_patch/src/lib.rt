@@ -2,13 +2,13 @@
 //!
 //! To the layers above it promises that two runs of one graph which agree on memory and on the registers
 //! that are live go on to agree: what is dead may differ, and what the first run has lost may be anything; and
-//! that seven operations on graphs keep runs: a split, a Jump to the next slot that becomes Fall, a dead upper
+//! that eight operations on graphs keep runs: a split, a Jump to the next slot that becomes Fall, a dead upper
 //! half that goes, a jump by an upper half that becomes a Call or a Jump, a body in place of its call, the
-//! canonical form, and other names of blocks.
+//! canonical form, other names of blocks, and one more procedure.
 #![tactic(auto)]
 
 ghost use Rattle.sq_patch.specs.LiveAgreement.{StepsAgree, PlacesMakeTargets};
-ghost use Rattle.sq_patch.specs.Operations.{SplitFollows, FallFollows, DropFollows, HastenFollows, InlineFollows, CanonicalFollows, CanonicalIsSound, RenameFollows};
+ghost use Rattle.sq_patch.specs.Operations.{SplitFollows, FallFollows, DropFollows, HastenFollows, InlineFollows, CanonicalFollows, CanonicalIsSound, RenameFollows, OutlineFollows};
 
 /// From states that agree on what is live, a graph steps to such states again, with the same event or to the
 /// same end.
@@ -60,4 +60,9 @@ pub fn canonical_keeps_soundness()
 /// A graph whose blocks have other names, different ones different names, follows it.
 pub fn rename_keeps_runs()
     ensures { RenameFollows }
+{}
+
+/// A graph with items of one of its blocks as the body of one more procedure follows it.
+pub fn outline_keeps_runs()
+    ensures { OutlineFollows }
 {}
