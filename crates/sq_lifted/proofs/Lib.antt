@@ -6,3 +6,4 @@ pub mod Reaching
 pub mod Counting
 pub mod Files
 pub mod FileWorlds
+pub mod FileLayouts

@@ -13,7 +13,9 @@ use Rattle.sq_program.specs.Lifted.{lifted}
 use Rattle.sq_program.specs.FilePrograms.{IsReadAs, IsAccepted, IsLiftedFrom}
 use Rattle.sq_program.specs.Monitored.{monitored_step}
 use Rattle.sq_program.specs.FileRuns.{world_of, watched_start, watched_layout}
+use Rattle.sq_run.specs.FileRuns.{file_world}
 use Rattle.sq_lifting.specs.Lifting.{IsLinked, IsWorldOf}
+use Rattle.sq_lifting.specs.Watching.{IsLaidOut}
 use Rattle.sq_lifted.specs.Lifted.{IsShort, IsGoodGraph}
 
 -- Accepted by all that is asked before its text, a file has a linked program: with text as relocations mark it, at most
@@ -48,3 +50,7 @@ LiftedFilesAreGood =
 abbrev pub LiftedFilesFollow : Type 0
 LiftedFilesFollow =
     (bytes : List ℕ) (is : ℕ → Bool) (p : Program) (g : Graph) → AllByRecursion (λ b. b < 256) bytes → IsLiftedFrom bytes is p g → Follows (lifted is p) g
+
+-- The memory of a file's plain machine is laid out as that of its world.
+abbrev pub FilesAreLaidOut : Type 0
+FilesAreLaidOut = (bytes : List ℕ) (p : Program) (start : Start) → IsLaidOut (world_of bytes p) start (file_world bytes start)

@@ -7,7 +7,7 @@
 #![tactic(auto)]
 
 ghost use Rattle.sq_lifted.specs.Lifted.{LiftedIsGood};
-ghost use Rattle.sq_lifted.specs.Files.{FilesAreLinked, FileWorldsFit, LiftedFilesAreGood, LiftedFilesKeepRuns, LiftedFilesFollow};
+ghost use Rattle.sq_lifted.specs.Files.{FilesAreLinked, FileWorldsFit, LiftedFilesAreGood, LiftedFilesKeepRuns, LiftedFilesFollow, FilesAreLaidOut};
 
 /// The graph of a program that is not refused keeps the rules of a graph, is canonical, sound and in
 /// reach, and has no more words than the program's text.
@@ -42,4 +42,10 @@ pub fn lifted_files_keep_runs()
 /// addresses.
 pub fn lifted_files_follow()
     ensures { LiftedFilesFollow }
+{}
+
+/// The memory of a file's plain machine is laid out as that of its world: the same pieces with the same
+/// permissions, and the same RAM.
+pub fn files_are_laid_out()
+    ensures { FilesAreLaidOut }
 {}
