@@ -117,6 +117,19 @@ fn unreached_text_is_accepted(rt: HostRuntime) -> Result<(), Fail> {
     Ok(())
 }
 
+#[test]
+fn words_are_read(rt: HostRuntime) -> Result<(), Fail> {
+    let program = program_of(rt.alloc(), &[EXIT[0], STAY], &[])?;
+    let text = &program.text;
+    assert_eq!(rt; text.end(), 0x1_0008);
+    assert!(rt; text.contains(0x1_0007));
+    assert!(rt; !text.has(0x1_0006));
+    let word = text.word(0x1_0004).ok_or("a word")?;
+    assert_eq!(rt; word.number, STAY);
+    assert!(rt; matches!(reading_of(text, 0x1_0004, &word), Some(Reading::Term(_))));
+    Ok(())
+}
+
 fn first_note(alloc: Global, note: &[u32]) -> Result<Option<Note>, Denied> {
     // `addi a0,a0,1` and `jalr x0,0(t0)`.
     let file = file_of(alloc, &[0x0015_0513, 0x0002_8067], &[], note)?;
