@@ -1,26 +1,32 @@
 -- The first region that has a cell at an address, by its place in a list.
-use Rattle.std.proofs.Common.{◌≡◌, ℕ, suc, ◌+◌, Bool, true, false, List, [], ◌∷◌, map, Option, Some, None, is_some, position, slice_get, slice_set, get_or, if◌then◌else◌, refl, sym, ap, ◌∙◌, subst, arith}
+use Rattle.std.proofs.Common.{◌≡◌, ℕ, suc, ◌+◌, ◌<◌, Bool, true, false, List, [], ◌∷◌, map, length, Option, Some, None, is_some, option_map, position, slice_get, slice_set, get_or, if◌then◌else◌, refl, sym, ap, ◌∙◌, subst, arith}
 use Rattle.std.specs.List.{position_from}
 use Rattle.std.proofs.lemmas.Iterator.Adapters.{position_from-zero}
-use Rattle.std.proofs.lemmas.Option.{get_or_from_slice_get}
-use Rattle.sq_memory.specs.Regions.{Region, region_cell, or_else, get, region_with, put}
+use Rattle.std.proofs.lemmas.List.{map-set, length-map}
+use Rattle.std.proofs.lemmas.Option.{slice_get-map, slice_get_read, slice_get_within}
+use Rattle.sq_memory.specs.Regions.{Region, region_cell, or_else, get, region_with, put, AreApart}
+use Rattle.sq_memory.proofs.Apart.{first_place}
 
-module _ {A C : Type 0} (v : A → Region C) (x : ℕ) where
-  abbrev has : A → Bool
-  has r = is_some (region_cell (v r) x)
+none_of : (o : Option ℕ) → ((k : ℕ) → o ≡ Some k → ⊥) → o ≡ None
+none_of None f = refl
+none_of (Some k) f = absurd (f k refl)
+
+module _ {C : Type 0} (x : ℕ) where
+  abbrev has : Region C → Bool
+  has r = is_some (region_cell r x)
 
   -- The region at place j holds the address.
-  pub record HoldsAt (xs : List A) (j : ℕ) : Type 0 where
-    pub region : A
-    pub at : slice_get xs j ≡ Some region
-    pub there : is_some (region_cell (v region) x) ≡ true
-    pub got : get (map v xs) x ≡ region_cell (v region) x
-    pub written : (c : C) (s : A) → v s ≡ region_with (v region) x c → map v (slice_set xs j s) ≡ put (map v xs) x c
+  pub record HoldsAt (rs : List (Region C)) (j : ℕ) : Type 0 where
+    pub region : Region C
+    pub at : slice_get rs j ≡ Some region
+    pub there : is_some (region_cell region x) ≡ true
+    pub got : get rs x ≡ region_cell region x
+    pub written : (c : C) → slice_set rs j (region_with region x c) ≡ put rs x c
 
   -- No region holds it.
-  pub record HoldsNone (xs : List A) : Type 0 where
-    pub got : get (map v xs) x ≡ None
-    pub written : (c : C) → put (map v xs) x c ≡ map v xs
+  pub record HoldsNone (rs : List (Region C)) : Type 0 where
+    pub got : get rs x ≡ None
+    pub written : (c : C) → put rs x c ≡ rs
 
   first_cell : (o p : Option C) → is_some o ≡ true → or_else o p ≡ o
   first_cell None p e = absurd (cc)
@@ -30,63 +36,88 @@ module _ {A C : Type 0} (v : A → Region C) (x : ℕ) where
   later_cell None p e = refl
   later_cell (Some c) p e = absurd (cc)
 
-  here : (r : A) (xs : List A) → has r ≡ true → HoldsAt (r ∷ xs) 0
-  here r xs e = record {
+  here : (r : Region C) (rs : List (Region C)) → has r ≡ true → HoldsAt (r ∷ rs) 0
+  here r rs e = record {
     region = r;
     at = refl;
     there = e;
-    got = first_cell (region_cell (v r) x) (get (map v xs) x) e;
-    written = λ c s w. rw (e, w) refl;
+    got = first_cell (region_cell r x) (get rs x) e;
+    written = λ c. rw e refl;
   }
 
-  behind : (r : A) (xs : List A) (j : ℕ) → has r ≡ false → HoldsAt xs j → HoldsAt (r ∷ xs) (suc j)
-  behind r xs j e h = record {
+  behind : (r : Region C) (rs : List (Region C)) (j : ℕ) → has r ≡ false → HoldsAt rs j → HoldsAt (r ∷ rs) (suc j)
+  behind r rs j e h = record {
     region = h.region;
     at = h.at;
     there = h.there;
-    got = later_cell (region_cell (v r) x) (get (map v xs) x) e ∙ h.got;
-    written = λ c s w. rw e (ap (λ rs. v r ∷ rs) (h.written c s w));
+    got = later_cell (region_cell r x) (get rs x) e ∙ h.got;
+    written = λ c. rw e (ap (λ qs. r ∷ qs) (h.written c));
   }
 
-  none_behind : (r : A) (xs : List A) → has r ≡ false → HoldsNone xs → HoldsNone (r ∷ xs)
-  none_behind r xs e h = record {
-    got = later_cell (region_cell (v r) x) (get (map v xs) x) e ∙ h.got;
-    written = λ c. rw e (ap (λ rs. v r ∷ rs) (h.written c));
+  none_behind : (r : Region C) (rs : List (Region C)) → has r ≡ false → HoldsNone rs → HoldsNone (r ∷ rs)
+  none_behind r rs e h = record {
+    got = later_cell (region_cell r x) (get rs x) e ∙ h.got;
+    written = λ c. rw e (ap (λ qs. r ∷ qs) (h.written c));
   }
 
-  holds_from : (xs : List A) (i k : ℕ) → position_from has i xs ≡ Some k → (j : ℕ) × (k ≡ i + j) × HoldsAt xs j
+  holds_from : (rs : List (Region C)) (i k : ℕ) → position_from has i rs ≡ Some k → (j : ℕ) × (k ≡ i + j) × HoldsAt rs j
   holds_from [] i k e = absurd (cc)
-  holds_from (r ∷ xs) i k e = tell (has r) refl e (holds_from xs (i + 1) k)
+  holds_from (r ∷ rs) i k e = tell (has r) refl e (holds_from rs (i + 1) k)
     where
-      tell : (b : Bool) → has r ≡ b → (if b then Some i else position_from has (i + 1) xs) ≡ Some k → (position_from has (i + 1) xs ≡ Some k → (j : ℕ) × (k ≡ (i + 1) + j) × HoldsAt xs j) → (j : ℕ) × (k ≡ i + j) × HoldsAt (r ∷ xs) j
-      tell true h p f = let q : i ≡ k = cc in (0, omega arith, here r xs h)
-      tell false h p f = let y = f p in let q : k ≡ (i + 1) + y.0 = y.1 in (suc y.0, omega arith, behind r xs y.0 h y.2)
+      tell : (b : Bool) → has r ≡ b → (if b then Some i else position_from has (i + 1) rs) ≡ Some k → (position_from has (i + 1) rs ≡ Some k → (j : ℕ) × (k ≡ (i + 1) + j) × HoldsAt rs j) → (j : ℕ) × (k ≡ i + j) × HoldsAt (r ∷ rs) j
+      tell true h p f = let q : i ≡ k = cc in (0, omega arith, here r rs h)
+      tell false h p f = let y = f p in let q : k ≡ (i + 1) + y.0 = y.1 in (suc y.0, omega arith, behind r rs y.0 h y.2)
 
-  none_from : (xs : List A) (i : ℕ) → position_from has i xs ≡ None → HoldsNone xs
+  none_from : (rs : List (Region C)) (i : ℕ) → position_from has i rs ≡ None → HoldsNone rs
   none_from [] i e = record { got = refl; written = λ c. refl }
-  none_from (r ∷ xs) i e = tell (has r) refl e (none_from xs (i + 1))
+  none_from (r ∷ rs) i e = tell (has r) refl e (none_from rs (i + 1))
     where
-      tell : (b : Bool) → has r ≡ b → (if b then Some i else position_from has (i + 1) xs) ≡ None → (position_from has (i + 1) xs ≡ None → HoldsNone xs) → HoldsNone (r ∷ xs)
+      tell : (b : Bool) → has r ≡ b → (if b then Some i else position_from has (i + 1) rs) ≡ None → (position_from has (i + 1) rs ≡ None → HoldsNone rs) → HoldsNone (r ∷ rs)
       tell true h p f = absurd (cc)
-      tell false h p f = none_behind r xs h (f p)
+      tell false h p f = none_behind r rs h (f p)
 
-  -- what a search over the same list found
-  pub holds_at : (xs ys : List A) (o : Option ℕ) (k : ℕ) → ys ≡ xs → o ≡ position (λ r. is_some (region_cell (v r) x)) ys → o ≡ Some k → HoldsAt xs k
-  holds_at xs ys o k s p e =
-      let y = holds_from ys 0 k (sym (position_from-zero has ys) ∙ (sym p ∙ e)) in
+  -- what a search found
+  pub holds_at : (rs : List (Region C)) (o : Option ℕ) (k : ℕ) → o ≡ position (λ r. is_some (region_cell r x)) rs → o ≡ Some k → HoldsAt rs k
+  holds_at rs o k p e =
+      let y = holds_from rs 0 k (sym (position_from-zero has rs) ∙ (sym p ∙ e)) in
       let f : k ≡ 0 + y.0 = y.1 in
-      let q : y.0 ≡ k = omega arith in subst (λ zs. HoldsAt zs k) s (subst (HoldsAt ys) q y.2)
+      let q : y.0 ≡ k = omega arith in subst (HoldsAt rs) q y.2
 
-  none_of : (o : Option ℕ) → ((k : ℕ) → o ≡ Some k → ⊥) → o ≡ None
-  none_of None f = refl
-  none_of (Some k) f = absurd (f k refl)
+  pub holds_none : (rs : List (Region C)) (o : Option ℕ) → o ≡ position (λ r. is_some (region_cell r x)) rs → ((k : ℕ) → o ≡ Some k → ⊥) → HoldsNone rs
+  holds_none rs o p f = none_from rs 0 (sym (position_from-zero has rs) ∙ (sym p ∙ none_of o f))
 
-  pub holds_none : (xs ys : List A) (o : Option ℕ) → ys ≡ xs → o ≡ position (λ r. is_some (region_cell (v r) x)) ys → ((k : ℕ) → o ≡ Some k → ⊥) → HoldsNone xs
-  holds_none xs ys o s p f =
-      subst HoldsNone s (none_from ys 0 (sym (position_from-zero has ys) ∙ (sym p ∙ none_of o f)))
+-- The same where regions stand in a list as what v makes them of.
+module _ {A C : Type 0} (v : A → Region C) (x : ℕ) where
+  position_from-map : (xs : List A) (i : ℕ) → position_from (λ r. is_some (region_cell (v r) x)) i xs ≡ position_from (λ r. is_some (region_cell r x)) i (map v xs)
+  position_from-map [] i = refl
+  position_from-map (r ∷ xs) i = ap (λ o. if is_some (region_cell (v r) x) then Some i else o) (position_from-map xs (i + 1))
+
+  pub position-map : (xs : List A) → position (λ r. is_some (region_cell (v r) x)) xs ≡ position (λ r. is_some (region_cell r x)) (map v xs)
+  position-map xs =
+      position_from-zero (λ r. is_some (region_cell (v r) x)) xs
+      ∙ (position_from-map xs 0 ∙ sym (position_from-zero (λ r. is_some (region_cell r x)) (map v xs)))
+
+  element : (xs : List A) (k : ℕ) (r : A) → k < length xs → r ≡ get_or xs k r → slice_get (map v xs) k ≡ Some (v r)
+  element xs k r l e = slice_get-map v xs k ∙ ap (option_map v) (slice_get_read xs (length xs) k r refl l e)
+
+  -- where no two regions meet, r at place k is the first that has a cell
+  pub again : (xs : List A) (k : ℕ) (r : A) → AreApart (map v xs) → k < length xs → r ≡ get_or xs k r → is_some (region_cell (v r) x) ≡ true → Some k ≡ position (λ s. is_some (region_cell s x)) (map v xs)
+  again xs k r a l e h = sym (first_place (map v xs) x k (v r) a (element xs k r l e) h)
+
+  pub within : (xs : List A) (rs : List (Region C)) (k : ℕ) → map v xs ≡ rs → HoldsAt x rs k → k < length xs
+  within xs rs k e h =
+      let l : k < length rs = slice_get_within rs k h.region h.at in
+      let f : length (map v xs) ≡ length rs = ap length e in
+      let m : length (map v xs) ≡ length xs = length-map xs v in omega arith
 
   -- r is what an index reads at the place found
-  pub found_region : (xs : List A) (k : ℕ) (r : A) → HoldsAt xs k → r ≡ get_or xs k r → (is_some (region_cell (v r) x) ≡ true) × (region_cell (v r) x ≡ get (map v xs) x) × ((c : C) (s : A) → v s ≡ region_with (v r) x c → map v (slice_set xs k s) ≡ put (map v xs) x c)
-  found_region xs k r h e =
-      let f : h.region ≡ r = sym (e ∙ get_or_from_slice_get xs k h.region r h.at) in
-      subst (λ (q : A). (is_some (region_cell (v q) x) ≡ true) × (region_cell (v q) x ≡ get (map v xs) x) × ((c : C) (s : A) → v s ≡ region_with (v q) x c → map v (slice_set xs k s) ≡ put (map v xs) x c)) f (h.there, sym h.got, h.written)
+  pub found_region : (xs : List A) (rs : List (Region C)) (k : ℕ) (r : A) → map v xs ≡ rs → HoldsAt x rs k → r ≡ get_or xs k r → (is_some (region_cell (v r) x) ≡ true) × (region_cell (v r) x ≡ get rs x) × ((c : C) (s : A) → v s ≡ region_with (v r) x c → map v (slice_set xs k s) ≡ put rs x c)
+  found_region xs rs k r s h e =
+      let at : slice_get rs k ≡ Some (v r) = ap (λ qs. slice_get qs k) (sym s) ∙ element xs k r (within xs rs k s h) e in
+      let both : Some h.region ≡ Some (v r) = sym h.at ∙ at in
+      let f : h.region ≡ v r = cc in
+      let written : (c : C) (t : A) → v t ≡ region_with (v r) x c → map v (slice_set xs k t) ≡ put rs x c = λ c t w.
+      map-set v xs k t
+      ∙ (ap (λ qs. slice_set qs k (v t)) s
+      ∙ (ap (slice_set rs k) (w ∙ ap (λ q. region_with q x c) (sym f)) ∙ h.written c)) in
+      (ap (λ q. is_some (region_cell q x)) (sym f) ∙ h.there, ap (λ q. region_cell q x) (sym f) ∙ sym h.got, written)

@@ -28,7 +28,7 @@ apart a x y h k = tell (nat_eq y x) refl
     tell false e = let f : y ≡ x → ⊥ = eqb-false y x e in ne_eqb (y - a) (x - a) (λ g. f (omega arith))
 
 -- where the region has a cell the address isn't before its start
-cell_within : {C : Type 0} (r : Region C) (x : ℕ) → IsSome (region_cell r x) → r.start ≤ x
+pub cell_within : {C : Type 0} (r : Region C) (x : ℕ) → IsSome (region_cell r x) → r.start ≤ x
 cell_within r x h = tell (nat_le r.start x) refl h
   where
     tell : (b : Bool) → nat_le r.start x ≡ b → IsSome (if b then slice_get r.cells (x - r.start) else None) → r.start ≤ x
@@ -36,7 +36,7 @@ cell_within r x h = tell (nat_le r.start x) refl h
     tell false e g = absurd (cc)
 
 -- a region after a write
-region_written : {C : Type 0} (r : Region C) (x y : ℕ) (c : C) → IsSome (region_cell r x) → region_cell (region_with r x c) y ≡ with_cell (region_cell r) x c y
+pub region_written : {C : Type 0} (r : Region C) (x y : ℕ) (c : C) → IsSome (region_cell r x) → region_cell (region_with r x c) y ≡ with_cell (region_cell r) x c y
 region_written r x y c h = tell (nat_le r.start y) refl
   where
     nothing : {C : Type 0} (b : Bool) (c : C) → None ≡ (if b then replaced None c else None)

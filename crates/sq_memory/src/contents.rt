@@ -1,8 +1,9 @@
 // Memory that a run reads and writes.
 
-ghost use Rattle.std.specs.Prelude.{◌≡◌, position, is_some};
-ghost use Rattle.sq_memory.specs.Regions.{region_cell};
-ghost use Rattle.sq_memory.specs.Contents.{region_of};
+ghost use Rattle.std.specs.Prelude.{◌≡◌, ◌↔◌, IsTrue, position, is_some};
+ghost use Rattle.std.specs.List.{list_any};
+ghost use Rattle.sq_memory.specs.Regions.{region_cell, meet, AreApart};
+ghost use Rattle.sq_memory.specs.Contents.{region_of, regions_of};
 
 use std::alloc::{AllocError, Global};
 use std::marker::Model;
@@ -15,8 +16,8 @@ pub struct Region<C> {
 }
 
 impl<C: Copy> Region<C> {
-    ghost use Rattle.std.specs.Prelude.{◌≡◌, IsSome};
-    ghost use Rattle.sq_memory.specs.Regions.{region_cell, region_with};
+    ghost use Rattle.std.specs.Prelude.{◌≡◌, IsSome, is_some};
+    ghost use Rattle.sq_memory.specs.Regions.{region_cell, both_have, meet, region_with};
     ghost use Rattle.sq_memory.specs.Contents.{region_of};
 
     pub fn new(start: u32, cells: Vec<C>) -> Region<C>
@@ -34,6 +35,26 @@ impl<C: Copy> Region<C> {
         self.cells.get((address - self.start) as usize).copied()
     }
 
+    /// Whether a cell stands at an address.
+    fn has(&self, address: u32) -> bool
+        ensures { result ≡ is_some (region_cell (region_of self.now) address) }
+    {
+        self.cell(address).is_some()
+    }
+
+    fn both_have(&self, other: &Region<C>, address: u32) -> bool
+        ensures { result ≡ both_have (region_of self.now) (region_of other.now) address }
+    {
+        self.has(address) && other.has(address)
+    }
+
+    /// Whether both have a cell at one address.
+    fn meets(&self, other: &Region<C>) -> bool
+        ensures { result ≡ meet (region_of self.now) (region_of other.now) }
+    {
+        self.both_have(other, self.start) || self.both_have(other, other.start)
+    }
+
     fn set(&mut self, address: u32, cell: C)
         requires { IsSome (region_cell (region_of self.old) address) }
         ensures { region_of self.new ≡ region_with (region_of self.old) address cell }
@@ -46,44 +67,85 @@ impl<C: Copy> Region<C> {
 fn place<C: Copy>(regions: &[Region<C>], address: u32) -> Option<usize>
     ensures { result ≡ position (λ r. is_some (region_cell (region_of r) address)) regions.now }
 {
-    regions
-        .iter()
-        .position(|region| region.cell(address).is_some())
+    regions.iter().position(|region| region.has(address))
+}
+
+fn meets_any<C: Copy>(region: &Region<C>, others: &[Region<C>]) -> bool
+    ensures { result ≡ list_any (λ other. meet (region_of region.now) (region_of other)) others.now }
+{
+    others.iter().any(|other| region.meets(other))
+}
+
+// Whether no two regions have a cell at one address.
+fn are_apart<C: Copy>(regions: &[Region<C>]) -> bool
+    ensures { IsTrue result ↔ AreApart (regions_of regions.now) }
+{
+    for (i, region) in regions.iter().enumerate() {
+        if meets_any(region, &regions[i + 1..]) {
+            return false;
+        }
+    }
+    true
 }
 
 /// Cells at addresses. The first region that has one at an address holds it.
 #[derive(Drop)]
 pub struct Contents<C> {
     regions: Vec<Region<C>>,
+    /// Whether no two regions have a cell at one address.
+    apart: bool,
+    /// The place of the region that served last. It only saves time.
+    last: usize,
 }
 
 impl<C> Model for Contents<C> {
-    ghost use Rattle.std.specs.Prelude.{List};
-    ghost use Rattle.sq_memory.specs.Regions.{Region as Cells};
+    ghost use Rattle.std.specs.Prelude.{List, IsTrue, ◌↔◌};
+    ghost use Rattle.sq_memory.specs.Regions.{Region as Cells, AreApart};
     ghost use Rattle.sq_memory.specs.Contents.{regions_of};
 
     ghost Value = { List (Cells C) };
 
     ghost view = { λ m. regions_of m.regions.items };
+
+    ghost invariant = { λ m. IsTrue m.apart ↔ AreApart (regions_of m.regions.items) };
 }
 
 impl<C: Copy> Contents<C> {
-    ghost use Rattle.std.specs.Prelude.{◌≡◌, ◌+◌, ◌≤◌, ◌^◌, length, option_map, IfOk};
+    ghost use Rattle.std.specs.Prelude.{◌≡◌, ◌+◌, ◌≤◌, ◌^◌, length, is_some, position, option_map, IfOk};
     ghost use Rattle.sq_memory.specs.Cells.{cells_from};
-    ghost use Rattle.sq_memory.specs.Regions.{get, put, put_all};
+    ghost use Rattle.sq_memory.specs.Regions.{region_cell, get, put, put_all};
     ghost use Rattle.sq_memory.specs.Contents.{regions_of};
 
     pub fn new(regions: Vec<Region<C>>) -> Contents<C>
         ensures { result ≡ regions_of regions.items }
     {
-        Contents { regions }
+        let apart = are_apart(&regions);
+        Contents {
+            regions,
+            apart,
+            last: 0,
+        }
+    }
+
+    // The first region that has a cell at an address. Where none meet, the one that served last is asked first.
+    fn place_of(&mut self, address: u32) -> Option<usize>
+        ensures value { result ≡ position (λ r. is_some (region_cell r address)) self.old }
+        ensures kept { self.new ≡ self.old }
+    {
+        if self.apart && self.last < self.regions.len() && self.regions[self.last].has(address) {
+            return Some(self.last);
+        }
+        let place = place(&self.regions, address)?;
+        self.last = place;
+        Some(place)
     }
 
     /// The cell at an address.
-    pub fn get(&self, address: u32) -> Option<C>
-        ensures { result ≡ get self.now address }
+    pub fn get(&mut self, address: u32) -> Option<C>
+        ensures value { result ≡ get self.old address }
+        ensures kept { self.new ≡ self.old }
     {
-        let place = place(&self.regions, address)?;
+        let place = self.place_of(address)?;
         self.regions[place].cell(address)
     }
 
@@ -91,7 +153,7 @@ impl<C: Copy> Contents<C> {
     pub fn put(&mut self, address: u32, cell: C)
         ensures { self.new ≡ put self.old address cell }
     {
-        if let Some(place) = place(&self.regions, address) {
+        if let Some(place) = self.place_of(address) {
             self.regions[place].set(address, cell);
         }
     }
@@ -108,13 +170,14 @@ impl<C: Copy> Contents<C> {
 
     /// The cells from an address on, where all of them are there.
     pub fn get_all(
-        &self,
+        &mut self,
         alloc: Global,
         address: u32,
         count: u32,
     ) -> Result<Option<Vec<C>>, AllocError>
         requires { address + count ≤ 2 ^ 32 }
-        ensures { IfOk result (λ found. option_map (λ cells. cells.items) found ≡ cells_from (get self.now) address count) }
+        ensures value { IfOk result (λ found. option_map (λ cells. cells.items) found ≡ cells_from (get self.old) address count) }
+        ensures kept { self.new ≡ self.old }
     {
         let mut cells = Vec::new(alloc);
         for i in 0..count {
@@ -149,6 +212,34 @@ mod tests {
         assert!(rt;
             cells.is_some_and(|cells| cells.as_slice() == [0, 0, 9, 7, 8, 0, 0, 0].as_slice())
         );
+        Ok(())
+    }
+
+    // Two regions that touch stand apart, so the one that served last is asked first.
+    #[test]
+    fn the_region_that_served_last_serves_again(rt: HostRuntime) -> Result<(), Fail> {
+        let alloc = rt.alloc();
+        let low = Region::new(4, vec![in alloc; 1u8, 2]?);
+        let high = Region::new(6, vec![in alloc; 3u8, 4]?);
+        let mut memory = Contents::new(vec![in alloc; low, high]?);
+        assert_eq!(rt; memory.get(6), Some(3));
+        memory.put(7, 9);
+        assert_eq!(rt; memory.get(7), Some(9));
+        assert_eq!(rt; memory.get(5), Some(2));
+        assert_eq!(rt; memory.get(4), Some(1));
+        assert_eq!(rt; memory.get(8), None);
+        Ok(())
+    }
+
+    // A region that served last has a cell here too, but the first one wins.
+    #[test]
+    fn where_regions_meet_the_first_serves(rt: HostRuntime) -> Result<(), Fail> {
+        let alloc = rt.alloc();
+        let front = Region::new(7, vec![in alloc; 1u8, 2]?);
+        let behind = Region::new(4, vec![in alloc; 0u8; 4]?);
+        let mut memory = Contents::new(vec![in alloc; front, behind]?);
+        assert_eq!(rt; memory.get(6), Some(0));
+        assert_eq!(rt; memory.get(7), Some(1));
         Ok(())
     }
 
