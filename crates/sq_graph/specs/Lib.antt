@@ -5,6 +5,7 @@ pub mod Uses
 pub mod Rules
 pub mod Room
 pub mod Renames
+pub mod Alike
 pub mod Operations
 pub mod Words
 pub mod Leaders

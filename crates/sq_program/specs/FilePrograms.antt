@@ -19,7 +19,7 @@ use Rattle.sq_program.specs.Notes.{used_notes, bad_note}
 use Rattle.sq_program.specs.NoteSections.{notes_of}
 use Rattle.sq_program.specs.Faults.{text_refusal}
 use Rattle.sq_program.specs.Lifted.{procedure_at, lifted}
-use Rattle.sq_program.specs.Alike.{AreAlike}
+use Rattle.sq_graph.specs.Alike.{AreAlike}
 
 -- a word of an accepted file's text, which is always there
 abbrev pub file_word : List ℕ → ℕ → Word
@@ -94,3 +94,15 @@ pub record IsAccepted (bytes : List ℕ) (is : ℕ → Bool) (p : Program) : Typ
 pub record IsLiftedFrom (bytes : List ℕ) (is : ℕ → Bool) (p : Program) (g : Graph) : Type 0 where
   pub accepted : IsAccepted bytes is p
   pub alike : AreAlike (lifted is p) g
+
+-- THE refusal of a file: by what is asked before its relocations, by these, or by its text and its note
+pub data IsRefusalOf (bytes : List ℕ) : Refusal → Type 0 where
+  by_file : {refusal : Refusal} → file_refusal_of bytes ≡ Some refusal → IsRefusalOf bytes refusal
+  by_relocs : {refusal : Refusal} → file_refusal_of bytes ≡ None → reloc_refusal_of bytes ≡ Some refusal → IsRefusalOf bytes refusal
+  by_lift : {is : ℕ → Bool} {p : Program} {refusal : Refusal} → IsLiftRefusal bytes is p refusal → IsRefusalOf bytes refusal
+
+-- nothing of the file is refused: this is its program, and this the test of its reached words
+pub record IsAcceptedFile (bytes : List ℕ) : Type 0 where
+  pub reached : ℕ → Bool
+  pub program : Program
+  pub accepted : IsAccepted bytes reached program

@@ -5,7 +5,6 @@ pub mod Notes
 pub mod NoteSections
 pub mod Faults
 pub mod Lifted
-pub mod Alike
 pub mod FilePrograms
 pub mod Monitored
 pub mod FileRuns

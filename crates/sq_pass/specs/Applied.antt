@@ -1,0 +1,25 @@
+-- What becomes of a graph when a candidate is applied to it.
+use Rattle.std.specs.Prelude.{◌≡◌, ℕ, ◌+◌, ◌≤◌}
+use Rattle.sq_graph.specs.declared.parts.Room.{Room}
+use Rattle.sq_graph.specs.Graph.{Graph}
+use Rattle.sq_graph.specs.Words.{words_of}
+use Rattle.sq_graph.specs.Places.{IsInReach}
+use Rattle.sq_graph.specs.Soundness.{IsSound}
+use Rattle.sq_graph.specs.Canonical.{canonical_of}
+use Rattle.sq_graph.specs.Alike.{AreAlike}
+use Rattle.sq_follow.specs.Follows.{Follows}
+
+-- The new graph follows the old one, is sound and in reach where that was, has fewer words by the saving, and is,
+-- made canonical and but for the names of blocks, the graph that the row describes, made canonical.
+pub record IsApplied (saving : ℕ) (described old new : Graph) : Type 0 where
+  pub follows : Follows old new
+  pub sound : IsSound old → IsSound new
+  pub reach : IsInReach old → IsInReach new
+  pub words : words_of new + saving ≡ words_of old
+  pub described : AreAlike (canonical_of described) (canonical_of new)
+
+-- each number is at most this
+pub record IsWithin (limit : ℕ) (room : Room) : Type 0 where
+  pub blocks : room.blocks ≤ limit
+  pub items : room.items ≤ limit
+  pub procedures : room.procedures ≤ limit
