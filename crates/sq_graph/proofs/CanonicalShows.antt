@@ -30,7 +30,7 @@ use Rattle.sq_graph.proofs.Held.{Shows, shows, limited}
 use Rattle.sq_graph.proofs.Changes.{distinct_slots}
 use Rattle.sq_graph.proofs.MapWrites.{bodies_from-mapped, items_of_bodies-mapped}
 use Rattle.sq_graph.proofs.BlockRemoval.{length-renumbered}
-use Rattle.sq_graph.proofs.MoveShows.{renumbered_from_first}
+use Rattle.sq_graph.proofs.Numbering.{renumbered_from_first}
 use Rattle.sq_graph.proofs.Marks.{marked_more}
 use Rattle.sq_graph.proofs.SlotPasses.{start_of-retargeted, contains-retargeted}
 use Rattle.sq_graph.proofs.BlockPasses.{starts_passed, keys-aimed, keys-retargeted, slot_uses-aimed, marked_blocks, full_slots-blocks, keys-marked_blocks, marked-blocks, slot_uses-marked, slot_uses-blocks, length_of_slots-blocks, renumbered-blocks, joined_slots-blocks, used_joins}

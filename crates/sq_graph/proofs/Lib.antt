@@ -28,6 +28,9 @@ pub mod PartLoops
 pub mod RetargetRules
 pub mod FromParts
 pub mod BlockMoves
+pub mod Numbering
+pub mod Exchanged
+pub mod RunMoves
 pub mod MoveShows
 pub mod LinkReads
 pub mod Bypassing

@@ -1,12 +1,12 @@
 -- What the fields show after a run of blocks moves.
-use Rattle.std.proofs.Common.{◌≡◌, ℕ, ◌+◌, ◌≤◌, ◌<◌, ◌==◌, nat_le, true, List, [], ◌∷◌, ◌++◌, map, length, vec_capacity, Vec, Global, Option, None, Some, IsSome, is_some, refl, sym, ap, ◌∙◌, subst, ◌⊎◌, inl, inr, arith, length-append, append_assoc}
-use Rattle.std.proofs.lemmas.Bool.{cases_Bool, eq-eqb, le-leb}
+use Rattle.std.proofs.Common.{◌≡◌, ℕ, ◌+◌, ◌≤◌, ◌<◌, ◌^◌, nat_le, true, List, [], ◌∷◌, ◌++◌, map, length, vec_capacity, Vec, Global, None, IsSome, refl, sym, ap, ◌∙◌, inl, inr, arith, length-append, append_assoc}
+use Rattle.std.proofs.lemmas.Bool.{le-leb}
 use Rattle.std.proofs.lemmas.List.{append-nil, nil_from_length}
 use Rattle.std.proofs.lemmas.Bool.Decides.{leb_tells}
 use Rattle.sq_arena.specs.Arena.{Arena as Listed}
-use Rattle.sq_arena.specs.Entries.{HasDistinctKeys, value_of, ContainsKey, before, through, starting_at, behind, run, without_run, IsRun, move_run_after, first_key}
-use Rattle.sq_arena.proofs.EntriesLemmas.{shape_of, through-behind, through-before, split_at as split_at_key, some_value}
-use Rattle.sq_arena.proofs.EntriesLaws.{absent_ahead, before-append, value_of-append, or_value}
+use Rattle.sq_arena.specs.Entries.{HasDistinctKeys, value_of, ContainsKey, before, through, starting_at, behind, run, without_run, IsRun, move_run_after}
+use Rattle.sq_arena.proofs.EntriesLemmas.{shape_of, through-behind, through-before}
+use Rattle.sq_arena.proofs.EntriesLaws.{before-append}
 use Rattle.sq_graph.specs.declared.item.Item.{Item}
 use Rattle.sq_graph.specs.declared.slot.Slot.{Slot}
 use Rattle.sq_graph.specs.declared.graph.Graph.TheInside.{Inside}
@@ -15,17 +15,18 @@ use Rattle.sq_graph.specs.Blocks.{named, items_of_blocks, items_of_bodies}
 use Rattle.sq_graph.specs.Rules.{IsGraph}
 use Rattle.sq_graph.specs.Operations.{moved_after}
 use Rattle.sq_graph.specs.Slots.{slots_from}
-use Rattle.sq_graph.specs.Cursor.{ahead_of, rest_from, renumbered, length_of_slots}
+use Rattle.sq_graph.specs.Cursor.{renumbered, length_of_slots}
+use Rattle.sq_graph.specs.Numbered.{IsNumbered}
 use Rattle.sq_graph.specs.Pieces.{exchanged, moved_piece}
 use Rattle.sq_graph.specs.Layout.{graph_of, IsSound}
-use Rattle.sq_graph.proofs.CursorLaws.{from_first}
-use Rattle.sq_graph.proofs.SplitRules.{some_right}
 use Rattle.sq_graph.proofs.Located.{named-append}
 use Rattle.sq_graph.proofs.SlotReads.{block_at}
+use Rattle.sq_graph.proofs.Sizes.{sizes}
 use Rattle.sq_graph.proofs.Held.{Shows, shows, limited}
-use Rattle.sq_graph.proofs.ItemWrites.{Placed}
+use Rattle.sq_graph.proofs.ItemWrites.{Placed, renumbered-slots, length_of_slots-slots}
 use Rattle.sq_graph.proofs.BlockRemoval.{length-renumbered}
-use Rattle.sq_graph.proofs.BlockMoves.{like_slots, like_run, like_moved, like_numbered, like_length, pair_items, pair_items-append, pair_items-is, pair_items-named, through-in, behind-in, through-out, behind-out, exchanged_pieces}
+use Rattle.sq_graph.proofs.BlockMoves.{like_slots, like_run, like_moved, like_numbered, pair_items, pair_items-append, pair_items-is, pair_items-named, through-in, behind-in, through-out, behind-out, exchanged_pieces}
+use Rattle.sq_graph.proofs.RunMoves.{upto_last, behind_run, some_or_none}
 
 -- where a block ends: behind the items of all blocks up to it
 pub record Ends (inside : Inside) (name : ℕ) (slot : Slot) : Type 0 where
@@ -115,13 +116,7 @@ moves_ahead ps first last after rest distinct is_run there none upto =
     let C = behind (starting_at ps first) last in
     let C1 = through (behind (starting_at ps first) last) after in
     let C2 = behind (behind (starting_at ps first) last) after in
-    let in_c : IsSome (value_of C after) = none_then (value_of A after) (value_of C after) none (ap is_some (sym (value_of-append A C after)) ∙ there) in
-    let value = some_value (value_of C after) in_c in
-    let parts : C ≡ before C after ++ (after, value.0) ∷ behind C after = split_at_key C after value.0 value.1 in
-    let whole : ps ≡ ((A ++ R) ++ before C after) ++ (after, value.0) ∷ behind C after =
-    shape.whole ∙ sym (append_assoc A R C) ∙ ap (λ xs. (A ++ R) ++ xs) parts ∙ sym (append_assoc (A ++ R) (before C after) ((after, value.0) ∷ behind C after)) in
-    let apart : value_of ((A ++ R) ++ before C after) after ≡ None = absent_ahead ((A ++ R) ++ before C after) (behind C after) after value.0 (subst (λ (xs : List (ℕ × Block)). HasDistinctKeys xs) whole distinct) in
-    let not_ahead : value_of (A ++ R) after ≡ None = or_none (value_of (A ++ R) after) (value_of (before C after) after) (sym (value_of-append (A ++ R) (before C after) after) ∙ apart) in
+    let not_ahead : value_of (A ++ R) after ≡ None = (behind_run ps first last after distinct is_run there none).not_ahead in
     let c : pair_items C1 ++ pair_items C2 ≡ pair_items C = sym (pair_items-append C1 C2) ∙ ap pair_items (through-behind C after) in
     let place : through ps after ≡ (A ++ R) ++ C1 = ap (λ xs. through xs after) (shape.whole ∙ sym (append_assoc A R C)) ∙ through-out (A ++ R) C after not_ahead in
     let ar : length (pair_items (through ps last)) ≡ length (pair_items A) + length (pair_items R) =
@@ -172,27 +167,6 @@ moves_ahead ps first last after rest distinct is_run there none upto =
             ∙ sym same)
       ];
     }
-  where
-    none_then : {T : Type 0} (a b : Option T) → a ≡ None → IsSome (or_value a b) → IsSome b
-    none_then None b none some = some
-    none_then (Some x) b none some = absurd (cc)
-
-    or_none : {T : Type 0} (a b : Option T) → or_value a b ≡ None → a ≡ None
-    or_none None b none = refl
-    or_none (Some x) b none = absurd (cc)
-
--- up to the last key of a run stand what is ahead of it and the run
-upto_last : (ps : List (ℕ × Block)) (first last : ℕ) → HasDistinctKeys ps → IsRun ps first last → through ps last ≡ before ps first ++ run ps first last
-upto_last ps first last distinct is_run =
-    let shape = shape_of ps first last is_run in
-    let A = before ps first in
-    let C = behind (starting_at ps first) last in
-    let whole : ps ≡ (A ++ shape.lead) ++ (last, shape.last_value) ∷ C =
-    shape.whole ∙ ap (λ xs. A ++ (xs ++ C)) shape.ends ∙ ap (λ xs. A ++ xs) (append_assoc shape.lead ((last, shape.last_value) ∷ []) C) ∙ sym (append_assoc A shape.lead ((last, shape.last_value) ∷ C)) in
-    let apart = absent_ahead (A ++ shape.lead) C last shape.last_value (subst (λ (xs : List (ℕ × Block)). HasDistinctKeys xs) whole distinct) in
-    let one : through ((last, shape.last_value) ∷ C) last ≡ (last, shape.last_value) ∷ [] = rw (eq-eqb last last refl) refl in
-    ap (λ xs. through xs last) whole ∙ through-out (A ++ shape.lead) ((last, shape.last_value) ∷ C) last apart ∙ ap (λ xs. (A ++ shape.lead) ++ xs) one
-    ∙ append_assoc A shape.lead ((last, shape.last_value) ∷ []) ∙ ap (λ xs. A ++ xs) (sym shape.ends)
 
 pub moves : (ps : List (ℕ × Block)) (first last after : ℕ) (rest : List Item) → HasDistinctKeys ps → IsRun ps first last → ContainsKey (without_run ps first last) after → Moves ps first last after rest
 moves ps first last after rest distinct is_run there =
@@ -200,10 +174,6 @@ moves ps first last after rest distinct is_run there =
       | inl some ↦ moves_behind ps first last after rest distinct is_run there some (upto_last ps first last distinct is_run)
       | inr none ↦ moves_ahead ps first last after rest distinct is_run there none (upto_last ps first last distinct is_run)
     ]
-  where
-    some_or_none : {T : Type 0} (o : Option T) → (IsSome o) ⊎ (o ≡ None)
-    some_or_none None = inr refl
-    some_or_none (Some x) = inl refl
 
 length_moved : (es : List (ℕ × Slot)) (first last after : ℕ) → IsRun es first last → length (move_run_after es first last after) ≡ length es
 length_moved es first last after is_run =
@@ -264,69 +234,13 @@ move_shows old first last after start end place slots items sound is_run there s
     })
     (record { blocks = omega (arith, limits.blocks, spare, many, ap (λ es. length es) entries, length-renumbered 0 (move_run_after old.slots.entries first last after)); item_room = limits.item_room; body_room = limits.body_room })
 
--- the last key of a run is there, and so is a key outside of it
-pub last_there : (ps : List (ℕ × Block)) (first last : ℕ) → IsRun ps first last → ContainsKey ps last
-last_there ps first last is_run =
-    let whole : before ps first ++ starting_at ps first ≡ ps = front_and_rest ps first in
-    subst (λ (xs : List (ℕ × Block)). ContainsKey xs last) whole (ap is_some (value_of-append (before ps first) (starting_at ps first) last) ∙ some_right (value_of (before ps first) last) (value_of (starting_at ps first) last) is_run.ends)
-  where
-    front_and_rest : (xs : List (ℕ × Block)) (k : ℕ) → before xs k ++ starting_at xs k ≡ xs
-    front_and_rest [] k = refl
-    front_and_rest (x ∷ xs) k = elim (cases_Bool (x.0 == k)) [ inl here ↦ rw here refl | inr apart ↦ rw apart (ap (λ ys. x ∷ ys) (front_and_rest xs k)) ]
+-- the slots have their starts, and as many items as the vector at most
+pub slots_numbered : (old : Inside) → IsSound old → IsNumbered 0 old.slots.entries
+slots_numbered old sound =
+    ap (renumbered 0) sound.holds.slots ∙ renumbered-slots 0 0 (graph_of old).blocks ∙ sym sound.holds.slots
 
-pub after_there : (ps : List (ℕ × Block)) (first last after : ℕ) → IsRun ps first last → ContainsKey (without_run ps first last) after → ContainsKey ps after
-after_there ps first last after is_run there =
-    let shape = shape_of ps first last is_run in
-    let A = before ps first in
-    let R = run ps first last in
-    let C = behind (starting_at ps first) last in
-    subst (λ (xs : List (ℕ × Block)). ContainsKey xs after) (sym shape.whole)
-    (ap is_some (value_of-append A (R ++ C) after ∙ ap (or_value (value_of A after)) (value_of-append R C after))
-    ∙ still (value_of A after) (value_of R after) (value_of C after) (ap is_some (sym (value_of-append A C after)) ∙ there))
-  where
-    still : {T : Type 0} (a b c : Option T) → IsSome (or_value a c) → IsSome (or_value a (or_value b c))
-    still (Some x) b c some = refl
-    still None (Some y) c some = refl
-    still None None c some = some
-
-pub renumbered_from_first : (es : List (ℕ × Slot)) (head : Option ℕ) → head ≡ first_key es → ahead_of es head ++ renumbered 0 (rest_from es head) ≡ renumbered 0 es
-renumbered_from_first es head is =
-    ap (λ k. ahead_of es k ++ renumbered 0 (rest_from es k)) is
-    ∙ ap (λ xs. xs ++ renumbered 0 (rest_from es (first_key es))) (from_first es).1.0
-    ∙ ap (renumbered 0) (from_first es).1.1
-
--- the slots have as many items after the move as the vector at most
-pub moved_length : (old : Inside) (first last after : ℕ) (es : List (ℕ × Slot)) (head : Option ℕ) → IsSound old → IsRun (named (graph_of old).blocks) first last → ContainsKey (without_run (named (graph_of old).blocks) first last) after → es ≡ move_run_after old.slots.entries first last after → head ≡ first_key es → length_of_slots (rest_from es head) ≤ length old.items.items
-moved_length old first last after es head sound is_run there is head_is =
+pub slots_fit : (old : Inside) → IsSound old → length_of_slots old.slots.entries < 2 ^ 32
+slots_fit old sound =
     let g = graph_of old in
-    let qs = move_run_after (named g.blocks) first last after in
-    let like = like_moved first last after (slots_from 0 g.blocks) (named g.blocks) (like_slots 0 g.blocks) in
-    let long : length_of_slots (rest_from es head) ≡ length (pair_items qs) =
-    ap (λ k. length_of_slots (rest_from es k)) head_is ∙ ap length_of_slots (from_first es).1.1 ∙ ap length_of_slots (is ∙ ap (λ xs. move_run_after xs first last after) sound.holds.slots)
-    ∙ like_length (move_run_after (slots_from 0 g.blocks) first last after) qs like in
-    omega (arith, long, moved_items (named g.blocks) first last after is_run, ap (λ xs. length xs) (pair_items-named g.blocks), ap (λ xs. length xs) sound.holds.items, length-append (items_of_blocks g.blocks) (items_of_bodies g.procedures))
-  where
-    moved_items : (ps : List (ℕ × Block)) (first last after : ℕ) → IsRun ps first last → length (pair_items (move_run_after ps first last after)) ≡ length (pair_items ps)
-    moved_items ps first last after is_run =
-        let A = before ps first in
-        let R = run ps first last in
-        let C = behind (starting_at ps first) last in
-        let T = through (A ++ C) after in
-        let B = behind (A ++ C) after in
-        omega (
-          arith,
-          ap (λ xs. length (pair_items xs)) (shape_of ps first last is_run).whole,
-          ap (λ xs. length xs) (pair_items-append A (R ++ C)),
-          length-append (pair_items A) (pair_items (R ++ C)),
-          ap (λ xs. length xs) (pair_items-append R C),
-          length-append (pair_items R) (pair_items C),
-          ap (λ xs. length xs) (pair_items-append T (R ++ B)),
-          length-append (pair_items T) (pair_items (R ++ B)),
-          ap (λ xs. length xs) (pair_items-append R B),
-          length-append (pair_items R) (pair_items B),
-          ap (λ xs. length (pair_items xs)) (through-behind (A ++ C) after),
-          ap (λ xs. length xs) (pair_items-append T B),
-          length-append (pair_items T) (pair_items B),
-          ap (λ xs. length xs) (pair_items-append A C),
-          length-append (pair_items A) (pair_items C),
-        )
+    let size = sizes old sound in
+    omega (arith, ap length_of_slots sound.holds.slots, length_of_slots-slots 0 g.blocks, ap (λ xs. length xs) sound.holds.items, length-append (items_of_blocks g.blocks) (items_of_bodies g.procedures), size.items, size.item_room)

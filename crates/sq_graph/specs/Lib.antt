@@ -16,6 +16,7 @@ pub mod Parts
 pub mod Slots
 pub mod Layout
 pub mod Cursor
+pub mod Numbered
 pub mod CanonicalSlots
 pub mod PartSlots
 pub mod Pieces

@@ -1,7 +1,6 @@
 -- Soundness of a graph: what makes its procedures fit to be called through their links.
 use Rattle.std.specs.Prelude.{◌≡◌, ◌≢◌, ℕ, false, List, [], ◌∷◌, Some, All, slice_get}
 use Rattle.sq_isa.specs.Uses.{is_mentioned}
-use Rattle.sq_graph.specs.declared.item.Item.TheVariants.{Out}
 use Rattle.sq_graph.specs.Graph.{Procedure, Graph}
 use Rattle.sq_graph.specs.Lines.{Line, Name, Do, Enter, Return, End, lines_of, line_of}
 use Rattle.sq_graph.specs.Walks.{IsLive}

@@ -12,6 +12,7 @@ mod canonical;
 mod edits;
 mod graph;
 mod item;
+pub mod laws;
 mod moves;
 mod parts;
 mod pieces;

@@ -24,8 +24,6 @@ impl Graph {
         let end = last_slot.start + last_slot.length;
         let place = after_slot.start + after_slot.length;
         pieces::move_piece(&mut self.items, first_slot.start, end, place);
-        self.slots.move_range_after(first, last, after);
-        let head = self.slots.first();
-        slots::renumber(&mut self.slots, head, 0);
+        slots::move_run(&mut self.slots, first, last, after);
     }
 }

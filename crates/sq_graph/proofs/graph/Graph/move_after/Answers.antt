@@ -1,13 +1,14 @@
 use Rattle.std.proofs.Common.{◌∙◌, ◌-◌, ◌<◌, ap, sym, refl, arith}
 use Rattle.sq_graph.specs.Blocks.{named, items_of_bodies}
 use Rattle.sq_graph.specs.Operations.{moved_after}
-use Rattle.sq_graph.specs.Cursor.{renumbered}
 use Rattle.sq_graph.specs.Layout.{graph_of}
+use Rattle.sq_graph.proofs.Changes.{distinct_slots}
 use Rattle.sq_graph.proofs.SlotReads.{has_slot}
 use Rattle.sq_graph.proofs.Sizes.{same_room}
 use Rattle.sq_graph.proofs.ItemWrites.{placed}
 use Rattle.sq_graph.proofs.BlockMoves.{like_slots, like_run, like_outside}
-use Rattle.sq_graph.proofs.MoveShows.{ends_at, moves, last_there, after_there, renumbered_from_first, moved_length, move_shows}
+use Rattle.sq_graph.proofs.RunMoves.{last_there, after_there}
+use Rattle.sq_graph.proofs.MoveShows.{ends_at, moves, slots_numbered, slots_fit, move_shows}
 use Rattle.sq_graph.proofs.graph.Graph.move_after.Goals as goal
 
 pub slot-first_slot-requires : goal.slot-first_slot-requires
@@ -75,18 +76,22 @@ move_piece-requires-clause-place c =
     let m = moves (named (graph_of c.self.inside).blocks) c.args.first c.args.last c.args.after (items_of_bodies (graph_of c.self.inside).procedures) c.self.invariant.rules.distinct (rw (← c.self.view_is) at c.requires.run) (rw (← c.self.view_is) at c.requires.after) in
     omega (arith, pa.size, c.self.inside.items.ok.0)
 
-pub move_range_after-requires-clause-run : goal.move_range_after-requires-clause-run
-move_range_after-requires-clause-run c =
+pub move_run-requires-clause-run : goal.move_run-requires-clause-run
+move_run-requires-clause-run c =
     rw c.self.invariant.holds.slots (like_run c.args.first c.args.last _ (named (graph_of c.self.inside).blocks) (like_slots 0 (graph_of c.self.inside).blocks) (rw (← c.self.view_is) at c.requires.run))
 
-pub move_range_after-requires-clause-after : goal.move_range_after-requires-clause-after
-move_range_after-requires-clause-after c =
+pub move_run-requires-clause-after : goal.move_run-requires-clause-after
+move_run-requires-clause-after c =
     rw c.self.invariant.holds.slots (like_outside c.args.first c.args.last c.args.after _ (named (graph_of c.self.inside).blocks) (like_slots 0 (graph_of c.self.inside).blocks) (rw (← c.self.view_is) at c.requires.after))
 
-pub renumber-requires-clause-fits : goal.renumber-requires-clause-fits
-renumber-requires-clause-fits c =
-    let p = placed c.self.inside c.args.first c.slot-first_slot.result c.self.invariant (let r = rw (← c.self.view_is) at c.requires.run in r.starts) c.slot-first_slot.ensures in
-    omega (arith, moved_length c.self.inside c.args.first c.args.last c.args.after c.move_range_after.new.self.entries _ c.self.invariant (rw (← c.self.view_is) at c.requires.run) (rw (← c.self.view_is) at c.requires.after) c.move_range_after.ensures.entries c.first-head.ensures, p.sizes.items, p.sizes.item_room)
+pub move_run-requires-clause-distinct : goal.move_run-requires-clause-distinct
+move_run-requires-clause-distinct c = distinct_slots c.self.inside c.self.invariant
+
+pub move_run-requires-clause-numbered : goal.move_run-requires-clause-numbered
+move_run-requires-clause-numbered c = slots_numbered c.self.inside c.self.invariant
+
+pub move_run-requires-clause-fits : goal.move_run-requires-clause-fits
+move_run-requires-clause-fits c = slots_fit c.self.inside c.self.invariant
 
 pub invariant_of-self : goal.invariant_of-self
 invariant_of-self c =
@@ -97,7 +102,7 @@ invariant_of-self c =
     let el = ends_at c.self.inside c.args.last c.slot-last_slot.result pl in
     let ea = ends_at c.self.inside c.args.after c.slot-after_slot.result pa in
     let m = moves (named (graph_of c.self.inside).blocks) c.args.first c.args.last c.args.after (items_of_bodies (graph_of c.self.inside).procedures) c.self.invariant.rules.distinct (rw (← c.self.view_is) at c.requires.run) (rw (← c.self.view_is) at c.requires.after) in
-    (move_shows c.self.inside c.args.first c.args.last c.args.after c.slot-first_slot.result.start _ _ c.renumber.new.slots c.move_piece.new.items c.self.invariant (rw (← c.self.view_is) at c.requires.run) (rw (← c.self.view_is) at c.requires.after) ef.start_is el.end_is ea.end_is (c.renumber.ensures.entries ∙ renumbered_from_first c.move_range_after.new.self.entries _ c.first-head.ensures ∙ ap (renumbered 0) c.move_range_after.ensures.entries) (c.renumber.ensures.spare ∙ c.move_range_after.ensures.spare) c.move_piece.ensures.items c.move_piece.ensures.capacity (sym c.move_piece.new.items.ok.0 ∙ c.move_piece.ensures.len ∙ c.self.inside.items.ok.0) (rw (← c.self.view_is) at c.requires.rules)).sound
+    (move_shows c.self.inside c.args.first c.args.last c.args.after c.slot-first_slot.result.start _ _ c.move_run.new.slots c.move_piece.new.items c.self.invariant (rw (← c.self.view_is) at c.requires.run) (rw (← c.self.view_is) at c.requires.after) ef.start_is el.end_is ea.end_is c.move_run.ensures.entries c.move_run.ensures.spare c.move_piece.ensures.items c.move_piece.ensures.capacity (sym c.move_piece.new.items.ok.0 ∙ c.move_piece.ensures.len ∙ c.self.inside.items.ok.0) (rw (← c.self.view_is) at c.requires.rules)).sound
 
 pub returns-clause-graph : goal.returns-clause-graph
 returns-clause-graph c =
@@ -108,10 +113,10 @@ returns-clause-graph c =
     let el = ends_at c.self.inside c.args.last c.slot-last_slot.result pl in
     let ea = ends_at c.self.inside c.args.after c.slot-after_slot.result pa in
     let m = moves (named (graph_of c.self.inside).blocks) c.args.first c.args.last c.args.after (items_of_bodies (graph_of c.self.inside).procedures) c.self.invariant.rules.distinct (rw (← c.self.view_is) at c.requires.run) (rw (← c.self.view_is) at c.requires.after) in
-    (move_shows c.self.inside c.args.first c.args.last c.args.after c.slot-first_slot.result.start _ _ c.renumber.new.slots c.move_piece.new.items c.self.invariant (rw (← c.self.view_is) at c.requires.run) (rw (← c.self.view_is) at c.requires.after) ef.start_is el.end_is ea.end_is (c.renumber.ensures.entries ∙ renumbered_from_first c.move_range_after.new.self.entries _ c.first-head.ensures ∙ ap (renumbered 0) c.move_range_after.ensures.entries) (c.renumber.ensures.spare ∙ c.move_range_after.ensures.spare) c.move_piece.ensures.items c.move_piece.ensures.capacity (sym c.move_piece.new.items.ok.0 ∙ c.move_piece.ensures.len ∙ c.self.inside.items.ok.0) (rw (← c.self.view_is) at c.requires.rules)).is
+    (move_shows c.self.inside c.args.first c.args.last c.args.after c.slot-first_slot.result.start _ _ c.move_run.new.slots c.move_piece.new.items c.self.invariant (rw (← c.self.view_is) at c.requires.run) (rw (← c.self.view_is) at c.requires.after) ef.start_is el.end_is ea.end_is c.move_run.ensures.entries c.move_run.ensures.spare c.move_piece.ensures.items c.move_piece.ensures.capacity (sym c.move_piece.new.items.ok.0 ∙ c.move_piece.ensures.len ∙ c.self.inside.items.ok.0) (rw (← c.self.view_is) at c.requires.rules)).is
     ∙ ap (λ v. moved_after v.graph c.args.first c.args.last c.args.after) c.self.view_is
 
 pub returns-clause-spare : goal.returns-clause-spare
 returns-clause-spare c =
-    same_room _ _ (c.renumber.ensures.spare ∙ c.move_range_after.ensures.spare) (ap (λ n. c.self.inside.item_room - n) (sym c.move_piece.new.items.ok.0 ∙ c.move_piece.ensures.len ∙ c.self.inside.items.ok.0)) refl
+    same_room _ _ c.move_run.ensures.spare (ap (λ n. c.self.inside.item_room - n) (sym c.move_piece.new.items.ok.0 ∙ c.move_piece.ensures.len ∙ c.self.inside.items.ok.0)) refl
     ∙ ap (λ v. v.spare) c.self.view_is
