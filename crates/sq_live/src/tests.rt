@@ -5,7 +5,7 @@ ghost use Rattle.sq_live.specs.Liveness.{IsLivenessOf};
 
 use super::*;
 use sq_graph::{BlockPart, Graph, Item, Parts, ProcedurePart, Room, Term};
-use sq_isa::{Cond, Insn, Reg, RegOp};
+use sq_isa::{Cond, ImmOp, Insn, Reg, RegOp};
 use std::alloc::Global;
 use std::test::Fail;
 
@@ -16,6 +16,17 @@ macro_rules! add {
             rd: $rd,
             a: $a,
             b: $b,
+        })
+    };
+}
+
+macro_rules! addi {
+    ($rd:expr, $rs:expr, $imm:expr) => {
+        Item::Op(Insn::OpImm {
+            op: ImmOp::Addi,
+            rd: $rd,
+            rs: $rs,
+            imm: $imm,
         })
     };
 }
@@ -119,6 +130,134 @@ fn sample(
     Ok(graph)
 }
 
+// Three programs beside each other. Two calls of a block that returns, each behind a body of four items, and an ECALL
+// behind them; a branch over a block, where either block leaves a sum in a2; and an ECALL behind two items.
+fn first_texts(
+    alloc: Global,
+    x0: Reg,
+    ra: Reg,
+    t0: Reg,
+    t1: Reg,
+    t2: Reg,
+    a3: Reg,
+    a4: Reg,
+) -> Result<Graph, Fail>
+    requires x0 { x0 ≡ 0 }
+    requires ra { ra ≡ 1 }
+    requires t0 { t0 ≡ 5 }
+    requires t1 { t1 ≡ 6 }
+    requires t2 { t2 ≡ 7 }
+    requires a3 { a3 ≡ 13 }
+    requires a4 { a4 ≡ 14 }
+{
+    let graph = Graph::from_parts(
+        alloc,
+        &Parts {
+            blocks: &[
+                BlockPart { length: 4, term: Term::Call { link: ra, to: 4 } },
+                BlockPart { length: 4, term: Term::Call { link: ra, to: 4 } },
+                BlockPart { length: 2, term: Term::Fall },
+                BlockPart { length: 0, term: Term::Jump { to: 3 } },
+                BlockPart { length: 0, term: Term::Indirect { link: x0, at: ra, offset: 0 } },
+                BlockPart { length: 0, term: Term::Branch { cond: Cond::Beq, a: Reg::A0, b: x0, to: 7 } },
+                BlockPart { length: 2, term: Term::Jump { to: 8 } },
+                BlockPart { length: 2, term: Term::Fall },
+                BlockPart { length: 2, term: Term::Fall },
+                BlockPart { length: 0, term: Term::Jump { to: 9 } },
+                BlockPart { length: 3, term: Term::Fall },
+                BlockPart { length: 0, term: Term::Jump { to: 11 } },
+            ],
+            items: &[
+                addi!(Reg::A1, Reg::A1, 1),
+                addi!(Reg::A2, Reg::A2, 2),
+                addi!(a3, a3, 3),
+                addi!(a4, a4, 4),
+                addi!(Reg::A1, Reg::A1, 1),
+                addi!(Reg::A2, Reg::A2, 2),
+                addi!(a3, a3, 3),
+                addi!(a4, a4, 4),
+                addi!(Reg::A7, x0, 93),
+                Item::Op(Insn::Ecall),
+                addi!(t1, Reg::A1, 1),
+                add!(Reg::A2, t1, t1),
+                addi!(t2, Reg::A1, 1),
+                add!(Reg::A2, t2, t2),
+                addi!(Reg::A7, x0, 93),
+                Item::Op(Insn::Ecall),
+                addi!(Reg::A7, x0, 93),
+                addi!(Reg::A0, x0, 7),
+                Item::Op(Insn::Ecall),
+            ],
+            entry: 0,
+            code_words: &[],
+            procedures: &[],
+        },
+    )?;
+    Ok(graph)
+}
+
+// The first two of them, where the code before the ECALL passes on t0, and t2.
+fn second_texts(
+    alloc: Global,
+    x0: Reg,
+    ra: Reg,
+    t0: Reg,
+    t1: Reg,
+    t2: Reg,
+    a3: Reg,
+    a4: Reg,
+) -> Result<Graph, Fail>
+    requires x0 { x0 ≡ 0 }
+    requires ra { ra ≡ 1 }
+    requires t0 { t0 ≡ 5 }
+    requires t1 { t1 ≡ 6 }
+    requires t2 { t2 ≡ 7 }
+    requires a3 { a3 ≡ 13 }
+    requires a4 { a4 ≡ 14 }
+{
+    let graph = Graph::from_parts(
+        alloc,
+        &Parts {
+            blocks: &[
+                BlockPart { length: 4, term: Term::Call { link: ra, to: 4 } },
+                BlockPart { length: 4, term: Term::Call { link: ra, to: 4 } },
+                BlockPart { length: 3, term: Term::Fall },
+                BlockPart { length: 0, term: Term::Jump { to: 3 } },
+                BlockPart { length: 0, term: Term::Indirect { link: x0, at: ra, offset: 0 } },
+                BlockPart { length: 0, term: Term::Branch { cond: Cond::Beq, a: Reg::A0, b: x0, to: 7 } },
+                BlockPart { length: 2, term: Term::Jump { to: 8 } },
+                BlockPart { length: 2, term: Term::Fall },
+                BlockPart { length: 3, term: Term::Fall },
+                BlockPart { length: 0, term: Term::Jump { to: 9 } },
+            ],
+            items: &[
+                addi!(Reg::A1, Reg::A1, 1),
+                addi!(Reg::A2, Reg::A2, 2),
+                addi!(a3, a3, 3),
+                addi!(a4, a4, 4),
+                addi!(Reg::A1, Reg::A1, 1),
+                addi!(Reg::A2, Reg::A2, 2),
+                addi!(a3, a3, 3),
+                addi!(a4, a4, 4),
+                addi!(Reg::A0, t0, 0),
+                addi!(Reg::A7, x0, 93),
+                Item::Op(Insn::Ecall),
+                addi!(t1, Reg::A1, 1),
+                add!(Reg::A2, t1, t1),
+                addi!(t2, Reg::A1, 1),
+                add!(Reg::A2, t2, t2),
+                addi!(Reg::A0, t2, 0),
+                addi!(Reg::A7, x0, 93),
+                Item::Op(Insn::Ecall),
+            ],
+            entry: 0,
+            code_words: &[],
+            procedures: &[],
+        },
+    )?;
+    Ok(graph)
+}
+
 // The block at a position in layout order.
 fn block_at(graph: &Graph, position: u32) -> Option<u32> {
     let mut block = graph.first();
@@ -196,6 +335,53 @@ fn live_points(rt: HostRuntime) -> Result<(), Fail> {
         // the link of a procedure, behind its Out
         (9, 1, 5),
     ] {
+        assert_eq!(rt; is_dead(&graph, &live, position, place, r), Some(false));
+    }
+    Ok(())
+}
+
+#[test]
+fn points_of_first_texts(rt: HostRuntime) -> Result<(), Fail> {
+    let graph = first_texts(
+        rt.alloc(),
+        Reg::from_low_bits(0),
+        Reg::from_low_bits(1),
+        Reg::from_low_bits(5),
+        Reg::from_low_bits(6),
+        Reg::from_low_bits(7),
+        Reg::from_low_bits(13),
+        Reg::from_low_bits(14),
+    )?;
+    let live = live(rt.alloc(), &graph)?;
+    for (position, place, r, dead) in [
+        // x5 behind each of the two bodies
+        (0, 4, 5, true),
+        (1, 4, 5, true),
+        // x7 behind the body that the branch leads to
+        (7, 2, 7, true),
+        // a7 before it is written, and a1 before the ECALL
+        (10, 0, 17, true),
+        (10, 2, 11, false),
+    ] {
+        assert_eq!(rt; is_dead(&graph, &live, position, place, r), Some(dead));
+    }
+    Ok(())
+}
+
+#[test]
+fn points_of_second_texts(rt: HostRuntime) -> Result<(), Fail> {
+    let graph = second_texts(
+        rt.alloc(),
+        Reg::from_low_bits(0),
+        Reg::from_low_bits(1),
+        Reg::from_low_bits(5),
+        Reg::from_low_bits(6),
+        Reg::from_low_bits(7),
+        Reg::from_low_bits(13),
+        Reg::from_low_bits(14),
+    )?;
+    let live = live(rt.alloc(), &graph)?;
+    for (position, place, r) in [(0, 4, 5), (1, 4, 5), (7, 2, 7)] {
         assert_eq!(rt; is_dead(&graph, &live, position, place, r), Some(false));
     }
     Ok(())
