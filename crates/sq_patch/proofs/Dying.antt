@@ -90,7 +90,7 @@ links-moved f (PartJump link part to) = refl
 links-moved f (Indirect link at offset) = refl
 links-moved f (Stop word) = refl
 
-term_dies : (g : Graph) (t : Term) (lines : List Line) → LinksDieIn g lines → LinksDieIn g (term_lines t lines)
+pub term_dies : (g : Graph) (t : Term) (lines : List Line) → LinksDieIn g lines → LinksDieIn g (term_lines t lines)
 term_dies g Fall lines die = die
 term_dies g (Jump to) lines die = die
 term_dies g (Branch cond a b to) lines die = die

@@ -19,6 +19,8 @@ mod Hastening
 mod Inlining
 mod Moving
 mod Dying
+mod Carrying
+mod Layouts
 mod Bypassing
 mod Joining
 pub mod Renaming
