@@ -29,7 +29,7 @@ from_map f [] y c = absurd (let l : c.0 < 0 = c.1 in omega arith)
 from_map f (x ∷ xs) y (zero, l, e) = (x, (contains_first x xs, sym e))
 from_map f (x ∷ xs) y (suc k, l, e) = let o = from_map f xs y (k, omega arith, e) in (o.0, (contains_later x o.0 xs o.1.0, o.1.1))
 
-lowers-moved : (f : ℕ → ℕ) (items : List Item) → flat_map lower_names (retargeted_items f items) ≡ map f (flat_map lower_names items)
+pub lowers-moved : (f : ℕ → ℕ) (items : List Item) → flat_map lower_names (retargeted_items f items) ≡ map f (flat_map lower_names items)
 lowers-moved f [] = refl
 lowers-moved f (Op insn ∷ items) = lowers-moved f items
 lowers-moved f (Hi rd to ∷ items) = lowers-moved f items
@@ -75,7 +75,7 @@ some-moved : (f : ℕ → ℕ) (items : List Item) → items ≢ [] → retarget
 some-moved f [] some none = some refl
 some-moved f (item ∷ items) some none = absurd (cc)
 
-body-moved : (f : ℕ → ℕ) (p : Procedure) → IsSoundBody p → IsSoundBody (retargeted_procedure f p)
+pub body-moved : (f : ℕ → ℕ) (p : Procedure) → IsSoundBody p → IsSoundBody (retargeted_procedure f p)
 body-moved f p sound = record {
   some = some-moved f p.body sound.some;
   free = All-map {X = Item} (λ item. IsFreeOf p.link (line_of item)) (retargeted_item f) p.body (All-weaker {X = Item} (λ item. IsFreeOf p.link (line_of item)) (λ item. IsFreeOf p.link (line_of (retargeted_item f item))) (λ item free. free-moved f p.link item free) p.body sound.free);

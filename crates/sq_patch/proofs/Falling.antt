@@ -27,7 +27,7 @@ pub absent_from : (front : List Block) (x : Block) (bs : List Block) → HasDist
 absent_from front x bs d = absent_ahead (named front) (named bs) x.name x (subst HasDistinctKeys (named_split front x bs) d)
 
 -- a block of another name
-other_name : (t : Bool) (y : Block) (o : Option Block) → (if t then Some y else o) ≡ None → (t ≡ false) × (o ≡ None)
+pub other_name : (t : Bool) (y : Block) (o : Option Block) → (if t then Some y else o) ≡ None → (t ≡ false) × (o ≡ None)
 other_name true y o e = absurd (cc)
 other_name false y o e = (refl, e)
 

@@ -18,6 +18,10 @@ use Rattle.sq_patch.proofs.Dying.{links-moved, body_rest, term_dies}
 use Rattle.sq_patch.proofs.Carrying.{carried_items, carried_block, AreOf, ItemGoes, later_items, BlockGoes, SlotGoes, carry_term, carry_body, Backs, items_die}
 use Rattle.sq_patch.proofs.Used.{contains_first}
 
+-- a block of another name is passed by
+pub passed : (x : Block) (n : ℕ) (bs : List Block) → (x.name == n) ≡ false → behind_name n (lines_of (x ∷ bs)) ≡ behind_name n (lines_of bs)
+passed x n bs apart = rw apart (body_unnamed n x (lines_of bs))
+
 module _ (C : Change) (number : ℕ → ℕ) (K : ℕ → Type 0) where
   -- a value may hold the name for one of the first graph
   abbrev pub IsHeld : ℕ → Type 0
@@ -46,6 +50,16 @@ module _ (C : Change) (number : ℕ → ℕ) (K : ℕ → Type 0) where
     done : {b : Bool} → Carries b [] []
     stays : {b : Bool} (x y : Block) {bs cs : List Block} → y ≡ carried_block C number x → BlockGoes C number x (lines_of bs) (lines_of cs) → Carries (falls x.term) bs cs → Carries b (x ∷ bs) (y ∷ cs)
     turns : {b c : Bool} (us vs : List Block) {bs cs : List Block} → Turn b c us vs bs cs → Carries c bs cs → Carries b (us ++ bs) (vs ++ cs)
+
+  -- a block that goes: nothing goes on into it, and it isn't asked for
+  pub gone : (into : Bool) (x : Block) (bs cs : List Block) → (into ≡ true → ⊥) → ((n : ℕ) → K n → (x.name == n) ≡ false) → Turn into false (x ∷ []) [] bs cs
+  gone into x bs cs closed apart = record {
+    lines = λ b i p. absurd (closed i);
+    behind = λ n k p q. subst (λ lines. Alike C false None lines (behind_name n (lines_of cs))) (sym (passed x n bs (apart n k))) q;
+    lowers = λ m c. absurd (let l : c.0 < 0 = c.1 in omega arith);
+    slots = λ m c. inr c;
+    dies = λ backs p die die'. die';
+  }
 
   pub carries_lines : (b : Bool) {into : Bool} {bs cs : List Block} → into ≡ true → Carries into bs cs → Both b bs cs
   carries_lines b e done = ends

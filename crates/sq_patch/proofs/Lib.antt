@@ -21,6 +21,8 @@ mod Moving
 mod Dying
 mod Carrying
 mod Layouts
+mod Restricting
+mod Standing
 mod Bypassing
 mod Joining
 pub mod Renaming

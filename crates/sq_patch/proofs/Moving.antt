@@ -49,7 +49,7 @@ moving K f g h = record {
 }
 
 -- what a block's term, and an item, uses is used
-term_use : (g : Graph) (b : Block) (n : ℕ) → Contains g.blocks b → Contains (term_uses b.term) n → Contains (uses g) n
+pub term_use : (g : Graph) (b : Block) (n : ℕ) → Contains g.blocks b → Contains (term_uses b.term) n → Contains (uses g) n
 term_use g b n c d =
     contains_later g.entry n (code_word_uses g.code_words ++ (terms_uses g.blocks ++ items_uses (all_items g)))
     (Contains-append_right (code_word_uses g.code_words) (terms_uses g.blocks ++ items_uses (all_items g)) n

@@ -3,3 +3,4 @@ pub mod Registers
 pub mod LiveAgreement
 pub mod Changes
 pub mod Operations
+pub mod Restrictions
