@@ -35,7 +35,7 @@ pub found_at : (front : List Block) (x : Block) (bs : List Block) → value_of (
 found_at [] x bs e = let t : (x.name == x.name) ≡ true = eq-eqb x.name x.name refl in rw t refl
 found_at (y ∷ front) x bs e = let o = other_name (y.name == x.name) y (value_of (named front) x.name) e in rw o.0 (found_at front x bs o.1)
 
-next_at : (front : List Block) (x : Block) (bs : List Block) → value_of (named front) x.name ≡ None → behind (named (front ++ (x ∷ bs))) x.name ≡ named bs
+pub next_at : (front : List Block) (x : Block) (bs : List Block) → value_of (named front) x.name ≡ None → behind (named (front ++ (x ∷ bs))) x.name ≡ named bs
 next_at front x bs e = ap (λ entries. behind entries x.name) (named_split front x bs) ∙ behind-append (named front) (named bs) x.name x e
 
 -- what stands behind a name

@@ -23,6 +23,7 @@ mod Carrying
 mod Layouts
 mod Restricting
 mod Standing
+mod Passing
 mod Bypassing
 mod Joining
 pub mod Renaming

@@ -4,3 +4,4 @@ pub mod LiveAgreement
 pub mod Changes
 pub mod Operations
 pub mod Restrictions
+pub mod LoneJumps
