@@ -24,6 +24,7 @@ mod Layouts
 mod Restricting
 mod Standing
 mod Passing
+mod Placing
 mod Bypassing
 mod Joining
 pub mod Renaming
