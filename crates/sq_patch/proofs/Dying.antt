@@ -48,7 +48,7 @@ lower_user rd rs to items n (inl c) later = (Lo rd rs to, (contains_first (Lo rd
 lower_user rd rs to items n (inr c) later = later_user (Lo rd rs to) items n (later c)
 
 -- the names of Lo items are used
-lower_use : (items : List Item) (n : ℕ) → Contains (flat_map lower_names items) n → User items n
+pub lower_use : (items : List Item) (n : ℕ) → Contains (flat_map lower_names items) n → User items n
 lower_use [] n c = absurd (let l : c.0 < 0 = c.1 in omega arith)
 lower_use (Op insn ∷ items) n c = later_user (Op insn) items n (lower_use items n c)
 lower_use (Hi rd to ∷ items) n c = later_user (Hi rd to) items n (lower_use items n c)

@@ -25,6 +25,8 @@ mod Restricting
 mod Standing
 mod Passing
 mod Placing
+mod Ending
+mod Inverting
 mod Bypassing
 mod Joining
 pub mod Renaming

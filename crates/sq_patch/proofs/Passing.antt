@@ -49,7 +49,7 @@ jumps_from : (o : Option Block) (to : ℕ) → lone_jump o ≡ Some to → (b : 
 jumps_from None to e = absurd (cc)
 jumps_from (Some b) to e = (b, (refl, e))
 
-lone_lines : (items : List Item) (t : Term) (name to : ℕ) (rest : List Line) → items ≡ [] → t ≡ Jump to → body_lines (record { name = name; items = items; term = t }) rest ≡ End (Jump to) ∷ rest
+pub lone_lines : (items : List Item) (t : Term) (name to : ℕ) (rest : List Line) → items ≡ [] → t ≡ Jump to → body_lines (record { name = name; items = items; term = t }) rest ≡ End (Jump to) ∷ rest
 lone_lines items t name to rest e f = rw (e, f) refl
 
 -- what stands behind the name of a lone Jump block

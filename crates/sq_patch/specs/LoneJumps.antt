@@ -37,13 +37,13 @@ abbrev pub JumpGoesIsSound : Type 0
 JumpGoesIsSound = (g : Graph) (block to : ℕ) → IsGraph g → IsPassable g block to → IsSound g → IsSound (without_jump g block to)
 
 -- A Branch over the next slot, which is a lone Jump block that nothing names, to the slot behind that.
-pub record IsJumpedOver (g : Graph) (block : ℕ) (cond : Cond) (a b over to : ℕ) : Type 0 where
+pub record IsJumpedOver (g : Graph) (block : ℕ) (cond : Cond) (a b over behind to : ℕ) : Type 0 where
+  pub branch : term_of g block ≡ Some (Branch cond a b behind)
+  pub next : next_of g block ≡ Some over
+  pub slot : next_of g over ≡ Some behind
   pub jump : jump_from g over ≡ Some to
   pub other : to ≢ over
   pub unused : ¬ Contains (uses g) over
-  pub next : next_of g block ≡ Some over
-  pub branch : (behind : ℕ) → next_of g over ≡ Some behind → term_of g block ≡ Some (Branch cond a b behind)
-  pub last : (behind : ℕ) × (next_of g over ≡ Some behind)
 
 -- The Branch is inverted, to the target of the Jump, and the Jump goes.
 abbrev pub inverted_over : Graph → ℕ → Cond → ℕ → ℕ → ℕ → ℕ → Graph
@@ -52,8 +52,8 @@ inverted_over g block cond a b over to = without_block (with_term g block (Branc
 -- A graph in which a Branch over a lone Jump became the inverted one to its target follows it, and is sound where it is.
 abbrev pub InvertFollows : Type 0
 InvertFollows =
-    (g : Graph) (block : ℕ) (cond : Cond) (a b over to : ℕ) → IsGraph g → IsJumpedOver g block cond a b over to → Follows g (inverted_over g block cond a b over to)
+    (g : Graph) (block : ℕ) (cond : Cond) (a b over behind to : ℕ) → IsGraph g → IsJumpedOver g block cond a b over behind to → Follows g (inverted_over g block cond a b over to)
 
 abbrev pub InvertIsSound : Type 0
 InvertIsSound =
-    (g : Graph) (block : ℕ) (cond : Cond) (a b over to : ℕ) → IsGraph g → IsJumpedOver g block cond a b over to → IsSound g → IsSound (inverted_over g block cond a b over to)
+    (g : Graph) (block : ℕ) (cond : Cond) (a b over behind to : ℕ) → IsGraph g → IsJumpedOver g block cond a b over behind to → IsSound g → IsSound (inverted_over g block cond a b over to)

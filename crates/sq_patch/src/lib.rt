@@ -8,6 +8,8 @@
 #![tactic(auto)]
 
 ghost use Rattle.sq_patch.specs.LiveAgreement.{StepsAgree, PlacesMakeTargets};
+ghost use Rattle.sq_patch.specs.Restrictions.{RestrictFollows, RestrictIsSound, ReachedAreClosed};
+ghost use Rattle.sq_patch.specs.LoneJumps.{JumpGoesFollows, JumpGoesIsSound, InvertFollows, InvertIsSound};
 ghost use Rattle.sq_patch.specs.Operations.{SplitFollows, FallFollows, DropFollows, HastenFollows, InlineFollows, CanonicalFollows, CanonicalIsSound, RenameFollows, OutlineFollows};
 
 /// From states that agree on what is live, a graph steps to such states again, with the same event or to the
@@ -65,4 +67,39 @@ pub fn rename_keeps_runs()
 /// A graph with items of one of its blocks as the body of one more procedure follows it.
 pub fn outline_keeps_runs()
     ensures { OutlineFollows }
+{}
+
+/// A graph with the blocks of a closed set alone, and the procedures that these call, follows it.
+pub fn restrict_keeps_runs()
+    ensures { RestrictFollows }
+{}
+
+/// A graph with the blocks of a closed set alone is sound where the graph is.
+pub fn restrict_keeps_soundness()
+    ensures { RestrictIsSound }
+{}
+
+/// The blocks that are reached are a closed set.
+pub fn reached_are_closed()
+    ensures { ReachedAreClosed }
+{}
+
+/// A graph in which a lone Jump block, into which nothing goes on, gave its name to its target and went follows it.
+pub fn jump_goes_keeps_runs()
+    ensures { JumpGoesFollows }
+{}
+
+/// A graph in which a lone Jump block gave its name to its target and went is sound where the graph is.
+pub fn jump_goes_keeps_soundness()
+    ensures { JumpGoesIsSound }
+{}
+
+/// A graph in which a Branch over a lone Jump became the inverted one, to the Jump's target, follows it.
+pub fn invert_keeps_runs()
+    ensures { InvertFollows }
+{}
+
+/// A graph in which a Branch over a lone Jump became the inverted one is sound where the graph is.
+pub fn invert_keeps_soundness()
+    ensures { InvertIsSound }
 {}
