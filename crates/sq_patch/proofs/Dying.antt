@@ -100,7 +100,7 @@ term_dies g (Indirect link at offset) lines die = die
 term_dies g (Stop word) lines die = die
 
 -- links die in what stands behind a block
-items_rest : (g : Graph) (items : List Item) (lines : List Line) → LinksDieIn g (map line_of items ++ lines) → LinksDieIn g lines
+pub items_rest : (g : Graph) (items : List Item) (lines : List Line) → LinksDieIn g (map line_of items ++ lines) → LinksDieIn g lines
 items_rest g [] lines die = die
 items_rest g (Op insn ∷ items) lines die = items_rest g items lines die
 items_rest g (Hi rd to ∷ items) lines die = items_rest g items lines die

@@ -27,6 +27,7 @@ mod Passing
 mod Placing
 mod Ending
 mod Inverting
+mod Replacing
 mod Bypassing
 mod Joining
 pub mod Renaming
