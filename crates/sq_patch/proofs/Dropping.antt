@@ -45,10 +45,10 @@ behind_one (x ∷ items) zero item rest e = refl
 behind_one (x ∷ items) (suc at) item rest e = let more : suc at + 1 ≡ suc (at + 1) = omega arith in rw more (behind_one items at item rest e)
 
 -- the registers that are live
-abbrev live : Graph → List Line → ℕ → Type 0
+abbrev pub live : Graph → List Line → ℕ → Type 0
 live g lines r = IsLive g r lines
 
-live_carrier : (g : Graph) → IsCarrier g (live g)
+pub live_carrier : (g : Graph) → IsCarrier g (live g)
 live_carrier g = record { read = λ line rest r e. read_here e; kept = λ line rest next r e go l. live_behind e go l }
 
 and_false : (t : Bool) → (t && (false || false)) ≡ false

@@ -28,6 +28,7 @@ mod Placing
 mod Ending
 mod Inverting
 mod Replacing
+mod Calls
 mod Bypassing
 mod Joining
 pub mod Renaming

@@ -21,7 +21,7 @@ use Rattle.sq_patch.proofs.Moving.{word_use}
 use Rattle.sq_patch.proofs.Carrying.{same_some, SlotGoes, BlockGoes, ItemGoes, carried_block}
 use Rattle.sq_patch.proofs.Layouts.{Turn, Carries, done, stays, turns, carries_behind, carried_sound}
 use Rattle.sq_patch.proofs.Restricting.{own, own_block, slot_target}
-use Rattle.sq_patch.proofs.Standing.{stands_at, own_called_block, items_go, term_goes, words_held, bodies_held, procedures_sound}
+use Rattle.sq_patch.proofs.Standing.{stands_at, own_called_block, items_go, body_goes, term_goes, words_held, bodies_held, procedures_sound}
 use Rattle.sq_patch.proofs.Used.{contains_first, contains_later, from_slice}
 
 module _ (K : ℕ → Type 0) (X : List Line → ℕ → Type 0) (Z : Type 0) (g h : Graph) (rules : IsGraph g) (known : (n : ℕ) → Contains (uses g) n → K n) (procedures : h.procedures ≡ g.procedures) (words : h.code_words ≡ g.code_words) where
@@ -51,6 +51,10 @@ module _ (K : ℕ → Type 0) (X : List Line → ℕ → Type 0) (Z : Type 0) (g
     -- the items of a block
     pub items_stay : (x : Block) → Contains g.blocks x → (item : _) → Contains x.items item → ItemGoes C own item
     items_stay x c = items_go C rules may_hold may_go procedures_stay words_stay x c
+
+    -- the items of a body
+    pub bodies_stay : (p : Procedure) → Contains g.procedures p → (item : _) → Contains p.body item → ItemGoes C own item
+    bodies_stay p c = body_goes C rules may_hold may_go procedures_stay words_stay p c
 
     -- the slot behind a link
     slot_stays : (o : Option ℕ) → ((n : ℕ) → o ≡ Some n → C.MayHold n n) → SlotGoes C own o o

@@ -45,10 +45,10 @@ three_parts items at length =
     ∙ ap (λ rest. take at items ++ rest) (take-append-drop length (drop at items)) ∙ take-append-drop at items
 
 module _ (X : List Line → ℕ → Type 0) (Z : Type 0) (g h : Graph) (rules : IsGraph g) (procedures : h.procedures ≡ g.procedures) (words : h.code_words ≡ g.code_words) where
-  known : (n : ℕ) → Contains (uses g) n → every n
+  pub known : (n : ℕ) → Contains (uses g) n → every n
   known n c = tt
 
-  holds : (n : ℕ) → Contains (code_targets g) n → every n
+  pub holds : (n : ℕ) → Contains (code_targets g) n → every n
   holds n c = tt
 
   abbrev pub C : Change

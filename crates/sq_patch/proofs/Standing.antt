@@ -55,7 +55,7 @@ module _ (C : Change) (rules : IsGraph C.before) (holds : (n : ℕ) → Contains
   lower_held : (items : List Item) (rd rs to : ℕ) → Contains items (Lo rd rs to) → Contains (flat_map lower_names items) to
   lower_held items rd rs to c = flat_contains lower_names items (Lo rd rs to) to c (contains_first to [])
 
-  body_goes : (p : Procedure) → Contains g.procedures p → (item : Item) → Contains p.body item → ItemGoes C own item
+  pub body_goes : (p : Procedure) → Contains g.procedures p → (item : Item) → Contains p.body item → ItemGoes C own item
   body_goes p c (Op insn) d = tt
   body_goes p c (Hi rd to) d = tt
   body_goes p c (Lo rd rs to) d = holds to (procedure_target g p to c (lower_held p.body rd rs to d))

@@ -5,3 +5,4 @@ pub mod Changes
 pub mod Operations
 pub mod Restrictions
 pub mod LoneJumps
+pub mod Calls
