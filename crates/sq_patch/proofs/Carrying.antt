@@ -95,7 +95,7 @@ module _ (C : Change) (number : ℕ → ℕ) where
   SlotGoes (Some n) None = ⊥
   SlotGoes (Some n) (Some m) = C.MayHold n m
 
-  slot_same : (o p : Option ℕ) → SlotGoes o p → SameSlot C.MayHold o p
+  pub slot_same : (o p : Option ℕ) → SlotGoes o p → SameSlot C.MayHold o p
   slot_same None p s = tt
   slot_same (Some n) None s = absurd s
   slot_same (Some n) (Some m) s = s

@@ -32,7 +32,7 @@ use Rattle.sq_patch.proofs.Moving.{item_use, word_use}
 use Rattle.sq_patch.proofs.Dying.{lower_use}
 use Rattle.sq_patch.proofs.Carrying.{same_some, carry_body}
 use Rattle.sq_patch.proofs.Layouts.{passed, Turn, carries_lines}
-use Rattle.sq_patch.proofs.Restricting.{own, flat_from}
+use Rattle.sq_patch.proofs.Restricting.{own, target_from}
 use Rattle.sq_patch.proofs.Standing.{stands_at, distinct_at, block_at}
 use Rattle.sq_patch.proofs.Passing.{lone_block, lone_lines}
 use Rattle.sq_patch.proofs.Placing.{C as placing, block_stays, block_goes, all_stay, placed_follows, placed_sound}
@@ -135,27 +135,41 @@ module _ (g : Graph) (block : ℕ) (cond : Cond) (a b over behind to : ℕ) (rul
       let there = subst (λ blocks. entries_behind (named blocks) y.name ≡ named bs) e (next_at front y bs (absent_from front y bs (distinct_at g rules front y bs e))) in
       sym (ap first_key (subst (λ k. entries_behind (named g.blocks) k ≡ named bs) i there)) ∙ s
 
+  abbrev FirstOf : List Block → ℕ → Type 0
+  FirstOf bs m = (b : Block) × ((rest : List Block) × ((bs ≡ b ∷ rest) × (b.name ≡ m)))
+
+  second : FirstOf at.back over
+  second = first_is at.back over (slot_behind at.front x at.back block over at_whole at.has_name jumped.next)
+
+  second_whole : at.front ++ (x ∷ second.0 ∷ second.1.0) ≡ g.blocks
+  second_whole = subst (λ bs. at.front ++ (x ∷ bs) ≡ g.blocks) second.1.1.0 at_whole
+
+  second_ahead : (at.front ++ x ∷ []) ++ (second.0 ∷ second.1.0) ≡ g.blocks
+  second_ahead = ahead at.front x (second.0 ∷ second.1.0) ∙ second_whole
+
+  third : FirstOf second.1.0 behind
+  third = first_is second.1.0 behind (slot_behind (at.front ++ x ∷ []) second.0 second.1.0 over behind second_ahead second.1.1.1 jumped.slot)
+
+  branch_found : block_of g block ≡ Some x
+  branch_found = subst (λ k. value_of (named g.blocks) k ≡ Some x) at.has_name (block_at g rules at.front x at.back at_whole)
+
+  over_found : block_of g over ≡ Some second.0
+  over_found = subst (λ k. value_of (named g.blocks) k ≡ Some second.0) second.1.1.1 (block_at g rules (at.front ++ x ∷ []) second.0 second.1.0 second_ahead)
+
   stand : Stand g block over behind to cond a b
-  stand =
-      let second = first_is at.back over (slot_behind at.front x at.back block over at_whole at.has_name jumped.next) in
-      let e2 : at.front ++ (x ∷ second.0 ∷ second.1.0) ≡ g.blocks = subst (λ bs. at.front ++ (x ∷ bs) ≡ g.blocks) second.1.1.0 at_whole in
-      let e3 : (at.front ++ x ∷ []) ++ (second.0 ∷ second.1.0) ≡ g.blocks = ahead at.front x (second.0 ∷ second.1.0) ∙ e2 in
-      let third = first_is second.1.0 behind (slot_behind (at.front ++ x ∷ []) second.0 second.1.0 over behind e3 second.1.1.1 jumped.slot) in
-      let found : block_of g block ≡ Some x = subst (λ k. value_of (named g.blocks) k ≡ Some x) at.has_name (block_at g rules at.front x at.back at_whole) in
-      let over_is : block_of g over ≡ Some second.0 = subst (λ k. value_of (named g.blocks) k ≡ Some second.0) second.1.1.1 (block_at g rules (at.front ++ x ∷ []) second.0 second.1.0 e3) in
-      record {
-        front = at.front;
-        x = x;
-        n = second.0;
-        z = third.0;
-        back = third.1.0;
-        whole = subst (λ bs. at.front ++ (x ∷ second.0 ∷ bs) ≡ g.blocks) third.1.1.0 e2;
-        first = at.has_name;
-        second = second.1.1.1;
-        third = third.1.1.1;
-        branch = same_some x.term (Branch cond a b behind) (sym (ap block_term found) ∙ jumped.branch);
-        lone = lone_block second.0.items second.0.term to (sym (ap lone_jump over_is) ∙ jumped.jump);
-      }
+  stand = record {
+    front = at.front;
+    x = x;
+    n = second.0;
+    z = third.0;
+    back = third.1.0;
+    whole = subst (λ bs. at.front ++ (x ∷ second.0 ∷ bs) ≡ g.blocks) third.1.1.0 second_whole;
+    first = at.has_name;
+    second = second.1.1.1;
+    third = third.1.1.1;
+    branch = same_some x.term (Branch cond a b behind) (sym (ap block_term branch_found) ∙ jumped.branch);
+    lone = lone_block second.0.items second.0.term to (sym (ap lone_jump over_found) ∙ jumped.jump);
+  }
 
   absent_name : (front : List Block) (w : Block) (bs : List Block) → front ++ (w ∷ bs) ≡ g.blocks → (name : ℕ) → w.name ≡ name → value_of (named front) name ≡ None
   absent_name front w bs e name i = subst (λ k. value_of (named front) k ≡ None) i (absent_from front w bs (distinct_at g rules front w bs e))
@@ -208,28 +222,8 @@ module _ (g : Graph) (block : ℕ) (cond : Cond) (a b over behind to : ℕ) (rul
       (subst (λ bs. Contains (link_names bs) n.name) (sym two) (subst (λ k. Contains (link_names g.blocks) k) (sym stand.second) c))
 
   -- it is no code target: nothing names it, and no link leads behind the Branch
-  lower_named : (some : List _) (m : ℕ) → ((item : _) → Contains some item → Contains (all_items g) item) → Contains (flat_map lower_names some) m → Contains (uses g) m
-  lower_named some m inside c = let o = lower_use some m c in item_use g o.0 m (inside o.0 o.1.0) o.1.1
-
   no_target : Contains (code_targets g) over → ⊥
-  no_target c =
-      let ws = map word_name g.code_words in
-      let bs = flat_map (λ (b : Block). flat_map lower_names b.items) g.blocks in
-      let ps = flat_map (λ (p : Procedure). flat_map lower_names p.body) g.procedures in
-      neither (Contains-append_cases ((ws ++ bs) ++ ps) (link_names g.blocks) over c)
-      (λ d. neither (Contains-append_cases (ws ++ bs) ps over d)
-      (λ e. neither (Contains-append_cases ws bs over e) (λ f. jumped.unused (word_use g over f)) in_blocks)
-      in_bodies)
-      slot_apart
-    where
-      in_blocks : Contains (flat_map (λ (b : Block). flat_map lower_names b.items) g.blocks) over → ⊥
-      in_blocks f =
-          let o = flat_from (λ (b : Block). flat_map lower_names b.items) g.blocks over f in
-          jumped.unused (lower_named o.0.items over (λ item d. Contains-append_left (items_of_blocks g.blocks) (items_of_bodies g.procedures) item (flat_contains (λ (b : Block). b.items) g.blocks o.0 item o.1.0 d)) o.1.1)
-      in_bodies : Contains (flat_map (λ (p : Procedure). flat_map lower_names p.body) g.procedures) over → ⊥
-      in_bodies f =
-          let o = flat_from (λ (p : Procedure). flat_map lower_names p.body) g.procedures over f in
-          jumped.unused (lower_named o.0.body over (λ item d. Contains-append_right (items_of_blocks g.blocks) (items_of_bodies g.procedures) item (flat_contains (λ (p : Procedure). p.body) g.procedures o.0 item o.1.0 d)) o.1.1)
+  no_target c = neither (target_from g over c) jumped.unused slot_apart
 
   holds : (m : ℕ) → Contains (code_targets g) m → Other m
   holds m c is = no_target (subst (λ k. Contains (code_targets g) k) is c)

@@ -24,11 +24,13 @@ mod Layouts
 mod Restricting
 mod Standing
 mod Passing
+mod Relating
 mod Placing
 mod Ending
 mod Inverting
 mod Replacing
 mod Calls
+mod Sounding
 mod Bypassing
 mod Joining
 pub mod Renaming

@@ -27,7 +27,7 @@ use Rattle.sq_patch.proofs.Inlining.{with_others}
 use Rattle.sq_patch.proofs.Dying.{items_rest, term_dies}
 use Rattle.sq_patch.proofs.Carrying.{AreOf, ItemGoes, carried_items, carry_items, carry_term, Backs, items_die}
 use Rattle.sq_patch.proofs.Layouts.{IsHeld, Both, Turn, carries_lines}
-use Rattle.sq_patch.proofs.Restricting.{own, own_block, block_target, slot_target}
+use Rattle.sq_patch.proofs.Restricting.{own, own_block, block_target, slot_targets}
 use Rattle.sq_patch.proofs.Standing.{stands_at, own_called_block}
 use Rattle.sq_patch.proofs.Placing.{C as placing, block_stays, items_stay, block_goes, all_stay, placed_follows, placed_sound}
 use Rattle.sq_patch.proofs.Ending.{all_of, one_slot}
@@ -185,12 +185,7 @@ module _ (X : List Line → ℕ → Type 0) (Z : Type 0) (g : Graph) (carrier : 
       subst (λ t. Alike D b None (term_lines x.term (lines_of back)) (term_lines t (lines_of back))) (ap (λ (w : Block). w.term) (sym (block_stays every X Z g h rules (known X Z g h rules refl refl) refl refl (holds X Z g h rules refl refl) x))) p
 
   slot : (m : ℕ) → links x.term ≡ true → Contains (first_name back) m → Contains (code_targets g) m
-  slot m l c = first_target place.front x back whole l m c
-    where
-      first_target : (front : List Block) (x : Block) (bs : List Block) → front ++ (x ∷ bs) ≡ g.blocks → links x.term ≡ true → (m : ℕ) → Contains (first_name bs) m → Contains (code_targets g) m
-      first_target front x [] e l m c = absurd (let k : c.0 < 0 = c.1 in omega arith)
-      first_target front x (next ∷ bs) e l m (zero, k, i) = subst (λ n. Contains (code_targets g) n) i (slot_target g front x next bs e l)
-      first_target front x (next ∷ bs) e l m (suc j, k, i) = absurd (omega arith)
+  slot m l c = slot_targets g place.front x back whole l m c
 
   module _ (middle : (b : Bool) → Alike D b None behind behind → Alike D b None (map line_of out ++ behind) (map line_of by ++ behind)) (lowers : (m : ℕ) → Contains (flat_map lower_names by) m → Contains (code_targets g) m) (dies : Backs D own → Alike D true None behind behind → LinksDieIn g (map line_of out ++ behind) → LinksDieIn h behind → LinksDieIn h (map line_of by ++ behind)) where
     turn : Turn D own every true true (x ∷ []) (record x { items = replaced_items x.items at length by } ∷ []) back back

@@ -1,5 +1,5 @@
 -- A graph with the blocks of a closed set alone, and the procedures that these call, follows it.
-use Rattle.std.proofs.Common.{◌≡◌, ◌≢◌, ℕ, zero, suc, ◌<◌, Bool, true, false, ◌==◌, if◌then◌else◌, List, [], ◌∷◌, ◌++◌, Option, Some, None, IsSome, map, length, slice_get, refl, sym, ap, ◌∙◌, subst, inl, inr, arith}
+use Rattle.std.proofs.Common.{◌≡◌, ◌≢◌, ◌⊎◌, ℕ, zero, suc, ◌<◌, Bool, true, false, ◌==◌, if◌then◌else◌, List, [], ◌∷◌, ◌++◌, Option, Some, None, IsSome, map, length, slice_get, refl, sym, ap, ◌∙◌, subst, inl, inr, arith}
 use Rattle.std.proofs.lemmas.Bool.{cases_Bool, eq-eqb, ne_eqb}
 use Rattle.std.proofs.lemmas.List.Elements.{All-nil, All-cons, All-map, All-weaker, Contains-append_left, Contains-append_right, Contains-append_cases}
 use Rattle.std.proofs.lemmas.Option.{slice_get-map}
@@ -11,9 +11,9 @@ use Rattle.sq_graph.specs.declared.item.Item.TheVariants.{Op, Hi, Lo, Out}
 use Rattle.sq_graph.specs.declared.item.Term.{Term}
 use Rattle.sq_graph.specs.declared.item.Term.TheVariants.{Fall, Jump, Branch, Call, PartJump, Indirect, Stop}
 use Rattle.sq_graph.specs.Graph.{Block, Procedure, Graph}
-use Rattle.sq_graph.specs.Blocks.{named, block_items, items_of, HasProcedure, all_items}
+use Rattle.sq_graph.specs.Blocks.{named, block_items, items_of, items_of_blocks, items_of_bodies, HasProcedure, all_items}
 use Rattle.sq_graph.specs.Terms.{links, goes_on}
-use Rattle.sq_graph.specs.Uses.{item_uses, item_calls, items_uses, term_uses}
+use Rattle.sq_graph.specs.Uses.{item_uses, item_calls, items_uses, term_uses, uses}
 use Rattle.sq_graph.specs.Rules.{IsGraph}
 use Rattle.sq_graph.specs.Renames.{retargeted_item, retargeted_block, retargeted_procedure, recalled_item, recalled_items, recalled_block, recalled_procedure}
 use Rattle.sq_graph.specs.Lines.{lines_of, behind_name, line_of, slot_name, block_lines}
@@ -28,7 +28,8 @@ use Rattle.sq_patch.proofs.Patch.{change_follows}
 use Rattle.sq_patch.proofs.Keeping.{every_carrier}
 use Rattle.sq_patch.proofs.Changing.{ahead, in_tail, same_map}
 use Rattle.sq_patch.proofs.Falling.{absent_from, found_at, other_name}
-use Rattle.sq_patch.proofs.Moving.{moving}
+use Rattle.sq_patch.proofs.Moving.{moving, item_use, word_use}
+use Rattle.sq_patch.proofs.Dying.{lower_use}
 use Rattle.sq_patch.proofs.Carrying.{CallGoes, ItemGoes, SlotGoes, TermGoesOn, AreOf, BlockGoes, carried_block, carried_procedure, carry_inside, Backs}
 use Rattle.sq_patch.proofs.Layouts.{IsHeld, gone, Carries, done, stays, turns, carries_lines, carries_behind, carried_sound}
 use Rattle.sq_patch.proofs.Used.{contains_first, contains_later, flat_contains, from_slice, slice_there, from_all, item_called, block_item, body_item, body_calls_none}
@@ -199,6 +200,36 @@ slot_target g front x next bs e l =
     let ls = flat_map (λ (b : Block). flat_map lower_names b.items) g.blocks in
     let ps = flat_map (λ (p : Procedure). flat_map lower_names p.body) g.procedures in
     Contains-append_right ((ws ++ ls) ++ ps) (link_names g.blocks) next.name (subst (λ blocks. Contains (link_names blocks) next.name) e (link_at front x next bs l))
+
+-- the slot of a block that links
+pub slot_targets : (g : Graph) (front : List Block) (x : Block) (bs : List Block) → front ++ (x ∷ bs) ≡ g.blocks → links x.term ≡ true → (m : ℕ) → Contains (first_name bs) m → Contains (code_targets g) m
+slot_targets g front x [] e l m c = absurd (let k : c.0 < 0 = c.1 in omega arith)
+slot_targets g front x (next ∷ bs) e l m (zero, k, i) = subst (λ n. Contains (code_targets g) n) i (slot_target g front x next bs e l)
+slot_targets g front x (next ∷ bs) e l m (suc j, k, i) = absurd (omega arith)
+
+-- a code target is used, or stands behind a link
+lower_used : (g : Graph) (some : List Item) (m : ℕ) → ((item : Item) → Contains some item → Contains (all_items g) item) → Contains (flat_map lower_names some) m → Contains (uses g) m
+lower_used g some m inside c = let o = lower_use some m c in item_use g o.0 m (inside o.0 o.1.0) o.1.1
+
+pub target_from : (g : Graph) (m : ℕ) → Contains (code_targets g) m → Contains (uses g) m ⊎ Contains (link_names g.blocks) m
+target_from g m c =
+    let ws = map word_name g.code_words in
+    let bs = flat_map (λ (b : Block). flat_map lower_names b.items) g.blocks in
+    let ps = flat_map (λ (p : Procedure). flat_map lower_names p.body) g.procedures in
+    elim (Contains-append_cases ((ws ++ bs) ++ ps) (link_names g.blocks) m c) [
+      | inr slot ↦ inr slot
+      | inl d ↦ elim (Contains-append_cases (ws ++ bs) ps m d) [
+        | inr body ↦
+            let o = flat_from (λ (p : Procedure). flat_map lower_names p.body) g.procedures m body in
+            inl (lower_used g o.0.body m (λ item k. Contains-append_right (items_of_blocks g.blocks) (items_of_bodies g.procedures) item (flat_contains (λ (p : Procedure). p.body) g.procedures o.0 item o.1.0 k)) o.1.1)
+        | inl e ↦ elim (Contains-append_cases ws bs m e) [
+          | inl word ↦ inl (word_use g m word)
+          | inr block ↦
+              let o = flat_from (λ (b : Block). flat_map lower_names b.items) g.blocks m block in
+              inl (lower_used g o.0.items m (λ item k. Contains-append_left (items_of_blocks g.blocks) (items_of_bodies g.procedures) item (flat_contains (λ (b : Block). b.items) g.blocks o.0 item o.1.0 k)) o.1.1)
+        ]
+      ]
+    ]
 
 pub links_goes_on : (t : Term) → links t ≡ true → goes_on t ≡ true
 links_goes_on Fall l = refl

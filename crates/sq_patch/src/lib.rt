@@ -10,7 +10,8 @@
 ghost use Rattle.sq_patch.specs.LiveAgreement.{StepsAgree, PlacesMakeTargets};
 ghost use Rattle.sq_patch.specs.Restrictions.{RestrictFollows, RestrictIsSound, ReachedAreClosed};
 ghost use Rattle.sq_patch.specs.LoneJumps.{JumpGoesFollows, JumpGoesIsSound, InvertFollows, InvertIsSound};
-ghost use Rattle.sq_patch.specs.Operations.{SplitFollows, FallFollows, DropFollows, HastenFollows, InlineFollows, CanonicalFollows, CanonicalIsSound, RenameFollows, OutlineFollows};
+ghost use Rattle.sq_patch.specs.Operations.{SplitFollows, SplitIsSound, FallFollows, FallIsSound, DropFollows, DropIsSound, HastenFollows, HastenIsSound, InlineFollows, InlineIsSound, CanonicalFollows, CanonicalIsSound, RenameFollows, OutlineFollows};
+ghost use Rattle.sq_patch.specs.Calls.{CallFollows, CallIsSound};
 
 /// From states that agree on what is live, a graph steps to such states again, with the same event or to the
 /// same end.
@@ -102,4 +103,39 @@ pub fn invert_keeps_runs()
 /// A graph in which a Branch over a lone Jump became the inverted one is sound where the graph is.
 pub fn invert_keeps_soundness()
     ensures { InvertIsSound }
+{}
+
+/// A graph with a call in place of the items of a procedure's body, whose link is dead behind them, follows it.
+pub fn call_keeps_runs()
+    ensures { CallFollows }
+{}
+
+/// A graph with a call in place of the items of a procedure's body is sound where the graph is.
+pub fn call_keeps_soundness()
+    ensures { CallIsSound }
+{}
+
+/// A graph in which a block is split in two is sound where the graph is.
+pub fn split_keeps_soundness()
+    ensures { SplitIsSound }
+{}
+
+/// A graph in which a Jump to the next slot became Fall is sound where the graph is.
+pub fn fall_keeps_soundness()
+    ensures { FallIsSound }
+{}
+
+/// A graph without an upper half whose register is dead behind it is sound where the graph is.
+pub fn drop_keeps_soundness()
+    ensures { DropIsSound }
+{}
+
+/// A graph in which a jump by an upper half became a Call or a Jump is sound where the graph is.
+pub fn hasten_keeps_soundness()
+    ensures { HastenIsSound }
+{}
+
+/// A graph in which the body of a procedure stands in place of a call of it is sound where the graph is.
+pub fn inline_keeps_soundness()
+    ensures { InlineIsSound }
 {}
