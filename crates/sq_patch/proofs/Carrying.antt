@@ -84,6 +84,14 @@ module _ (C : Change) (number : ℕ → ℕ) where
       carry_do (Lower to) (Lower (C.renamed to)) (OpImm Addi rd rs (pos 0)) (refl, each (Lo rd rs to) (contains_first (Lo rd rs to) items)) (carry_items items xs ys (later_items ItemGoes (Lo rd rs to) items each) (lift p))
   carry_items (Out q ∷ items) xs ys each p = carry_enter q (each (Out q) (contains_first (Out q) items)) (carry_items items xs ys (later_items ItemGoes (Out q) items each) (lift p))
 
+  -- behind the first of them both have taken a step
+  pub carry_some : {b : Bool} (item : Item) (items : List Item) (xs ys : List Line) → AreOf ItemGoes (item ∷ items) → Alike C true None xs ys → Alike C b None (map line_of (item ∷ items) ++ xs) (map line_of (carried_items (item ∷ items)) ++ ys)
+  carry_some (Op insn) items xs ys each p = carry_do Plain Plain insn tt (carry_items items xs ys (later_items ItemGoes (Op insn) items each) p)
+  carry_some (Hi rd to) items xs ys each p = carry_do (Upper to None) (Upper (C.renamed to) None) (Lui rd 0) refl (carry_items items xs ys (later_items ItemGoes (Hi rd to) items each) p)
+  carry_some (Lo rd rs to) items xs ys each p =
+      carry_do (Lower to) (Lower (C.renamed to)) (OpImm Addi rd rs (pos 0)) (refl, each (Lo rd rs to) (contains_first (Lo rd rs to) items)) (carry_items items xs ys (later_items ItemGoes (Lo rd rs to) items each) p)
+  carry_some (Out q) items xs ys each p = carry_enter q (each (Out q) (contains_first (Out q) items)) (carry_items items xs ys (later_items ItemGoes (Out q) items each) p)
+
   -- the two may go to the names of a term
   abbrev pub TermGoesOn : Term → Type 0
   TermGoesOn t = (n : ℕ) → Contains (term_uses t) n → C.MayGo n (C.renamed n)

@@ -31,6 +31,7 @@ mod Inverting
 mod Replacing
 mod Calls
 mod Sounding
+mod Leading
 mod Bypassing
 mod Joining
 pub mod Renaming

@@ -6,3 +6,4 @@ pub mod Operations
 pub mod Restrictions
 pub mod LoneJumps
 pub mod Calls
+pub mod Merges
