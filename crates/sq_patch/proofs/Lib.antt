@@ -32,6 +32,7 @@ mod Replacing
 mod Calls
 mod Sounding
 mod Leading
+mod Meeting
 mod Bypassing
 mod Joining
 pub mod Renaming
