@@ -89,7 +89,7 @@ branch_unlinked : (t : Term) (cond : Cond) (a b to : ℕ) → t ≡ Branch cond 
 branch_unlinked t cond a b to e = rw e refl
 
 -- the blocks once that of this name has become others
-placed_by : (front : List Block) (x : Block) (bs : List Block) (name : ℕ) (f : Block → List Block) (blocks : List Block) → front ++ (x ∷ bs) ≡ blocks → x.name ≡ name → value_of (named front) name ≡ None → with_blocks f blocks name ≡ front ++ (f x ++ bs)
+pub placed_by : (front : List Block) (x : Block) (bs : List Block) (name : ℕ) (f : Block → List Block) (blocks : List Block) → front ++ (x ∷ bs) ≡ blocks → x.name ≡ name → value_of (named front) name ≡ None → with_blocks f blocks name ≡ front ++ (f x ++ bs)
 placed_by front x bs name f blocks e i absent =
     with_blocks-at f blocks name (record { front = front; block = x; back = bs; whole = sym e; has_name = i; ahead = absent })
 

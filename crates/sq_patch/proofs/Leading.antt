@@ -21,7 +21,7 @@ slot_lines_name bs None = refl
 slot_lines_name bs (Some n) = refl
 
 -- the first slot
-first_slot : (bs front back : List Block) → HasDistinctKeys (named bs) → front ++ back ≡ bs → lines_of back ≡ slot_lines bs (first_key (named back))
+pub first_slot : (bs front back : List Block) → HasDistinctKeys (named bs) → front ++ back ≡ bs → lines_of back ≡ slot_lines bs (first_key (named back))
 first_slot bs front [] d e = refl
 first_slot bs front (w ∷ back) d e =
     let absent = absent_from front w back (subst (λ blocks. HasDistinctKeys (named blocks)) (sym e) d) in

@@ -33,6 +33,7 @@ mod Calls
 mod Sounding
 mod Leading
 mod Meeting
+mod Merging
 mod Bypassing
 mod Joining
 pub mod Renaming

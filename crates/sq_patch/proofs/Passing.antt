@@ -45,7 +45,7 @@ lone_block [] (PartJump link part n) to e = absurd (cc)
 lone_block [] (Indirect link at offset) to e = absurd (cc)
 lone_block [] (Stop word) to e = absurd (cc)
 
-jumps_from : (o : Option Block) (to : ℕ) → lone_jump o ≡ Some to → (b : Block) × ((o ≡ Some b) × (jump_of b.items b.term ≡ Some to))
+pub jumps_from : (o : Option Block) (to : ℕ) → lone_jump o ≡ Some to → (b : Block) × ((o ≡ Some b) × (jump_of b.items b.term ≡ Some to))
 jumps_from None to e = absurd (cc)
 jumps_from (Some b) to e = (b, (refl, e))
 
