@@ -34,6 +34,7 @@ mod Sounding
 mod Leading
 mod Meeting
 mod Merging
+mod Recalling
 mod Bypassing
 mod Joining
 pub mod Renaming

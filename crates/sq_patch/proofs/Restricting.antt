@@ -132,7 +132,7 @@ lower_among (Lo rd rs to ∷ items) m (zero, l, e) = (zero, omega arith, e)
 lower_among (Lo rd rs to ∷ items) m (suc i, l, e) = contains_later to m (items_uses items) (lower_among items m (i, omega arith, e))
 lower_among (Out q ∷ items) m c = lower_among items m c
 
-lower_recalled : (number : ℕ → ℕ) (items : List Item) → flat_map lower_names (recalled_items number items) ≡ flat_map lower_names items
+pub lower_recalled : (number : ℕ → ℕ) (items : List Item) → flat_map lower_names (recalled_items number items) ≡ flat_map lower_names items
 lower_recalled number [] = refl
 lower_recalled number (Op insn ∷ items) = lower_recalled number items
 lower_recalled number (Hi rd to ∷ items) = lower_recalled number items

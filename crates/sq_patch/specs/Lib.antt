@@ -7,3 +7,4 @@ pub mod Restrictions
 pub mod LoneJumps
 pub mod Calls
 pub mod Merges
+pub mod Recalls
