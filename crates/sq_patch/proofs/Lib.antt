@@ -35,6 +35,7 @@ mod Leading
 mod Meeting
 mod Merging
 mod Recalling
+mod Inserting
 mod Bypassing
 mod Joining
 pub mod Renaming

@@ -165,8 +165,8 @@ module _ (g : Graph) (dropped at kept : ℕ) (rules : IsGraph g) (can : IsMergea
 
   -- items, at least one
   keep_some : (b : Bool) (items : List Item) (xs ys : List Line) → items ≢ [] → AreOf C own (ItemGoes C own) items → Alike C true None xs ys → Alike C b None (map line_of items ++ xs) (map line_of items ++ ys)
-  keep_some b [] xs ys some f p = absurd (some refl)
-  keep_some b (item ∷ items) xs ys some f p = subst (λ is. Alike C b None (map line_of (item ∷ items) ++ xs) (map line_of is ++ ys)) (own_items (item ∷ items)) (carry_some C own item items xs ys f p)
+  keep_some b [] xs ys full f p = absurd (full refl)
+  keep_some b (item ∷ items) xs ys full f p = subst (λ is. Alike C b None (map line_of (item ∷ items) ++ xs) (map line_of is ++ ys)) (own_items (item ∷ items)) (carry_some C own item items xs ys f p)
 
   abbrev first : List Item
   first = take at x.items

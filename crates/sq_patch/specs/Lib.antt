@@ -8,3 +8,4 @@ pub mod LoneJumps
 pub mod Calls
 pub mod Merges
 pub mod Recalls
+pub mod Inserts
