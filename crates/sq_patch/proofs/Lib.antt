@@ -36,6 +36,7 @@ mod Meeting
 mod Merging
 mod Recalling
 mod Inserting
+mod Reordering
 mod Bypassing
 mod Joining
 pub mod Renaming

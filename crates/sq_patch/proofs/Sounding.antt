@@ -180,7 +180,7 @@ return_dead g link r rest dead (read_here e) = absurd (cc)
 return_dead g link r rest dead (live_behind w e l) = dead (subst (λ lines. IsLive g r lines) e l)
 
 -- links die behind the calls of a block
-die_in : (g : Graph) (front : List Block) (x : Block) (bs : List Block) → LinksDieIn g (lines_of (front ++ (x ∷ bs))) → LinksDieIn g (body_lines x (lines_of bs))
+pub die_in : (g : Graph) (front : List Block) (x : Block) (bs : List Block) → LinksDieIn g (lines_of (front ++ (x ∷ bs))) → LinksDieIn g (body_lines x (lines_of bs))
 die_in g [] x bs die = die
 die_in g (y ∷ front) x bs die = die_in g front x bs (body_rest g y (lines_of (front ++ (x ∷ bs))) die)
 
