@@ -12,6 +12,9 @@ ghost use Rattle.sq_patch.specs.Restrictions.{RestrictFollows, RestrictIsSound, 
 ghost use Rattle.sq_patch.specs.LoneJumps.{JumpGoesFollows, JumpGoesIsSound, InvertFollows, InvertIsSound};
 ghost use Rattle.sq_patch.specs.Operations.{SplitFollows, SplitIsSound, FallFollows, FallIsSound, DropFollows, DropIsSound, HastenFollows, HastenIsSound, InlineFollows, InlineIsSound, CanonicalFollows, CanonicalIsSound, RenameFollows, OutlineFollows};
 ghost use Rattle.sq_patch.specs.Calls.{CallFollows, CallIsSound};
+ghost use Rattle.sq_patch.specs.Merges.{MergeFollows, MergeIsSound};
+ghost use Rattle.sq_patch.specs.Recalls.{RecallFollows, RecallIsSound, UncalledGoesFollows, UncalledGoesIsSound};
+ghost use Rattle.sq_patch.specs.Inserts.{InsertFollows, InsertIsSound, ReorderFollows, ReorderIsSound};
 
 /// From states that agree on what is live, a graph steps to such states again, with the same event or to the
 /// same end.
@@ -138,4 +141,54 @@ pub fn hasten_keeps_soundness()
 /// A graph in which the body of a procedure stands in place of a call of it is sound where the graph is.
 pub fn inline_keeps_soundness()
     ensures { InlineIsSound }
+{}
+
+/// A graph in which the end of a block became a Jump to another block, which is equal to that end, follows it.
+pub fn merge_keeps_runs()
+    ensures { MergeFollows }
+{}
+
+/// A graph in which the end of a block became a Jump to an equal block is sound where the graph is.
+pub fn merge_keeps_soundness()
+    ensures { MergeIsSound }
+{}
+
+/// A graph in which a procedure is called in place of an equal one follows it.
+pub fn recall_keeps_runs()
+    ensures { RecallFollows }
+{}
+
+/// A graph in which a procedure is called in place of an equal one is sound where the graph is.
+pub fn recall_keeps_soundness()
+    ensures { RecallIsSound }
+{}
+
+/// A graph without a procedure that nothing calls follows it.
+pub fn uncalled_goes_keeps_runs()
+    ensures { UncalledGoesFollows }
+{}
+
+/// A graph without a procedure that nothing calls is sound where the graph is.
+pub fn uncalled_goes_keeps_soundness()
+    ensures { UncalledGoesIsSound }
+{}
+
+/// A graph with a lone Jump to the next slot behind a block follows it.
+pub fn insert_keeps_runs()
+    ensures { InsertFollows }
+{}
+
+/// A graph with a lone Jump to the next slot behind a block is sound where the graph is.
+pub fn insert_keeps_soundness()
+    ensures { InsertIsSound }
+{}
+
+/// A graph with its blocks in an order in which each that goes on keeps its next slot follows it.
+pub fn reorder_keeps_runs()
+    ensures { ReorderFollows }
+{}
+
+/// A graph with its blocks in such an order is sound where the graph is.
+pub fn reorder_keeps_soundness()
+    ensures { ReorderIsSound }
 {}
