@@ -1,16 +1,15 @@
 -- A graph with a call in place of the items of a procedure's body follows it.
-use Rattle.std.proofs.Common.{◌≡◌, ◌≢◌, ℕ, zero, suc, ◌<◌, ◌≤◌, ◌+◌, ◌-◌, Bool, true, false, not, ◌&&◌, ◌||◌, ◌==◌, ⊎_elim, List, [], ◌∷◌, ◌++◌, Option, Some, None, IsSome, map, take, drop, length, slice_get, refl, sym, ap, ◌∙◌, subst, arith}
+use Rattle.std.proofs.Common.{◌≡◌, ◌≢◌, ℕ, zero, suc, ◌<◌, ◌≤◌, ◌+◌, ◌-◌, Bool, true, false, not, ◌&&◌, ◌||◌, ◌==◌, ⊎_elim, List, [], ◌∷◌, ◌++◌, Some, None, map, take, drop, length, slice_get, refl, sym, ap, ◌∙◌, subst, arith}
 use Rattle.std.proofs.lemmas.Bool.{cases_eq, ne_eqb}
-use Rattle.std.specs.List.{All, Contains, flat_map, slice_range}
+use Rattle.std.specs.List.{Contains, flat_map, slice_range}
 use Rattle.sq_arena.specs.Entries.{value_of}
 use Rattle.sq_isa.specs.Uses.{sources_of, destination_of, is_mentioned, is_read}
-use Rattle.sq_isa.specs.Registers.{is_among, is_among_but_x0}
 use Rattle.sq_isa.specs.declared.instructions.Insn.{Insn}
 use Rattle.sq_isa.specs.declared.instructions.Insn.TheVariants.{Lui, OpImm}
 use Rattle.sq_graph.specs.declared.item.Item.{Item}
 use Rattle.sq_graph.specs.declared.item.Item.TheVariants.{Op, Hi, Lo, Out}
 use Rattle.sq_graph.specs.Graph.{Block, Procedure, Graph}
-use Rattle.sq_graph.specs.Blocks.{named, block_items, items_of, body_of, link_of, procedure_body, procedure_link}
+use Rattle.sq_graph.specs.Blocks.{named, block_items, items_of, body_of, procedure_body, procedure_link}
 use Rattle.sq_graph.specs.Uses.{item_calls}
 use Rattle.sq_graph.specs.Rules.{IsGraph, mentions, ProcedureFits}
 use Rattle.sq_graph.specs.Lines.{Line, Enter, Return, Do, line_of, term_lines, body_lines, lines_of, inside, behind_name, block_lines, place_lines}
@@ -23,11 +22,11 @@ use Rattle.sq_patch.specs.Calls.{IsCallable, called_there}
 use Rattle.sq_patch.proofs.Patch.{later as among_later}
 use Rattle.sq_patch.proofs.Falling.{every, absent_from, name_at}
 use Rattle.sq_patch.proofs.Dropping.{live, live_carrier}
-use Rattle.sq_patch.proofs.Carrying.{same_some, AreOf, ItemGoes, later_items, carry_items, Backs}
-use Rattle.sq_patch.proofs.Restricting.{own, procedure_target}
+use Rattle.sq_patch.proofs.Carrying.{same_some, carry_items, Backs}
+use Rattle.sq_patch.proofs.Restricting.{own}
 use Rattle.sq_patch.proofs.Standing.{distinct_at, block_at}
 use Rattle.sq_patch.proofs.Placing.{bodies_stay}
-use Rattle.sq_patch.proofs.Replacing.{own_items, known, holds, C as replacing, h as replacement, place, x as block_there, out, behind, replaced_follows, replaced_sound}
+use Rattle.sq_patch.proofs.Replacing.{own_items, known, holds, C as replacing, place, x as block_there, out, behind, replaced_follows, replaced_sound}
 use Rattle.sq_patch.proofs.Used.{contains_first, contains_later, from_slice, slice_there, from_all}
 
 -- a register that none of these items mentions, which are no calls, isn't live before them where it is dead behind

@@ -1,5 +1,5 @@
 -- Items, terms and blocks that a change carries over: under its other names, and with other numbers of procedures.
-use Rattle.std.proofs.Common.{◌≡◌, ℕ, zero, suc, ◌<◌, Bool, true, false, List, [], ◌∷◌, ◌++◌, Option, Some, None, pos, map, slice_get, refl, sym, ap, ◌∙◌, subst}
+use Rattle.std.proofs.Common.{◌≡◌, ℕ, Bool, true, false, List, [], ◌∷◌, ◌++◌, Option, Some, None, pos, map, slice_get, refl, sym, ap, ◌∙◌, subst}
 use Rattle.std.specs.List.{Contains}
 use Rattle.sq_isa.specs.Forms.{first_of, second_of}
 use Rattle.sq_isa.specs.Uses.{sources_of, destination_of}
@@ -10,10 +10,10 @@ use Rattle.sq_graph.specs.declared.item.Item.{Item}
 use Rattle.sq_graph.specs.declared.item.Item.TheVariants.{Op, Hi, Lo, Out}
 use Rattle.sq_graph.specs.declared.item.Term.{Term}
 use Rattle.sq_graph.specs.declared.item.Term.TheVariants.{Fall, Jump, Branch, Call, PartJump, Indirect, Stop}
-use Rattle.sq_graph.specs.Graph.{Block, Procedure, Graph}
+use Rattle.sq_graph.specs.Graph.{Block, Procedure}
 use Rattle.sq_graph.specs.Terms.{links}
 use Rattle.sq_graph.specs.Uses.{term_uses}
-use Rattle.sq_graph.specs.Renames.{retargeted_item, retargeted_items, retargeted_term, retargeted_block, retargeted_procedure, recalled_item, recalled_items, recalled_block, recalled_procedure}
+use Rattle.sq_graph.specs.Renames.{retargeted_items, retargeted_term, retargeted_block, retargeted_procedure, recalled_items, recalled_block, recalled_procedure}
 use Rattle.sq_graph.specs.Lines.{AddressHalf, Plain, Upper, Lower, Line, Do, Enter, Return, inside, line_of, term_lines, body_lines, slot_name}
 use Rattle.sq_graph.specs.Walks.{IsLive, is_register}
 use Rattle.sq_graph.specs.Soundness.{LinksDieIn}

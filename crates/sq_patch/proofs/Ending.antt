@@ -14,7 +14,7 @@ use Rattle.sq_graph.specs.Soundness.{LinksDieIn}
 use Rattle.sq_patch.specs.Changes.{Change, Alike, name_before, name_after}
 use Rattle.sq_patch.proofs.Staying.{body_unnamed}
 use Rattle.sq_patch.proofs.Dying.{term_dies}
-use Rattle.sq_patch.proofs.Carrying.{AreOf, ItemGoes, carried_items, carry_items, Backs, items_die}
+use Rattle.sq_patch.proofs.Carrying.{AreOf, ItemGoes, carried_items, carry_items, items_die}
 use Rattle.sq_patch.proofs.Layouts.{IsHeld, Turn}
 use Rattle.sq_patch.proofs.Restricting.{own, block_target}
 use Rattle.sq_patch.proofs.Placing.{C as placing, block_stays, items_stay}

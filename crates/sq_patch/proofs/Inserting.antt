@@ -1,39 +1,37 @@
 -- A graph with a lone Jump to the next slot behind a block follows it.
-use Rattle.std.proofs.Common.{◌≡◌, ◌≢◌, ℕ, zero, suc, ◌<◌, ◌⊎◌, ⊎_elim, arith, Bool, true, false, ◌==◌, if◌then◌else◌, inl, inr, List, [], ◌∷◌, ◌++◌, Option, Some, None, IsSome, map, refl, sym, ap, ◌∙◌, subst}
+use Rattle.std.proofs.Common.{◌≡◌, ◌≢◌, ℕ, zero, suc, ◌⊎◌, arith, Bool, true, false, ◌==◌, if◌then◌else◌, inl, inr, List, [], ◌∷◌, ◌++◌, Some, None, IsSome, refl, sym, ap, ◌∙◌, subst}
 use Rattle.std.proofs.lemmas.Bool.{ne_eqb}
-use Rattle.std.proofs.lemmas.List.Elements.{All-nil, All-cons, Contains-append_cases}
-use Rattle.std.specs.List.{All, Contains, flat_map}
-use Rattle.sq_arena.specs.Entries.{value_of, first_key, behind as entries_behind, HasDistinctKeys}
-use Rattle.sq_graph.specs.declared.item.Item.{Item}
-use Rattle.sq_graph.specs.declared.item.Term.{Term}
+use Rattle.std.proofs.lemmas.List.Elements.{All-nil, All-cons}
+use Rattle.std.specs.List.{Contains, flat_map}
+use Rattle.sq_arena.specs.Entries.{value_of, first_key, behind as entries_behind}
 use Rattle.sq_graph.specs.declared.item.Term.TheVariants.{Jump}
 use Rattle.sq_graph.specs.Graph.{Block, Graph}
-use Rattle.sq_graph.specs.Blocks.{named, HasBlock, block_of, next_of}
+use Rattle.sq_graph.specs.Blocks.{named, HasBlock, next_of}
 use Rattle.sq_graph.specs.Terms.{links}
 use Rattle.sq_graph.specs.Uses.{uses}
 use Rattle.sq_graph.specs.Rules.{IsGraph}
 use Rattle.sq_graph.specs.Operations.{IsNew, inserted_after}
-use Rattle.sq_graph.specs.Lines.{Line, Name, End, line_of, term_lines, body_lines, lines_of, behind_name, slot_name, block_lines}
-use Rattle.sq_graph.specs.Walks.{lower_names, link_names, first_name, code_targets}
+use Rattle.sq_graph.specs.Lines.{Line, End, term_lines, body_lines, lines_of, behind_name, block_lines}
+use Rattle.sq_graph.specs.Walks.{lower_names, link_names, code_targets}
 use Rattle.sq_graph.specs.Soundness.{LinksDieIn, IsSound}
 use Rattle.sq_graph.proofs.Located.{IsAt, located}
 use Rattle.sq_graph.proofs.Changes.{with_blocks-at}
 use Rattle.sq_graph.proofs.OperationRules.{inserted_after_rules}
 use Rattle.sq_follow.specs.Follows.{Follows}
-use Rattle.sq_patch.specs.Changes.{Change, Alike, falls, name_before, name_after, jump_after}
+use Rattle.sq_patch.specs.Changes.{Change, Alike, name_before, name_after, jump_after}
 use Rattle.sq_patch.proofs.Keeping.{all_matter, every_carrier}
 use Rattle.sq_patch.proofs.Staying.{body_unnamed}
 use Rattle.sq_patch.proofs.Changing.{ahead}
 use Rattle.sq_patch.proofs.Falling.{absent_from, next_at, name_at}
 use Rattle.sq_patch.proofs.Bypassing.{slot_known}
 use Rattle.sq_patch.proofs.Dying.{term_dies}
-use Rattle.sq_patch.proofs.Carrying.{same_some, AreOf, ItemGoes, BlockGoes, carry_body, carry_items, carry_term, carried_block, Backs, items_die}
+use Rattle.sq_patch.proofs.Carrying.{same_some, BlockGoes, carry_body, carry_term, carried_block, Backs, items_die}
 use Rattle.sq_patch.proofs.Layouts.{IsHeld, Turn, carries_lines}
 use Rattle.sq_patch.proofs.Restricting.{own, block_target, slot_target, target_from}
 use Rattle.sq_patch.proofs.Standing.{stands_at, distinct_at, block_at}
-use Rattle.sq_patch.proofs.Relating.{relating, block_stays, items_stay, block_goes, all_stay, same_names, placed_follows, placed_sound}
+use Rattle.sq_patch.proofs.Relating.{relating, block_stays, block_goes, all_stay, same_names, placed_follows, placed_sound}
 use Rattle.sq_patch.proofs.Ending.{all_of, one_slot}
-use Rattle.sq_patch.proofs.Used.{contains_first, not_new, from_all}
+use Rattle.sq_patch.proofs.Used.{not_new, from_all}
 
 module _ (g : Graph) (new block next : ℕ) (rules : IsGraph g) (fresh : IsNew g new) (has : HasBlock g block) (slot : next_of g block ≡ Some next) where
   abbrev h : Graph

@@ -1,25 +1,25 @@
 -- A graph in which a Branch over a lone Jump became the inverted one, to the Jump's target, follows it.
-use Rattle.std.proofs.Common.{◌≡◌, ◌≢◌, ℕ, zero, suc, ◌<◌, Bool, true, false, ◌==◌, if◌then◌else◌, ◌⊎◌, inl, inr, List, [], ◌∷◌, ◌++◌, Option, Some, None, IsSome, map, refl, sym, ap, ◌∙◌, subst, arith}
-use Rattle.std.proofs.lemmas.Bool.{cases_Bool, eq-eqb, ne_eqb, eqb-false}
-use Rattle.std.proofs.lemmas.List.Elements.{Contains-append_cases, Contains-append_left, Contains-append_right}
-use Rattle.std.specs.List.{Contains, flat_map}
+use Rattle.std.proofs.Common.{◌≡◌, ◌≢◌, ℕ, zero, suc, ◌<◌, Bool, true, false, ◌==◌, if◌then◌else◌, ◌⊎◌, inl, inr, List, [], ◌∷◌, ◌++◌, Option, Some, None, IsSome, refl, sym, ap, ◌∙◌, subst, arith}
+use Rattle.std.proofs.lemmas.Bool.{ne_eqb, eqb-false}
+use Rattle.std.proofs.lemmas.List.Elements.{Contains-append_cases}
+use Rattle.std.specs.List.{Contains}
 use Rattle.sq_arena.specs.Entries.{value_of, behind as entries_behind, first_key, HasDistinctKeys}
 use Rattle.sq_arena.proofs.EntriesLaws.{distinct_back}
 use Rattle.sq_isa.specs.Branches.{inverse_of}
 use Rattle.sq_isa.specs.declared.instructions.Cond.{Cond}
 use Rattle.sq_graph.specs.declared.item.Term.{Term}
-use Rattle.sq_graph.specs.declared.item.Term.TheVariants.{Fall, Jump, Branch, Call, PartJump, Indirect, Stop}
-use Rattle.sq_graph.specs.Graph.{Block, Procedure, Graph}
-use Rattle.sq_graph.specs.Blocks.{named, block_of, block_term, term_of, next_of, HasBlock, items_of_blocks, items_of_bodies, all_items}
+use Rattle.sq_graph.specs.declared.item.Term.TheVariants.{Jump, Branch}
+use Rattle.sq_graph.specs.Graph.{Block, Graph}
+use Rattle.sq_graph.specs.Blocks.{named, block_of, block_term, term_of, next_of}
 use Rattle.sq_graph.specs.Terms.{links}
-use Rattle.sq_graph.specs.Uses.{uses, item_uses}
+use Rattle.sq_graph.specs.Uses.{uses}
 use Rattle.sq_graph.specs.Rules.{IsGraph}
-use Rattle.sq_graph.specs.Operations.{with_blocks, with_term, without_block}
-use Rattle.sq_graph.specs.Resolve.{jump_of, lone_jump, jump_from}
-use Rattle.sq_graph.specs.Lines.{Line, Name, End, body_lines, lines_of, behind_name, term_lines, block_lines}
-use Rattle.sq_graph.specs.Walks.{word_name, lower_names, link_names, first_name, code_targets}
+use Rattle.sq_graph.specs.Operations.{with_blocks, with_term}
+use Rattle.sq_graph.specs.Resolve.{lone_jump}
+use Rattle.sq_graph.specs.Lines.{Name, End, body_lines, lines_of, behind_name, term_lines, block_lines}
+use Rattle.sq_graph.specs.Walks.{link_names, first_name, code_targets}
 use Rattle.sq_graph.specs.Soundness.{IsSound}
-use Rattle.sq_graph.proofs.Located.{IsAt, located, named-append}
+use Rattle.sq_graph.proofs.Located.{IsAt, located}
 use Rattle.sq_graph.proofs.Changes.{with_blocks-at}
 use Rattle.sq_graph.proofs.Kept.{absent_behind}
 use Rattle.sq_follow.specs.Follows.{Follows}
@@ -28,8 +28,6 @@ use Rattle.sq_patch.specs.LoneJumps.{IsJumpedOver, inverted_over}
 use Rattle.sq_patch.proofs.Keeping.{all_matter, every_carrier}
 use Rattle.sq_patch.proofs.Changing.{ahead}
 use Rattle.sq_patch.proofs.Falling.{absent_from, next_at, name_at, named_split, other_name}
-use Rattle.sq_patch.proofs.Moving.{item_use, word_use}
-use Rattle.sq_patch.proofs.Dying.{lower_use}
 use Rattle.sq_patch.proofs.Carrying.{same_some, carry_body}
 use Rattle.sq_patch.proofs.Layouts.{passed, Turn, carries_lines}
 use Rattle.sq_patch.proofs.Restricting.{own, target_from}
@@ -37,7 +35,6 @@ use Rattle.sq_patch.proofs.Standing.{stands_at, distinct_at, block_at}
 use Rattle.sq_patch.proofs.Passing.{lone_block, lone_lines}
 use Rattle.sq_patch.proofs.Placing.{C as placing, block_stays, block_goes, all_stay, placed_follows, placed_sound}
 use Rattle.sq_patch.proofs.Ending.{term_turn}
-use Rattle.sq_patch.proofs.Used.{contains_first, contains_later, flat_contains}
 
 none_in : {X : Type 0} (m : ℕ) → Contains {X = ℕ} [] m → X
 none_in m c = absurd (let l : c.0 < 0 = c.1 in omega arith)
@@ -241,8 +238,8 @@ module _ (g : Graph) (block : ℕ) (cond : Cond) (a b over behind to : ℕ) (rul
       (name_at ((front ++ stand.x ∷ []) ++ n ∷ []) z stand.back (absent_from ((front ++ stand.x ∷ []) ++ n ∷ []) z stand.back (distinct_at g rules ((front ++ stand.x ∷ []) ++ n ∷ []) z stand.back behind_two)))) in
       let further : (((front ++ stand.x ∷ []) ++ n ∷ []) ++ z ∷ []) ++ stand.back ≡ g.blocks = ahead ((front ++ stand.x ∷ []) ++ n ∷ []) z stand.back ∙ behind_two in
       let go = carry_body C own z (lines_of stand.back) (lines_of stand.back)
-          (block_goes Other all_matter (Unit {0}) g h rules known refl refl holds ((front ++ stand.x ∷ []) ++ n ∷ []) z stand.back stand.back behind_two refl)
-          (λ f. carries_lines C own Other true refl (all_stay Other all_matter (Unit {0}) g h rules known refl refl holds true (((front ++ stand.x ∷ []) ++ n ∷ []) ++ z ∷ []) stand.back further)) in
+      (block_goes Other all_matter (Unit {0}) g h rules known refl refl holds ((front ++ stand.x ∷ []) ++ n ∷ []) z stand.back stand.back behind_two refl)
+      (λ f. carries_lines C own Other true refl (all_stay Other all_matter (Unit {0}) g h rules known refl refl holds true (((front ++ stand.x ∷ []) ++ n ∷ []) ++ z ∷ []) stand.back further)) in
       subst (λ lines. Alike C true None lines (lines_of back)) (sym at)
       (name_after (subst (λ w. Alike C true None (body_lines z (lines_of stand.back)) (body_lines w (lines_of stand.back))) (sym (block_stays Other all_matter (Unit {0}) g h rules known refl refl holds z)) go))
 

@@ -7,7 +7,7 @@ use Rattle.sq_graph.specs.declared.item.Item.{Item}
 use Rattle.sq_graph.specs.declared.item.Item.TheVariants.{Op, Hi, Lo, Out}
 use Rattle.sq_graph.specs.Graph.{Block, Procedure, Graph}
 use Rattle.sq_graph.specs.Terms.{links}
-use Rattle.sq_graph.specs.Lines.{Line, line_of, term_lines, body_lines, lines_of, behind_name, slot_name}
+use Rattle.sq_graph.specs.Lines.{Line, term_lines, body_lines, lines_of, behind_name, slot_name}
 use Rattle.sq_graph.specs.Renames.{retargeted_term}
 use Rattle.sq_graph.specs.Walks.{IsLive, lower_names, link_names, first_name, word_name, code_targets}
 use Rattle.sq_graph.specs.Soundness.{IsSoundBody, LinksDieIn, IsSound}

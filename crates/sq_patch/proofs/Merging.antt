@@ -1,5 +1,5 @@
 -- A graph with two ends of blocks merged follows it.
-use Rattle.std.proofs.Common.{◌≡◌, ◌≢◌, ℕ, zero, suc, ◌<◌, ◌≤◌, ◌+◌, arith, Bool, true, false, ◌==◌, if◌then◌else◌, inl, inr, List, [], ◌∷◌, ◌++◌, Option, Some, None, IsSome, map, take, drop, length, take-append-drop, drop-drop, nat_eq, refl, sym, ap, ◌∙◌, subst}
+use Rattle.std.proofs.Common.{◌≡◌, ◌≢◌, ℕ, ◌≤◌, ◌+◌, arith, Bool, true, false, ◌==◌, if◌then◌else◌, inr, List, [], ◌∷◌, ◌++◌, Option, Some, None, IsSome, map, take, drop, length, drop-drop, nat_eq, refl, sym, ap, ◌∙◌, subst}
 use Rattle.std.proofs.lemmas.List.{drop_all, append-nil}
 use Rattle.std.specs.List.{IsDistinct, Contains, flat_map}
 use Rattle.sq_arena.specs.Entries.{value_of, first_key, next_key, behind as entries_behind, HasDistinctKeys}
@@ -7,14 +7,14 @@ use Rattle.sq_graph.specs.declared.item.Item.{Item}
 use Rattle.sq_graph.specs.declared.item.Term.{Term}
 use Rattle.sq_graph.specs.declared.item.Term.TheVariants.{Jump}
 use Rattle.sq_graph.specs.Graph.{Block, Graph}
-use Rattle.sq_graph.specs.Blocks.{named, HasBlock, block_of, block_items, items_of, next_of}
+use Rattle.sq_graph.specs.Blocks.{named, block_of, block_items, items_of, next_of}
 use Rattle.sq_graph.specs.Terms.{links}
 use Rattle.sq_graph.specs.Uses.{uses}
 use Rattle.sq_graph.specs.Rules.{IsGraph}
 use Rattle.sq_graph.specs.Operations.{replaced_items, replaced}
-use Rattle.sq_graph.specs.Resolve.{ResolvedTerm, jump_of, lone_jump, jump_from, resolved, resolved_term, block_resolved}
-use Rattle.sq_graph.specs.Lines.{Line, Name, End, line_of, term_lines, body_lines, lines_of, behind_name, slot_name, block_lines}
-use Rattle.sq_graph.specs.Walks.{lower_names, link_names, first_name, code_targets}
+use Rattle.sq_graph.specs.Resolve.{jump_of, jump_from, resolved, resolved_term, block_resolved}
+use Rattle.sq_graph.specs.Lines.{Line, End, line_of, term_lines, body_lines, lines_of, behind_name, slot_name, block_lines}
+use Rattle.sq_graph.specs.Walks.{lower_names, code_targets}
 use Rattle.sq_graph.specs.Soundness.{LinksDieIn, IsSound}
 use Rattle.sq_graph.proofs.Located.{IsAt, located}
 use Rattle.sq_follow.specs.Follows.{Follows}
@@ -260,8 +260,8 @@ module _ (g : Graph) (dropped at kept : ℕ) (rules : IsGraph g) (can : IsMergea
   jumps_on n m e =
       let o = jumps_from (block_of g n) m e in
       let other : n ≢ dropped = λ i.
-          let z : x ≡ o.0 = same_some x o.0 (sym found ∙ ap (block_of g) (sym i) ∙ o.1.0) in
-          unlone x.items x.term m (λ none. items_there (x_items ∙ none)) (subst (λ (b : Block). jump_of b.items b.term ≡ Some m) (sym z) o.1.1) in
+      let z : x ≡ o.0 = same_some x o.0 (sym found ∙ ap (block_of g) (sym i) ∙ o.1.0) in
+      unlone x.items x.term m (λ none. items_there (x_items ∙ none)) (subst (λ (b : Block). jump_of b.items b.term ≡ Some m) (sym z) o.1.1) in
       let lone = lone_block o.0.items o.0.term m o.1.1 in
       (slot_lines h.blocks (next_of h n), leads h.blocks n o.0 distinct (other_block n other ∙ o.1.0) ∙ lone_lines o.0.items o.0.term o.0.name m (slot_lines h.blocks (next_of h n)) lone.0 lone.1)
 

@@ -1,16 +1,15 @@
 -- A graph in which a lone Jump block gave its name to its target, and went, follows it.
-use Rattle.std.proofs.Common.{◌≡◌, ◌≢◌, ℕ, zero, suc, ◌<◌, Bool, true, false, ◌==◌, if◌then◌else◌, List, [], ◌∷◌, ◌++◌, Option, Some, None, IsSome, map, slice_get, refl, sym, ap, ◌∙◌, subst, inl, inr, arith}
+use Rattle.std.proofs.Common.{◌≡◌, ◌≢◌, ℕ, Bool, true, false, ◌==◌, List, [], ◌∷◌, ◌++◌, Option, Some, None, IsSome, map, slice_get, refl, sym, ap, ◌∙◌, subst, inl, inr}
 use Rattle.std.proofs.lemmas.Bool.{cases_Bool, eq-eqb, ne_eqb, eqb-true, eqb-false}
-use Rattle.std.proofs.lemmas.List.Elements.{Contains-append_left, Contains-append_right}
-use Rattle.std.specs.List.{All, Contains, flat_map}
-use Rattle.sq_arena.specs.Entries.{value_of, behind, first_key, HasDistinctKeys}
+use Rattle.std.specs.List.{Contains}
+use Rattle.sq_arena.specs.Entries.{value_of, behind, first_key}
 use Rattle.sq_graph.specs.declared.item.Item.{Item}
 use Rattle.sq_graph.specs.declared.item.Term.{Term}
 use Rattle.sq_graph.specs.declared.item.Term.TheVariants.{Fall, Jump, Branch, Call, PartJump, Indirect, Stop}
-use Rattle.sq_graph.specs.Graph.{Block, Procedure, Graph}
-use Rattle.sq_graph.specs.Blocks.{named, block_of, block_term, term_of, next_of, HasBlock}
+use Rattle.sq_graph.specs.Graph.{Block, Graph}
+use Rattle.sq_graph.specs.Blocks.{named, block_of, block_term, next_of}
 use Rattle.sq_graph.specs.Terms.{links, goes_on}
-use Rattle.sq_graph.specs.Uses.{uses, code_word_uses, terms_uses, items_uses}
+use Rattle.sq_graph.specs.Uses.{uses}
 use Rattle.sq_graph.specs.Rules.{IsGraph}
 use Rattle.sq_graph.specs.Operations.{with_blocks}
 use Rattle.sq_graph.specs.Renames.{swapped, retargeted_block}
@@ -19,9 +18,9 @@ use Rattle.sq_graph.specs.Lines.{End, Line, body_lines, lines_of, behind_name, s
 use Rattle.sq_graph.specs.Walks.{word_name, code_targets}
 use Rattle.sq_graph.specs.Soundness.{IsSound}
 use Rattle.sq_graph.proofs.Located.{located}
-use Rattle.sq_follow.specs.Follows.{Follows, word_address}
+use Rattle.sq_follow.specs.Follows.{Follows}
 use Rattle.sq_patch.specs.Changes.{Change, Alike, IsSteady, falls, jump_before}
-use Rattle.sq_patch.specs.LoneJumps.{IsApart, IsPassable, without_jump}
+use Rattle.sq_patch.specs.LoneJumps.{IsPassable, without_jump}
 use Rattle.sq_patch.proofs.LiveTargets.{word_target}
 use Rattle.sq_patch.proofs.Patch.{change_follows}
 use Rattle.sq_patch.proofs.Keeping.{every_carrier}
@@ -29,10 +28,10 @@ use Rattle.sq_patch.proofs.Changing.{ahead}
 use Rattle.sq_patch.proofs.Falling.{every, absent_from, next_at, name_at}
 use Rattle.sq_patch.proofs.Moving.{moving, other_names, same_addresses}
 use Rattle.sq_patch.proofs.Carrying.{same_some, SlotGoes, BlockGoes, carried_block}
-use Rattle.sq_patch.proofs.Layouts.{IsHeld, Carries, done, stays, turns, gone, carries_behind, carried_sound}
+use Rattle.sq_patch.proofs.Layouts.{Carries, done, stays, turns, gone, carries_behind, carried_sound}
 use Rattle.sq_patch.proofs.Restricting.{own, slot_target, links_goes_on, falls_goes_on}
 use Rattle.sq_patch.proofs.Standing.{stands_at, distinct_at, block_at, items_go, term_goes, carried_is, words_held, bodies_held, procedures_sound}
-use Rattle.sq_patch.proofs.Used.{contains_first, from_slice}
+use Rattle.sq_patch.proofs.Used.{from_slice}
 
 -- a lone Jump block has no items, and ends in the Jump
 pub lone_block : (items : List Item) (t : Term) (to : ℕ) → jump_of items t ≡ Some to → (items ≡ []) × (t ≡ Jump to)

@@ -1,5 +1,5 @@
 -- A graph in which other blocks stand in one place follows it, and is sound where it is.
-use Rattle.std.proofs.Common.{◌≡◌, ℕ, Bool, false, true, List, [], ◌∷◌, ◌++◌, None, sym, refl, subst}
+use Rattle.std.proofs.Common.{◌≡◌, ℕ, Bool, false, true, List, ◌∷◌, ◌++◌, None, sym, refl, subst}
 use Rattle.std.specs.List.{Contains}
 use Rattle.sq_graph.specs.declared.item.Item.{Item}
 use Rattle.sq_graph.specs.Graph.{Block, Procedure, Graph}

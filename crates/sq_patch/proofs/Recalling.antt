@@ -1,20 +1,19 @@
 -- A graph whose procedures have other numbers, some in place of others, follows it.
-use Rattle.std.proofs.Common.{◌≡◌, ◌≢◌, ℕ, zero, suc, ◌<◌, ◌-◌, nat_lt, arith, Bool, true, false, ◌==◌, if◌then◌else◌, inl, inr, List, [], ◌∷◌, ◌++◌, Option, Some, None, map, take, drop, remove, slice_get, refl, sym, ap, ◌∙◌, subst}
-use Rattle.std.proofs.lemmas.Bool.{cases_Bool, eq-eqb, ne_eqb, eqb-true, ltb-true, ltb-false}
+use Rattle.std.proofs.Common.{◌≡◌, ◌≢◌, ℕ, zero, suc, ◌<◌, ◌-◌, nat_lt, arith, Bool, true, false, ◌==◌, inl, inr, List, [], ◌∷◌, ◌++◌, Some, None, map, take, drop, remove, slice_get, refl, sym, ap, ◌∙◌, subst}
+use Rattle.std.proofs.lemmas.Bool.{cases_Bool, eqb-true, ltb-true, ltb-false}
 use Rattle.std.proofs.lemmas.Option.{slice_get-map}
-use Rattle.std.proofs.lemmas.List.Elements.{Contains-append_cases}
 use Rattle.std.specs.Option.{option_map}
-use Rattle.std.specs.List.{All, Contains, flat_map}
+use Rattle.std.specs.List.{Contains, flat_map}
 use Rattle.sq_graph.specs.declared.item.Item.{Item}
 use Rattle.sq_graph.specs.declared.item.Item.TheVariants.{Op, Hi, Lo, Out}
 use Rattle.sq_graph.specs.Graph.{Block, Procedure, Graph}
-use Rattle.sq_graph.specs.Blocks.{HasProcedure, body_of, link_of, procedure_body, procedure_link, items_of_blocks, items_of_bodies, all_items}
+use Rattle.sq_graph.specs.Blocks.{HasProcedure, procedure_body, procedure_link, all_items}
 use Rattle.sq_graph.specs.Terms.{links}
-use Rattle.sq_graph.specs.Uses.{item_calls, calls, term_uses, uses, code_word_uses, terms_uses, items_uses}
+use Rattle.sq_graph.specs.Uses.{item_calls, calls}
 use Rattle.sq_graph.specs.Rules.{IsGraph}
 use Rattle.sq_graph.specs.Operations.{redirected_calls, without_procedure}
 use Rattle.sq_graph.specs.Renames.{recalled_block, recalled_procedure, swapped, lowered}
-use Rattle.sq_graph.specs.Lines.{Line, lines_of, slot_name, block_lines}
+use Rattle.sq_graph.specs.Lines.{lines_of, slot_name, block_lines}
 use Rattle.sq_graph.specs.Walks.{word_name, lower_names, code_targets}
 use Rattle.sq_graph.specs.Soundness.{IsSoundBody, IsSound}
 use Rattle.sq_follow.specs.Follows.{Follows, word_address}
@@ -25,9 +24,9 @@ use Rattle.sq_patch.proofs.Patch.{change_follows}
 use Rattle.sq_patch.proofs.Keeping.{staying, all_matter, every_carrier}
 use Rattle.sq_patch.proofs.Changing.{ahead, same_map}
 use Rattle.sq_patch.proofs.Falling.{every}
-use Rattle.sq_patch.proofs.Carrying.{same_some, CallGoes, ItemGoes, SlotGoes, BlockGoes, carried_block, carried_procedure, carry_inside}
+use Rattle.sq_patch.proofs.Carrying.{same_some, CallGoes, ItemGoes, SlotGoes, BlockGoes, carry_inside}
 use Rattle.sq_patch.proofs.Layouts.{IsHeld, Carries, done, stays, carries_behind, carried_sound}
-use Rattle.sq_patch.proofs.Restricting.{own, own_block, own_procedure, flat_from, from_map_of, lower_recalled, body_recalled, each_has, block_target, procedure_target, slot_target}
+use Rattle.sq_patch.proofs.Restricting.{own_block, own_procedure, flat_from, from_map_of, lower_recalled, body_recalled, each_has, block_target, procedure_target, slot_target}
 use Rattle.sq_patch.proofs.Standing.{stands_at}
 use Rattle.sq_patch.proofs.Used.{contains_first, contains_later, flat_contains, from_slice, slice_there, from_all, item_called, block_item, body_calls_none}
 

@@ -1,5 +1,5 @@
 -- A graph in which other blocks stand in one place, and names may stand for others, follows it and is sound where it is.
-use Rattle.std.proofs.Common.{◌≡◌, ℕ, zero, suc, ◌<◌, Bool, true, false, List, [], ◌∷◌, ◌++◌, Option, Some, None, map, slice_get, refl, sym, ap, ◌∙◌, subst, arith}
+use Rattle.std.proofs.Common.{◌≡◌, ℕ, Bool, true, false, List, [], ◌∷◌, ◌++◌, Option, Some, None, map, slice_get, refl, sym, ap, ◌∙◌, subst}
 use Rattle.std.specs.List.{Contains}
 use Rattle.sq_graph.specs.Graph.{Block, Procedure, Graph}
 use Rattle.sq_graph.specs.Terms.{links}
@@ -21,7 +21,7 @@ use Rattle.sq_patch.proofs.Carrying.{same_some, SlotGoes, BlockGoes, ItemGoes, c
 use Rattle.sq_patch.proofs.Layouts.{Turn, Carries, done, stays, turns, carries_behind, carried_sound}
 use Rattle.sq_patch.proofs.Restricting.{own, own_block, slot_target}
 use Rattle.sq_patch.proofs.Standing.{stands_at, own_called_block, items_go, body_goes, term_goes, words_held, bodies_held, procedures_sound}
-use Rattle.sq_patch.proofs.Used.{contains_first, contains_later, from_slice}
+use Rattle.sq_patch.proofs.Used.{contains_first, from_slice}
 
 -- A change in which names and registers stay, but some names may be held for others, or gone to for others.
 abbrev pub relating : (MayHold MayGo : ℕ → ℕ → Type 0) → (List Line → ℕ → Type 0) → Type 0 → Graph → Graph → Change

@@ -1,21 +1,20 @@
 -- A graph with its blocks in an order in which each that goes on keeps its next slot follows it.
-use Rattle.std.proofs.Common.{◌≡◌, ◌≢◌, ℕ, zero, suc, ◌<◌, ◌⊎◌, arith, Bool, true, false, ◌==◌, if◌then◌else◌, inl, inr, List, [], ◌∷◌, ◌++◌, Option, Some, None, IsSome, map, slice_get, refl, sym, ap, ◌∙◌, subst}
+use Rattle.std.proofs.Common.{◌≡◌, ℕ, zero, suc, ◌<◌, ◌⊎◌, arith, Bool, true, false, if◌then◌else◌, inl, inr, List, [], ◌∷◌, ◌++◌, Some, None, IsSome, map, refl, sym, ap, ◌∙◌, subst}
 use Rattle.std.proofs.lemmas.List.Elements.{Contains-append_cases}
 use Rattle.std.specs.List.{Contains, flat_map}
 use Rattle.sq_arena.specs.Entries.{value_of, first_key, behind as entries_behind, HasDistinctKeys}
-use Rattle.sq_graph.specs.declared.item.Item.{Item}
 use Rattle.sq_graph.specs.Graph.{Block, Procedure, Graph}
 use Rattle.sq_graph.specs.Blocks.{named, HasBlock, block_of, next_of}
 use Rattle.sq_graph.specs.Terms.{links, goes_on}
 use Rattle.sq_graph.specs.Uses.{uses, code_word_uses, terms_uses, items_uses}
 use Rattle.sq_graph.specs.Blocks.{all_items}
 use Rattle.sq_graph.specs.Rules.{IsGraph}
-use Rattle.sq_graph.specs.Lines.{Line, Name, line_of, term_lines, body_lines, lines_of, behind_name, slot_name, block_lines}
+use Rattle.sq_graph.specs.Lines.{Line, term_lines, body_lines, lines_of, behind_name, slot_name, block_lines}
 use Rattle.sq_graph.specs.Walks.{word_name, lower_names, link_names, first_name, code_targets}
 use Rattle.sq_graph.specs.Soundness.{LinksDieIn, IsSound}
-use Rattle.sq_graph.proofs.Located.{IsAt, located}
+use Rattle.sq_graph.proofs.Located.{located}
 use Rattle.sq_follow.specs.Follows.{Follows}
-use Rattle.sq_patch.specs.Changes.{Change, Alike, ends, falls, name_before, name_after, IsSteady}
+use Rattle.sq_patch.specs.Changes.{Change, Alike, ends, name_before, name_after, IsSteady}
 use Rattle.sq_patch.specs.Inserts.{AreReordered}
 use Rattle.sq_patch.proofs.LiveTargets.{word_target}
 use Rattle.sq_patch.proofs.Patch.{change_follows}
@@ -31,7 +30,7 @@ use Rattle.sq_patch.proofs.Standing.{stands_at, distinct_at, block_at}
 use Rattle.sq_patch.proofs.Placing.{C as placing, block_stays, block_goes as block_was}
 use Rattle.sq_patch.proofs.Sounding.{die_in}
 use Rattle.sq_patch.proofs.Leading.{slot_lines, slot_lines_name, first_slot, leads}
-use Rattle.sq_patch.proofs.Used.{contains_first, contains_later, from_slice, from_all}
+use Rattle.sq_patch.proofs.Used.{contains_first, from_slice, from_all}
 
 first_named : (bs : List Block) → slot_name (lines_of bs) ≡ first_key (named bs)
 first_named [] = refl
@@ -231,7 +230,7 @@ module _ (g : Graph) (blocks : List Block) (rules : IsGraph g) (order : AreReord
       let before = die_in g w.front z w.back (subst (λ cs. LinksDieIn g (lines_of cs)) (sym w.whole) sound.links_die) in
       let go = block_goes w.front z w.back w.whole in
       let term = carry_term C own z.term (lines_of w.back) (slot z) go.term go.slot
-          (λ f. subst (λ o. Alike C true None (lines_of w.back) (slot_lines blocks o)) (sym (next_kept w.front z w.back w.whole (falls_goes_on z.term f))) (lines true (w.front ++ z ∷ []) w.back (ahead w.front z w.back ∙ w.whole))) in
+      (λ f. subst (λ o. Alike C true None (lines_of w.back) (slot_lines blocks o)) (sym (next_kept w.front z w.back w.whole (falls_goes_on z.term f))) (lines true (w.front ++ z ∷ []) w.back (ahead w.front z w.back ∙ w.whole))) in
       let there : LinksDieIn h (slot z) = subst (λ ys. LinksDieIn h ys) (slot_there front z bs e) later in
       subst (λ ys. LinksDieIn h (body_lines z ys)) (sym (slot_there front z bs e))
       (subst (λ (c : Block). LinksDieIn h (body_lines c (slot z))) (is_own z)

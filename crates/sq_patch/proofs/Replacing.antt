@@ -1,5 +1,5 @@
 -- A block with other items in place of some, in a place of a graph.
-use Rattle.std.proofs.Common.{◌≡◌, ℕ, zero, suc, ◌<◌, arith, Bool, true, false, ◌==◌, if◌then◌else◌, inl, inr, List, [], ◌∷◌, ◌++◌, ◌+◌, None, IsSome, map, take, drop, take-append-drop, drop-drop, refl, sym, ap, ◌∙◌, subst}
+use Rattle.std.proofs.Common.{◌≡◌, ℕ, Bool, true, false, ◌==◌, if◌then◌else◌, inl, inr, List, [], ◌∷◌, ◌++◌, ◌+◌, None, map, take, drop, take-append-drop, drop-drop, refl, sym, ap, ◌∙◌, subst}
 use Rattle.std.proofs.lemmas.List.Concat.{flat_map-append}
 use Rattle.std.proofs.lemmas.List.Elements.{Contains-append_cases, Contains-append_left, Contains-append_right}
 use Rattle.std.specs.List.{Contains, flat_map}
@@ -25,11 +25,11 @@ use Rattle.sq_patch.proofs.Changing.{ahead}
 use Rattle.sq_patch.proofs.Falling.{every}
 use Rattle.sq_patch.proofs.Inlining.{with_others}
 use Rattle.sq_patch.proofs.Dying.{items_rest, term_dies}
-use Rattle.sq_patch.proofs.Carrying.{AreOf, ItemGoes, carried_items, carry_items, carry_term, Backs, items_die}
-use Rattle.sq_patch.proofs.Layouts.{IsHeld, Both, Turn, carries_lines}
+use Rattle.sq_patch.proofs.Carrying.{AreOf, ItemGoes, carry_items, carry_term, Backs, items_die}
+use Rattle.sq_patch.proofs.Layouts.{Turn, carries_lines}
 use Rattle.sq_patch.proofs.Restricting.{own, own_block, block_target, slot_targets}
 use Rattle.sq_patch.proofs.Standing.{stands_at, own_called_block}
-use Rattle.sq_patch.proofs.Placing.{C as placing, block_stays, items_stay, block_goes, all_stay, placed_follows, placed_sound}
+use Rattle.sq_patch.proofs.Placing.{block_stays, items_stay, block_goes, all_stay, placed_follows, placed_sound}
 use Rattle.sq_patch.proofs.Ending.{all_of, one_slot}
 
 -- items under their own names and numbers
@@ -107,9 +107,9 @@ module _ (X : List Line → ℕ → Type 0) (Z : Type 0) (g h : Graph) (rules : 
             | inr d ↦ elim (Contains-append_cases (flat_map lower_names by) (flat_map lower_names rest) m (subst (λ ns. Contains ns m) (flat_map-append lower_names by rest) d)) [
               | inl e ↦ lowers m e
               | inr e ↦ lower_in m (subst (λ is. Contains (flat_map lower_names is) m) (sym are)
-              (subst (λ ns. Contains ns m) (sym (flat_map-append lower_names first (out ++ rest)))
-              (Contains-append_right (flat_map lower_names first) (flat_map lower_names (out ++ rest)) m
-              (subst (λ ns. Contains ns m) (sym (flat_map-append lower_names out rest)) (Contains-append_right (flat_map lower_names out) (flat_map lower_names rest) m e)))))
+                  (subst (λ ns. Contains ns m) (sym (flat_map-append lower_names first (out ++ rest)))
+                  (Contains-append_right (flat_map lower_names first) (flat_map lower_names (out ++ rest)) m
+                  (subst (λ ns. Contains ns m) (sym (flat_map-append lower_names out rest)) (Contains-append_right (flat_map lower_names out) (flat_map lower_names rest) m e)))))
             ]
           ]
 
@@ -181,7 +181,7 @@ module _ (X : List Line → ℕ → Type 0) (Z : Type 0) (g : Graph) (carrier : 
   ended b =
       let go = block_goes every X Z g h rules (known X Z g h rules refl refl) refl refl (holds X Z g h rules refl refl) place.front x back back whole refl in
       let p = carry_term D own x.term (lines_of back) (lines_of back) go.term go.slot
-          (λ f. carries_lines D own every b refl (all_stay every X Z g h rules (known X Z g h rules refl refl) refl refl (holds X Z g h rules refl refl) true (place.front ++ x ∷ []) back (ahead place.front x back ∙ whole))) in
+      (λ f. carries_lines D own every b refl (all_stay every X Z g h rules (known X Z g h rules refl refl) refl refl (holds X Z g h rules refl refl) true (place.front ++ x ∷ []) back (ahead place.front x back ∙ whole))) in
       subst (λ t. Alike D b None (term_lines x.term (lines_of back)) (term_lines t (lines_of back))) (ap (λ (w : Block). w.term) (sym (block_stays every X Z g h rules (known X Z g h rules refl refl) refl refl (holds X Z g h rules refl refl) x))) p
 
   slot : (m : ℕ) → links x.term ≡ true → Contains (first_name back) m → Contains (code_targets g) m

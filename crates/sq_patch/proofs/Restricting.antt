@@ -1,5 +1,5 @@
 -- A graph with the blocks of a closed set alone, and the procedures that these call, follows it.
-use Rattle.std.proofs.Common.{◌≡◌, ◌≢◌, ◌⊎◌, ℕ, zero, suc, ◌<◌, Bool, true, false, ◌==◌, if◌then◌else◌, List, [], ◌∷◌, ◌++◌, Option, Some, None, IsSome, map, length, slice_get, refl, sym, ap, ◌∙◌, subst, inl, inr, arith}
+use Rattle.std.proofs.Common.{◌≡◌, ◌≢◌, ◌⊎◌, ℕ, zero, suc, ◌<◌, Bool, true, false, ◌==◌, if◌then◌else◌, List, [], ◌∷◌, ◌++◌, Some, None, map, slice_get, refl, sym, ap, ◌∙◌, subst, inl, inr, arith}
 use Rattle.std.proofs.lemmas.Bool.{cases_Bool, eq-eqb, ne_eqb}
 use Rattle.std.proofs.lemmas.List.Elements.{All-nil, All-cons, All-map, All-weaker, Contains-append_left, Contains-append_right, Contains-append_cases}
 use Rattle.std.proofs.lemmas.Option.{slice_get-map}
@@ -15,12 +15,12 @@ use Rattle.sq_graph.specs.Blocks.{named, block_items, items_of, items_of_blocks,
 use Rattle.sq_graph.specs.Terms.{links, goes_on}
 use Rattle.sq_graph.specs.Uses.{item_uses, item_calls, items_uses, term_uses, uses}
 use Rattle.sq_graph.specs.Rules.{IsGraph}
-use Rattle.sq_graph.specs.Renames.{retargeted_item, retargeted_block, retargeted_procedure, recalled_item, recalled_items, recalled_block, recalled_procedure}
-use Rattle.sq_graph.specs.Lines.{lines_of, behind_name, line_of, slot_name, block_lines}
-use Rattle.sq_graph.specs.Walks.{IsReachedBlock, entry, code_word, walk, procedure_names, called_names, first_name, block_successors, successors_in, successors, word_name, lower_names, link_names, code_targets}
+use Rattle.sq_graph.specs.Renames.{retargeted_block, retargeted_procedure, recalled_item, recalled_items, recalled_block, recalled_procedure}
+use Rattle.sq_graph.specs.Lines.{lines_of, line_of, slot_name, block_lines}
+use Rattle.sq_graph.specs.Walks.{entry, code_word, walk, procedure_names, called_names, first_name, block_successors, successors_in, word_name, lower_names, link_names, code_targets}
 use Rattle.sq_graph.specs.Soundness.{IsFreeOf, IsSoundBody, IsSound}
 use Rattle.sq_graph.proofs.Bypassing.{retargeted_same}
-use Rattle.sq_follow.specs.Follows.{Follows, word_address}
+use Rattle.sq_follow.specs.Follows.{Follows}
 use Rattle.sq_patch.specs.Changes.{Change, Alike, IsSteady, falls}
 use Rattle.sq_patch.specs.Restrictions.{procedures_held, number_held, restricted, IsCalledIn, IsClosed, HoldsReached}
 use Rattle.sq_patch.proofs.LiveTargets.{word_target}
@@ -30,9 +30,9 @@ use Rattle.sq_patch.proofs.Changing.{ahead, in_tail, same_map}
 use Rattle.sq_patch.proofs.Falling.{absent_from, found_at, other_name}
 use Rattle.sq_patch.proofs.Moving.{moving, item_use, word_use}
 use Rattle.sq_patch.proofs.Dying.{lower_use}
-use Rattle.sq_patch.proofs.Carrying.{CallGoes, ItemGoes, SlotGoes, TermGoesOn, AreOf, BlockGoes, carried_block, carried_procedure, carry_inside, Backs}
-use Rattle.sq_patch.proofs.Layouts.{IsHeld, gone, Carries, done, stays, turns, carries_lines, carries_behind, carried_sound}
-use Rattle.sq_patch.proofs.Used.{contains_first, contains_later, flat_contains, from_slice, slice_there, from_all, item_called, block_item, body_item, body_calls_none}
+use Rattle.sq_patch.proofs.Carrying.{CallGoes, ItemGoes, SlotGoes, BlockGoes, carried_procedure, carry_inside}
+use Rattle.sq_patch.proofs.Layouts.{IsHeld, gone, Carries, done, stays, turns, carries_behind, carried_sound}
+use Rattle.sq_patch.proofs.Used.{contains_first, contains_later, flat_contains, from_slice, slice_there, from_all, item_called, block_item, body_calls_none}
 
 abbrev pub own : ℕ → ℕ
 own n = n

@@ -1,14 +1,13 @@
 -- A graph is sound in which a block was split, a Jump became Fall, an upper half went, a jump became a Call, or a body
 -- stands in place of its call, where the graph before it is.
-use Rattle.std.proofs.Common.{◌≡◌, ◌≢◌, ℕ, zero, suc, ◌<◌, ◌≤◌, ◌+◌, Bool, true, false, ◌==◌, if◌then◌else◌, ◌⊎◌, inl, inr, List, [], ◌∷◌, ◌++◌, Option, Some, None, IsSome, map, take, drop, length, slice_get, refl, sym, ap, ◌∙◌, subst, arith}
-use Rattle.std.proofs.lemmas.List.Concat.{flat_map-append}
+use Rattle.std.proofs.Common.{◌≡◌, ℕ, zero, suc, ◌<◌, ◌≤◌, ◌+◌, Bool, true, false, ◌==◌, if◌then◌else◌, inl, inr, List, [], ◌∷◌, ◌++◌, Option, Some, None, IsSome, map, take, drop, length, slice_get, refl, sym, ap, ◌∙◌, subst, arith}
 use Rattle.std.proofs.lemmas.List.Elements.{Contains-append_cases}
-use Rattle.std.specs.List.{All, Contains, flat_map}
+use Rattle.std.specs.List.{Contains, flat_map}
 use Rattle.sq_arena.specs.Entries.{value_of}
 use Rattle.sq_graph.specs.declared.item.Item.{Item}
 use Rattle.sq_graph.specs.declared.item.Item.TheVariants.{Op, Hi, Lo, Out}
 use Rattle.sq_graph.specs.declared.item.Term.{Term}
-use Rattle.sq_graph.specs.declared.item.Term.TheVariants.{Fall, Jump, Branch, Call, PartJump, Indirect, Stop}
+use Rattle.sq_graph.specs.declared.item.Term.TheVariants.{Fall, Jump, PartJump}
 use Rattle.sq_graph.specs.Graph.{Block, Procedure, Graph}
 use Rattle.sq_graph.specs.Blocks.{named, HasBlock, block_of, block_items, items_of, block_term, term_of, next_of, procedure_body}
 use Rattle.sq_graph.specs.Terms.{links}
@@ -16,7 +15,7 @@ use Rattle.sq_graph.specs.Uses.{uses, item_calls}
 use Rattle.sq_graph.specs.Rules.{IsGraph, mentions, ProcedureFits}
 use Rattle.sq_graph.specs.Operations.{IsNew, with_blocks, halves, split_at, with_term, replaced, inlined, called_at, called_body, call_of}
 use Rattle.sq_graph.specs.Lines.{Line, Name, End, Enter, Return, line_of, term_lines, body_lines, lines_of, inside, behind_name, block_lines, place_lines}
-use Rattle.sq_graph.specs.Walks.{IsLive, read_here, live_behind, is_register, lower_names, link_names, first_name, code_targets}
+use Rattle.sq_graph.specs.Walks.{IsLive, read_here, live_behind, lower_names, link_names, first_name, code_targets}
 use Rattle.sq_graph.specs.Soundness.{LinksDieIn, IsSound}
 use Rattle.sq_graph.proofs.Located.{IsAt, located}
 use Rattle.sq_graph.proofs.Changes.{with_blocks-at}
@@ -25,19 +24,19 @@ use Rattle.sq_patch.specs.Operations.{hastened}
 use Rattle.sq_patch.proofs.Keeping.{all_matter, every_carrier}
 use Rattle.sq_patch.proofs.Staying.{body_unnamed}
 use Rattle.sq_patch.proofs.Changing.{ahead}
-use Rattle.sq_patch.proofs.Falling.{every, other_name, absent_from, found_at, name_at, term_is, next_is, slot_goes}
+use Rattle.sq_patch.proofs.Falling.{every, other_name, absent_from, name_at, term_is, next_is, slot_goes}
 use Rattle.sq_patch.proofs.Hastening.{meets}
 use Rattle.sq_patch.proofs.Splitting.{Old, old, halved, halves_keep, turned, map_parts, take_in, drop_in}
 use Rattle.sq_patch.proofs.Dropping.{live, live_carrier, unwritten}
 use Rattle.sq_patch.proofs.Bypassing.{slot_known}
 use Rattle.sq_patch.proofs.Dying.{body_rest, items_rest, term_dies}
 use Rattle.sq_patch.proofs.Carrying.{same_some, slot_same, AreOf, ItemGoes, carry_items, carry_term, Backs, items_die}
-use Rattle.sq_patch.proofs.Layouts.{IsHeld, Turn, carries_lines}
+use Rattle.sq_patch.proofs.Layouts.{Turn, carries_lines}
 use Rattle.sq_patch.proofs.Restricting.{own, block_target, procedure_target, slot_targets, target_from, flat_from}
 use Rattle.sq_patch.proofs.Standing.{stands_at, distinct_at, block_at}
 use Rattle.sq_patch.proofs.Placing.{C as placing, block_stays, block_goes, all_stay, items_stay, bodies_stay, placed_sound}
 use Rattle.sq_patch.proofs.Ending.{all_of, one_slot, term_turn}
-use Rattle.sq_patch.proofs.Replacing.{own_items, known, holds, C as replacing, place, x as block_there, out, behind, replaced_sound}
+use Rattle.sq_patch.proofs.Replacing.{own_items, known, holds, C as replacing, place, out, behind, replaced_sound}
 use Rattle.sq_patch.proofs.Calls.{items_dead, behind_items, is_other}
 use Rattle.sq_patch.proofs.Used.{contains_first, contains_later, flat_contains, from_slice, from_all, slice_there, item_called, block_item}
 
@@ -317,7 +316,7 @@ module _ (g : Graph) (new block at : ℕ) (rules : IsGraph g) (fresh : IsNew g n
     ended_same =
         let go = block_goes N all_matter (Unit {0}) g sh rules used_old refl refl target_old front x back back e refl in
         let p = carry_term SC own x.term (lines_of back) (lines_of back) go.term go.slot
-            (λ f. carries_lines SC own N true refl (all_stay N all_matter (Unit {0}) g sh rules used_old refl refl target_old true (front ++ x ∷ []) back (ahead front x back ∙ e))) in
+        (λ f. carries_lines SC own N true refl (all_stay N all_matter (Unit {0}) g sh rules used_old refl refl target_old true (front ++ x ∷ []) back (ahead front x back ∙ e))) in
         subst (λ t. Alike SC true None ending (term_lines t (lines_of back))) (ap (λ (w : Block). w.term) (sym (block_stays N all_matter (Unit {0}) g sh rules used_old refl refl target_old x))) p
 
     keep : (items : List Item) (xs ys : List Line) → AreOf SC own (ItemGoes SC own) items → Alike SC true None xs ys → Alike SC true None (map line_of items ++ xs) (map line_of items ++ ys)

@@ -1,26 +1,26 @@
 -- Changes in which items, terms and procedures stay but for names: what is asked of blocks that are carried over.
-use Rattle.std.proofs.Common.{◌≡◌, ℕ, zero, suc, ◌<◌, List, [], ◌∷◌, ◌++◌, Some, map, slice_get, refl, sym, ap, ◌∙◌, subst, arith}
+use Rattle.std.proofs.Common.{◌≡◌, ℕ, List, [], ◌∷◌, ◌++◌, Some, map, slice_get, refl, sym, ap, ◌∙◌, subst}
 use Rattle.std.proofs.lemmas.List.Elements.{All-map, All-weaker}
 use Rattle.std.specs.List.{All, Contains, flat_map}
 use Rattle.sq_arena.specs.Entries.{value_of, HasDistinctKeys}
 use Rattle.sq_graph.specs.declared.item.Item.{Item}
 use Rattle.sq_graph.specs.declared.item.Item.TheVariants.{Op, Hi, Lo, Out}
 use Rattle.sq_graph.specs.Graph.{Block, Procedure, Graph}
-use Rattle.sq_graph.specs.Blocks.{named, block_items, items_of, block_term, term_of, next_of, HasProcedure}
-use Rattle.sq_graph.specs.Uses.{item_uses, uses}
+use Rattle.sq_graph.specs.Blocks.{named, HasProcedure}
+use Rattle.sq_graph.specs.Uses.{uses}
 use Rattle.sq_graph.specs.Rules.{IsGraph}
-use Rattle.sq_graph.specs.Renames.{retargeted_items, retargeted_procedure, retargeted_words, retargeted_block, recalled_item, recalled_items, recalled_block, recalled_procedure}
+use Rattle.sq_graph.specs.Renames.{retargeted_procedure, retargeted_words, retargeted_block, recalled_items, recalled_block, recalled_procedure}
 use Rattle.sq_graph.specs.Walks.{lower_names, word_name, code_targets}
 use Rattle.sq_graph.specs.Soundness.{IsSoundBody, IsSound}
 use Rattle.sq_patch.specs.Changes.{Change}
 use Rattle.sq_patch.proofs.LiveTargets.{word_target}
 use Rattle.sq_patch.proofs.Falling.{absent_from, found_at}
 use Rattle.sq_patch.proofs.Changing.{in_tail}
-use Rattle.sq_patch.proofs.Moving.{term_use, item_use, other_names, procedure_moved}
+use Rattle.sq_patch.proofs.Moving.{term_use, other_names, procedure_moved}
 use Rattle.sq_patch.proofs.Dying.{lowers-moved, body-moved}
-use Rattle.sq_patch.proofs.Carrying.{CallGoes, ItemGoes, TermGoesOn, AreOf, carried_block, carried_procedure, carry_inside}
+use Rattle.sq_patch.proofs.Carrying.{CallGoes, ItemGoes, TermGoesOn, carried_block, carry_inside}
 use Rattle.sq_patch.proofs.Restricting.{own, flat_from, from_map_of, block_target, procedure_target}
-use Rattle.sq_patch.proofs.Used.{contains_first, flat_contains, from_slice, slice_there, item_called, block_item, body_item, body_calls_none}
+use Rattle.sq_patch.proofs.Used.{contains_first, flat_contains, from_slice, slice_there, item_called, block_item, body_calls_none}
 
 -- under their own numbers the procedures that are called are the same
 own_calls : (items : List Item) → recalled_items own items ≡ items

@@ -1,5 +1,5 @@
 -- Lone Jump blocks that go.
-use Rattle.std.specs.Prelude.{◌≡◌, ◌≢◌, ℕ, false, List, Some}
+use Rattle.std.specs.Prelude.{◌≡◌, ◌≢◌, ℕ, false, Some}
 use Rattle.std.specs.List.{Contains}
 use Rattle.sq_isa.specs.Branches.{inverse_of}
 use Rattle.sq_isa.specs.declared.instructions.Cond.{Cond}

@@ -1,5 +1,5 @@
 -- Equal ends of two blocks that become one.
-use Rattle.std.specs.Prelude.{◌≡◌, ◌≢◌, ℕ, List, [], drop, length}
+use Rattle.std.specs.Prelude.{◌≡◌, ◌≢◌, ℕ, [], drop, length}
 use Rattle.sq_graph.specs.declared.item.Term.TheVariants.{Jump}
 use Rattle.sq_graph.specs.Graph.{Graph}
 use Rattle.sq_graph.specs.Blocks.{items_of}
