@@ -212,7 +212,7 @@ module _ (g : Graph) (rules : IsGraph g) where
       ]
 
   -- what stands behind a link is there
-  slot_known : (bs : List Block) (n : ℕ) → Contains (link_names bs) n → IsSome (value_of (named bs) n)
+  pub slot_known : (bs : List Block) (n : ℕ) → Contains (link_names bs) n → IsSome (value_of (named bs) n)
   slot_known [] n c = absurd (let k : c.0 < 0 = c.1 in omega arith)
   slot_known (x ∷ bs) n c =
       has_name-cons x bs n (first_or_later bs (links x.term) (Contains-append_cases (if links x.term then first_name bs else []) (link_names bs) n c) (λ d. slot_known bs n d))

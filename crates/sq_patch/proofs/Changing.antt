@@ -34,7 +34,7 @@ pub tail_made : (g : Graph) (front bs : List Block) → MakeTargets g (lines_of 
 tail_made g [] bs m = m
 tail_made g (y ∷ front) bs m = tail_made g front bs (blocks_made g y (front ++ bs) m)
 
-same_map : (xs : List ℕ) → xs ≡ map (λ n. n) xs
+pub same_map : (xs : List ℕ) → xs ≡ map (λ n. n) xs
 same_map [] = refl
 same_map (x ∷ xs) = ap (λ ys. x ∷ ys) (same_map xs)
 

@@ -45,10 +45,10 @@ behind_one (x ∷ items) zero item rest e = refl
 behind_one (x ∷ items) (suc at) item rest e = let more : suc at + 1 ≡ suc (at + 1) = omega arith in rw more (behind_one items at item rest e)
 
 -- the registers that are live
-abbrev live : Graph → List Line → ℕ → Type 0
+abbrev pub live : Graph → List Line → ℕ → Type 0
 live g lines r = IsLive g r lines
 
-live_carrier : (g : Graph) → IsCarrier g (live g)
+pub live_carrier : (g : Graph) → IsCarrier g (live g)
 live_carrier g = record { read = λ line rest r e. read_here e; kept = λ line rest next r e go l. live_behind e go l }
 
 and_false : (t : Bool) → (t && (false || false)) ≡ false
@@ -59,7 +59,7 @@ another : (rd r : ℕ) → rd ≢ r → is_written (Lui rd 0) r ≡ false
 another rd r e = let t : (rd == r) ≡ false = grind (arith, nat_tests) in rw t (and_false (not (r == 0)))
 
 -- a register that is dead isn't one that is live
-unwritten : (g : Graph) (rd r : ℕ) (lines : List Line) → ¬ IsLive g rd lines → IsLive g r lines → is_written (Lui rd 0) r ≡ false
+pub unwritten : (g : Graph) (rd r : ℕ) (lines : List Line) → ¬ IsLive g rd lines → IsLive g r lines → is_written (Lui rd 0) r ≡ false
 unwritten g rd r lines dead l = ⊎_elim (λ (e : rd ≡ r). absurd (dead (subst (λ q. IsLive g q lines) (sym e) l))) (λ (e : rd ≢ r). another rd r e) (cases_eq rd r)
 
 module _ (g : Graph) (block at rd to : ℕ) (rules : IsGraph g) (there : slice_get (items_of g block) at ≡ Some (Hi rd to)) (dead : ¬ IsLive g rd (place_lines g block (at + 1))) where

@@ -29,7 +29,7 @@ from_map f [] y c = absurd (let l : c.0 < 0 = c.1 in omega arith)
 from_map f (x ∷ xs) y (zero, l, e) = (x, (contains_first x xs, sym e))
 from_map f (x ∷ xs) y (suc k, l, e) = let o = from_map f xs y (k, omega arith, e) in (o.0, (contains_later x o.0 xs o.1.0, o.1.1))
 
-lowers-moved : (f : ℕ → ℕ) (items : List Item) → flat_map lower_names (retargeted_items f items) ≡ map f (flat_map lower_names items)
+pub lowers-moved : (f : ℕ → ℕ) (items : List Item) → flat_map lower_names (retargeted_items f items) ≡ map f (flat_map lower_names items)
 lowers-moved f [] = refl
 lowers-moved f (Op insn ∷ items) = lowers-moved f items
 lowers-moved f (Hi rd to ∷ items) = lowers-moved f items
@@ -48,7 +48,7 @@ lower_user rd rs to items n (inl c) later = (Lo rd rs to, (contains_first (Lo rd
 lower_user rd rs to items n (inr c) later = later_user (Lo rd rs to) items n (later c)
 
 -- the names of Lo items are used
-lower_use : (items : List Item) (n : ℕ) → Contains (flat_map lower_names items) n → User items n
+pub lower_use : (items : List Item) (n : ℕ) → Contains (flat_map lower_names items) n → User items n
 lower_use [] n c = absurd (let l : c.0 < 0 = c.1 in omega arith)
 lower_use (Op insn ∷ items) n c = later_user (Op insn) items n (lower_use items n c)
 lower_use (Hi rd to ∷ items) n c = later_user (Hi rd to) items n (lower_use items n c)
@@ -75,7 +75,7 @@ some-moved : (f : ℕ → ℕ) (items : List Item) → items ≢ [] → retarget
 some-moved f [] some none = some refl
 some-moved f (item ∷ items) some none = absurd (cc)
 
-body-moved : (f : ℕ → ℕ) (p : Procedure) → IsSoundBody p → IsSoundBody (retargeted_procedure f p)
+pub body-moved : (f : ℕ → ℕ) (p : Procedure) → IsSoundBody p → IsSoundBody (retargeted_procedure f p)
 body-moved f p sound = record {
   some = some-moved f p.body sound.some;
   free = All-map {X = Item} (λ item. IsFreeOf p.link (line_of item)) (retargeted_item f) p.body (All-weaker {X = Item} (λ item. IsFreeOf p.link (line_of item)) (λ item. IsFreeOf p.link (line_of (retargeted_item f item))) (λ item free. free-moved f p.link item free) p.body sound.free);
@@ -90,7 +90,7 @@ links-moved f (PartJump link part to) = refl
 links-moved f (Indirect link at offset) = refl
 links-moved f (Stop word) = refl
 
-term_dies : (g : Graph) (t : Term) (lines : List Line) → LinksDieIn g lines → LinksDieIn g (term_lines t lines)
+pub term_dies : (g : Graph) (t : Term) (lines : List Line) → LinksDieIn g lines → LinksDieIn g (term_lines t lines)
 term_dies g Fall lines die = die
 term_dies g (Jump to) lines die = die
 term_dies g (Branch cond a b to) lines die = die
@@ -100,7 +100,7 @@ term_dies g (Indirect link at offset) lines die = die
 term_dies g (Stop word) lines die = die
 
 -- links die in what stands behind a block
-items_rest : (g : Graph) (items : List Item) (lines : List Line) → LinksDieIn g (map line_of items ++ lines) → LinksDieIn g lines
+pub items_rest : (g : Graph) (items : List Item) (lines : List Line) → LinksDieIn g (map line_of items ++ lines) → LinksDieIn g lines
 items_rest g [] lines die = die
 items_rest g (Op insn ∷ items) lines die = items_rest g items lines die
 items_rest g (Hi rd to ∷ items) lines die = items_rest g items lines die

@@ -27,7 +27,7 @@ pub absent_from : (front : List Block) (x : Block) (bs : List Block) → HasDist
 absent_from front x bs d = absent_ahead (named front) (named bs) x.name x (subst HasDistinctKeys (named_split front x bs) d)
 
 -- a block of another name
-other_name : (t : Bool) (y : Block) (o : Option Block) → (if t then Some y else o) ≡ None → (t ≡ false) × (o ≡ None)
+pub other_name : (t : Bool) (y : Block) (o : Option Block) → (if t then Some y else o) ≡ None → (t ≡ false) × (o ≡ None)
 other_name true y o e = absurd (cc)
 other_name false y o e = (refl, e)
 
@@ -35,7 +35,7 @@ pub found_at : (front : List Block) (x : Block) (bs : List Block) → value_of (
 found_at [] x bs e = let t : (x.name == x.name) ≡ true = eq-eqb x.name x.name refl in rw t refl
 found_at (y ∷ front) x bs e = let o = other_name (y.name == x.name) y (value_of (named front) x.name) e in rw o.0 (found_at front x bs o.1)
 
-next_at : (front : List Block) (x : Block) (bs : List Block) → value_of (named front) x.name ≡ None → behind (named (front ++ (x ∷ bs))) x.name ≡ named bs
+pub next_at : (front : List Block) (x : Block) (bs : List Block) → value_of (named front) x.name ≡ None → behind (named (front ++ (x ∷ bs))) x.name ≡ named bs
 next_at front x bs e = ap (λ entries. behind entries x.name) (named_split front x bs) ∙ behind-append (named front) (named bs) x.name x e
 
 -- what stands behind a name
@@ -66,13 +66,13 @@ module _ (g : Graph) (block n : ℕ) (rules : IsGraph g) (jumps : term_of g bloc
   turned = record { head = λ b bs. refl; through = λ m b bs k. items_unnamed m b.items (lines_of bs) }
 
   -- the block ends in the Jump, and the next slot is the one to which it goes
-  term_is : (front : List Block) (x : Block) (bs : List Block) → front ++ (x ∷ bs) ≡ g.blocks → x.name ≡ block → x.term ≡ Jump n
+  pub term_is : (front : List Block) (x : Block) (bs : List Block) → front ++ (x ∷ bs) ≡ g.blocks → x.name ≡ block → x.term ≡ Jump n
   term_is front x bs e i =
       let d : HasDistinctKeys (named (front ++ (x ∷ bs))) = subst (λ blocks. HasDistinctKeys (named blocks)) (sym e) rules.distinct in
       let found : value_of (named g.blocks) block ≡ Some x = subst (λ name. value_of (named g.blocks) name ≡ Some x) i (subst (λ blocks. value_of (named blocks) x.name ≡ Some x) e (found_at front x bs (absent_from front x bs d))) in
       let f : Some x.term ≡ Some (Jump n) = sym (ap block_term found) ∙ jumps in cc
 
-  next_is : (front : List Block) (x : Block) (bs : List Block) → front ++ (x ∷ bs) ≡ g.blocks → x.name ≡ block → first_key (named bs) ≡ Some n
+  pub next_is : (front : List Block) (x : Block) (bs : List Block) → front ++ (x ∷ bs) ≡ g.blocks → x.name ≡ block → first_key (named bs) ≡ Some n
   next_is front x bs e i =
       let d : HasDistinctKeys (named (front ++ (x ∷ bs))) = subst (λ blocks. HasDistinctKeys (named blocks)) (sym e) rules.distinct in
       let rest : behind (named g.blocks) block ≡ named bs = subst (λ name. behind (named g.blocks) name ≡ named bs) i (subst (λ blocks. behind (named blocks) x.name ≡ named bs) e (next_at front x bs (absent_from front x bs d))) in
@@ -82,7 +82,7 @@ module _ (g : Graph) (block n : ℕ) (rules : IsGraph g) (jumps : term_of g bloc
   C = staying every all_matter (Unit {0}) g h
 
   -- the slot behind the block goes on like what its name leads to
-  slot_goes : {f : Bool} (front : List Block) (x : Block) (bs : List Block) → front ++ (x ∷ bs) ≡ g.blocks → first_key (named bs) ≡ Some n → Alike C f None (block_lines g n) (lines_of bs)
+  pub slot_goes : {f : Bool} (front : List Block) (x : Block) (bs : List Block) → front ++ (x ∷ bs) ≡ g.blocks → first_key (named bs) ≡ Some n → Alike C f None (block_lines g n) (lines_of bs)
   slot_goes front x [] e k = absurd (cc)
   slot_goes {f = f} front x (b ∷ bs) e k =
       let same : b.name ≡ n = let i : Some b.name ≡ Some n = k in cc in

@@ -44,7 +44,7 @@ module _ (g : Graph) (block link part to : ℕ) (rules : IsGraph g) (jumps : ter
   turned : IsTurned every g block (shorter link to) (shortened link to)
   turned = record { head = short_head link to; through = λ m b bs k. items_unnamed m b.items (End (hastened link to) ∷ lines_of bs) }
 
-  meets : {f : Bool} (l : ℕ) (xs ys : List Line) → (links (PartJump l part to) ≡ true → SameSlot C.MayHold (slot_name xs) (slot_name ys)) → Alike C f None (End (PartJump l part to) ∷ xs) (End (hastened l to) ∷ ys)
+  pub meets : {f : Bool} (l : ℕ) (xs ys : List Line) → (links (PartJump l part to) ≡ true → SameSlot C.MayHold (slot_name xs) (slot_name ys)) → Alike C f None (End (PartJump l part to) ∷ xs) (End (hastened l to) ∷ ys)
   meets zero xs ys s = both_jumped part to to (refl, tt)
   meets (suc l) xs ys s = both_hastened (suc l) part to to (refl, tt) s
 

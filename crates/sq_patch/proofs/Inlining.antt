@@ -26,7 +26,7 @@ two_lists [] ys rest = refl
 two_lists (x ∷ by) ys rest = ap (λ lines. line_of x ∷ lines) (two_lists by ys rest)
 
 -- the lines of items with others in the place of one
-with_others : (xs by ys : List Item) (rest : List Line) → map line_of (xs ++ (by ++ ys)) ++ rest ≡ map line_of xs ++ (map line_of by ++ (map line_of ys ++ rest))
+pub with_others : (xs by ys : List Item) (rest : List Line) → map line_of (xs ++ (by ++ ys)) ++ rest ≡ map line_of xs ++ (map line_of by ++ (map line_of ys ++ rest))
 with_others (x ∷ xs) by ys rest = ap (λ lines. line_of x ∷ lines) (with_others xs by ys rest)
 with_others [] by ys rest = two_lists by ys rest
 

@@ -19,6 +19,24 @@ mod Hastening
 mod Inlining
 mod Moving
 mod Dying
+mod Carrying
+mod Layouts
+mod Restricting
+mod Standing
+mod Passing
+mod Relating
+mod Placing
+mod Ending
+mod Inverting
+mod Replacing
+mod Calls
+mod Sounding
+mod Leading
+mod Meeting
+mod Merging
+mod Recalling
+mod Inserting
+mod Reordering
 mod Bypassing
 mod Joining
 pub mod Renaming

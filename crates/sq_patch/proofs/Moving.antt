@@ -49,7 +49,7 @@ moving K f g h = record {
 }
 
 -- what a block's term, and an item, uses is used
-term_use : (g : Graph) (b : Block) (n : ℕ) → Contains g.blocks b → Contains (term_uses b.term) n → Contains (uses g) n
+pub term_use : (g : Graph) (b : Block) (n : ℕ) → Contains g.blocks b → Contains (term_uses b.term) n → Contains (uses g) n
 term_use g b n c d =
     contains_later g.entry n (code_word_uses g.code_words ++ (terms_uses g.blocks ++ items_uses (all_items g)))
     (Contains-append_right (code_word_uses g.code_words) (terms_uses g.blocks ++ items_uses (all_items g)) n
@@ -66,7 +66,7 @@ word_use g n c =
     contains_later g.entry n (code_word_uses g.code_words ++ (terms_uses g.blocks ++ items_uses (all_items g)))
     (Contains-append_left (code_word_uses g.code_words) (terms_uses g.blocks ++ items_uses (all_items g)) n c)
 
-same_addresses : (f : ℕ → ℕ) (ws : List CodeRef) → map word_address (retargeted_words f ws) ≡ map word_address ws
+pub same_addresses : (f : ℕ → ℕ) (ws : List CodeRef) → map word_address (retargeted_words f ws) ≡ map word_address ws
 same_addresses f [] = refl
 same_addresses f (w ∷ ws) = ap (λ ats. w.at ∷ ats) (same_addresses f ws)
 

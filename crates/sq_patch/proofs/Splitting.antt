@@ -18,7 +18,7 @@ use Rattle.sq_patch.proofs.Changing.{IsTurned, Turns, turned_follows, in_tail, t
 use Rattle.sq_patch.proofs.Used.{contains_first, contains_later, not_new}
 
 -- the lines of items in two parts
-map_parts : (items : List Item) (at : ℕ) (rest : List Line) → map line_of items ++ rest ≡ map line_of (take at items) ++ (map line_of (drop at items) ++ rest)
+pub map_parts : (items : List Item) (at : ℕ) (rest : List Line) → map line_of items ++ rest ≡ map line_of (take at items) ++ (map line_of (drop at items) ++ rest)
 map_parts items zero rest = refl
 map_parts [] (suc at) rest = refl
 map_parts (item ∷ items) (suc at) rest = ap (λ lines. line_of item ∷ lines) (map_parts items at rest)
@@ -41,20 +41,20 @@ skip_name false rest n e = refl
 
 module _ (g : Graph) (new block at : ℕ) (rules : IsGraph g) (fresh : IsNew g new) where
   -- every name but the new one
-  abbrev Old : ℕ → Type 0
+  abbrev pub Old : ℕ → Type 0
   Old n = n ≢ new
 
-  old : (n : ℕ) → HasBlock g n → Old n
+  pub old : (n : ℕ) → HasBlock g n → Old n
   old n b = not_new g new n fresh b
 
   -- the block's lines in two halves
-  abbrev halved : Block → List Line → List Line
+  abbrev pub halved : Block → List Line → List Line
   halved b rest = map line_of (take at b.items) ++ (Name new ∷ (map line_of (drop at b.items) ++ term_lines b.term rest))
 
   passed : (n : ℕ) → n ≢ new → (new == n) ≡ false
   passed n e = grind (arith, nat_tests)
 
-  turned : IsTurned Old g block (halves new at) halved
+  pub turned : IsTurned Old g block (halves new at) halved
   turned = record {
     head = λ b bs. refl;
     through = λ n b bs e.
@@ -66,7 +66,7 @@ module _ (g : Graph) (new block at : ℕ) (rules : IsGraph g) (fresh : IsNew g n
   abbrev h : Graph
   h = split_at g new block at
 
-  halves_keep : Turns Old all_matter (Unit {0}) g old (every_carrier g) rules block (halves new at) halved turned
+  pub halves_keep : Turns Old all_matter (Unit {0}) g old (every_carrier g) rules block (halves new at) halved turned
   halves_keep f front b bs e i =
       let here : AreBlocks Old all_matter (Unit {0}) g old rules h refl (b ∷ bs) = λ x d. subst (λ blocks. Contains blocks x) e (in_tail front (b ∷ bs) x d) in
       let m : MakeTargets g (lines_of (b ∷ bs)) = tail_made g front (b ∷ bs) (subst (λ blocks. MakeTargets g (lines_of blocks)) (sym e) (lines_make g)) in

@@ -3,3 +3,9 @@ pub mod Registers
 pub mod LiveAgreement
 pub mod Changes
 pub mod Operations
+pub mod Restrictions
+pub mod LoneJumps
+pub mod Calls
+pub mod Merges
+pub mod Recalls
+pub mod Inserts

@@ -14,30 +14,45 @@ use Rattle.sq_graph.specs.Walks.{IsLive}
 use Rattle.sq_graph.specs.Soundness.{IsSound}
 use Rattle.sq_follow.specs.Follows.{Follows}
 
--- A graph with one block split follows it.
+-- A graph with one block split follows it, and is sound where it is.
 abbrev pub SplitFollows : Type 0
 SplitFollows = (g : Graph) (new block at : ℕ) → IsGraph g → IsNew g new → Follows g (split_at g new block at)
 
--- A graph in which a Jump to the next slot became Fall follows it.
+abbrev pub SplitIsSound : Type 0
+SplitIsSound = (g : Graph) (new block at : ℕ) → IsGraph g → IsNew g new → IsSound g → IsSound (split_at g new block at)
+
+-- A graph in which a Jump to the next slot became Fall follows it, and is sound where it is.
 abbrev pub FallFollows : Type 0
 FallFollows = (g : Graph) (block n : ℕ) → IsGraph g → term_of g block ≡ Some (Jump n) → next_of g block ≡ Some n → Follows g (with_term g block Fall)
 
--- A graph without an upper half whose register is dead behind it follows it.
+abbrev pub FallIsSound : Type 0
+FallIsSound = (g : Graph) (block n : ℕ) → IsGraph g → term_of g block ≡ Some (Jump n) → next_of g block ≡ Some n → IsSound g → IsSound (with_term g block Fall)
+
+-- A graph without an upper half whose register is dead behind it follows it, and is sound where it is.
 abbrev pub DropFollows : Type 0
 DropFollows = (g : Graph) (block at rd to : ℕ) → IsGraph g → slice_get (items_of g block) at ≡ Some (Hi rd to) → ¬ IsLive g rd (place_lines g block (at + 1)) → Follows g (replaced g block at 1 [])
+
+abbrev pub DropIsSound : Type 0
+DropIsSound = (g : Graph) (block at rd to : ℕ) → IsGraph g → slice_get (items_of g block) at ≡ Some (Hi rd to) → ¬ IsLive g rd (place_lines g block (at + 1)) → IsSound g → IsSound (replaced g block at 1 [])
 
 -- a jump by an upper half as one of a single word: a Call, or a Jump where the link is x0
 abbrev pub hastened : ℕ → ℕ → Term
 hastened zero to = Jump to
 hastened (suc link) to = Call (suc link) to
 
--- A graph in which a PartJump became a Call, or a Jump where its link is x0, follows it.
+-- A graph in which a PartJump became a Call, or a Jump where its link is x0, follows it, and is sound where it is.
 abbrev pub HastenFollows : Type 0
 HastenFollows = (g : Graph) (block link part to : ℕ) → IsGraph g → term_of g block ≡ Some (PartJump link part to) → Follows g (with_term g block (hastened link to))
 
--- A graph in which the body of a procedure stands in place of a call of it follows it.
+abbrev pub HastenIsSound : Type 0
+HastenIsSound = (g : Graph) (block link part to : ℕ) → IsGraph g → term_of g block ≡ Some (PartJump link part to) → IsSound g → IsSound (with_term g block (hastened link to))
+
+-- A graph in which the body of a procedure stands in place of a call of it follows it, and is sound where it is.
 abbrev pub InlineFollows : Type 0
 InlineFollows = (g : Graph) (block at procedure : ℕ) → IsGraph g → slice_get (items_of g block) at ≡ Some (Out procedure) → Follows g (inlined g block at)
+
+abbrev pub InlineIsSound : Type 0
+InlineIsSound = (g : Graph) (block at procedure : ℕ) → IsGraph g → slice_get (items_of g block) at ≡ Some (Out procedure) → IsSound g → IsSound (inlined g block at)
 
 -- The canonical graph of a graph follows it.
 abbrev pub CanonicalFollows : Type 0

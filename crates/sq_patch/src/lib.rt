@@ -8,7 +8,13 @@
 #![tactic(auto)]
 
 ghost use Rattle.sq_patch.specs.LiveAgreement.{StepsAgree, PlacesMakeTargets};
-ghost use Rattle.sq_patch.specs.Operations.{SplitFollows, FallFollows, DropFollows, HastenFollows, InlineFollows, CanonicalFollows, CanonicalIsSound, RenameFollows, OutlineFollows};
+ghost use Rattle.sq_patch.specs.Restrictions.{RestrictFollows, RestrictIsSound, ReachedAreClosed};
+ghost use Rattle.sq_patch.specs.LoneJumps.{JumpGoesFollows, JumpGoesIsSound, InvertFollows, InvertIsSound};
+ghost use Rattle.sq_patch.specs.Operations.{SplitFollows, SplitIsSound, FallFollows, FallIsSound, DropFollows, DropIsSound, HastenFollows, HastenIsSound, InlineFollows, InlineIsSound, CanonicalFollows, CanonicalIsSound, RenameFollows, OutlineFollows};
+ghost use Rattle.sq_patch.specs.Calls.{CallFollows, CallIsSound};
+ghost use Rattle.sq_patch.specs.Merges.{MergeFollows, MergeIsSound};
+ghost use Rattle.sq_patch.specs.Recalls.{RecallFollows, RecallIsSound, UncalledGoesFollows, UncalledGoesIsSound};
+ghost use Rattle.sq_patch.specs.Inserts.{InsertFollows, InsertIsSound, ReorderFollows, ReorderIsSound};
 
 /// From states that agree on what is live, a graph steps to such states again, with the same event or to the
 /// same end.
@@ -65,4 +71,124 @@ pub fn rename_keeps_runs()
 /// A graph with items of one of its blocks as the body of one more procedure follows it.
 pub fn outline_keeps_runs()
     ensures { OutlineFollows }
+{}
+
+/// A graph with the blocks of a closed set alone, and the procedures that these call, follows it.
+pub fn restrict_keeps_runs()
+    ensures { RestrictFollows }
+{}
+
+/// A graph with the blocks of a closed set alone is sound where the graph is.
+pub fn restrict_keeps_soundness()
+    ensures { RestrictIsSound }
+{}
+
+/// The blocks that are reached are a closed set.
+pub fn reached_are_closed()
+    ensures { ReachedAreClosed }
+{}
+
+/// A graph in which a lone Jump block, into which nothing goes on, gave its name to its target and went follows it.
+pub fn jump_goes_keeps_runs()
+    ensures { JumpGoesFollows }
+{}
+
+/// A graph in which a lone Jump block gave its name to its target and went is sound where the graph is.
+pub fn jump_goes_keeps_soundness()
+    ensures { JumpGoesIsSound }
+{}
+
+/// A graph in which a Branch over a lone Jump became the inverted one, to the Jump's target, follows it.
+pub fn invert_keeps_runs()
+    ensures { InvertFollows }
+{}
+
+/// A graph in which a Branch over a lone Jump became the inverted one is sound where the graph is.
+pub fn invert_keeps_soundness()
+    ensures { InvertIsSound }
+{}
+
+/// A graph with a call in place of the items of a procedure's body, whose link is dead behind them, follows it.
+pub fn call_keeps_runs()
+    ensures { CallFollows }
+{}
+
+/// A graph with a call in place of the items of a procedure's body is sound where the graph is.
+pub fn call_keeps_soundness()
+    ensures { CallIsSound }
+{}
+
+/// A graph in which a block is split in two is sound where the graph is.
+pub fn split_keeps_soundness()
+    ensures { SplitIsSound }
+{}
+
+/// A graph in which a Jump to the next slot became Fall is sound where the graph is.
+pub fn fall_keeps_soundness()
+    ensures { FallIsSound }
+{}
+
+/// A graph without an upper half whose register is dead behind it is sound where the graph is.
+pub fn drop_keeps_soundness()
+    ensures { DropIsSound }
+{}
+
+/// A graph in which a jump by an upper half became a Call or a Jump is sound where the graph is.
+pub fn hasten_keeps_soundness()
+    ensures { HastenIsSound }
+{}
+
+/// A graph in which the body of a procedure stands in place of a call of it is sound where the graph is.
+pub fn inline_keeps_soundness()
+    ensures { InlineIsSound }
+{}
+
+/// A graph in which the end of a block became a Jump to another block, which is equal to that end, follows it.
+pub fn merge_keeps_runs()
+    ensures { MergeFollows }
+{}
+
+/// A graph in which the end of a block became a Jump to an equal block is sound where the graph is.
+pub fn merge_keeps_soundness()
+    ensures { MergeIsSound }
+{}
+
+/// A graph in which a procedure is called in place of an equal one follows it.
+pub fn recall_keeps_runs()
+    ensures { RecallFollows }
+{}
+
+/// A graph in which a procedure is called in place of an equal one is sound where the graph is.
+pub fn recall_keeps_soundness()
+    ensures { RecallIsSound }
+{}
+
+/// A graph without a procedure that nothing calls follows it.
+pub fn uncalled_goes_keeps_runs()
+    ensures { UncalledGoesFollows }
+{}
+
+/// A graph without a procedure that nothing calls is sound where the graph is.
+pub fn uncalled_goes_keeps_soundness()
+    ensures { UncalledGoesIsSound }
+{}
+
+/// A graph with a lone Jump to the next slot behind a block follows it.
+pub fn insert_keeps_runs()
+    ensures { InsertFollows }
+{}
+
+/// A graph with a lone Jump to the next slot behind a block is sound where the graph is.
+pub fn insert_keeps_soundness()
+    ensures { InsertIsSound }
+{}
+
+/// A graph with its blocks in an order in which each that goes on keeps its next slot follows it.
+pub fn reorder_keeps_runs()
+    ensures { ReorderFollows }
+{}
+
+/// A graph with its blocks in such an order is sound where the graph is.
+pub fn reorder_keeps_soundness()
+    ensures { ReorderIsSound }
 {}

@@ -1,0 +1,290 @@
+-- A graph with two ends of blocks merged follows it.
+use Rattle.std.proofs.Common.{◌≡◌, ◌≢◌, ℕ, ◌≤◌, ◌+◌, arith, Bool, true, false, ◌==◌, if◌then◌else◌, inr, List, [], ◌∷◌, ◌++◌, Option, Some, None, IsSome, map, take, drop, length, drop-drop, nat_eq, refl, sym, ap, ◌∙◌, subst}
+use Rattle.std.proofs.lemmas.List.{drop_all, append-nil}
+use Rattle.std.specs.List.{IsDistinct, Contains, flat_map}
+use Rattle.sq_arena.specs.Entries.{value_of, first_key, next_key, behind as entries_behind, HasDistinctKeys}
+use Rattle.sq_graph.specs.declared.item.Item.{Item}
+use Rattle.sq_graph.specs.declared.item.Term.{Term}
+use Rattle.sq_graph.specs.declared.item.Term.TheVariants.{Jump}
+use Rattle.sq_graph.specs.Graph.{Block, Graph}
+use Rattle.sq_graph.specs.Blocks.{named, block_of, block_items, items_of, next_of}
+use Rattle.sq_graph.specs.Terms.{links}
+use Rattle.sq_graph.specs.Uses.{uses}
+use Rattle.sq_graph.specs.Rules.{IsGraph}
+use Rattle.sq_graph.specs.Operations.{replaced_items, replaced}
+use Rattle.sq_graph.specs.Resolve.{jump_of, jump_from, resolved, resolved_term, block_resolved}
+use Rattle.sq_graph.specs.Lines.{Line, End, line_of, term_lines, body_lines, lines_of, behind_name, slot_name, block_lines}
+use Rattle.sq_graph.specs.Walks.{lower_names, code_targets}
+use Rattle.sq_graph.specs.Soundness.{LinksDieIn, IsSound}
+use Rattle.sq_graph.proofs.Located.{IsAt, located}
+use Rattle.sq_follow.specs.Follows.{Follows}
+use Rattle.sq_patch.specs.Changes.{Change, Alike, name_before, name_after, jump_before, jump_after}
+use Rattle.sq_patch.specs.Merges.{IsMergeable, merged}
+use Rattle.sq_patch.proofs.Keeping.{all_matter, every_carrier}
+use Rattle.sq_patch.proofs.Staying.{body_unnamed}
+use Rattle.sq_patch.proofs.Splitting.{take_in, drop_in, map_parts}
+use Rattle.sq_patch.proofs.Falling.{every, absent_from, next_at}
+use Rattle.sq_patch.proofs.Changing.{ahead}
+use Rattle.sq_patch.proofs.Carrying.{same_some, AreOf, ItemGoes, carry_items, carry_some, Backs, items_die}
+use Rattle.sq_patch.proofs.Layouts.{Turn}
+use Rattle.sq_patch.proofs.Restricting.{own, flat_from, block_target, slot_targets}
+use Rattle.sq_patch.proofs.Standing.{stands_at, distinct_at, block_at}
+use Rattle.sq_patch.proofs.Passing.{lone_block, lone_lines, jump_lines, jumps_from}
+use Rattle.sq_patch.proofs.Relating.{items_stay, same_names, placed_follows, placed_sound}
+use Rattle.sq_patch.proofs.Ending.{all_of}
+use Rattle.sq_patch.proofs.Replacing.{own_items}
+use Rattle.sq_patch.proofs.Inverting.{placed_by}
+use Rattle.sq_patch.proofs.Leading.{slot_lines, first_slot, leads, keys_same, others_same, next_same, Hops, stop, hop, hops}
+use Rattle.sq_patch.proofs.Meeting.{MayGo, MayHold, C as meeting, meet}
+use Rattle.sq_patch.proofs.Used.{contains_first, flat_contains}
+
+-- a block with an item is there
+with_items : (o : Option Block) → block_items o ≢ [] → (b : Block) × (o ≡ Some b)
+with_items None some = absurd (some refl)
+with_items (Some b) some = (b, refl)
+
+no_drop : (at : ℕ) (items : List Item) → items ≡ [] → drop at items ≡ []
+no_drop at items none = drop_all at items (subst (λ (is : List Item). length is ≤ at) (sym none) (omega arith))
+
+-- a block with an item is no lone Jump
+unlone : (items : List Item) (t : Term) (to : ℕ) → items ≢ [] → jump_of items t ≡ Some to → ⊥
+unlone items t to some e = some (lone_block items t to e).0
+
+module _ (g : Graph) (dropped at kept : ℕ) (rules : IsGraph g) (can : IsMergeable g dropped at kept) where
+  abbrev h : Graph
+  h = merged g dropped at kept
+
+  abbrev C : Change
+  C = meeting g h
+
+  -- the two blocks
+  kept_block : (b : Block) × (block_of g kept ≡ Some b)
+  kept_block = with_items (block_of g kept) can.some
+
+  abbrev k : Block
+  k = kept_block.0
+
+  kept_items : items_of g kept ≡ k.items
+  kept_items = ap block_items kept_block.1
+
+  items_there : items_of g dropped ≢ []
+  items_there none = can.some (sym can.items ∙ no_drop at (items_of g dropped) none)
+
+  dropped_block : (b : Block) × (block_of g dropped ≡ Some b)
+  dropped_block = with_items (block_of g dropped) items_there
+
+  spot : IsAt g.blocks dropped
+  spot = located g.blocks dropped (subst IsSome (sym dropped_block.1) refl)
+
+  abbrev x : Block
+  x = spot.block
+
+  abbrev front : List Block
+  front = spot.front
+
+  abbrev back : List Block
+  back = spot.back
+
+  whole : front ++ (x ∷ back) ≡ g.blocks
+  whole = sym spot.whole
+
+  in_graph : Contains g.blocks x
+  in_graph = stands_at g rules front x back whole
+
+  found : block_of g dropped ≡ Some x
+  found = subst (λ n. value_of (named g.blocks) n ≡ Some x) spot.has_name (block_at g rules front x back whole)
+
+  x_items : items_of g dropped ≡ x.items
+  x_items = ap block_items found
+
+  some : k.items ≢ []
+  some = subst (λ items. items ≢ []) kept_items can.some
+
+  end_is : drop at x.items ≡ k.items
+  end_is = ap (drop at) (sym x_items) ∙ can.items ∙ kept_items
+
+  -- what the first block becomes
+  abbrev mid : Block
+  mid = record x { items = replaced_items x.items at (length (items_of g kept)) [] }
+
+  abbrev y : Block
+  y = record mid { term = Jump kept }
+
+  nothing_left : drop (at + length (items_of g kept)) x.items ≡ []
+  nothing_left =
+      sym (drop-drop (length (items_of g kept)) at x.items) ∙ ap (drop (length (items_of g kept))) (end_is ∙ sym kept_items) ∙ drop_all (length (items_of g kept)) (items_of g kept) (omega arith)
+
+  y_items : y.items ≡ take at x.items
+  y_items = ap (λ rest. take at x.items ++ ([] ++ rest)) nothing_left ∙ append-nil (take at x.items)
+
+  absent : value_of (named front) dropped ≡ None
+  absent = subst (λ n. value_of (named front) n ≡ None) spot.has_name (absent_from front x back (distinct_at g rules front x back whole))
+
+  after : h.blocks ≡ front ++ (y ∷ back)
+  after =
+      let first = placed_by front x back dropped (λ b. record b { items = replaced_items b.items at (length (items_of g kept)) [] } ∷ []) g.blocks whole spot.has_name absent in
+      placed_by front mid back dropped (λ b. record b { term = Jump kept } ∷ []) (replaced g dropped at (length (items_of g kept)) []).blocks (sym first) spot.has_name absent
+
+  -- the second graph has the same names, next slots and other blocks
+  distinct : HasDistinctKeys (named h.blocks)
+  distinct =
+      subst (λ blocks. HasDistinctKeys (named blocks)) (sym after)
+      (subst (λ ns. IsDistinct nat_eq ns) (sym (keys_same front x y back refl)) (distinct_at g rules front x back whole))
+
+  other_block : (n : ℕ) → n ≢ dropped → block_of h n ≡ block_of g n
+  other_block n differs =
+      ap (λ blocks. value_of (named blocks) n) after
+      ∙ others_same front x y back n refl (λ e. differs (e ∙ spot.has_name))
+      ∙ ap (λ blocks. value_of (named blocks) n) whole
+
+  next_slot : (n : ℕ) → next_of h n ≡ next_of g n
+  next_slot n = ap (λ blocks. next_key (named blocks) n) after ∙ next_same front x y back n refl ∙ ap (λ blocks. next_key (named blocks) n) whole
+
+  -- what stands behind the two blocks' items
+  dropped_lines : block_lines g dropped ≡ body_lines x (slot_lines g.blocks (next_of g dropped))
+  dropped_lines = leads g.blocks dropped x rules_distinct found
+    where
+      rules_distinct : HasDistinctKeys (named g.blocks)
+      rules_distinct = rules.distinct
+
+  kept_lines : block_lines h kept ≡ body_lines k (slot_lines h.blocks (next_of g kept))
+  kept_lines = leads h.blocks kept k distinct (other_block kept can.other ∙ kept_block.1) ∙ ap (λ o. body_lines k (slot_lines h.blocks o)) (next_slot kept)
+
+  -- names
+  may_hold : (n : ℕ) → Contains (code_targets g) n → MayHold g h n n
+  may_hold n c = (c, refl)
+
+  may_go : (n : ℕ) → Contains (uses g) n → MayGo g h n n
+  may_go n c = refl
+
+  each : AreOf C own (ItemGoes C own) x.items
+  each = items_stay (MayHold g h) (MayGo g h) every all_matter (Unit {0}) g h rules refl refl may_hold may_go x in_graph
+
+  keep : (b : Bool) (items : List Item) (xs ys : List Line) → AreOf C own (ItemGoes C own) items → Alike C b None xs ys → Alike C b None (map line_of items ++ xs) (map line_of items ++ ys)
+  keep b items xs ys f p = subst (λ is. Alike C b None (map line_of items ++ xs) (map line_of is ++ ys)) (own_items items) (carry_items C own items xs ys f p)
+
+  -- items, at least one
+  keep_some : (b : Bool) (items : List Item) (xs ys : List Line) → items ≢ [] → AreOf C own (ItemGoes C own) items → Alike C true None xs ys → Alike C b None (map line_of items ++ xs) (map line_of items ++ ys)
+  keep_some b [] xs ys full f p = absurd (full refl)
+  keep_some b (item ∷ items) xs ys full f p = subst (λ is. Alike C b None (map line_of (item ∷ items) ++ xs) (map line_of is ++ ys)) (own_items (item ∷ items)) (carry_some C own item items xs ys f p)
+
+  abbrev first : List Item
+  first = take at x.items
+
+  in_first : AreOf C own (ItemGoes C own) first
+  in_first item c = each item (take_in x.items at item c)
+
+  in_end : AreOf C own (ItemGoes C own) k.items
+  in_end item c = each item (drop_in x.items at item (subst (λ items. Contains items item) (sym end_is) c))
+
+  -- the two resolved terms
+  terms_same : resolved_term g x.term (next_of g dropped) ≡ resolved_term g k.term (next_of g kept)
+  terms_same =
+      same_some (resolved_term g x.term (next_of g dropped)) (resolved_term g k.term (next_of g kept))
+      (sym (ap (λ o. block_resolved g o (next_of g dropped)) found) ∙ can.terms ∙ ap (λ o. block_resolved g o (next_of g kept)) kept_block.1)
+
+  abbrev end : List Line
+  end = term_lines x.term (lines_of back)
+
+  -- what stands in the slot behind the first block
+  slot_is : lines_of back ≡ slot_lines g.blocks (next_of g dropped)
+  slot_is = first_slot g.blocks (front ++ x ∷ []) back rules.distinct (ahead front x back ∙ whole) ∙ ap (slot_lines g.blocks) (sym next_is)
+    where
+      next_is : next_of g dropped ≡ first_key (named back)
+      next_is = ap first_key (subst (λ n. entries_behind (named g.blocks) n ≡ named back) spot.has_name (subst (λ blocks. entries_behind (named blocks) x.name ≡ named back) whole (next_at front x back (absent_from front x back (distinct_at g rules front x back whole)))))
+
+  slot_targeted : links x.term ≡ true → (n : ℕ) → next_of g dropped ≡ Some n → Contains (code_targets g) n
+  slot_targeted l n e = by_first back refl
+    where
+      by_first : (bs : List Block) → bs ≡ back → Contains (code_targets g) n
+      by_first [] i = absurd (let j : [] ≡ slot_lines g.blocks (Some n) = ap lines_of i ∙ slot_is ∙ ap (slot_lines g.blocks) e in cc)
+      by_first (w ∷ bs) i =
+          let j : lines_of (w ∷ bs) ≡ slot_lines g.blocks (Some n) = ap lines_of i ∙ slot_is ∙ ap (slot_lines g.blocks) e in
+          let name : w.name ≡ n = same_some w.name n (ap slot_name j) in
+          subst (λ m. Contains (code_targets g) m) name (slot_targets g front x (w ∷ bs) (ap (λ cs. front ++ (x ∷ cs)) i ∙ whole) l w.name (contains_first w.name []))
+
+  -- the end of the first block goes on like the Jump to the other
+  end_goes : (b : Bool) → Alike C b None (map line_of (drop at x.items) ++ end) (End (Jump kept) ∷ lines_of back)
+  end_goes b =
+      let met : Alike C true None end (term_lines k.term (slot_lines h.blocks (next_of g kept))) =
+      subst (λ lines. Alike C true None (term_lines x.term lines) (term_lines k.term (slot_lines h.blocks (next_of g kept)))) (sym slot_is)
+      (meet g h x.term k.term (next_of g dropped) (next_of g kept) terms_same slot_targeted) in
+      subst (λ items. Alike C b None (map line_of items ++ end) (End (Jump kept) ∷ lines_of back)) (sym end_is)
+      (jump_after (subst (λ lines. Alike C b None (map line_of k.items ++ end) lines) (sym kept_lines) (keep_some b k.items end (term_lines k.term (slot_lines h.blocks (next_of g kept))) some in_end met)))
+
+  y_lines : body_lines y (lines_of back) ≡ map line_of first ++ (End (Jump kept) ∷ lines_of back)
+  y_lines = ap (λ items. map line_of items ++ (End (Jump kept) ∷ lines_of back)) y_items
+
+  x_lines : body_lines x (lines_of back) ≡ map line_of first ++ (map line_of (drop at x.items) ++ end)
+  x_lines = map_parts x.items at end
+
+  body : (b : Bool) → Alike C b None (body_lines x (lines_of back)) (body_lines y (lines_of back))
+  body b =
+      subst (λ xs. Alike C b None xs (body_lines y (lines_of back))) (sym x_lines)
+      (subst (λ ys. Alike C b None (map line_of first ++ (map line_of (drop at x.items) ++ end)) ys) (sym y_lines)
+      (keep b first (map line_of (drop at x.items) ++ end) (End (Jump kept) ∷ lines_of back) in_first (end_goes b)))
+
+  choose : (c : Bool) (xs ys us vs : List Line) → Alike C false None xs us → Alike C false None ys vs → Alike C false None (if c then xs else ys) (if c then us else vs)
+  choose true xs ys us vs p q = p
+  choose false xs ys us vs p q = q
+
+  lower_in : (m : ℕ) → Contains (flat_map lower_names y.items) m → Contains (code_targets g) m
+  lower_in m c =
+      let o = flat_from lower_names first m (subst (λ items. Contains (flat_map lower_names items) m) y_items c) in
+      block_target g x m in_graph (flat_contains lower_names x.items o.0 m (take_in x.items at o.0 o.1.0) o.1.1)
+
+  first_dies : Backs C own → LinksDieIn g (body_lines x (lines_of back)) → LinksDieIn h (lines_of back) → LinksDieIn h (body_lines y (lines_of back))
+  first_dies backs die die' =
+      subst (λ lines. LinksDieIn h lines) (sym y_lines)
+      (subst (λ (is : List Item). LinksDieIn h (map line_of is ++ (End (Jump kept) ∷ lines_of back))) (own_items first)
+      (items_die C own backs first (map line_of (drop at x.items) ++ end) (End (Jump kept) ∷ lines_of back) in_first (end_goes true) (subst (λ lines. LinksDieIn g lines) x_lines die) die'))
+
+  turn : Turn C own every true true (x ∷ []) (y ∷ []) back back
+  turn = record {
+    lines = λ b i p. name_before (name_after (body b));
+    behind = λ m j p q.
+        choose (x.name == m) (body_lines x (lines_of back)) (behind_name m (body_lines x (lines_of back))) (body_lines y (lines_of back)) (behind_name m (body_lines y (lines_of back))) (body false)
+        (subst (λ xs. Alike C false None xs (behind_name m (body_lines y (lines_of back)))) (sym (body_unnamed m x (lines_of back)))
+        (subst (λ ys. Alike C false None (behind_name m (lines_of back)) ys) (sym (body_unnamed m y (lines_of back))) q));
+    lowers = λ m c. (m, (lower_in m (all_of (flat_map lower_names y.items) m c), refl));
+    slots = λ m c. inr c;
+    dies = λ backs p die die'. first_dies backs die die';
+  }
+
+  -- a name leads to what stands there, in both graphs
+  same : (n : ℕ) → Alike C false None (block_lines g n) (block_lines h n)
+  same n = same_names (MayHold g h) (MayGo g h) every all_matter (Unit {0}) g h rules refl refl may_hold may_go (x ∷ []) (y ∷ []) back refl turn front whole after n tt
+
+  -- a lone Jump is another block than the first, and stays
+  jumps_on : (n m : ℕ) → jump_from g n ≡ Some m → (rest : List Line) × (block_lines h n ≡ End (Jump m) ∷ rest)
+  jumps_on n m e =
+      let o = jumps_from (block_of g n) m e in
+      let other : n ≢ dropped = λ i.
+      let z : x ≡ o.0 = same_some x o.0 (sym found ∙ ap (block_of g) (sym i) ∙ o.1.0) in
+      unlone x.items x.term m (λ none. items_there (x_items ∙ none)) (subst (λ (b : Block). jump_of b.items b.term ≡ Some m) (sym z) o.1.1) in
+      let lone = lone_block o.0.items o.0.term m o.1.1 in
+      (slot_lines h.blocks (next_of h n), leads h.blocks n o.0 distinct (other_block n other ∙ o.1.0) ∙ lone_lines o.0.items o.0.term o.0.name m (slot_lines h.blocks (next_of h n)) lone.0 lone.1)
+
+  walk_before : (n r : ℕ) (ys : List Line) → Hops g n r → Alike C false None (block_lines g r) ys → Alike C false None (block_lines g n) ys
+  walk_before n r ys stop p = p
+  walk_before n r ys (hop {m = m} e later) p =
+      let o = jump_lines g rules n m e in subst (λ xs. Alike C false None xs ys) (sym o.1) (jump_before (walk_before m r ys later p))
+
+  walk_after : (n r : ℕ) (xs : List Line) → Hops g n r → Alike C false None xs (block_lines h r) → Alike C false None xs (block_lines h n)
+  walk_after n r xs stop p = p
+  walk_after n r xs (hop {m = m} e later) p =
+      let o = jumps_on n m e in subst (λ ys. Alike C false None xs ys) (sym o.1) (jump_after (walk_after m r xs later p))
+
+  names : (n m : ℕ) → MayGo g h n m → Alike C false None (block_lines g n) (block_lines h m)
+  names n m e =
+      let r = resolved g n in
+      walk_before n r (block_lines h m) (hops g n) (walk_after m r (block_lines g r) (subst (λ s. Hops g m s) (sym e) (hops g m)) (same r))
+
+  values : (n m : ℕ) → MayHold g h n m → Contains (code_targets g) n × MayGo g h n m
+  values n m v = v
+
+  pub merge_follows : Follows g h
+  merge_follows = placed_follows (MayHold g h) (MayGo g h) every all_matter (Unit {0}) g h rules refl refl may_hold may_go (x ∷ []) (y ∷ []) back refl turn front whole after refl (every_carrier g) values names
+
+  pub merge_sound : IsSound g → IsSound h
+  merge_sound sound = placed_sound (MayHold g h) (MayGo g h) every all_matter (Unit {0}) g h rules refl refl may_hold may_go (x ∷ []) (y ∷ []) back refl turn front whole after refl (every_carrier g) values names (λ xs r l. tt) tt sound

@@ -1,0 +1,201 @@
+-- A block with other items in place of some, in a place of a graph.
+use Rattle.std.proofs.Common.{◌≡◌, ℕ, Bool, true, false, ◌==◌, if◌then◌else◌, inl, inr, List, [], ◌∷◌, ◌++◌, ◌+◌, None, map, take, drop, take-append-drop, drop-drop, refl, sym, ap, ◌∙◌, subst}
+use Rattle.std.proofs.lemmas.List.Concat.{flat_map-append}
+use Rattle.std.proofs.lemmas.List.Elements.{Contains-append_cases, Contains-append_left, Contains-append_right}
+use Rattle.std.specs.List.{Contains, flat_map}
+use Rattle.sq_graph.specs.declared.item.Item.{Item}
+use Rattle.sq_graph.specs.declared.item.Term.TheVariants.{Fall}
+use Rattle.sq_graph.specs.Graph.{Block, Graph}
+use Rattle.sq_graph.specs.Blocks.{HasBlock}
+use Rattle.sq_graph.specs.Terms.{links}
+use Rattle.sq_graph.specs.Uses.{uses}
+use Rattle.sq_graph.specs.Rules.{IsGraph}
+use Rattle.sq_graph.specs.Operations.{replaced_items, replaced}
+use Rattle.sq_graph.specs.Lines.{Line, line_of, term_lines, body_lines, lines_of, behind_name}
+use Rattle.sq_graph.specs.Renames.{retargeted_items, recalled_items}
+use Rattle.sq_graph.specs.Walks.{IsLive, lower_names, link_names, first_name, code_targets}
+use Rattle.sq_graph.specs.Soundness.{LinksDieIn, IsSound}
+use Rattle.sq_graph.proofs.Located.{IsAt, located}
+use Rattle.sq_graph.proofs.Changes.{with_blocks-at}
+use Rattle.sq_follow.specs.Follows.{Follows}
+use Rattle.sq_patch.specs.Changes.{Change, Alike, IsCarrier, name_before, name_after}
+use Rattle.sq_patch.proofs.Keeping.{staying}
+use Rattle.sq_patch.proofs.Staying.{body_unnamed}
+use Rattle.sq_patch.proofs.Changing.{ahead}
+use Rattle.sq_patch.proofs.Falling.{every}
+use Rattle.sq_patch.proofs.Inlining.{with_others}
+use Rattle.sq_patch.proofs.Dying.{items_rest, term_dies}
+use Rattle.sq_patch.proofs.Carrying.{AreOf, ItemGoes, carry_items, carry_term, Backs, items_die}
+use Rattle.sq_patch.proofs.Layouts.{Turn, carries_lines}
+use Rattle.sq_patch.proofs.Restricting.{own, own_block, block_target, slot_targets}
+use Rattle.sq_patch.proofs.Standing.{stands_at, own_called_block}
+use Rattle.sq_patch.proofs.Placing.{block_stays, items_stay, block_goes, all_stay, placed_follows, placed_sound}
+use Rattle.sq_patch.proofs.Ending.{all_of, one_slot}
+
+-- items under their own names and numbers
+pub own_items : (items : List Item) → recalled_items own (retargeted_items own items) ≡ items
+own_items items =
+    let b : Block = record { name = 0; items = items; term = Fall } in
+    ap (λ (c : Block). c.items) (ap (λ (c : Block). record c { items = recalled_items own c.items }) (own_block b) ∙ own_called_block b)
+
+-- items in three parts
+pub three_parts : (items : List Item) (at length : ℕ) → take at items ++ (take length (drop at items) ++ drop (at + length) items) ≡ items
+three_parts items at length =
+    ap (λ rest. take at items ++ (take length (drop at items) ++ rest)) (sym (drop-drop length at items))
+    ∙ ap (λ rest. take at items ++ rest) (take-append-drop length (drop at items)) ∙ take-append-drop at items
+
+module _ (X : List Line → ℕ → Type 0) (Z : Type 0) (g h : Graph) (rules : IsGraph g) (procedures : h.procedures ≡ g.procedures) (words : h.code_words ≡ g.code_words) where
+  pub known : (n : ℕ) → Contains (uses g) n → every n
+  known n c = tt
+
+  pub holds : (n : ℕ) → Contains (code_targets g) n → every n
+  holds n c = tt
+
+  abbrev pub C : Change
+  C = staying every X Z g h
+
+  module _ (x : Block) (back : List Block) (first out rest by : List Item) (are : x.items ≡ first ++ (out ++ rest)) (there : Contains g.blocks x) where
+    abbrev y : Block
+    y = record x { items = first ++ (by ++ rest) }
+
+    -- what stands behind the items
+    abbrev pub end : List Line
+    end = term_lines x.term (lines_of back)
+
+    abbrev pub later : List Line
+    later = map line_of rest ++ end
+
+    all : AreOf C own (ItemGoes C own) x.items
+    all = items_stay every X Z g h rules known procedures words holds x there
+
+    in_first : AreOf C own (ItemGoes C own) first
+    in_first item c = all item (subst (λ is. Contains is item) (sym are) (Contains-append_left first (out ++ rest) item c))
+
+    in_rest : AreOf C own (ItemGoes C own) rest
+    in_rest item c = all item (subst (λ is. Contains is item) (sym are) (Contains-append_right first (out ++ rest) item (Contains-append_right out rest item c)))
+
+    keep : (b : Bool) (items : List Item) (xs ys : List Line) → AreOf C own (ItemGoes C own) items → Alike C b None xs ys → Alike C b None (map line_of items ++ xs) (map line_of items ++ ys)
+    keep b items xs ys each p = subst (λ is. Alike C b None (map line_of items ++ xs) (map line_of is ++ ys)) (own_items items) (carry_items C own items xs ys each p)
+
+    lines_before : body_lines x (lines_of back) ≡ map line_of first ++ (map line_of out ++ later)
+    lines_before = ap (λ is. map line_of is ++ end) are ∙ with_others first out rest end
+
+    lines_after : body_lines y (lines_of back) ≡ map line_of first ++ (map line_of by ++ later)
+    lines_after = with_others first by rest end
+
+    module _ (ended : (b : Bool) → Alike C b None end end) (middle : (b : Bool) → Alike C b None later later → Alike C b None (map line_of out ++ later) (map line_of by ++ later)) (lowers : (m : ℕ) → Contains (flat_map lower_names by) m → Contains (code_targets g) m) (dies : Backs C own → Alike C true None later later → LinksDieIn g (map line_of out ++ later) → LinksDieIn h later → LinksDieIn h (map line_of by ++ later)) where
+      behind_it : (b : Bool) → Alike C b None later later
+      behind_it b = keep b rest end end in_rest (ended b)
+
+      body : (b : Bool) → Alike C b None (body_lines x (lines_of back)) (body_lines y (lines_of back))
+      body b =
+          subst (λ xs. Alike C b None xs (body_lines y (lines_of back))) (sym lines_before)
+          (subst (λ ys. Alike C b None (map line_of first ++ (map line_of out ++ later)) ys) (sym lines_after)
+          (keep b first (map line_of out ++ later) (map line_of by ++ later) in_first (middle b (behind_it b))))
+
+      choose : (c : Bool) (xs ys us vs : List Line) → Alike C false None xs us → Alike C false None ys vs → Alike C false None (if c then xs else ys) (if c then us else vs)
+      choose true xs ys us vs p q = p
+      choose false xs ys us vs p q = q
+
+      lower_in : (m : ℕ) → Contains (flat_map lower_names x.items) m → Contains (code_targets g) m
+      lower_in m c = block_target g x m there c
+
+      held_in : (m : ℕ) → Contains (flat_map lower_names (first ++ (by ++ rest))) m → Contains (code_targets g) m
+      held_in m c =
+          elim (Contains-append_cases (flat_map lower_names first) (flat_map lower_names (by ++ rest)) m (subst (λ ns. Contains ns m) (flat_map-append lower_names first (by ++ rest)) c)) [
+            | inl d ↦ lower_in m (subst (λ is. Contains (flat_map lower_names is) m) (sym are) (subst (λ ns. Contains ns m) (sym (flat_map-append lower_names first (out ++ rest))) (Contains-append_left (flat_map lower_names first) (flat_map lower_names (out ++ rest)) m d)))
+            | inr d ↦ elim (Contains-append_cases (flat_map lower_names by) (flat_map lower_names rest) m (subst (λ ns. Contains ns m) (flat_map-append lower_names by rest) d)) [
+              | inl e ↦ lowers m e
+              | inr e ↦ lower_in m (subst (λ is. Contains (flat_map lower_names is) m) (sym are)
+                  (subst (λ ns. Contains ns m) (sym (flat_map-append lower_names first (out ++ rest)))
+                  (Contains-append_right (flat_map lower_names first) (flat_map lower_names (out ++ rest)) m
+                  (subst (λ ns. Contains ns m) (sym (flat_map-append lower_names out rest)) (Contains-append_right (flat_map lower_names out) (flat_map lower_names rest) m e)))))
+            ]
+          ]
+
+      module _ (slot : (m : ℕ) → links x.term ≡ true → Contains (first_name back) m → Contains (code_targets g) m) where
+        own_die : (items : List Item) (xs ys : List Line) → Backs C own → AreOf C own (ItemGoes C own) items → Alike C true None xs ys → LinksDieIn g (map line_of items ++ xs) → LinksDieIn h ys → LinksDieIn h (map line_of items ++ ys)
+        own_die items xs ys backs each p die die' = subst (λ (is : List Item). LinksDieIn h (map line_of is ++ ys)) (own_items items) (items_die C own backs items xs ys each p die die')
+
+        block_dies : Backs C own → LinksDieIn g (body_lines x (lines_of back)) → LinksDieIn h (lines_of back) → LinksDieIn h (body_lines y (lines_of back))
+        block_dies backs die die' =
+            let in_first_lines : LinksDieIn g (map line_of first ++ (map line_of out ++ later)) = subst (λ lines. LinksDieIn g lines) lines_before die in
+            let in_out = items_rest g first (map line_of out ++ later) in_first_lines in
+            let in_later = items_rest g out later in_out in
+            let later_dies = own_die rest end end backs in_rest (ended true) in_later (term_dies h x.term (lines_of back) die') in
+            let by_dies = dies backs (behind_it true) in_out later_dies in
+            subst (λ lines. LinksDieIn h lines) (sym lines_after)
+            (own_die first (map line_of out ++ later) (map line_of by ++ later) backs in_first (middle true (behind_it true)) in_first_lines by_dies)
+
+        pub item_turn : Turn C own every true true (x ∷ []) (y ∷ []) back back
+        item_turn = record {
+          lines = λ b i p. name_before (name_after (body b));
+          behind = λ m k p q.
+              choose (x.name == m) (body_lines x (lines_of back)) (behind_name m (body_lines x (lines_of back))) (body_lines y (lines_of back)) (behind_name m (body_lines y (lines_of back))) (body false)
+              (subst (λ xs. Alike C false None xs (behind_name m (body_lines y (lines_of back)))) (sym (body_unnamed m x (lines_of back)))
+              (subst (λ ys. Alike C false None (behind_name m (lines_of back)) ys) (sym (body_unnamed m y (lines_of back))) q));
+          lowers = λ m c. (m, (refl, (tt, held_in m (all_of (flat_map lower_names y.items) m c))));
+          slots = λ m c. one_slot (links x.term) m (first_name back) (link_names back) c (λ l d. (m, (refl, (tt, slot m l d))));
+          dies = λ backs p die die'. block_dies backs die die';
+        }
+
+-- a block in a graph, in which `length` of its items, from `at` on, become others
+module _ (X : List Line → ℕ → Type 0) (Z : Type 0) (g : Graph) (carrier : IsCarrier g X) (rules : IsGraph g) (block at length : ℕ) (by : List Item) (has : HasBlock g block) where
+  abbrev pub h : Graph
+  h = replaced g block at length by
+
+  abbrev D : Change
+  D = C X Z g h rules refl refl
+
+  abbrev pub place : IsAt g.blocks block
+  place = located g.blocks block has
+
+  abbrev pub x : Block
+  x = place.block
+
+  abbrev back : List Block
+  back = place.back
+
+  abbrev pub out : List Item
+  out = take length (drop at x.items)
+
+  abbrev pub rest : List Item
+  rest = drop (at + length) x.items
+
+  abbrev pub behind : List Line
+  behind = map line_of rest ++ term_lines x.term (lines_of back)
+
+  whole : place.front ++ (x ∷ back) ≡ g.blocks
+  whole = sym place.whole
+
+  parts : x.items ≡ take at x.items ++ (out ++ rest)
+  parts = sym (three_parts x.items at length)
+
+  there : Contains g.blocks x
+  there = stands_at g rules place.front x back whole
+
+  bare : Block
+  bare = record x { items = [] }
+
+  ended : (b : Bool) → Alike D b None (term_lines x.term (lines_of back)) (term_lines x.term (lines_of back))
+  ended b =
+      let go = block_goes every X Z g h rules (known X Z g h rules refl refl) refl refl (holds X Z g h rules refl refl) place.front x back back whole refl in
+      let p = carry_term D own x.term (lines_of back) (lines_of back) go.term go.slot
+      (λ f. carries_lines D own every b refl (all_stay every X Z g h rules (known X Z g h rules refl refl) refl refl (holds X Z g h rules refl refl) true (place.front ++ x ∷ []) back (ahead place.front x back ∙ whole))) in
+      subst (λ t. Alike D b None (term_lines x.term (lines_of back)) (term_lines t (lines_of back))) (ap (λ (w : Block). w.term) (sym (block_stays every X Z g h rules (known X Z g h rules refl refl) refl refl (holds X Z g h rules refl refl) x))) p
+
+  slot : (m : ℕ) → links x.term ≡ true → Contains (first_name back) m → Contains (code_targets g) m
+  slot m l c = slot_targets g place.front x back whole l m c
+
+  module _ (middle : (b : Bool) → Alike D b None behind behind → Alike D b None (map line_of out ++ behind) (map line_of by ++ behind)) (lowers : (m : ℕ) → Contains (flat_map lower_names by) m → Contains (code_targets g) m) (dies : Backs D own → Alike D true None behind behind → LinksDieIn g (map line_of out ++ behind) → LinksDieIn h behind → LinksDieIn h (map line_of by ++ behind)) where
+    turn : Turn D own every true true (x ∷ []) (record x { items = replaced_items x.items at length by } ∷ []) back back
+    turn = item_turn X Z g h rules refl refl x back (take at x.items) out rest by parts there ended middle lowers dies slot
+
+    after : h.blocks ≡ place.front ++ (record x { items = replaced_items x.items at length by } ∷ back)
+    after = with_blocks-at (λ b. record b { items = replaced_items b.items at length by } ∷ []) g.blocks block place
+
+    pub replaced_follows : Follows g h
+    replaced_follows = placed_follows every X Z g h rules (known X Z g h rules refl refl) refl refl (holds X Z g h rules refl refl) (x ∷ []) (record x { items = replaced_items x.items at length by } ∷ []) back refl turn place.front whole after refl carrier
+
+    pub replaced_sound : ((xs : List Line) (r : ℕ) → IsLive g r xs → X xs r) → Z → IsSound g → IsSound h
+    replaced_sound matters safe sound = placed_sound every X Z g h rules (known X Z g h rules refl refl) refl refl (holds X Z g h rules refl refl) (x ∷ []) (record x { items = replaced_items x.items at length by } ∷ []) back refl turn place.front whole after refl carrier matters safe sound

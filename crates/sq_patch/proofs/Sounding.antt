@@ -1,0 +1,383 @@
+-- A graph is sound in which a block was split, a Jump became Fall, an upper half went, a jump became a Call, or a body
+-- stands in place of its call, where the graph before it is.
+use Rattle.std.proofs.Common.{◌≡◌, ℕ, zero, suc, ◌<◌, ◌≤◌, ◌+◌, Bool, true, false, ◌==◌, if◌then◌else◌, inl, inr, List, [], ◌∷◌, ◌++◌, Option, Some, None, IsSome, map, take, drop, length, slice_get, refl, sym, ap, ◌∙◌, subst, arith}
+use Rattle.std.proofs.lemmas.List.Elements.{Contains-append_cases}
+use Rattle.std.specs.List.{Contains, flat_map}
+use Rattle.sq_arena.specs.Entries.{value_of}
+use Rattle.sq_graph.specs.declared.item.Item.{Item}
+use Rattle.sq_graph.specs.declared.item.Item.TheVariants.{Op, Hi, Lo, Out}
+use Rattle.sq_graph.specs.declared.item.Term.{Term}
+use Rattle.sq_graph.specs.declared.item.Term.TheVariants.{Fall, Jump, PartJump}
+use Rattle.sq_graph.specs.Graph.{Block, Procedure, Graph}
+use Rattle.sq_graph.specs.Blocks.{named, HasBlock, block_of, block_items, items_of, block_term, term_of, next_of, procedure_body}
+use Rattle.sq_graph.specs.Terms.{links}
+use Rattle.sq_graph.specs.Uses.{uses, item_calls}
+use Rattle.sq_graph.specs.Rules.{IsGraph, mentions, ProcedureFits}
+use Rattle.sq_graph.specs.Operations.{IsNew, with_blocks, halves, split_at, with_term, replaced, inlined, called_at, called_body, call_of}
+use Rattle.sq_graph.specs.Lines.{Line, Name, End, Enter, Return, line_of, term_lines, body_lines, lines_of, inside, behind_name, block_lines, place_lines}
+use Rattle.sq_graph.specs.Walks.{IsLive, read_here, live_behind, lower_names, link_names, first_name, code_targets}
+use Rattle.sq_graph.specs.Soundness.{LinksDieIn, IsSound}
+use Rattle.sq_graph.proofs.Located.{IsAt, located}
+use Rattle.sq_graph.proofs.Changes.{with_blocks-at}
+use Rattle.sq_patch.specs.Changes.{Change, Alike, name_before, name_after, jump_before, enter_before, return_before, dead_before}
+use Rattle.sq_patch.specs.Operations.{hastened}
+use Rattle.sq_patch.proofs.Keeping.{all_matter, every_carrier}
+use Rattle.sq_patch.proofs.Staying.{body_unnamed}
+use Rattle.sq_patch.proofs.Changing.{ahead}
+use Rattle.sq_patch.proofs.Falling.{every, other_name, absent_from, name_at, term_is, next_is, slot_goes}
+use Rattle.sq_patch.proofs.Hastening.{meets}
+use Rattle.sq_patch.proofs.Splitting.{Old, old, halved, halves_keep, turned, map_parts, take_in, drop_in}
+use Rattle.sq_patch.proofs.Dropping.{live, live_carrier, unwritten}
+use Rattle.sq_patch.proofs.Bypassing.{slot_known}
+use Rattle.sq_patch.proofs.Dying.{body_rest, items_rest, term_dies}
+use Rattle.sq_patch.proofs.Carrying.{same_some, slot_same, AreOf, ItemGoes, carry_items, carry_term, Backs, items_die}
+use Rattle.sq_patch.proofs.Layouts.{Turn, carries_lines}
+use Rattle.sq_patch.proofs.Restricting.{own, block_target, procedure_target, slot_targets, target_from, flat_from}
+use Rattle.sq_patch.proofs.Standing.{stands_at, distinct_at, block_at}
+use Rattle.sq_patch.proofs.Placing.{C as placing, block_stays, block_goes, all_stay, items_stay, bodies_stay, placed_sound}
+use Rattle.sq_patch.proofs.Ending.{all_of, one_slot, term_turn}
+use Rattle.sq_patch.proofs.Replacing.{own_items, known, holds, C as replacing, place, out, behind, replaced_sound}
+use Rattle.sq_patch.proofs.Calls.{items_dead, behind_items, is_other}
+use Rattle.sq_patch.proofs.Used.{contains_first, contains_later, flat_contains, from_slice, from_all, slice_there, item_called, block_item}
+
+-- a block of which the term or an item is known is there
+there_by_term : (o : Option Block) (t : Term) → block_term o ≡ Some t → IsSome o
+there_by_term None t e = absurd (cc)
+there_by_term (Some b) t e = refl
+
+there_by_item : (o : Option Block) (at : ℕ) (item : Item) → slice_get (block_items o) at ≡ Some item → IsSome o
+there_by_item None at item e = absurd (cc)
+there_by_item (Some b) at item e = refl
+
+module _ (g : Graph) (block n : ℕ) (rules : IsGraph g) (jumps : term_of g block ≡ Some (Jump n)) (slot : next_of g block ≡ Some n) where
+  abbrev at : IsAt g.blocks block
+  at = located g.blocks block (there_by_term (block_of g block) (Jump n) jumps)
+
+  abbrev h : Graph
+  h = with_term g block Fall
+
+  whole : at.front ++ (at.block ∷ at.back) ≡ g.blocks
+  whole = sym at.whole
+
+  abbrev C : Change
+  C = placing every all_matter (Unit {0}) g h rules (λ m c. tt) refl refl
+
+  ended : (b : Bool) → Alike C b None (term_lines at.block.term (lines_of at.back)) (lines_of at.back)
+  ended b =
+      subst (λ t. Alike C b None (term_lines t (lines_of at.back)) (lines_of at.back)) (sym (term_is g block n rules jumps slot at.front at.block at.back whole at.has_name))
+      (jump_before (slot_goes g block n rules jumps slot at.front at.block at.back whole (next_is g block n rules jumps slot at.front at.block at.back whole at.has_name)))
+
+  pub fall_sound : IsSound g → IsSound h
+  fall_sound sound =
+      placed_sound every all_matter (Unit {0}) g h rules (λ m c. tt) refl refl (λ m c. tt) (at.block ∷ []) (record at.block { term = Fall } ∷ []) at.back refl
+      (term_turn every all_matter (Unit {0}) g h rules (λ m c. tt) refl refl (λ m c. tt) at.block [] at.back Fall (stands_at g rules at.front at.block at.back whole) ended (λ m k. refl) (λ m l c. absurd (cc)))
+      at.front whole (with_blocks-at (λ b. record b { term = Fall } ∷ []) g.blocks block at) refl (every_carrier g) (λ xs r l. tt) tt sound
+
+module _ (g : Graph) (block link part to : ℕ) (rules : IsGraph g) (jumps : term_of g block ≡ Some (PartJump link part to)) where
+  abbrev hat : IsAt g.blocks block
+  hat = located g.blocks block (there_by_term (block_of g block) (PartJump link part to) jumps)
+
+  abbrev hh : Graph
+  hh = with_term g block (hastened link to)
+
+  hwhole : hat.front ++ (hat.block ∷ hat.back) ≡ g.blocks
+  hwhole = sym hat.whole
+
+  abbrev HC : Change
+  HC = placing every all_matter (Unit {0}) g hh rules (λ m c. tt) refl refl
+
+  jump_is : hat.block.term ≡ PartJump link part to
+  jump_is = same_some hat.block.term (PartJump link part to) (sym (ap block_term (subst (λ k. value_of (named g.blocks) k ≡ Some hat.block) hat.has_name (block_at g rules hat.front hat.block hat.back hwhole))) ∙ jumps)
+
+  one_line : (l : ℕ) (rest : List Line) → term_lines (hastened l to) rest ≡ End (hastened l to) ∷ rest
+  one_line zero rest = refl
+  one_line (suc l) rest = refl
+
+  hended : (b : Bool) → Alike HC b None (term_lines hat.block.term (lines_of hat.back)) (term_lines (hastened link to) (lines_of hat.back))
+  hended b =
+      let rest = lines_of hat.back in
+      let go = block_goes every all_matter (Unit {0}) g hh rules (λ m c. tt) refl refl (λ m c. tt) hat.front hat.block hat.back hat.back hwhole refl in
+      subst (λ t. Alike HC b None (term_lines t rest) (term_lines (hastened link to) rest)) (sym jump_is)
+      (subst (λ lines. Alike HC b None (End (PartJump link part to) ∷ rest) lines) (sym (one_line link rest))
+      (meets g block link part to rules jumps link rest rest (λ l. slot_same HC own _ _ (go.slot (ap links jump_is ∙ l)))))
+
+  as_linked : (l : ℕ) → links (hastened l to) ≡ true → links (PartJump l part to) ≡ true
+  as_linked zero e = absurd (cc)
+  as_linked (suc l) e = e
+
+  pub hasten_sound : IsSound g → IsSound hh
+  hasten_sound sound =
+      placed_sound every all_matter (Unit {0}) g hh rules (λ m c. tt) refl refl (λ m c. tt) (hat.block ∷ []) (record hat.block { term = hastened link to } ∷ []) hat.back refl
+      (term_turn every all_matter (Unit {0}) g hh rules (λ m c. tt) refl refl (λ m c. tt) hat.block [] hat.back (hastened link to) (stands_at g rules hat.front hat.block hat.back hwhole) hended (λ m k. refl)
+      (λ m l c. (m, (refl, (tt, slot_targets g hat.front hat.block hat.back hwhole (ap links jump_is ∙ as_linked link l) m c)))))
+      hat.front hwhole (with_blocks-at (λ b. record b { term = hastened link to } ∷ []) g.blocks block hat) refl (every_carrier g) (λ xs r l. tt) tt sound
+
+-- one item, and that it is there
+one_item : (items : List Item) (at : ℕ) (item : Item) → slice_get items at ≡ Some item → take 1 (drop at items) ≡ item ∷ []
+one_item [] at item e = absurd (cc)
+one_item (x ∷ items) zero item e = ap (λ y. y ∷ []) (same_some x item e)
+one_item (x ∷ items) (suc at) item e = one_item items at item e
+
+item_within : (items : List Item) (at : ℕ) (item : Item) → slice_get items at ≡ Some item → at + 1 ≤ length items
+item_within [] at item e = absurd (cc)
+item_within (x ∷ items) zero item e = omega arith
+item_within (x ∷ items) (suc at) item e = let l = item_within items at item e in omega (arith, l)
+
+-- what stands in a graph from behind an item of a block on
+module _ (g : Graph) (rules : IsGraph g) (block : ℕ) (spot : IsAt g.blocks block) where
+  stood : spot.front ++ (spot.block ∷ spot.back) ≡ g.blocks
+  stood = sym spot.whole
+
+  items_at : items_of g block ≡ spot.block.items
+  items_at = ap block_items (subst (λ k. value_of (named g.blocks) k ≡ Some spot.block) spot.has_name (block_at g rules spot.front spot.block spot.back stood))
+
+  lines_at : block_lines g block ≡ body_lines spot.block (lines_of spot.back)
+  lines_at =
+      subst (λ k. behind_name k (lines_of g.blocks) ≡ body_lines spot.block (lines_of spot.back)) spot.has_name
+      (subst (λ blocks. behind_name spot.block.name (lines_of blocks) ≡ body_lines spot.block (lines_of spot.back)) stood (name_at spot.front spot.block spot.back (absent_from spot.front spot.block spot.back (distinct_at g rules spot.front spot.block spot.back stood))))
+
+  behind_at : (at : ℕ) → at ≤ length spot.block.items → place_lines g block at ≡ map line_of (drop at spot.block.items) ++ term_lines spot.block.term (lines_of spot.back)
+  behind_at at l = ap (drop at) lines_at ∙ behind_items spot.block.items at (term_lines spot.block.term (lines_of spot.back)) l
+
+module _ (g : Graph) (block at rd to : ℕ) (rules : IsGraph g) (there : slice_get (items_of g block) at ≡ Some (Hi rd to)) (dead : ¬ IsLive g rd (place_lines g block (at + 1))) where
+  drop_there : HasBlock g block
+  drop_there = there_by_item (block_of g block) at (Hi rd to) there
+
+  abbrev dh : Graph
+  dh = replaced g block at 1 []
+
+  abbrev DC : Change
+  DC = replacing (live g) (Unit {0}) g dh rules refl refl
+
+  abbrev dspot : IsAt g.blocks block
+  dspot = place (live g) (Unit {0}) g (live_carrier g) rules block at 1 [] drop_there
+
+  abbrev dlater : List Line
+  dlater = behind (live g) (Unit {0}) g (live_carrier g) rules block at 1 [] drop_there
+
+  abbrev dbefore : List Item
+  dbefore = out (live g) (Unit {0}) g (live_carrier g) rules block at 1 [] drop_there
+
+  hi_there : slice_get dspot.block.items at ≡ Some (Hi rd to)
+  hi_there = subst (λ items. slice_get items at ≡ Some (Hi rd to)) (items_at g rules block dspot) there
+
+  dead_there : ¬ IsLive g rd dlater
+  dead_there = subst (λ lines. ¬ IsLive g rd lines) (behind_at g rules block dspot (at + 1) (item_within dspot.block.items at (Hi rd to) hi_there)) dead
+
+  drops : (b : Bool) → Alike DC b None dlater dlater → Alike DC b None (map line_of dbefore ++ dlater) dlater
+  drops b k =
+      subst (λ items. Alike DC b None (map line_of items ++ dlater) dlater) (sym (one_item dspot.block.items at (Hi rd to) hi_there))
+      (dead_before refl (λ r l. unwritten g rd r dlater dead_there l) k)
+
+  pub drop_sound : IsSound g → IsSound dh
+  drop_sound sound =
+      replaced_sound (live g) (Unit {0}) g (live_carrier g) rules block at 1 [] drop_there drops (λ m c. absurd (let l : c.0 < 0 = c.1 in omega arith)) (λ backs k die die'. die') (λ xs r l. l) tt sound
+
+-- a register that is dead behind a return is dead at it
+return_dead : (g : Graph) (link r : ℕ) (rest : List Line) → ¬ IsLive g r rest → ¬ IsLive g r (Return link ∷ rest)
+return_dead g link r rest dead (read_here e) = absurd (cc)
+return_dead g link r rest dead (live_behind w e l) = dead (subst (λ lines. IsLive g r lines) e l)
+
+-- links die behind the calls of a block
+pub die_in : (g : Graph) (front : List Block) (x : Block) (bs : List Block) → LinksDieIn g (lines_of (front ++ (x ∷ bs))) → LinksDieIn g (body_lines x (lines_of bs))
+die_in g [] x bs die = die
+die_in g (y ∷ front) x bs die = die_in g front x bs (body_rest g y (lines_of (front ++ (x ∷ bs))) die)
+
+die_at : (g : Graph) (items : List Item) (at q : ℕ) (rest : List Line) → slice_get items at ≡ Some (Out q) → LinksDieIn g (map line_of items ++ rest) → (p : Procedure) → slice_get g.procedures q ≡ Some p → ¬ IsLive g p.link (map line_of (drop (at + 1) items) ++ rest)
+die_at g [] at q rest e die p f = absurd (cc)
+die_at g (x ∷ items) zero q rest e die p f =
+    let is : x ≡ Out q = same_some x (Out q) e in
+    let here : LinksDieIn g (Enter q ∷ (map line_of items ++ rest)) = subst (λ y. LinksDieIn g (line_of y ∷ (map line_of items ++ rest))) is die in
+    here.0 p f
+die_at g (x ∷ items) (suc at) q rest e die p f =
+    let more : suc at + 1 ≡ suc (at + 1) = omega arith in
+    rw more (die_at g items at q rest e (items_rest g (x ∷ []) (map line_of items ++ rest) die) p f)
+
+module _ (g : Graph) (block at q : ℕ) (rules : IsGraph g) (there : slice_get (items_of g block) at ≡ Some (Out q)) where
+  inline_there : HasBlock g block
+  inline_there = there_by_item (block_of g block) at (Out q) there
+
+  abbrev by : List Item
+  by = called_body g (called_at g block at)
+
+  abbrev ih : Graph
+  ih = inlined g block at
+
+  abbrev IC : Change
+  IC = replacing (live g) (IsSound g) g ih rules refl refl
+
+  abbrev ispot : IsAt g.blocks block
+  ispot = place (live g) (IsSound g) g (live_carrier g) rules block at 1 by inline_there
+
+  abbrev ilater : List Line
+  ilater = behind (live g) (IsSound g) g (live_carrier g) rules block at 1 by inline_there
+
+  abbrev ibefore : List Item
+  ibefore = out (live g) (IsSound g) g (live_carrier g) rules block at 1 by inline_there
+
+  out_there : slice_get ispot.block.items at ≡ Some (Out q)
+  out_there = subst (λ items. slice_get items at ≡ Some (Out q)) (items_at g rules block ispot) there
+
+  in_block : Contains g.blocks ispot.block
+  in_block = stands_at g rules ispot.front ispot.block ispot.back (stood g rules block ispot)
+
+  found : (p : Procedure) × (slice_get g.procedures q ≡ Some p)
+  found = slice_there g.procedures q (item_called g rules (Out q) q (block_item g rules ispot.block (Out q) in_block (from_slice ispot.block.items at (Out q) out_there)) (contains_first q []))
+
+  abbrev p : Procedure
+  p = found.0
+
+  here : Contains g.procedures p
+  here = from_slice g.procedures q p found.1
+
+  fits : ProcedureFits p
+  fits = from_all ProcedureFits g.procedures p rules.procedures here
+
+  by_is : by ≡ p.body
+  by_is = ap (λ o. called_body g (call_of o)) there ∙ ap procedure_body found.1
+
+  calls_none : (item : Item) → Contains p.body item → item_calls item ≡ []
+  calls_none item c = from_all (λ item. item_calls item ≡ []) p.body item fits.no_calls c
+
+  -- in a sound graph the link is dead behind the call, and so where the body begins
+  link_dead : IsSound g → ¬ IsLive g p.link (inside p ilater)
+  link_dead sound =
+      let die = die_in g ispot.front ispot.block ispot.back (subst (λ blocks. LinksDieIn g (lines_of blocks)) (sym (stood g rules block ispot)) sound.links_die) in
+      items_dead g p.body p.link (Return p.link ∷ ilater) calls_none (λ item c. from_all (λ item. mentions item p.link ≡ false) p.body item fits.no_mention c)
+      (return_dead g p.link p.link ilater (die_at g ispot.block.items at q (term_lines ispot.block.term (lines_of ispot.back)) out_there die p found.1))
+
+  inlines : (b : Bool) → Alike IC b None ilater ilater → Alike IC b None (map line_of ibefore ++ ilater) (map line_of by ++ ilater)
+  inlines b k =
+      let each = bodies_stay every (live g) (IsSound g) g ih rules (known (live g) (IsSound g) g ih rules refl refl) refl refl (holds (live g) (IsSound g) g ih rules refl refl) p here in
+      let inner : Alike IC b None (inside p ilater) (map line_of p.body ++ ilater) =
+      subst (λ items. Alike IC b None (inside p ilater) (map line_of items ++ ilater)) (own_items p.body) (carry_items IC own p.body (Return p.link ∷ ilater) ilater each (return_before k)) in
+      subst (λ items. Alike IC b None (map line_of items ++ ilater) (map line_of by ++ ilater)) (sym (one_item ispot.block.items at (Out q) out_there))
+      (subst (λ items. Alike IC b None (Enter q ∷ ilater) (map line_of items ++ ilater)) (sym by_is)
+      (enter_before {m = None} {m' = None} p found.1 (λ r t x n z. n) (λ sound r l. is_other g p.link r (inside p ilater) (link_dead sound) l) inner))
+
+  -- a body calls nothing
+  body_dies : (items : List Item) (lines : List Line) → ((item : Item) → Contains items item → item_calls item ≡ []) → LinksDieIn ih lines → LinksDieIn ih (map line_of items ++ lines)
+  body_dies [] lines none die = die
+  body_dies (Op insn ∷ items) lines none die = body_dies items lines (λ item c. none item (contains_later (Op insn) item items c)) die
+  body_dies (Hi rd to ∷ items) lines none die = body_dies items lines (λ item c. none item (contains_later (Hi rd to) item items c)) die
+  body_dies (Lo rd rs to ∷ items) lines none die = body_dies items lines (λ item c. none item (contains_later (Lo rd rs to) item items c)) die
+  body_dies (Out r ∷ items) lines none die = absurd (let e : r ∷ [] ≡ [] = none (Out r) (contains_first (Out r) items) in cc)
+
+  pub inline_sound : IsSound g → IsSound ih
+  inline_sound sound =
+      replaced_sound (live g) (IsSound g) g (live_carrier g) rules block at 1 by inline_there inlines
+      (λ m c. procedure_target g p m here (subst (λ items. Contains (flat_map lower_names items) m) by_is c))
+      (λ backs k die die'. subst (λ (items : List Item). LinksDieIn ih (map line_of items ++ ilater)) (sym by_is) (body_dies p.body ilater calls_none die'))
+      (λ xs r l. l) sound sound
+
+module _ (g : Graph) (new block at : ℕ) (rules : IsGraph g) (fresh : IsNew g new) where
+  abbrev sh : Graph
+  sh = split_at g new block at
+
+  abbrev N : ℕ → Type 0
+  N = Old g new block at rules fresh
+
+  used_old : (n : ℕ) → Contains (uses g) n → N n
+  used_old n c = old g new block at rules fresh n (from_all (HasBlock g) (uses g) n rules.named_all c)
+
+  target_old : (n : ℕ) → Contains (code_targets g) n → N n
+  target_old n c =
+      elim (target_from g n c) [
+        | inl named ↦ used_old n named
+        | inr slot ↦ old g new block at rules fresh n (slot_known g rules g.blocks n slot)
+      ]
+
+  abbrev SC : Change
+  SC = placing N all_matter (Unit {0}) g sh rules used_old refl refl
+
+  module _ (x : Block) (front back : List Block) (e : front ++ (x ∷ back) ≡ g.blocks) (is : x.name ≡ block) where
+    abbrev one : List Item
+    one = take at x.items
+
+    abbrev two : List Item
+    two = drop at x.items
+
+    abbrev ending : List Line
+    ending = term_lines x.term (lines_of back)
+
+    abbrev parts : List Block
+    parts = record x { items = one; term = Fall } ∷ record x { name = new; items = two } ∷ []
+
+    in_it : Contains g.blocks x
+    in_it = stands_at g rules front x back e
+
+    each : AreOf SC own (ItemGoes SC own) x.items
+    each = items_stay N all_matter (Unit {0}) g sh rules used_old refl refl target_old x in_it
+
+    lines : (b : Bool) → Alike SC b None (body_lines x (lines_of back)) (halved g new block at rules fresh x (lines_of back))
+    lines b = halves_keep g new block at rules fresh b front x back e is
+
+    ended_same : Alike SC true None ending ending
+    ended_same =
+        let go = block_goes N all_matter (Unit {0}) g sh rules used_old refl refl target_old front x back back e refl in
+        let p = carry_term SC own x.term (lines_of back) (lines_of back) go.term go.slot
+        (λ f. carries_lines SC own N true refl (all_stay N all_matter (Unit {0}) g sh rules used_old refl refl target_old true (front ++ x ∷ []) back (ahead front x back ∙ e))) in
+        subst (λ t. Alike SC true None ending (term_lines t (lines_of back))) (ap (λ (w : Block). w.term) (sym (block_stays N all_matter (Unit {0}) g sh rules used_old refl refl target_old x))) p
+
+    keep : (items : List Item) (xs ys : List Line) → AreOf SC own (ItemGoes SC own) items → Alike SC true None xs ys → Alike SC true None (map line_of items ++ xs) (map line_of items ++ ys)
+    keep items xs ys f p = subst (λ is. Alike SC true None (map line_of items ++ xs) (map line_of is ++ ys)) (own_items items) (carry_items SC own items xs ys f p)
+
+    own_die : (items : List Item) (xs ys : List Line) → Backs SC own → AreOf SC own (ItemGoes SC own) items → Alike SC true None xs ys → LinksDieIn g (map line_of items ++ xs) → LinksDieIn sh ys → LinksDieIn sh (map line_of items ++ ys)
+    own_die items xs ys backs f p die die' = subst (λ (is : List Item). LinksDieIn sh (map line_of is ++ ys)) (own_items items) (items_die SC own backs items xs ys f p die die')
+
+    in_one : AreOf SC own (ItemGoes SC own) one
+    in_one item c = each item (take_in x.items at item c)
+
+    in_two : AreOf SC own (ItemGoes SC own) two
+    in_two item c = each item (drop_in x.items at item c)
+
+    choose : (c : Bool) (xs ys us vs : List Line) → Alike SC false None xs us → Alike SC false None ys vs → Alike SC false None (if c then xs else ys) (if c then us else vs)
+    choose true xs ys us vs p q = p
+    choose false xs ys us vs p q = q
+
+    lower_in : (items : List Item) (m : ℕ) → ((item : Item) → Contains items item → Contains x.items item) → Contains (flat_map lower_names items) m → Contains (code_targets g) m
+    lower_in items m inside c = let o = flat_from lower_names items m c in block_target g x m in_it (flat_contains lower_names x.items o.0 m (inside o.0 o.1.0) o.1.1)
+
+    held_in : (m : ℕ) → Contains (flat_map lower_names one ++ (flat_map lower_names two ++ [])) m → Contains (code_targets g) m
+    held_in m c =
+        elim (Contains-append_cases (flat_map lower_names one) (flat_map lower_names two ++ []) m c) [
+          | inl d ↦ lower_in one m (take_in x.items at) d
+          | inr d ↦ lower_in two m (drop_in x.items at) (all_of (flat_map lower_names two) m d)
+        ]
+
+    parts_die : Backs SC own → LinksDieIn g (body_lines x (lines_of back)) → LinksDieIn sh (lines_of back) → LinksDieIn sh (map line_of one ++ (Name new ∷ (map line_of two ++ ending)))
+    parts_die backs die die' =
+        let in_both : LinksDieIn g (map line_of one ++ (map line_of two ++ ending)) = subst (λ lines. LinksDieIn g lines) (map_parts x.items at ending) die in
+        let two_dies = own_die two ending ending backs in_two ended_same (items_rest g one (map line_of two ++ ending) in_both) (term_dies sh x.term (lines_of back) die') in
+        own_die one (map line_of two ++ ending) (Name new ∷ (map line_of two ++ ending)) backs in_one (name_after (keep two ending ending in_two ended_same)) in_both two_dies
+
+    split_turn : Turn SC own N true true (x ∷ []) parts back back
+    split_turn = record {
+      lines = λ b i p. name_before (name_after (lines b));
+      behind = λ m k p q.
+          choose (x.name == m) (body_lines x (lines_of back)) (behind_name m (body_lines x (lines_of back))) (halved g new block at rules fresh x (lines_of back)) (behind_name m (halved g new block at rules fresh x (lines_of back))) (lines false)
+          (subst (λ xs. Alike SC false None xs (behind_name m (halved g new block at rules fresh x (lines_of back)))) (sym (body_unnamed m x (lines_of back)))
+          (subst (λ ys. Alike SC false None (behind_name m (lines_of back)) ys) (sym ((turned g new block at rules fresh).through m x back k)) q));
+      lowers = λ m c. let d = held_in m c in (m, (refl, (target_old m d, d)));
+      slots = λ m c. one_slot (links x.term) m (first_name back) (link_names back) c (λ l d. let t = slot_targets g front x back e l m d in (m, (refl, (target_old m t, t))));
+      dies = λ backs p die die'. parts_die backs die die';
+    }
+
+    pub split_at_sound : sh.blocks ≡ front ++ (parts ++ back) → IsSound g → IsSound sh
+    split_at_sound after sound =
+        placed_sound N all_matter (Unit {0}) g sh rules used_old refl refl target_old (x ∷ []) parts back refl split_turn front e after refl (every_carrier g) (λ xs r l. tt) tt sound
+
+-- the same graph, where no block has the name
+no_block : (f : Block → List Block) (bs : List Block) (name : ℕ) → value_of (named bs) name ≡ None → with_blocks f bs name ≡ bs
+no_block f [] name e = refl
+no_block f (b ∷ bs) name e = let o = other_name (b.name == name) b (value_of (named bs) name) e in rw o.0 (ap (λ cs. b ∷ cs) (no_block f bs name o.1))
+
+split_by : (g : Graph) (new block at : ℕ) → IsGraph g → IsNew g new → (o : Option Block) → value_of (named g.blocks) block ≡ o → IsSound g → IsSound (split_at g new block at)
+split_by g new block at rules fresh None e sound =
+    subst (λ bs. IsSound (record g { blocks = bs })) (sym (no_block (halves new at) g.blocks block e)) sound
+split_by g new block at rules fresh (Some b) e sound =
+    let spot : IsAt g.blocks block = located g.blocks block (subst IsSome (sym e) refl) in
+    split_at_sound g new block at rules fresh spot.block spot.front spot.back (sym spot.whole) spot.has_name (with_blocks-at (halves new at) g.blocks block spot) sound
+
+pub split_sound : (g : Graph) (new block at : ℕ) → IsGraph g → IsNew g new → IsSound g → IsSound (split_at g new block at)
+split_sound g new block at rules fresh sound = split_by g new block at rules fresh (value_of (named g.blocks) block) refl sound

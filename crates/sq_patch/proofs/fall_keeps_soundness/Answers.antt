@@ -1,0 +1,5 @@
+use Rattle.sq_patch.proofs.Sounding.{fall_sound}
+use Rattle.sq_patch.proofs.fall_keeps_soundness.Goals as goal
+
+pub returns : goal.returns
+returns c = λ g block n rules jumps slot sound. fall_sound g block n rules jumps slot sound

@@ -1,0 +1,5 @@
+use Rattle.sq_patch.proofs.Sounding.{inline_sound}
+use Rattle.sq_patch.proofs.inline_keeps_soundness.Goals as goal
+
+pub returns : goal.returns
+returns c = λ g block at q rules there sound. inline_sound g block at q rules there sound
