@@ -1,12 +1,12 @@
 -- Sums of words.
-use Rattle.std.proofs.Common.{◌≡◌, ℕ, suc, ◌+◌, ◌∙◌, sym, ap, inl, inr, drop, add-one, drop-cons, ◌*◌, ◌<◌, ◌≤◌, ◌^◌, false, List, [], ◌∷◌, ◌++◌, length, sum_by, refl, arith, length-append}
+use Rattle.std.proofs.Common.{◌≡◌, ℕ, suc, ◌+◌, ◌∙◌, sym, ap, inl, inr, drop, add-one, drop-cons, ◌<◌, ◌≤◌, ◌^◌, false, List, [], ◌∷◌, ◌++◌, length, sum_by, refl, arith, length-append}
 use Rattle.std.proofs.lemmas.List.Sums.{sum_by-cons, sum_by-take-drop}
 use Rattle.std.proofs.lemmas.Option.{slice_get_cases}
 use Rattle.sq_graph.specs.declared.item.Item.{Item}
 use Rattle.sq_graph.specs.declared.item.Term.{Term}
 use Rattle.sq_graph.specs.declared.item.Term.TheVariants.{Fall, Jump, Branch, Call, PartJump, Indirect, Stop}
 use Rattle.sq_graph.specs.Graph.{Block, Procedure, Graph}
-use Rattle.sq_graph.specs.Blocks.{items_of_blocks, items_of_bodies, all_items, body_of, procedure_body}
+use Rattle.sq_graph.specs.Blocks.{items_of_blocks, items_of_bodies, body_of, procedure_body}
 use Rattle.sq_graph.specs.Room.{GraphAndRoom, IsSmall, total_of}
 use Rattle.sq_graph.specs.Rules.{last_goes_on}
 use Rattle.sq_graph.specs.Terms.{goes_on}

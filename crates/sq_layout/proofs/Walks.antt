@@ -1,5 +1,5 @@
 -- A walk over the blocks of a graph in layout order.
-use Rattle.std.proofs.Common.{◌≡◌, ℕ, ◌+◌, ◌≤◌, ◌==◌, sum_by, option_map, arith, true, false, inl, inr, List, [], ◌∷◌, ◌++◌, map, length, Option, Some, None, IsSome, is_some, refl, sym, ap, ◌∙◌, subst}
+use Rattle.std.proofs.Common.{◌≡◌, ℕ, ◌+◌, ◌≤◌, ◌==◌, sum_by, option_map, arith, false, inl, inr, List, [], ◌∷◌, ◌++◌, map, Option, Some, None, IsSome, refl, sym, ap, ◌∙◌, subst}
 use Rattle.std.proofs.lemmas.Bool.{cases_Bool}
 use Rattle.std.proofs.lemmas.List.Sums.{sum_by-cons}
 use Rattle.sq_arena.specs.Entries.{HasDistinctKeys, value_of, before, behind, starting_at, first_key, next_key}
@@ -10,7 +10,7 @@ use Rattle.sq_graph.specs.Blocks.{named, block_of, block_items, items_of}
 use Rattle.sq_graph.specs.Words.{block_words}
 use Rattle.sq_graph.specs.Rules.{IsGraph, last_goes_on}
 use Rattle.sq_graph.specs.Cursor.{IsPlace, rest_from}
-use Rattle.sq_graph.proofs.Located.{IsAt, located, named-append, value_of-at}
+use Rattle.sq_graph.proofs.Located.{located, named-append, value_of-at}
 use Rattle.sq_graph.proofs.CursorLaws.{behind_parts, from_first}
 use Rattle.sq_layout.proofs.Counts.{last_behind}
 

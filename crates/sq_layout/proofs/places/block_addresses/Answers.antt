@@ -1,8 +1,7 @@
-use Rattle.std.proofs.Common.{◌≡◌, ℕ, List, ◌<◌, ◌∙◌, ◌^◌, ap, length, sum_by, nat_eq, subst, sym, arith}
+use Rattle.std.proofs.Common.{ℕ, List, ◌<◌, ◌∙◌, ◌^◌, ap, length, nat_eq, arith}
 use Rattle.std.specs.HashMap.{get}
 use Rattle.std.specs.Map.{lookup}
-use Rattle.sq_graph.specs.Words.{block_words}
-use Rattle.sq_layout.proofs.Placed.{IsPlaced, none_placed, all_placed, at_small, one_placed}
+use Rattle.sq_layout.proofs.Placed.{none_placed, all_placed, at_small, one_placed}
 use Rattle.sq_layout.proofs.Walks.{blocks_from, starts, here, words_here}
 use Rattle.sq_layout.proofs.places.block_addresses.Goals as goal
 

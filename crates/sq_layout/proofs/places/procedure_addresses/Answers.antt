@@ -1,4 +1,4 @@
-use Rattle.std.proofs.Common.{◌≡◌, ◌+◌, ◌*◌, ◌<◌, ◌≤◌, ◌^◌, ◌∙◌, ◌∷◌, [], ◌++◌, ap, length, drop, sum_by, arith, append_assoc, sym, refl}
+use Rattle.std.proofs.Common.{◌+◌, ◌*◌, ◌<◌, ◌^◌, ◌∙◌, ◌∷◌, [], drop, arith, append_assoc, sym, refl}
 use Rattle.sq_graph.specs.Blocks.{body_of}
 use Rattle.sq_graph.specs.Words.{procedure_words}
 use Rattle.sq_graph.specs.Places.{procedure_addresses as addresses_of}

@@ -1,4 +1,4 @@
-use Rattle.std.proofs.Common.{◌≡◌, ◌+◌, ◌∙◌, ap, length, sum_by, arith}
+use Rattle.std.proofs.Common.{◌∙◌, ap, length, sum_by, arith}
 use Rattle.sq_graph.specs.Words.{block_words}
 use Rattle.sq_layout.proofs.Walks.{blocks_from, here, words_here}
 use Rattle.sq_layout.proofs.words.words_of_blocks.Goals as goal

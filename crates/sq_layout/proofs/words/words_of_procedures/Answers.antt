@@ -1,5 +1,4 @@
-use Rattle.std.proofs.Common.{◌≡◌, ◌+◌, ◌<◌, ◌≤◌, ◌∙◌, ap, length, drop, sum_by, arith}
-use Rattle.sq_graph.specs.Words.{procedure_words}
+use Rattle.std.proofs.Common.{arith}
 use Rattle.sq_layout.proofs.Counts.{procedure_here}
 use Rattle.sq_layout.proofs.words.words_of_procedures.Goals as goal
 
