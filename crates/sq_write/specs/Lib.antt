@@ -1,3 +1,6 @@
 pub mod Output
 pub mod Parts
 pub mod Plain
+pub mod Points
+pub mod Pieces
+pub mod Written
