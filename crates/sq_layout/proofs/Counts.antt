@@ -1,5 +1,5 @@
 -- Sums of words.
-use Rattle.std.proofs.Common.{◌≡◌, ℕ, suc, ◌+◌, ◌∙◌, sym, ap, inl, inr, drop, add-one, drop-cons, ◌<◌, ◌≤◌, ◌^◌, false, List, [], ◌∷◌, ◌++◌, length, sum_by, refl, arith, length-append}
+use Rattle.std.proofs.Common.{◌≡◌, ℕ, suc, ◌+◌, ◌∙◌, sym, ap, inl, inr, drop, add-one, drop-cons, Some, slice_get, ◌<◌, ◌≤◌, ◌^◌, false, List, [], ◌∷◌, ◌++◌, length, sum_by, refl, arith, length-append}
 use Rattle.std.proofs.lemmas.List.Sums.{sum_by-cons, sum_by-take-drop}
 use Rattle.std.proofs.lemmas.Option.{slice_get_cases}
 use Rattle.sq_graph.specs.declared.item.Item.{Item}
@@ -36,7 +36,7 @@ few_words v small =
     omega (arith, words_of_blocks_few v.graph.blocks, words_of_procedures_few v.graph.procedures, length-append (items_of_blocks v.graph.blocks) (items_of_bodies v.graph.procedures), small.blocks, small.items, small.procedures)
 
 -- the last block has a term other than Fall, so where blocks are left, a word is left
-stops_in_a_word : (t : Term) → goes_on t ≡ false → 1 ≤ term_words t
+pub stops_in_a_word : (t : Term) → goes_on t ≡ false → 1 ≤ term_words t
 stops_in_a_word Fall e = absurd (cc)
 stops_in_a_word (Jump to) e = omega arith
 stops_in_a_word (Branch c a b to) e = omega arith
@@ -57,6 +57,8 @@ last_behind (x ∷ y ∷ front) b back = last_behind (y ∷ front) b back
 -- what a loop knows at a procedure
 pub record ProcedureHere (g : Graph) (k : ℕ) (body : List Item) : Type 0 where
   pub procedure : Procedure
+  pub found : slice_get g.procedures k ≡ Some procedure
+  pub body_is : body ≡ procedure.body
   pub rest : drop k g.procedures ≡ procedure ∷ drop (k + 1) g.procedures
   pub words : procedure_words procedure ≡ length body + 1
   pub sum : sum_by procedure_words (drop k g.procedures) ≡ procedure_words procedure + sum_by procedure_words (drop (k + 1) g.procedures)
@@ -70,6 +72,8 @@ procedure_here g k body within is =
           let sum : sum_by procedure_words (drop k g.procedures) ≡ procedure_words x.0 + sum_by procedure_words (drop (k + 1) g.procedures) = ap (sum_by procedure_words) rest ∙ sum_by-cons procedure_words x.0 (drop (k + 1) g.procedures) in
           record {
             procedure = x.0;
+            found = x.2;
+            body_is = is ∙ ap procedure_body x.2;
             rest = rest;
             words = ap (λ items. length items + 1) (sym (is ∙ ap procedure_body x.2));
             sum = sum;

@@ -1,4 +1,7 @@
+mod Examples
 pub mod Laying
 pub mod Reading
 pub mod Splitting
+pub mod TextWalks
+pub mod Texts
 pub mod Words

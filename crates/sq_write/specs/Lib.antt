@@ -4,3 +4,4 @@ pub mod Plain
 pub mod Points
 pub mod Pieces
 pub mod Written
+pub mod Standing

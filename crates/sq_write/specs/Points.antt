@@ -105,7 +105,10 @@ procedures_points g lo at [] = []
 procedures_points g lo at (procedure ∷ procedures) =
     procedure_points g lo at procedure ++ procedures_points g lo (at + 4 * procedure_words procedure) procedures
 
+-- where the procedures begin, behind the blocks
+abbrev pub procedures_at : Graph → ℕ → ℕ
+procedures_at g lo = lo + 4 * sum_by block_words g.blocks
+
 -- THE text of a graph from the address `lo` on
 abbrev pub text_points : Graph → ℕ → List Point
-text_points g lo =
-    blocks_points g lo lo g.blocks ++ procedures_points g lo (lo + 4 * sum_by block_words g.blocks) g.procedures
+text_points g lo = blocks_points g lo lo g.blocks ++ procedures_points g lo (procedures_at g lo) g.procedures

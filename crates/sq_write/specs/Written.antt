@@ -1,14 +1,14 @@
 -- The output of a graph: a file made of the data of another and of the words of the graph. It doesn't depend on the
 -- names of blocks.
-use Rattle.std.specs.Prelude.{◌≡◌, ◌≤◌, ℕ, ◌+◌, ◌*◌, ◌-◌, nat_lt, nat_le, List, [], ◌∷◌, ◌++◌, length, map, filter, codes, sum_by, is_some}
-use Rattle.std.specs.List.{flat_map, list_any}
+use Rattle.std.specs.Prelude.{ℕ, ◌+◌, ◌*◌, nat_lt, nat_le, List, [], ◌∷◌, ◌++◌, length, map, filter, codes}
+use Rattle.std.specs.List.{flat_map}
 use Rattle.sq_elf.specs.Text.{text_of}
 use Rattle.sq_graph.specs.declared.parts.CodeRef.{CodeRef}
 use Rattle.sq_graph.specs.Graph.{Procedure, Graph}
-use Rattle.sq_graph.specs.Words.{block_words, procedure_words}
+use Rattle.sq_graph.specs.Words.{procedure_words}
 use Rattle.sq_write.specs.Output.{words, Output, Relocation, output_file}
 use Rattle.sq_write.specs.Plain.{empty_note}
-use Rattle.sq_write.specs.Points.{new_address, point_word, text_points}
+use Rattle.sq_write.specs.Points.{new_address, point_word, procedures_at, text_points}
 use Rattle.sq_write.specs.Pieces.{pieces_before, pieces_after}
 
 -- R_RISCV_32: a code word is the new address of its block
@@ -36,7 +36,7 @@ note_from at (procedure ∷ procedures) =
 
 -- THE note
 abbrev pub note_of : Graph → ℕ → List ℕ
-note_of g lo = note_from (lo + 4 * sum_by block_words g.blocks) g.procedures
+note_of g lo = note_from (procedures_at g lo) g.procedures
 
 -- all that is written: the entry, the pieces and the words of text at their new addresses, the entries and the note
 abbrev pub written_output : List ℕ → Graph → Output

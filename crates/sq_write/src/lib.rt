@@ -7,7 +7,11 @@
 
 mod fields;
 mod parts;
+mod placed;
 mod plain;
+mod text;
+mod text_bytes;
+
 
 pub use plain::{read_plain, word_at, write_plain};
 
