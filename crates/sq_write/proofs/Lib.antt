@@ -4,4 +4,5 @@ pub mod Reading
 pub mod Splitting
 pub mod TextWalks
 pub mod Texts
+pub mod WordEntries
 pub mod Words

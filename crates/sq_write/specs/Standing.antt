@@ -11,7 +11,7 @@ use Rattle.sq_graph.specs.Rules.{ItemFits, TermFits}
 use Rattle.sq_graph.specs.Words.{block_words, procedure_words}
 use Rattle.sq_layout.specs.Addresses.{ArePlaces}
 use Rattle.sq_write.specs.Output.{words, relocation_table}
-use Rattle.sq_write.specs.Points.{Point, point_word, item_insn, term_points}
+use Rattle.sq_write.specs.Points.{Point, point_word, item_insn, term_points, procedures_at}
 use Rattle.sq_write.specs.declared.placed.Placed.{Placed}
 use Rattle.sq_write.specs.declared.text_bytes.TextBytes.{TextBytes}
 
@@ -47,6 +47,11 @@ abbrev pub ProceduresStand : Graph → ℕ → ℕ → List Procedure → Type 0
 ProceduresStand g lo at [] = Unit {0}
 ProceduresStand g lo at (procedure ∷ procedures) =
     ItemsStand g lo at procedure.body × ProceduresStand g lo (at + 4 * procedure_words procedure) procedures
+
+-- all words of the text fit where they stand
+pub record TextStands (g : Graph) (lo : ℕ) : Type 0 where
+  pub blocks : BlocksStand g lo lo g.blocks
+  pub procedures : ProceduresStand g lo (procedures_at g lo) g.procedures
 
 -- the words of these points were appended, and their relocation entries
 pub record Appends (points : List Point) (old new : TextBytes) : Type 0 where

@@ -5,7 +5,9 @@
 //! `read_plain` finds the text in a file that is one, word by word.
 #![tactic(auto)]
 
+mod entries;
 mod fields;
+mod note;
 mod parts;
 mod placed;
 mod plain;

@@ -6,7 +6,7 @@ ghost use Rattle.sq_graph.specs.Rules.{IsGraph};
 ghost use Rattle.sq_isa.specs.declared.instructions.Insn.TheVariants.{Jal, Jalr};
 ghost use Rattle.sq_graph.specs.Words.{block_words, words_of};
 ghost use Rattle.sq_write.specs.Points.{new_address, offset_to, item_point, items_points, plain_point, term_points, stop_insn, blocks_points, procedures_at, procedures_points, text_points};
-ghost use Rattle.sq_write.specs.Standing.{IsPlaced, OffsetFits, ItemStands, ItemsStand, TermStands, BlocksStand, ProceduresStand, Appends};
+ghost use Rattle.sq_write.specs.Standing.{IsPlaced, OffsetFits, ItemStands, ItemsStand, TermStands, BlocksStand, ProceduresStand, TextStands, Appends};
 
 use crate::fields::push_words;
 use crate::placed::{Placed, offset_to};
@@ -224,5 +224,18 @@ fn push_procedures(out: &mut TextBytes, placed: &Placed<'_>) -> Result<(), Memor
     for procedure in 0..g.procedures() {
         push_procedure(out, placed, placed.start(procedure), g.body(procedure), g.link(procedure))?;
     }
+    Ok(())
+}
+
+/// Appends the words of the whole text: those of the blocks, and then those of the procedures.
+pub(crate) fn push_text(out: &mut TextBytes, placed: &Placed<'_>) -> Result<(), Memory>
+    requires placed { IsPlaced placed.now }
+    requires rules { IsGraph placed.now.g.now.graph }
+    requires fits { placed.now.lo + 4 * words_of placed.now.g.now.graph ≤ 2 ^ 32 }
+    requires stands { TextStands placed.now.g.now.graph placed.now.lo }
+    ensures { OnOk result (Appends (text_points placed.now.g.now.graph placed.now.lo) out.old out.new) }
+{
+    push_blocks(out, placed)?;
+    push_procedures(out, placed)?;
     Ok(())
 }

@@ -14,8 +14,8 @@ push_procedure-requires-clause-few c =
     let k = c.loop-procedure.procedure in
     let w = c.loop-procedure.invariant in
     let h = procedure_here g k c.body.result.now (omega arith) c.body.ensures in
-    let at = c.start.ensures ∙ start_here g lo k c.args.out.now c.loop-procedure.out h w in
-    omega (arith, at, ap length h.body_is, procedure_fits g lo k c.args.out.now c.loop-procedure.out h w (omega (arith, c.requires.fits)))
+    let at = c.start.ensures ∙ start_here g lo k h w.place in
+    omega (arith, at, ap length h.body_is, procedure_fits g lo k h w.place (omega (arith, c.requires.fits)))
 
 pub push_procedure-requires-clause-stand : goal.push_procedure-requires-clause-stand
 push_procedure-requires-clause-stand c =
@@ -24,7 +24,7 @@ push_procedure-requires-clause-stand c =
     let k = c.loop-procedure.procedure in
     let w = c.loop-procedure.invariant in
     let h = procedure_here g k c.body.result.now (omega arith) c.body.ensures in
-    let at = c.start.ensures ∙ start_here g lo k c.args.out.now c.loop-procedure.out h w in
+    let at = c.start.ensures ∙ start_here g lo k h w.place in
     rw (at, h.body_is) (body_stands g lo k c.args.out.now c.loop-procedure.out h w)
 
 pub loop-procedure-preserved : goal.loop-procedure-preserved
@@ -34,7 +34,7 @@ loop-procedure-preserved c =
     let k = c.loop-procedure.procedure in
     let w = c.loop-procedure.invariant in
     let h = procedure_here g k c.body.result.now (omega arith) c.body.ensures in
-    let at = c.start.ensures ∙ start_here g lo k c.args.out.now c.loop-procedure.out h w in
+    let at = c.start.ensures ∙ start_here g lo k h w.place in
     let link : c.link.result ≡ h.procedure.link = let e : Some h.procedure.link ≡ Some c.link.result = sym (ap procedure_link h.found) ∙ c.link.ensures in cc in
     let more = rw (at, h.body_is, link) at c.in_ok-push_procedure.ensures in
     next_procedure g lo k c.args.out.now c.loop-procedure.out h w c.push_procedure.new.out more
