@@ -10,6 +10,7 @@ use Rattle.sq_graph.specs.declared.item.Term.TheVariants.{Fall, Jump, Call, Part
 use Rattle.sq_graph.specs.Graph.{Block, Graph}
 use Rattle.sq_write.specs.Output.{words, Output, output_file}
 use Rattle.sq_write.specs.Points.{point_word, text_points}
+use Rattle.sq_write.specs.Pieces.{set_word_at, with_words}
 use Rattle.sq_write.specs.Written.{entries_of, note_of}
 
 block : ℕ → List Item → Term → Block
@@ -72,3 +73,8 @@ halves_are = refl
 entries_are : entries_of halves 65536 ≡ record { offset = 65536; kind = 26; addend = 65548 } ∷ record { offset = 65540; kind = 27; addend = 65548 } ∷ record { offset = 65544; kind = 27; addend = 65548 } ∷ record { offset = 131072; kind = 1; addend = 65548 } ∷ []
 unfolding block halves
 entries_are = refl
+
+-- the code word in bytes that stand from the address 0x0001fffe on
+words_set : with_words (set_word_at halves 65536) 131070 (9 ∷ 9 ∷ 1 ∷ 2 ∷ 3 ∷ 4 ∷ 7 ∷ []) ≡ 9 ∷ 9 ∷ 0x0c ∷ 0 ∷ 1 ∷ 0 ∷ 7 ∷ []
+unfolding block halves
+words_set = refl

@@ -9,7 +9,7 @@ use Rattle.sq_graph.specs.Words.{procedure_words}
 use Rattle.sq_write.specs.Output.{words, Output, Relocation, output_file}
 use Rattle.sq_write.specs.Plain.{empty_note}
 use Rattle.sq_write.specs.Points.{new_address, point_word, procedures_at, text_points}
-use Rattle.sq_write.specs.Pieces.{pieces_before, pieces_after}
+use Rattle.sq_write.specs.Pieces.{set_word_at, pieces_before, pieces_behind}
 
 -- R_RISCV_32: a code word is the new address of its block
 abbrev pub word_entry : Graph → ℕ → CodeRef → Relocation
@@ -42,10 +42,10 @@ note_of g lo = note_from (procedures_at g lo) g.procedures
 abbrev pub written_output : List ℕ → Graph → Output
 written_output bytes g = record {
   entry = new_address g (text_of bytes).lo g.entry;
-  before = pieces_before bytes g;
+  before = pieces_before bytes (set_word_at g (text_of bytes).lo);
   start = (text_of bytes).lo;
   text = map point_word (text_points g (text_of bytes).lo);
-  after = pieces_after bytes g;
+  after = pieces_behind bytes (set_word_at g (text_of bytes).lo);
   relocations = entries_of g (text_of bytes).lo;
   note = note_of g (text_of bytes).lo;
 }

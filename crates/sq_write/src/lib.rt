@@ -5,10 +5,13 @@
 //! `read_plain` finds the text in a file that is one, word by word.
 #![tactic(auto)]
 
+mod code_words;
 mod entries;
 mod fields;
 mod note;
 mod parts;
+mod piece;
+mod pieces;
 mod placed;
 mod plain;
 mod text;

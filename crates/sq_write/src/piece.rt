@@ -1,0 +1,22 @@
+//! A piece of the output.
+
+use std::marker::Model;
+
+/// A piece of memory as the file stores it: the bytes at its address, then zeros up to its size.
+#[derive(Drop)]
+pub(crate) struct Piece {
+    pub address: u32,
+    pub load_address: u32,
+    pub bytes: Vec<u8>,
+    pub size: u32,
+    /// 1 can be executed (PF_X), 2 written (PF_W), 4 read (PF_R).
+    pub flags: u32,
+}
+
+impl Model for Piece {
+    ghost use Rattle.sq_write.specs.Output.{Piece};
+
+    ghost Value = { Piece };
+
+    ghost view = { λ p. record { address = p.address; load_address = p.load_address; bytes = p.bytes.items; size = p.size; flags = p.flags } };
+}
