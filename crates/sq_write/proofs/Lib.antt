@@ -1,6 +1,8 @@
 mod Examples
 pub mod Laying
 pub mod Reading
+pub mod SegmentFacts
+pub mod Segments
 pub mod Splitting
 pub mod TextWalks
 pub mod Texts
