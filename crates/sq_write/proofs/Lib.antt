@@ -1,5 +1,7 @@
 mod Examples
+pub mod Files
 pub mod Laying
+pub mod PieceWalks
 pub mod Reading
 pub mod SegmentFacts
 pub mod Segments

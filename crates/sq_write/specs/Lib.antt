@@ -5,3 +5,4 @@ pub mod Points
 pub mod Pieces
 pub mod Written
 pub mod Standing
+pub mod Laid

@@ -8,7 +8,10 @@
 mod code_words;
 mod entries;
 mod fields;
+mod file_parts;
+mod layout;
 mod note;
+mod output;
 mod parts;
 mod piece;
 mod pieces;

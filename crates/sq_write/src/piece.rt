@@ -1,5 +1,6 @@
 //! A piece of the output.
 
+use sq_num::Memory;
 use std::marker::Model;
 
 /// A piece of memory as the file stores it: the bytes at its address, then zeros up to its size.
@@ -19,4 +20,30 @@ impl Model for Piece {
     ghost Value = { Piece };
 
     ghost view = { λ p. record { address = p.address; load_address = p.load_address; bytes = p.bytes.items; size = p.size; flags = p.flags } };
+}
+
+impl Piece {
+    ghost use Rattle.std.specs.Prelude.{◌≡◌, ◌<◌, ◌^◌, ◌++◌, length, OnOk};
+
+    pub fn address(&self) -> u32
+        ensures { result ≡ self.now.address }
+    {
+        self.address
+    }
+
+    /// How many bytes of it stand in the file.
+    pub fn stored(&self) -> u32
+        requires { length self.now.bytes < 2 ^ 32 }
+        ensures { result ≡ length self.now.bytes }
+    {
+        self.bytes.len() as u32
+    }
+
+    /// Appends the bytes of it that stand in the file.
+    pub fn push_bytes(&self, file: &mut Vec<u8>) -> Result<(), Memory>
+        ensures { OnOk result (file.new.items ≡ file.old.items ++ self.now.bytes) }
+    {
+        file.extend_from_slice(&self.bytes)?;
+        Ok(())
+    }
 }
