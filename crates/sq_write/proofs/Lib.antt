@@ -1,6 +1,8 @@
 mod Examples
 pub mod Files
+pub mod Fitting
 pub mod Laying
+pub mod Lengths
 pub mod PieceWalks
 pub mod Reading
 pub mod SegmentFacts

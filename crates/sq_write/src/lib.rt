@@ -19,9 +19,11 @@ mod placed;
 mod plain;
 mod text;
 mod text_bytes;
+mod writing;
 
 
 pub use plain::{read_plain, word_at, write_plain};
+pub use writing::write_elf;
 
 #[cfg(test)]
 mod tests;

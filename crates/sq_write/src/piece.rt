@@ -25,6 +25,20 @@ impl Model for Piece {
 impl Piece {
     ghost use Rattle.std.specs.Prelude.{◌≡◌, ◌<◌, ◌^◌, ◌++◌, length, OnOk};
 
+    /// Text, which can be read and executed and is loaded where it stands.
+    pub fn text(address: u32, bytes: Vec<u8>) -> Piece
+        requires { length bytes.items < 2 ^ 32 }
+        ensures { result ≡ record { address = address; load_address = address; bytes = bytes.items; size = length bytes.items; flags = 5 } }
+    {
+        Piece {
+            address,
+            load_address: address,
+            size: bytes.len() as u32,
+            bytes,
+            flags: 5,
+        }
+    }
+
     pub fn address(&self) -> u32
         ensures { result ≡ self.now.address }
     {
