@@ -126,9 +126,10 @@ module _ (g : Graph) (lo : ℕ) (rules : IsGraph g) (few : words_of g ≤ 262144
 
   items_stand : (items : List Item) (at j : ℕ) → at ≡ lo + 4 * j → j + length items ≤ words_of g → All (ItemKeeps (HasBlock g) (HasProcedure g)) items → ItemsStand g lo at items
   items_stand [] at j e within all = tt
-  items_stand (item ∷ items) at j e within all =
-      (item_stands item at j e (omega arith) (All-head {X = Item} (ItemKeeps (HasBlock g) (HasProcedure g)) item items all),
-      items_stand items (at + 4) (j + 1) (omega arith) (omega arith) (All-tail {X = Item} (ItemKeeps (HasBlock g) (HasProcedure g)) item items all))
+  items_stand (item ∷ items) at j e within all = (
+    item_stands item at j e (omega arith) (All-head {X = Item} (ItemKeeps (HasBlock g) (HasProcedure g)) item items all),
+    items_stand items (at + 4) (j + 1) (omega arith) (omega arith) (All-tail {X = Item} (ItemKeeps (HasBlock g) (HasProcedure g)) item items all),
+  )
 
   jump_stands : (rd to at j : ℕ) → at ≡ lo + 4 * j → j < words_of g → HasBlock g to → OffsetFits (Jal rd (offset_to at (new_address g lo to)))
   jump_stands rd to at j e within there =
@@ -153,18 +154,22 @@ module _ (g : Graph) (lo : ℕ) (rules : IsGraph g) (few : words_of g ≤ 262144
   blocks_stand [] at m j e f within all reach = tt
   blocks_stand (b ∷ bs) at m j e f within all reach =
       let keeps = All-head (BlockKeeps (HasBlock g) (HasProcedure g)) b bs all in
-      let sum = sum_by-cons block_words b bs in
-      ((items_stand b.items at j e (omega (arith, sum)) keeps.items,
-      term_stands b.term (at + 4 * length b.items) (m + 4 * length b.items) (j + length b.items) (omega arith) (omega arith) (omega (arith, sum)) keeps.names keeps.fits reach.0),
-      blocks_stand bs (at + 4 * block_words b) (m + 4 * block_words b) (j + block_words b) (omega arith) (omega arith) (omega (arith, sum)) (All-tail (BlockKeeps (HasBlock g) (HasProcedure g)) b bs all) reach.1)
+      let sum = sum_by-cons block_words b bs in (
+        (
+          items_stand b.items at j e (omega (arith, sum)) keeps.items,
+          term_stands b.term (at + 4 * length b.items) (m + 4 * length b.items) (j + length b.items) (omega arith) (omega arith) (omega (arith, sum)) keeps.names keeps.fits reach.0,
+        ),
+        blocks_stand bs (at + 4 * block_words b) (m + 4 * block_words b) (j + block_words b) (omega arith) (omega arith) (omega (arith, sum)) (All-tail (BlockKeeps (HasBlock g) (HasProcedure g)) b bs all) reach.1,
+      )
 
   procedures_stand : (ps : List Procedure) (at j : ℕ) → at ≡ lo + 4 * j → j + sum_by procedure_words ps ≤ words_of g → All (BodyKeeps (HasBlock g) (HasProcedure g)) ps → ProceduresStand g lo at ps
   procedures_stand [] at j e within all = tt
   procedures_stand (p ∷ ps) at j e within all =
       let keeps = All-head (BodyKeeps (HasBlock g) (HasProcedure g)) p ps all in
-      let sum = sum_by-cons procedure_words p ps in
-      (items_stand p.body at j e (omega (arith, sum)) keeps.items,
-      procedures_stand ps (at + 4 * procedure_words p) (j + procedure_words p) (omega arith) (omega (arith, sum)) (All-tail (BodyKeeps (HasBlock g) (HasProcedure g)) p ps all))
+      let sum = sum_by-cons procedure_words p ps in (
+        items_stand p.body at j e (omega (arith, sum)) keeps.items,
+        procedures_stand ps (at + 4 * procedure_words p) (j + procedure_words p) (omega arith) (omega (arith, sum)) (All-tail (BodyKeeps (HasBlock g) (HasProcedure g)) p ps all),
+      )
 
   pub text_stands : IsInReach g → TextStands g lo
   text_stands reach =

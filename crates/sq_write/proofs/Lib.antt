@@ -1,4 +1,6 @@
 mod Examples
+pub mod Assembling
+pub mod CodeWordCount
 pub mod Files
 pub mod Fitting
 pub mod Laying

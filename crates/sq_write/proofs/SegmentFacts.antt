@@ -17,6 +17,8 @@ use Rattle.sq_elf.specs.Refusing.{file_too_long, not_elf, short_header, header_f
 use Rattle.sq_elf.proofs.Accepted.{header_accepted, segments_accepted, text_accepted, few_loaded}
 use Rattle.sq_elf.proofs.Passing.{row_passes, behind_row}
 use Rattle.sq_elf.proofs.TextFacts.{both_true, neither, second_false}
+use Rattle.sq_write.specs.Pieces.{by_address}
+use Rattle.sq_write.proofs.Segments.{by_address_moves}
 
 -- a segment ends within 32 bits, and has no more bytes in the file than in memory
 pub record IsShaped (s : Segment) : Type 0 where
@@ -24,7 +26,7 @@ pub record IsShaped (s : Segment) : Type 0 where
   pub stored : s.filesz ≤ s.memsz
 
 module _ (bytes : List ℕ) (accepted : file_refusal_of bytes ≡ None) where
-  shaped_at : (k : ℕ) → k < phnum_of bytes → is_load bytes k ≡ true → IsShaped (segment_of bytes k)
+  pub shaped_at : (k : ℕ) → k < phnum_of bytes → is_load bytes k ≡ true → IsShaped (segment_of bytes k)
   shaped_at k within load =
       let s = segment_of bytes k in
       let good = second_false (is_load bytes k) (is_misshapen (segment_of bytes k)) (row_passes (bad_segment bytes) (segment_kind bytes ∷ segment_overlap bytes ∷ []) (segments_accepted bytes accepted) k within) load in
@@ -78,12 +80,24 @@ module _ (bytes : List ℕ) (accepted : file_refusal_of bytes ≡ None) where
           let here : loaded_at bytes n ≡ (segment_of bytes n).filesz = rw load refl in
           rw e (omega (arith, more, here, sum_by_push (λ (s : Segment). s.filesz) (segments_before bytes n) (segment_of bytes n)))
 
+  pub few_file_bytes : sum_by (λ s. s.filesz) (segments_of bytes) ≤ 16777216
+  few_file_bytes = omega (arith, loaded_before (phnum_of bytes), few_loaded bytes accepted)
+
   -- few segments, and few bytes of them in the file
   pub few_segments : (xs : List Segment) → AreSegments bytes xs → length xs ≤ 128
   few_segments xs are = omega (arith, length_permutation (segments_of bytes) xs are.all, count_before (phnum_of bytes), few_headers)
 
   pub few_bytes : (xs : List Segment) → AreSegments bytes xs → sum_by (λ s. s.filesz) xs ≤ 16777216
   few_bytes xs are = omega (arith, sum_by-IsPermutation (λ (s : Segment). s.filesz) (segments_of bytes) xs are.all, loaded_before (phnum_of bytes), few_loaded bytes accepted)
+
+-- the same of the list by address
+pub few_ordered : (bytes : List ℕ) → file_refusal_of bytes ≡ None → length (by_address (segments_of bytes)) ≤ 128
+few_ordered bytes accepted =
+    omega (arith, length_permutation (segments_of bytes) (by_address (segments_of bytes)) (by_address_moves (segments_of bytes)), count_before bytes accepted (phnum_of bytes), few_headers bytes accepted)
+
+pub few_ordered_bytes : (bytes : List ℕ) → file_refusal_of bytes ≡ None → sum_by (λ s. s.filesz) (by_address (segments_of bytes)) ≤ 16777216
+few_ordered_bytes bytes accepted =
+    omega (arith, sum_by-IsPermutation (λ (s : Segment). s.filesz) (segments_of bytes) (by_address (segments_of bytes)) (by_address_moves (segments_of bytes)), few_file_bytes bytes accepted)
 
 pub few_text : (bytes : List ℕ) → file_refusal_of bytes ≡ None → (text_of bytes).hi ≤ (text_of bytes).lo + 1048576
 few_text bytes accepted =

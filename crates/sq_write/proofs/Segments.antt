@@ -55,13 +55,13 @@ unique (x ∷ xs) (y ∷ ys) up vp to from =
     tails : x ≡ y → ((z : Segment) → Contains xs z → Contains ys z) × ((z : Segment) → Contains ys z → Contains xs z)
     tails same = (
       λ z has. ⊎_elim
-      (λ (e : y ≡ z). let far = above x.address xs z up.0 has in absurd (omega (arith, far, ap (λ (s : Segment). s.address) (same ∙ e))))
-      (λ (later : Contains ys z). later)
-      (first_or_later y ys z (to z (is_later x xs z has))),
+          (λ (e : y ≡ z). let far = above x.address xs z up.0 has in absurd (omega (arith, far, ap (λ (s : Segment). s.address) (same ∙ e))))
+          (λ (later : Contains ys z). later)
+          (first_or_later y ys z (to z (is_later x xs z has))),
       λ z has. ⊎_elim
-      (λ (e : x ≡ z). let far = above y.address ys z vp.0 has in absurd (omega (arith, far, ap (λ (s : Segment). s.address) (sym same ∙ e))))
-      (λ (later : Contains xs z). later)
-      (first_or_later x xs z (from z (is_later y ys z has))),
+          (λ (e : x ≡ z). let far = above y.address ys z vp.0 has in absurd (omega (arith, far, ap (λ (s : Segment). s.address) (sym same ∙ e))))
+          (λ (later : Contains xs z). later)
+          (first_or_later x xs z (from z (is_later y ys z has))),
     )
 
     heads : (y ≡ x) ⊎ Contains ys x → (x ≡ y) ⊎ Contains xs y → (((z : Segment) → Contains xs z → Contains ys z) → ((z : Segment) → Contains ys z → Contains xs z) → xs ≡ ys) → x ∷ xs ≡ y ∷ ys
@@ -99,15 +99,17 @@ strict a (t ∷ ss) all none =
 
 rising : (ss : List Segment) → IsSorted ss → ((a : ℕ) → sum_by (at_address a) ss ≤ 1) → IsRising ss
 rising [] sorted few = tt
-rising (s ∷ ss) sorted few =
-    (strict s.address ss sorted.0 (omega (arith, few s.address, sum_by-cons (at_address s.address) s ss, at_itself s)),
-    rising ss sorted.1 (λ a. omega (arith, few a, sum_by-cons (at_address a) s ss)))
+rising (s ∷ ss) sorted few = (
+  strict s.address ss sorted.0 (omega (arith, few s.address, sum_by-cons (at_address s.address) s ss, at_itself s)),
+  rising ss sorted.1 (λ a. omega (arith, few a, sum_by-cons (at_address a) s ss)),
+)
 
 sorted_from : (ss : List Segment) → IsNonDecreasingBy (λ s. s.address) ss → IsSorted ss
 sorted_from [] up = tt
-sorted_from (s ∷ ss) up =
-    (recursion_from_All (λ t. s.address ≤ t.address) ss (λ k d within. up 0 (suc k) d (omega arith) (omega arith)),
-    sorted_from ss (λ i j d le within. up (suc i) (suc j) d (omega arith) (omega arith)))
+sorted_from (s ∷ ss) up = (
+  recursion_from_All (λ t. s.address ≤ t.address) ss (λ k d within. up 0 (suc k) d (omega arith) (omega arith)),
+  sorted_from ss (λ i j d le within. up (suc i) (suc j) d (omega arith) (omega arith)),
+)
 
 -- The list that is made by insertion
 
@@ -123,7 +125,7 @@ insert_moves s (t ∷ ts) = by_test (insert_moves s ts) (cases_Bool (nat_le s.ad
         (IsPermutation-sym (t ∷ s ∷ ts) (s ∷ t ∷ ts) (IsPermutation-middle (t ∷ []) s ts))
         (IsPermutation-cons t (s ∷ ts) (insert_segment s ts) more))
 
-by_address_moves : (ss : List Segment) → IsPermutation ss (by_address ss)
+pub by_address_moves : (ss : List Segment) → IsPermutation ss (by_address ss)
 by_address_moves [] = IsPermutation-refl []
 by_address_moves (s ∷ ss) =
     IsPermutation-trans (s ∷ ss) (s ∷ by_address ss) (insert_segment s (by_address ss))

@@ -20,7 +20,10 @@ fn push_note_entries(note: &mut Vec<u8>, placed: &Placed<'_>) -> Result<(), Memo
     let g = placed.g;
     for procedure in 0..g.procedures() {
         let length = g.body(procedure).len() as u32;
-        push_words(note, &[placed.start(procedure), g.link(procedure).number(), length])?;
+        push_words(
+            note,
+            &[placed.start(procedure), g.link(procedure).number(), length],
+        )?;
     }
     Ok(())
 }

@@ -31,13 +31,7 @@ fn push_insn(out: &mut TextBytes, insn: &Insn) -> Result<(), Memory>
 }
 
 /// Appends the word of an instruction that has a half of the address `to`, and its relocation entry.
-fn push_half(
-    out: &mut TextBytes,
-    at: u32,
-    insn: &Insn,
-    kind: u32,
-    to: u32,
-) -> Result<(), Memory>
+fn push_half(out: &mut TextBytes, at: u32, insn: &Insn, kind: u32, to: u32) -> Result<(), Memory>
     requires { FieldsFit insn.now }
     ensures { OnOk result (Appends (record { insn = insn.now; entries = record { offset = at; kind = kind; addend = to } ∷ [] } ∷ []) out.old out.new) }
 {
@@ -47,12 +41,7 @@ fn push_half(
 
 /// Appends the word of an item: an Op is itself, Hi is `lui` and Lo `addi` with a half of the block's new address, and
 /// Out is `jal link` to the procedure.
-fn push_item(
-    out: &mut TextBytes,
-    placed: &Placed<'_>,
-    at: u32,
-    item: Item,
-) -> Result<(), Memory>
+fn push_item(out: &mut TextBytes, placed: &Placed<'_>, at: u32, item: Item) -> Result<(), Memory>
     requires placed { IsPlaced placed.now }
     requires stands { ItemStands placed.now.g.now.graph placed.now.lo at item }
     ensures { OnOk result (Appends (item_point placed.now.g.now.graph placed.now.lo at item ∷ []) out.old out.new) }
@@ -79,12 +68,7 @@ fn push_item(
 }
 
 /// Appends the word of a term, and none for a Fall.
-fn push_term(
-    out: &mut TextBytes,
-    placed: &Placed<'_>,
-    at: u32,
-    term: Term,
-) -> Result<(), Memory>
+fn push_term(out: &mut TextBytes, placed: &Placed<'_>, at: u32, term: Term) -> Result<(), Memory>
     requires placed { IsPlaced placed.now }
     requires stands { TermStands placed.now.g.now.graph placed.now.lo at term }
     ensures { OnOk result (Appends (term_points placed.now.g.now.graph placed.now.lo at term) out.old out.new) }
@@ -207,7 +191,13 @@ fn push_blocks(out: &mut TextBytes, placed: &Placed<'_>) -> Result<(), Memory>
     let g = placed.g;
     let mut place = Some(g.first());
     while let Some(name) = place {
-        push_block(out, placed, placed.address(name), g.items(name), g.term(name))?;
+        push_block(
+            out,
+            placed,
+            placed.address(name),
+            g.items(name),
+            g.term(name),
+        )?;
         place = g.next(name);
     }
     Ok(())
@@ -222,7 +212,13 @@ fn push_procedures(out: &mut TextBytes, placed: &Placed<'_>) -> Result<(), Memor
 {
     let g = placed.g;
     for procedure in 0..g.procedures() {
-        push_procedure(out, placed, placed.start(procedure), g.body(procedure), g.link(procedure))?;
+        push_procedure(
+            out,
+            placed,
+            placed.start(procedure),
+            g.body(procedure),
+            g.link(procedure),
+        )?;
     }
     Ok(())
 }
