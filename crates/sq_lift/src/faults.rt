@@ -68,7 +68,7 @@ fn is_access(insn: &Insn) -> bool
     matches!(*insn, Insn::Load { .. } | Insn::Store { .. })
 }
 
-fn is_plain(mark: &Mark) -> bool
+pub(crate) fn is_plain(mark: &Mark) -> bool
     ensures { result ≡ is_plain mark.now }
 {
     matches!(*mark, Mark::Plain)

@@ -5,10 +5,12 @@
 //! refused by its text exactly where one of them has a fault.
 #![tactic(auto)]
 
+mod entrances;
 mod faults;
 mod leads;
 mod notes;
 mod places;
+mod procedures;
 mod program;
 mod reached;
 mod readings;
@@ -17,7 +19,8 @@ mod text;
 
 pub use faults::text_fault;
 pub use notes::{Note, notes_of};
-pub use program::{Program, read_program};
+pub use procedures::{bad_note, reading_at};
+pub use program::{NotedProgram, Program, read_noted, read_program};
 pub use reached::Reached;
 pub use readings::{Reading, reading_of};
 pub use search::reached_words;
