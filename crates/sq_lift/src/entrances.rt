@@ -6,8 +6,8 @@ ghost use Rattle.sq_lift.specs.Entrances.{merged, jump_entrance, AreEntrances};
 
 use crate::leads::{half_target, jump_target};
 use crate::places::place_of;
-use crate::reached::Reached;
 use crate::text::{Text, TextWord};
+use crate::word_set::WordSet;
 use sq_decode::decode;
 use sq_isa::{Insn, Reg};
 use sq_num::Memory;
@@ -175,7 +175,7 @@ impl Entrances {
     }
 
     /// Adds where a word leads, if it is reached.
-    fn add_reached(&mut self, reached: &Reached, at: u32, word: &TextWord)
+    fn add_reached(&mut self, reached: &WordSet, at: u32, word: &TextWord)
         ensures { Adds (λ x. entrance_if (is_flagged reached.now at) (marked_entrance x at word.now.mark (insn_in word.now))) self.old self.new }
     {
         if reached.has(at) {
@@ -184,7 +184,7 @@ impl Entrances {
     }
 
     /// Adds where the reached words lead.
-    fn add_words(&mut self, text: &Text, reached: &Reached)
+    fn add_words(&mut self, text: &Text, reached: &WordSet)
         ensures { Adds (λ x. words_entrance (is_flagged reached.now) x text.now.lo text.now.words) self.old self.new }
     {
         let lo = text.lo();
@@ -198,7 +198,7 @@ impl Entrances {
 pub(crate) fn entrances_of(
     alloc: Global,
     text: &Text,
-    reached: &Reached,
+    reached: &WordSet,
     entry: u32,
     code_words: &[CodeWord],
 ) -> Result<Entrances, Memory>

@@ -1,13 +1,12 @@
 //! What is asked of the procedures that the note lists.
 
-ghost use Rattle.std.specs.Prelude.{◌≡◌, ◌+◌, ◌<◌, ◌^◌, length, option_map, IfOk, Some};
+ghost use Rattle.std.specs.Prelude.{◌≡◌, ◌+◌, ◌<◌, ◌^◌, length, IfOk, Some};
 ghost use Rattle.sq_graph.specs.Rules.{mentions};
 ghost use Rattle.sq_program.specs.Programs.{word_at, insn_at};
 ghost use Rattle.sq_program.specs.Reached.{insn_goes_on};
 ghost use Rattle.sq_program.specs.Readings.{reading_at};
 ghost use Rattle.sq_program.specs.Notes.{is_above, is_real_register, is_in_order, is_item_without, returns_through, is_return, has_body, is_procedure, bad_note};
 ghost use Rattle.sq_program.specs.Faults.{insn_is};
-ghost use Rattle.sq_lift.specs.Read.{seen};
 ghost use Rattle.sq_lift.specs.Flags.{is_flagged};
 ghost use Rattle.sq_lift.specs.Entrances.{is_entered_but_by, is_open, some_open, is_fallen_into, is_entered_by, is_good_by, entrance_in};
 
@@ -15,9 +14,9 @@ use crate::entrances::{Entrance, Entrances, entrances_of};
 use crate::faults::is_plain;
 use crate::leads::goes_on;
 use crate::notes::Note;
-use crate::reached::Reached;
-use crate::readings::{Reading, reading_of};
+use crate::readings::{Reading, reading_at};
 use crate::text::Text;
+use crate::word_set::WordSet;
 use sq_decode::decode;
 use sq_graph::Item;
 use sq_isa::{Insn, Reg};
@@ -62,16 +61,6 @@ fn mentions(item: &Item, r: Reg) -> bool
             number != 0 && (rd.number() == number || rs.number() == number)
         }
         Item::Out { .. } => false,
-    }
-}
-
-/// How the word at an address is read.
-pub fn reading_at(text: &Text, at: u32) -> Option<Reading>
-    ensures { option_map seen result ≡ reading_at text.now at }
-{
-    match text.word(at) {
-        Some(word) => reading_of(text, at, &word),
-        None => None,
     }
 }
 
@@ -171,7 +160,7 @@ fn some_open(entrances: &Entrances, note: &Note) -> bool
 }
 
 /// Whether the word before this one is reached and goes on to it.
-fn is_fallen_into(text: &Text, reached: &Reached, address: u32) -> bool
+fn is_fallen_into(text: &Text, reached: &WordSet, address: u32) -> bool
     ensures { result ≡ is_fallen_into (is_flagged reached.now) text.now address }
 {
     match address.checked_sub(4) {
@@ -194,7 +183,7 @@ fn word_goes_on(text: &Text, at: u32) -> bool
 }
 
 /// Whether a procedure is entered but by its calls.
-fn is_entered(text: &Text, reached: &Reached, entrances: &Entrances, link: Reg, note: &Note) -> bool
+fn is_entered(text: &Text, reached: &WordSet, entrances: &Entrances, link: Reg, note: &Note) -> bool
     requires { link ≡ note.now.link }
     ensures { result ≡ is_entered_by (is_flagged reached.now) (entrance_in entrances.now) text.now note.now }
 {
@@ -206,7 +195,7 @@ fn is_entered(text: &Text, reached: &Reached, entrances: &Entrances, link: Reg, 
 /// Whether the note is as it is to be: its place, and where its address is reached its body and its calls.
 fn is_good_note(
     text: &Text,
-    reached: &Reached,
+    reached: &WordSet,
     entrances: &Entrances,
     before: Option<u32>,
     note: &Note,
@@ -229,7 +218,7 @@ fn is_good_note(
 pub fn bad_note(
     alloc: Global,
     text: &Text,
-    reached: &Reached,
+    reached: &WordSet,
     entry: u32,
     code_words: &[CodeWord],
     notes: &[Note],

@@ -7,9 +7,9 @@ ghost use Rattle.sq_lift.specs.Refused.{IsReadText, IsTextRefusal, IsReadNoted, 
 use crate::faults::text_fault;
 use crate::notes::{Note, notes_of};
 use crate::procedures::bad_note;
-use crate::reached::Reached;
 use crate::search::reached_words;
 use crate::text::{Text, read_text};
+use crate::word_set::WordSet;
 use sq_elf::Elf;
 use sq_num::{Denied, Refusal};
 use sq_reloc::Relocs;
@@ -19,7 +19,7 @@ use std::alloc::Global;
 #[derive(Drop)]
 pub struct Program {
     pub text: Text,
-    pub reached: Reached,
+    pub reached: WordSet,
 }
 
 /// Reads the program of the file, or refuses it by its text: by the first reached word that has a fault, and of

@@ -85,7 +85,7 @@ impl Text {
     }
 
     /// The address behind this one, or None where there is no word.
-    pub(crate) fn next(&self, address: u32) -> Option<u32>
+    pub fn next(&self, address: u32) -> Option<u32>
         ensures some { IfSome result (λ next. next ≡ address + 4) }
         ensures none { IfNone result (word_at self.now (address + 4) ≡ None) }
     {
