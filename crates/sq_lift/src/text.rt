@@ -88,6 +88,7 @@ impl Text {
     pub fn next(&self, address: u32) -> Option<u32>
         ensures some { IfSome result (λ next. next ≡ address + 4) }
         ensures none { IfNone result (word_at self.now (address + 4) ≡ None) }
+        ensures end { IfNone result (end_of self.now ≤ address + 4) }
     {
         // Its contract has that no address is 2^32 or more.
         let _lo = self.lo;

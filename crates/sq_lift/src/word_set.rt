@@ -25,7 +25,7 @@ impl Model for WordSet {
 }
 
 impl WordSet {
-    ghost use Rattle.std.specs.Prelude.{◌≡◌, ◌+◌, false, length, replicate, IfOk, IfSome, IfNone, if◌then◌else◌};
+    ghost use Rattle.std.specs.Prelude.{◌≡◌, ◌+◌, ◌*◌, ◌≤◌, false, length, replicate, IfOk, IfSome, IfNone, if◌then◌else◌};
     ghost use Rattle.sq_lift.specs.Flags.{Flags, has_word, is_flagged, is_unflagged, with_flag};
 
     /// The set of no words.
@@ -69,6 +69,7 @@ impl WordSet {
     pub fn next(&self, address: u32) -> Option<u32>
         ensures some { IfSome result (λ next. next ≡ address + 4) }
         ensures none { IfNone result (has_word self.now (address + 4) ≡ false) }
+        ensures end { IfNone result (self.now.lo + 4 * length self.now.flags ≤ address + 4) }
     {
         let end = u64::from(self.lo) + 4 * self.flags.len() as u64;
         let next = u64::from(address) + 4;
