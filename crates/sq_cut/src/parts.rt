@@ -13,7 +13,7 @@ use crate::cuts::cut_words;
 use crate::leaders::{leaders_of, procedure_words};
 use crate::names::{Kinds, Positions, starts_of};
 use crate::procedures::procedures_of;
-use sq_graph::{BlockPart, CodeRef, Item, ProcedurePart};
+use sq_graph::{BlockPart, CodeRef, Item, Parts, ProcedurePart};
 use sq_lift::{Note, Text, WordSet};
 use sq_num::Memory;
 use sq_reloc::CodeWord;
@@ -27,6 +27,27 @@ pub struct GraphParts {
     pub entry: u32,
     pub code_words: Vec<CodeRef>,
     pub procedures: Vec<ProcedurePart>,
+}
+
+impl GraphParts {
+    ghost use Rattle.std.specs.Prelude.{◌≡◌};
+
+    /// The parts, lent.
+    pub fn parts(&self) -> Parts<'_>
+        ensures blocks { result.blocks.now ≡ self.now.blocks.items }
+        ensures items { result.items.now ≡ self.now.items.items }
+        ensures entry { result.entry ≡ self.now.entry }
+        ensures code_words { result.code_words.now ≡ self.now.code_words.items }
+        ensures procedures { result.procedures.now ≡ self.now.procedures.items }
+    {
+        Parts {
+            blocks: &self.blocks,
+            items: &self.items,
+            entry: self.entry,
+            code_words: &self.code_words,
+            procedures: &self.procedures,
+        }
+    }
 }
 
 /// The code words with positions for addresses.

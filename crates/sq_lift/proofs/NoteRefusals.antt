@@ -1,5 +1,8 @@
 -- A file has one refusal by its text and its note.
-use Rattle.std.proofs.Common.{◌≡◌, ℕ, List, [], Option, Some, None, ◌⊎◌, inl, inr, refl, sym, ap, ◌∙◌, subst}
+use Rattle.std.proofs.Common.{Bool, List, None, Option, Some, [], ap, arith, false, if◌then◌else◌, inl, inr, nat_lt, refl, subst, sym, true, ℕ, ◌&&◌, ◌+◌, ◌<◌, ◌∙◌, ◌∷◌, ◌≡◌, ◌⊎◌}
+use Rattle.std.specs.List.{AllByRecursion}
+use Rattle.std.proofs.lemmas.Bool.{and_parts}
+use Rattle.std.proofs.lemmas.Bool.Decides.{nat_tests}
 use Rattle.std.specs.Option.{unwrap_or, option_or, option_map}
 use Rattle.sq_num.specs.declared.refusal.Refusal.{Refusal}
 use Rattle.sq_num.specs.declared.refusal.Refusal.TheVariants.{BadNote}
@@ -10,9 +13,9 @@ use Rattle.sq_elf.specs.Refusing.{file_refusal_of}
 use Rattle.sq_reloc.specs.Refusing.{reloc_refusal_of}
 use Rattle.sq_reloc.specs.declared.mark.CodeWord.{CodeWord}
 use Rattle.sq_reloc.specs.CodeWords.{AreCodeWords}
-use Rattle.sq_program.specs.Programs.{Text, Note, Program}
+use Rattle.sq_program.specs.Programs.{Text, Note, Program, is_word}
 use Rattle.sq_program.specs.Reached.{Decides}
-use Rattle.sq_program.specs.Notes.{bad_note}
+use Rattle.sq_program.specs.Notes.{is_above, is_real_register, is_in_order, is_good_note, bad_note_from, bad_note}
 use Rattle.sq_program.specs.NoteSections.{notes_of}
 use Rattle.sq_program.specs.FilePrograms.{text_of, note_refusal, early_refusal, IsReadAs}
 use Rattle.sq_lift.specs.Flags.{Flags, is_flagged}
@@ -120,3 +123,21 @@ module _ (bytes : List ℕ) (t : Text) (words : List CodeWord) (f : Flags) (here
     where
       tests : (x : ℕ) → early.is x ≡ is_flagged f x
       tests = same_test early.program early.is (is_flagged f) early.read.reached (r.reached early.program early.read.program)
+
+-- the links of good notes are registers
+pub links_small : (is : ℕ → Bool) (p : Program) (before : Option ℕ) (number : ℕ) (notes : List Note) → bad_note_from is p before number notes ≡ None → AllByRecursion (λ n. n.link < 32) notes
+links_small is p before number [] e = tt
+links_small is p before number (n ∷ notes) e = by (is_good_note is p before n) refl e (links_small is p (Some n.address) (number + 1) notes)
+  where
+    below : nat_lt n.link 32 ≡ true → n.link < 32
+    below e = grind (arith, nat_tests)
+
+    small : is_good_note is p before n ≡ true → n.link < 32
+    small good =
+        let order = and_parts (is_in_order p.text before n) _ good in
+        let link = and_parts (is_word p.text n.address && is_above before n.address) (is_real_register n.link) order.0 in
+        below (and_parts (nat_lt 0 n.link) (nat_lt n.link 32) link.1).1
+
+    by : (good : Bool) → is_good_note is p before n ≡ good → (if good then bad_note_from is p (Some n.address) (number + 1) notes else Some number) ≡ None → (bad_note_from is p (Some n.address) (number + 1) notes ≡ None → AllByRecursion (λ n. n.link < 32) notes) → AllByRecursion (λ n. n.link < 32) (n ∷ notes)
+    by true good e rest = (small good, rest e)
+    by false good e rest = absurd (cc)

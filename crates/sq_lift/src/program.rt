@@ -1,6 +1,7 @@
 //! The program of a file.
 
-ghost use Rattle.std.specs.Prelude.{◌≡◌, ◌⊎◌, IfOk, Err};
+ghost use Rattle.std.specs.Prelude.{◌≡◌, ◌<◌, ◌^◌, ◌⊎◌, length, IfOk, Err};
+ghost use Rattle.std.specs.List.{AllByRecursion};
 ghost use Rattle.sq_num.specs.declared.refusal.Refusal.{Refusal};
 ghost use Rattle.sq_lift.specs.Refused.{IsReadText, IsTextRefusal, IsReadNoted, IsEarlyRefusal};
 
@@ -52,6 +53,8 @@ pub struct NotedProgram {
 pub fn read_noted(alloc: Global, elf: &Elf<'_>, relocs: &Relocs<'_>) -> Result<NotedProgram, Denied>
     requires { relocs.now ≡ elf.now }
     ensures read { IfOk result (λ noted. IsReadNoted elf.now noted.program.text noted.program.reached noted.notes.items) }
+    ensures count { IfOk result (λ noted. length noted.notes.items < 2 ^ 32) }
+    ensures links { IfOk result (λ noted. AllByRecursion (λ note. note.link < 32) noted.notes.items) }
     ensures refused { (refusal : Refusal) → result ≡ Err (Denied.Refused refusal) → IsEarlyRefusal elf.now refusal }
     ensures exact { (refusal : Refusal) → IsEarlyRefusal elf.now refusal → (result ≡ Err (Denied.Refused refusal)) ⊎ (result ≡ Err Denied.Memory) }
 {

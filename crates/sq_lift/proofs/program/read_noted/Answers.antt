@@ -1,9 +1,11 @@
-use Rattle.std.proofs.Common.{◌≡◌, Err, inl, inr, ap, sym, ◌∙◌, subst}
+use Rattle.std.proofs.Common.{None, ◌≡◌, Err, inl, inr, ap, sym, ◌∙◌, subst}
 use Rattle.std.proofs.lemmas.Result.{err_from_is_err_and}
 use Rattle.sq_num.specs.declared.refusal.Refusal.TheVariants.{BadNote}
 use Rattle.sq_num.specs.declared.refusal.Denied.TheVariants.{Refused}
+use Rattle.sq_program.specs.Programs.{Program}
+use Rattle.sq_lift.specs.Flags.{is_flagged}
 use Rattle.sq_lift.specs.Refused.{IsEarlyRefusal}
-use Rattle.sq_lift.proofs.NoteRefusals.{early_from_text, one_early, text_answer, found_text, unread_note, bad_entry, noted, none_early}
+use Rattle.sq_lift.proofs.NoteRefusals.{early_from_text, one_early, text_answer, found_text, unread_note, bad_entry, noted, none_early, links_small}
 use Rattle.sq_lift.proofs.program.read_noted.Goals as goal
 
 pub returns-in_err-program-clause-refused : goal.returns-in_err-program-clause-refused
@@ -64,3 +66,9 @@ returns-in-None-clause-exact c = λ refusal early.
     let read = noted c.args.elf.now c.in_ok-program.program.text c.code_words-code_words.result.now c.in_ok-program.program.reached found c.in-Some.notes.items c.entry.result some c.entry.ensures good in
     let none = none_early c.args.elf.now c.in_ok-program.program.text c.code_words-code_words.result.now c.in_ok-program.program.reached found c.in-Some.notes.items read refusal early in
     absurd (cc)
+
+pub returns-in-None-clause-links : goal.returns-in-None-clause-links
+returns-in-None-clause-links c =
+    let good = sym (rw c.deref.ensures.value at c.in_ok-entry.ensures) ∙ c.in-None.is in
+    let p : Program = record { text = c.in_ok-program.program.text; entry = c.entry.result; code_words = c.code_words-code_words.result.now; notes = c.in-Some.notes.items } in
+    links_small (is_flagged c.in_ok-program.program.reached) p None 1 c.in-Some.notes.items good
