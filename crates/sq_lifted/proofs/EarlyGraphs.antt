@@ -1,5 +1,5 @@
 -- The graph of a file that neither its text nor its note refuses, but for what is asked of the graph.
-use Rattle.std.proofs.Common.{◌≡◌, ℕ, zero, suc, ◌+◌, ◌*◌, ◌^◌, ◌<◌, ◌≤◌, Bool, true, false, List, [], ◌∷◌, ◌++◌, length, map, Option, Some, None, refl, sym, ap, ◌∙◌, subst, arith, if◌then◌else◌}
+use Rattle.std.proofs.Common.{◌≡◌, ℕ, zero, suc, ◌+◌, ◌*◌, ◌^◌, ◌<◌, ◌≤◌, Bool, true, false, List, [], ◌∷◌, ◌++◌, length, map, get_or, Option, Some, None, Fits, w8, refl, sym, ap, ◌∙◌, subst, arith, if◌then◌else◌}
 use Rattle.std.specs.Prelude.{sum_by}
 use Rattle.std.specs.List.{AllByRecursion, flat_map}
 use Rattle.std.specs.Option.{unwrap_or}
@@ -125,23 +125,64 @@ module _ (bytes : List ℕ) (is : ℕ → Bool) (p : Program) (fit : AllByRecurs
 
 -- THE PROGRAM AS THE CODE NAMES ITS PARTS
 
-module _ (bytes : List ℕ) (t : Text) (f : Flags) (notes : List Note) (words : List CodeWord) (entry : ℕ) (r : IsReadNoted bytes t f notes) (file : file_refusal_of bytes ≡ None) (relocs : reloc_refusal_of bytes ≡ None) (are : AreCodeWords bytes words) (start : entry ≡ entry_of bytes) where
+-- what is found of a file whose bytes these are: its text, the flags of its reached words, its notes and code words
+pub record IsFoundNoted (bytes : List ℕ) (t : Text) (f : Flags) (notes : List Note) (words : List CodeWord) (entry : ℕ) : Type 0 where
+  pub fit : AllByRecursion (λ b. b < 256) bytes
+  pub noted : IsReadNoted bytes t f notes
+  pub file : file_refusal_of bytes ≡ None
+  pub relocs : reloc_refusal_of bytes ≡ None
+  pub code_words : AreCodeWords bytes words
+  pub start : entry ≡ entry_of bytes
+
+pub found_noted : (bytes read other : List ℕ) (t : Text) (f : Flags) (notes items : List Note) (words : List CodeWord) (entry : ℕ) → read ≡ bytes → AllByRecursion (λ b. b < 256) read → other ≡ bytes → reloc_refusal_of other ≡ None → AreCodeWords other words → notes ≡ items → IsReadNoted bytes t f items → file_refusal_of bytes ≡ None → entry ≡ entry_of bytes → IsFoundNoted bytes t f notes words entry
+found_noted bytes read other t f notes items words entry same fit alike fine are all noted file start =
+    let Fit : List ℕ → Type 0 = λ bytes. AllByRecursion (λ b. b < 256) bytes in
+    let Accepts : List ℕ → Type 0 = λ bytes. reloc_refusal_of bytes ≡ None in
+    let Lists : List ℕ → Type 0 = λ bytes. AreCodeWords bytes words in
+    let Noted : List Note → Type 0 = λ notes. IsReadNoted bytes t f notes in
+    record {
+      fit = subst Fit same fit;
+      noted = subst Noted (sym all) noted;
+      file = file;
+      relocs = subst Accepts alike fine;
+      code_words = subst Lists alike are;
+      start = start;
+    }
+
+module _ (bytes : List ℕ) (t : Text) (f : Flags) (notes : List Note) (words : List CodeWord) (entry : ℕ) (here : IsFoundNoted bytes t f notes words entry) where
   abbrev pub seen : Program
   seen = record { text = t; entry = entry; code_words = words; notes = notes }
 
   seen_is : seen ≡ program_with bytes words
   seen_is =
-      let all : notes ≡ unwrap_or (notes_of bytes (text_of bytes)) [] = sym (ap (λ (o : Option (List Note)). unwrap_or o []) r.notes) in
-      λ i. record { text = r.text i; entry = start i; code_words = words; notes = all i }
+      let all : notes ≡ unwrap_or (notes_of bytes (text_of bytes)) [] = sym (ap (λ (o : Option (List Note)). unwrap_or o []) here.noted.notes) in
+      λ i. record { text = here.noted.text i; entry = here.start i; code_words = words; notes = all i }
 
   seen_program : IsProgramOf bytes seen
-  seen_program = subst (IsProgramOf bytes) (sym seen_is) (is_program bytes words are)
+  seen_program = subst (IsProgramOf bytes) (sym seen_is) (is_program bytes words here.code_words)
 
   pub seen_read : IsReadAs bytes (is_flagged f) seen
-  seen_read = record { file = file; relocs = relocs; program = seen_program; reached = r.reached seen seen_program }
+  seen_read = record { file = here.file; relocs = here.relocs; program = seen_program; reached = here.noted.reached seen seen_program }
 
   pub seen_early : early_refusal bytes (is_flagged f) seen ≡ None
-  seen_early = r.fine seen seen_program
+  seen_early = here.noted.fine seen seen_program
 
-  pub one_seen : (p : Program) → IsProgramOf bytes p → seen ≡ p
-  one_seen p is = seen_is ∙ sym (one_program bytes words p are is)
+  -- the graph as it is named by positions
+  abbrev pub by_positions : Graph
+  by_positions = renamed (position_in (names_of (lifted (is_flagged f) seen))) (lifted (is_flagged f) seen)
+
+  pub seen_rules : (parts : Graph) → parts ≡ by_positions → IsGraph parts
+  seen_rules parts is = subst IsGraph (sym is) (part_rules bytes (is_flagged f) seen here.fit seen_read seen_early)
+
+  pub seen_count : (parts : Graph) → parts ≡ by_positions → IsSmall (count_of parts)
+  seen_count parts is = subst (λ (g : Graph). IsSmall (count_of g)) (sym is) (part_count bytes (is_flagged f) seen here.fit seen_read seen_early)
+
+  pub seen_alike : (parts made : Graph) → parts ≡ by_positions → IsNamed parts made → IsGraph made → (p : Program) → IsProgramOf bytes p → AreAlike (lifted (is_flagged f) p) made
+  seen_alike parts made is named rules p of =
+      let same : seen ≡ p = seen_is ∙ sym (one_program bytes words p here.code_words of) in
+      subst (λ p. AreAlike (lifted (is_flagged f) p) made) same (parts_alike (lifted (is_flagged f) seen) made (subst (λ (g : Graph). IsNamed g made) is named) rules)
+
+-- the numbers of bytes
+pub each_fits : (xs : List ℕ) → ((i : ℕ) → Fits w8 (get_or xs i 0)) → AllByRecursion (λ b. b < 256) xs
+each_fits [] h = tt
+each_fits (x ∷ xs) h = (let first = h 0 in omega (arith, first), each_fits xs (λ i. h (suc i)))

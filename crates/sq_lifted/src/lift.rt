@@ -17,6 +17,13 @@ use sq_num::Memory;
 use sq_reloc::Relocs;
 use std::alloc::Global;
 
+/// Each number of a slice of bytes is below 256.
+fn bytes_fit(bytes: &[u8])
+    ensures { AllByRecursion (λ b. b < 256) bytes.now }
+{
+    let _count = bytes.len();
+}
+
 /// The graph of a file that its text doesn't refuse, nor its note but for what is asked of the graph.
 pub fn early_graph(
     alloc: Global,
@@ -30,7 +37,7 @@ pub fn early_graph(
     requires links { AllByRecursion (λ note. note.link < 32) noted.now.notes.items }
     ensures { IfOk result (λ graph. (p : FileProgram) → IsProgramOf elf.now p → AreAlike (lifted (is_flagged noted.now.program.reached) p) graph.graph) }
 {
-    let _bytes = elf.bytes();
+    bytes_fit(elf.bytes());
     let code_words = relocs.code_words();
     let text = &noted.program.text;
     let reached = &noted.program.reached;
