@@ -1,7 +1,7 @@
 use Rattle.std.proofs.Common.{◌≡◌, ◌+◌, false, subst, arith}
 use Rattle.sq_lift.specs.Flags.{Flags, has_word}
 use Rattle.sq_lift.proofs.Flagged.{none_past}
-use Rattle.sq_lift.proofs.reached.Reached.next.Goals as goal
+use Rattle.sq_lift.proofs.word_set.WordSet.next.Goals as goal
 
 pub returns-else-next-end-clause-none : goal.returns-else-next-end-clause-none
 returns-else-next-end-clause-none c =
