@@ -23,7 +23,7 @@ use Rattle.sq_program.specs.Readings.{Reading, reading_of}
 use Rattle.sq_program.specs.Notes.{used_notes}
 use Rattle.sq_program.specs.NoteSections.{notes_of}
 use Rattle.sq_program.specs.Lifted.{Form, ItemForm, TermForm, form_of, Rest, with_form, with_reading, begun_if, is_kept, is_leader, cut, lifted}
-use Rattle.sq_program.specs.Alike.{AreAlike}
+use Rattle.sq_graph.specs.Alike.{AreAlike}
 use Rattle.sq_program.specs.FilePrograms.{text_of, early_refusal, IsProgramOf, IsReadAs}
 use Rattle.sq_lift.specs.Flags.{Flags, is_flagged}
 use Rattle.sq_lift.specs.Refused.{IsReadNoted}

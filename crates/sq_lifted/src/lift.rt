@@ -4,7 +4,7 @@ ghost use Rattle.std.specs.Prelude.{◌≡◌, ◌<◌, ◌^◌, length, IfOk};
 ghost use Rattle.std.specs.List.{AllByRecursion};
 ghost use Rattle.sq_program.specs.Programs.{Program as FileProgram};
 ghost use Rattle.sq_program.specs.Lifted.{lifted};
-ghost use Rattle.sq_program.specs.Alike.{AreAlike};
+ghost use Rattle.sq_graph.specs.Alike.{AreAlike};
 ghost use Rattle.sq_program.specs.FilePrograms.{IsProgramOf};
 ghost use Rattle.sq_lift.specs.Flags.{is_flagged};
 ghost use Rattle.sq_lift.specs.Refused.{IsReadNoted};
