@@ -9,3 +9,4 @@ pub mod FileWorlds
 pub mod FileLayouts
 pub mod Named
 pub mod EarlyGraphs
+pub mod RenamedLives
