@@ -10,3 +10,4 @@ pub mod FileLayouts
 pub mod Named
 pub mod EarlyGraphs
 pub mod RenamedLives
+pub mod Dying
