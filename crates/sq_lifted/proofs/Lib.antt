@@ -9,3 +9,5 @@ pub mod FileWorlds
 pub mod FileLayouts
 pub mod Named
 pub mod EarlyGraphs
+pub mod RenamedLives
+pub mod Dying

@@ -1,2 +1,3 @@
 pub mod Lifted
 pub mod Files
+pub mod LiveLinks

@@ -7,11 +7,12 @@
 #![tactic(auto)]
 
 mod lift;
-
-pub use lift::early_graph;
+mod live_links;
 
 ghost use Rattle.sq_lifted.specs.Lifted.{LiftedIsGood};
 ghost use Rattle.sq_lifted.specs.Files.{FilesAreLinked, FileWorldsFit, LiftedFilesAreGood, LiftedFilesKeepRuns, LiftedFilesFollow, FilesAreLaidOut};
+
+pub use lift::early_graph;
 
 /// The graph of a program that is not refused keeps the rules of a graph, is canonical, sound and in
 /// reach, and has no more words than the program's text.
