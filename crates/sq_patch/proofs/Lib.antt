@@ -30,6 +30,7 @@ mod Ending
 mod Inverting
 mod Replacing
 mod Calls
+mod Matching
 mod Sounding
 mod Leading
 mod Meeting
