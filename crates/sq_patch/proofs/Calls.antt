@@ -60,10 +60,10 @@ behind_items items zero rest l = refl
 behind_items [] (suc n) rest l = absurd (omega arith)
 behind_items (item ∷ items) (suc n) rest l = behind_items items n rest (omega (arith, l))
 
-range_is : (items : List Item) (at n : ℕ) → slice_range items at (at + n) ≡ take n (drop at items)
+pub range_is : (items : List Item) (at n : ℕ) → slice_range items at (at + n) ≡ take n (drop at items)
 range_is items at n = ap (λ k. take k (drop at items)) (let e : (at + n) - at ≡ n = omega arith in e)
 
-not_both : (t : Bool) → (t && (false || false)) ≡ false
+pub not_both : (t : Bool) → (t && (false || false)) ≡ false
 not_both true = refl
 not_both false = refl
 

@@ -31,6 +31,7 @@ mod Inverting
 mod Replacing
 mod Calls
 mod Matching
+mod MatchedCalls
 mod Sounding
 mod Leading
 mod Meeting

@@ -97,8 +97,15 @@ among (x ∷ xs) [] r s p = absurd p
 among (x ∷ xs) (y ∷ ys) r s (inl e) = or_left (x == r) (is_among xs r) (eq-eqb x r (sym e.0))
 among (x ∷ xs) (y ∷ ys) r s (inr p) = or_right (x == r) (is_among xs r) (among xs ys r s p)
 
-read_so : (xs ys : List ℕ) (r s : ℕ) → IsPairIn xs ys (suc r) s → is_among_but_x0 xs (suc r) ≡ true
-read_so xs ys r s p = let e = among xs ys (suc r) s p in let n : (suc r == 0) ≡ false = ne_eqb (suc r) 0 (λ e. absurd (cc)) in rw (n, e) refl
+-- and its counterpart is among the others
+among_seconds : (xs ys : List ℕ) (r s : ℕ) → IsPairIn xs ys r s → is_among ys s ≡ true
+among_seconds [] ys r s p = absurd p
+among_seconds (x ∷ xs) [] r s p = absurd p
+among_seconds (x ∷ xs) (y ∷ ys) r s (inl e) = or_left (y == s) (is_among ys s) (eq-eqb y s (sym e.1))
+among_seconds (x ∷ xs) (y ∷ ys) r s (inr p) = or_right (y == s) (is_among ys s) (among_seconds xs ys r s p)
+
+pub among_others : (xs ys : List ℕ) (r s : ℕ) → IsPairIn xs ys r s → s ≢ 0 → is_among_but_x0 ys s ≡ true
+among_others xs ys r s p nz = let e = among_seconds xs ys r s p in let n : (s == 0) ≡ false = ne_eqb s 0 nz in rw (n, e) refl
 
 read_at : (xs ys : List ℕ) (r s : ℕ) → IsPairIn xs ys r s → r ≢ 0 → is_among_but_x0 xs r ≡ true
 read_at xs ys r s p nz = let e = among xs ys r s p in let n : (r == 0) ≡ false = ne_eqb r 0 nz in rw (n, e) refl

@@ -10,8 +10,8 @@
 ghost use Rattle.sq_patch.specs.LiveAgreement.{StepsAgree, PlacesMakeTargets};
 ghost use Rattle.sq_patch.specs.Restrictions.{RestrictFollows, RestrictIsSound, ReachedAreClosed};
 ghost use Rattle.sq_patch.specs.LoneJumps.{JumpGoesFollows, JumpGoesIsSound, InvertFollows, InvertIsSound};
-ghost use Rattle.sq_patch.specs.Operations.{SplitFollows, SplitIsSound, FallFollows, FallIsSound, DropFollows, DropIsSound, HastenFollows, HastenIsSound, InlineFollows, InlineIsSound, CanonicalFollows, CanonicalIsSound, RenameFollows, OutlineFollows};
-ghost use Rattle.sq_patch.specs.Calls.{CallFollows, CallIsSound};
+ghost use Rattle.sq_patch.specs.Operations.{SplitFollows, SplitIsSound, FallFollows, FallIsSound, DropFollows, DropIsSound, HastenFollows, HastenIsSound, InlineFollows, InlineIsSound, CanonicalFollows, CanonicalIsSound, RenameFollows, OutlineFollows, OutlineIsSound};
+ghost use Rattle.sq_patch.specs.Calls.{CallFollows, CallIsSound, MatchFollows, MatchIsSound};
 ghost use Rattle.sq_patch.specs.Merges.{MergeFollows, MergeIsSound};
 ghost use Rattle.sq_patch.specs.Recalls.{RecallFollows, RecallIsSound, UncalledGoesFollows, UncalledGoesIsSound};
 ghost use Rattle.sq_patch.specs.Inserts.{InsertFollows, InsertIsSound, ReorderFollows, ReorderIsSound};
@@ -191,4 +191,20 @@ pub fn reorder_keeps_runs()
 /// A graph with its blocks in such an order is sound where the graph is.
 pub fn reorder_keeps_soundness()
     ensures { ReorderIsSound }
+{}
+
+/// A graph with a call in place of items that match a procedure's body follows it, where the procedure's link and the
+/// pairs of two registers are dead behind them.
+pub fn match_keeps_runs()
+    ensures { MatchFollows }
+{}
+
+/// A graph with a call in place of items that match a procedure's body is sound where the graph is.
+pub fn match_keeps_soundness()
+    ensures { MatchIsSound }
+{}
+
+/// A graph with a body of its own items as one more procedure is sound where the graph and the body are.
+pub fn outline_keeps_soundness()
+    ensures { OutlineIsSound }
 {}
