@@ -30,7 +30,7 @@ one_program bytes words p are is =
     λ i. record { text = is.text i; entry = is.entry i; code_words = codes i; notes = is.notes i }
 
 -- two tests that decide alike
-same_test : (p : Program) (is too : ℕ → Bool) → Decides p is → Decides p too → (x : ℕ) → is x ≡ too x
+pub same_test : (p : Program) (is too : ℕ → Bool) → Decides p is → Decides p too → (x : ℕ) → is x ≡ too x
 same_test p is too first second x = by_cases (is x) (too x) refl refl
   where
     by_cases : (a b : Bool) → is x ≡ a → too x ≡ b → a ≡ b

@@ -9,7 +9,7 @@ use Rattle.sq_program.specs.Programs.{Text, is_word}
 use Rattle.sq_lift.specs.Places.{place_of}
 use Rattle.sq_lift.specs.Flags.{Flags, flag_at, has_word, is_flagged, is_unflagged, with_flag}
 use Rattle.sq_lift.specs.Search.{unflagged_count}
-use Rattle.sq_lift.proofs.Placed.{place_is, word_by_place}
+use Rattle.sq_lift.proofs.Placed.{place_is, word_by_place, past}
 
 -- a flag that is set, where it was not
 set_same : (flags : List Bool) (k : ℕ) → slice_get flags k ≡ Some false → slice_get (slice_set flags k true) k ≡ Some true
@@ -96,11 +96,6 @@ unfolding flag_at
 none_flagged t x = unset_by_place t (place_of t.lo x)
 
 -- past the last word there is none
-past : {A : Type 0} (words : List A) (k : ℕ) → length words ≤ k → slice_get words k ≡ None
-past [] k far = refl
-past (w ∷ words) zero far = absurd (omega arith)
-past (w ∷ words) (suc k) far = past words k (omega arith)
-
 pub none_past : (f : Flags) (x : ℕ) → f.lo + 4 * length f.flags ≤ x → has_word f x ≡ false
 unfolding flag_at
 none_past f x far = by_place (place_of f.lo x) refl

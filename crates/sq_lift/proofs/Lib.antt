@@ -7,3 +7,7 @@ pub mod CodeWordLists
 pub mod FilePrograms
 pub mod NoteEntries
 pub mod NoteFacts
+pub mod Gathered
+pub mod Entered
+pub mod NoteBodies
+pub mod NoteRefusals

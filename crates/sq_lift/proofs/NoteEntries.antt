@@ -1,5 +1,5 @@
 -- The entries of a note, one after another.
-use Rattle.std.proofs.Common.{◌≡◌, ℕ, zero, suc, ◌+◌, ◌*◌, List, [], ◌∷◌, ◌++◌, refl, ap, arith}
+use Rattle.std.proofs.Common.{◌≡◌, ℕ, zero, suc, ◌+◌, ◌*◌, List, [], ◌∷◌, ◌++◌, length, refl, ap, arith}
 use Rattle.sq_program.specs.NoteSections.{full_note, full_notes}
 
 pub full_more : (note : List ℕ) (at n : ℕ) → full_notes note at (n + 1) ≡ full_notes note at n ++ full_note note (at + 12 * n) ∷ []
@@ -10,3 +10,7 @@ full_more note at n = let e : n + 1 ≡ suc n = omega arith in rw e (more at n)
     more at (suc n) =
         let e : at + 12 * suc n ≡ at + 12 + 12 * n = omega arith in
         rw e (ap (λ ns. full_note note at ∷ ns) (more (at + 12) n))
+
+pub full_count : (note : List ℕ) (at n : ℕ) → length (full_notes note at n) ≡ n
+full_count note at zero = refl
+full_count note at (suc n) = ap suc (full_count note (at + 12) n)

@@ -1,5 +1,5 @@
 -- The notes of a file by the section in which they stand.
-use Rattle.std.proofs.Common.{◌≡◌, ◌==◌, ◌*◌, inl, inr, ℕ, zero, suc, ◌+◌, ◌<◌, ◌≤◌, Bool, true, false, nat_lt, List, [], ◌∷◌, ◌++◌, map, Option, Some, None, refl, sym, ap, ◌∙◌, arith, if◌then◌else◌, slice_get}
+use Rattle.std.proofs.Common.{◌≡◌, ◌==◌, ◌*◌, inl, inr, ℕ, zero, suc, ◌+◌, ◌<◌, ◌≤◌, Bool, true, false, nat_lt, List, [], ◌∷◌, ◌++◌, length, map, Option, Some, None, refl, sym, ap, ◌∙◌, arith, if◌then◌else◌, slice_get}
 use Rattle.std.specs.List.{AllByRecursion}
 use Rattle.std.specs.Option.{option_and_then, option_map, unwrap_or}
 use Rattle.std.proofs.lemmas.Bool.{cases_Bool}
@@ -86,6 +86,10 @@ short_more t note at n = let e : n + 1 ≡ suc n = omega arith in rw e (more at 
     more at (suc n) =
         let e : at + 8 * suc n ≡ at + 8 + 8 * n = omega arith in
         rw e (ap (λ ns. short_note t note at ∷ ns) (more (at + 8) n))
+
+pub short_count : (t : Text) (note : List ℕ) (at n : ℕ) → length (short_notes t note at n) ≡ n
+short_count t note at zero = refl
+short_count t note at (suc n) = ap suc (short_count t note (at + 8) n)
 
 -- a short note by the runs of items
 pub short_note_is : (t : Text) (note : List ℕ) (at lo : ℕ) (runs : List ℕ) → lo ≡ t.lo → runs ≡ item_runs t t.lo t.words → record { address = u32_field note at; link = u32_field note (at + 4); length = run_at lo runs (u32_field note at) } ≡ short_note t note at

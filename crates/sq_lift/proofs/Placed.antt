@@ -5,7 +5,7 @@ use Rattle.std.specs.Option.{option_and_then, option_map}
 use Rattle.std.proofs.lemmas.Option.{slice_get_past, slice_get-get_or}
 use Rattle.std.proofs.lemmas.Bool.{cases_Bool, eqb-true, eqb-false, eq-eqb}
 use Rattle.std.proofs.lemmas.Bool.Decides.{nat_tests}
-use Rattle.sq_program.specs.Programs.{Word, Text, word_from, word_at}
+use Rattle.sq_program.specs.Programs.{Word, Text, word_from, word_at, end_of}
 use Rattle.sq_lift.specs.Places.{place_of}
 
 le_is : (a b : ℕ) → a ≤ b → nat_le a b ≡ true
@@ -90,6 +90,19 @@ word_by_place t x = from_place x t.lo t.words
 
 pub word_in_place : (t : Text) (x k : ℕ) → Some k ≡ place_of t.lo x → slice_get t.words k ≡ word_at t x
 word_in_place t x k e = ap (option_and_then (slice_get t.words)) e ∙ sym (word_by_place t x)
+
+-- past the last there is none
+pub past : {A : Type 0} (xs : List A) (k : ℕ) → length xs ≤ k → slice_get xs k ≡ None
+past [] k far = refl
+past (x ∷ xs) zero far = absurd (omega arith)
+past (x ∷ xs) (suc k) far = past xs k (omega arith)
+
+pub no_word_past : (t : Text) (x : ℕ) → end_of t ≤ x → word_at t x ≡ None
+no_word_past t x far = word_by_place t x ∙ by_place (place_of t.lo x) refl
+  where
+    by_place : (p : Option ℕ) → place_of t.lo x ≡ p → option_and_then (slice_get t.words) p ≡ None
+    by_place None is = refl
+    by_place (Some k) is = past t.words k (omega (arith, place_is t.lo x k is, far))
 
 -- what a read of a list gives
 pub copied_item : {X : Type 0} (xs : List X) (k : ℕ) (r : Option (Bor X)) → is_some r ≡ nat_lt k (length xs) → IfSome r (λ x. x.now ≡ get_or xs k x.now) → option_map (λ x. x.now) r ≡ slice_get xs k

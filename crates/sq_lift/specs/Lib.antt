@@ -4,3 +4,4 @@ pub mod Search
 pub mod Refused
 pub mod Read
 pub mod NoteReading
+pub mod Entrances

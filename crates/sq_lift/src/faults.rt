@@ -10,8 +10,8 @@ ghost use Rattle.sq_lift.specs.Flags.{is_flagged};
 ghost use Rattle.sq_lift.specs.Refused.{insn_fault};
 
 use crate::leads::{goes_on, half_target, jump_target};
-use crate::reached::Reached;
 use crate::text::{Text, TextWord};
+use crate::word_set::WordSet;
 use sq_decode::decode;
 use sq_isa::Insn;
 use sq_num::Refusal;
@@ -68,7 +68,7 @@ fn is_access(insn: &Insn) -> bool
     matches!(*insn, Insn::Load { .. } | Insn::Store { .. })
 }
 
-fn is_plain(mark: &Mark) -> bool
+pub(crate) fn is_plain(mark: &Mark) -> bool
     ensures { result ≡ is_plain mark.now }
 {
     matches!(*mark, Mark::Plain)
@@ -131,7 +131,7 @@ fn fault_of(text: &Text, at: u32, word: &TextWord) -> Option<Refusal>
 }
 
 /// The same of a word that is reached; any other has none.
-fn reached_fault(text: &Text, reached: &Reached, at: u32, word: &TextWord) -> Option<Refusal>
+fn reached_fault(text: &Text, reached: &WordSet, at: u32, word: &TextWord) -> Option<Refusal>
     ensures { result ≡ (if is_flagged reached.now at then fault_of text.now at word.now else None) }
 {
     if reached.has(at) {
@@ -142,7 +142,7 @@ fn reached_fault(text: &Text, reached: &Reached, at: u32, word: &TextWord) -> Op
 }
 
 /// The fault of the first reached word that has one.
-pub fn text_fault(text: &Text, reached: &Reached) -> Option<Refusal>
+pub fn text_fault(text: &Text, reached: &WordSet) -> Option<Refusal>
     ensures { result ≡ fault_from (is_flagged reached.now) text.now text.now.lo text.now.words }
 {
     let lo = text.lo();

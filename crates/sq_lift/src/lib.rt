@@ -5,23 +5,26 @@
 //! refused by its text exactly where one of them has a fault.
 #![tactic(auto)]
 
+mod entrances;
 mod faults;
 mod leads;
 mod notes;
 mod places;
+mod procedures;
 mod program;
-mod reached;
 mod readings;
 mod search;
 mod text;
+mod word_set;
 
 pub use faults::text_fault;
 pub use notes::{Note, notes_of};
-pub use program::{Program, read_program};
-pub use reached::Reached;
-pub use readings::{Reading, reading_of};
+pub use procedures::bad_note;
+pub use program::{NotedProgram, Program, read_noted, read_program};
+pub use readings::{Reading, reading_at, reading_of};
 pub use search::reached_words;
 pub use text::{Text, TextWord, read_text};
+pub use word_set::WordSet;
 
 #[cfg(test)]
 mod tests;

@@ -1,6 +1,6 @@
 //! The note of a file: a section that lists procedures.
 
-ghost use Rattle.std.specs.Prelude.{◌≡◌, ◌+◌, ◌*◌, ◌<◌, ◌≤◌, ◌^◌, length, option_map, slice_get, IfOk, Some, None};
+ghost use Rattle.std.specs.Prelude.{◌≡◌, ◌+◌, ◌*◌, ◌<◌, ◌≤◌, ◌^◌, length, option_map, slice_get, IfOk, IfSome, Some, None};
 ghost use Rattle.sq_elf.specs.Headers.{shnum_of, section_of};
 ghost use Rattle.sq_elf.specs.Fields.{u32_field};
 ghost use Rattle.sq_program.specs.Readings.{reading_of};
@@ -108,7 +108,8 @@ fn full_note(note: &[u8], at: usize) -> Note
 
 /// The entries of version 2: an address, a link and a number of items each.
 fn full_notes(alloc: Global, note: &[u8], count: u32) -> Result<Vec<Note>, Memory>
-    ensures { IfOk result (λ notes. notes.items ≡ full_notes note.now 8 count) }
+    ensures notes { IfOk result (λ notes. notes.items ≡ full_notes note.now 8 count) }
+    ensures count { IfOk result (λ notes. length notes.items < 2 ^ 32) }
 {
     let mut notes = Vec::new(alloc);
     for index in 0..count {
@@ -170,7 +171,8 @@ fn short_note(lo: u32, runs: &[u32], note: &[u8], at: usize) -> Note
 
 /// The entries of version 1: an address and a link each. The body is what reads as items.
 fn short_notes(alloc: Global, text: &Text, note: &[u8], count: u32) -> Result<Vec<Note>, Memory>
-    ensures { IfOk result (λ notes. notes.items ≡ short_notes text.now note.now 8 count) }
+    ensures notes { IfOk result (λ notes. notes.items ≡ short_notes text.now note.now 8 count) }
+    ensures count { IfOk result (λ notes. length notes.items < 2 ^ 32) }
 {
     let runs = item_runs(alloc, text)?;
     let lo = text.lo();
@@ -183,7 +185,8 @@ fn short_notes(alloc: Global, text: &Text, note: &[u8], count: u32) -> Result<Ve
 
 /// What the bytes of a note list, or None where they aren't a note.
 fn notes_in(alloc: Global, text: &Text, note: &[u8]) -> Result<Option<Vec<Note>>, Memory>
-    ensures { IfOk result (λ notes. option_map (λ list. list.items) notes ≡ notes_in text.now note.now) }
+    ensures notes { IfOk result (λ notes. option_map (λ list. list.items) notes ≡ notes_in text.now note.now) }
+    ensures count { IfOk result (λ notes. IfSome notes (λ list. length list.items < 2 ^ 32)) }
 {
     if is_note_of(VERSION_1, 8, note) {
         let notes = short_notes(alloc, text, note, u32_field(note, 4))?;
@@ -198,7 +201,8 @@ fn notes_in(alloc: Global, text: &Text, note: &[u8]) -> Result<Option<Vec<Note>>
 
 /// The notes of the file: no entries where it has no note, and None where its note can't be read.
 pub fn notes_of(alloc: Global, elf: &Elf<'_>, text: &Text) -> Result<Option<Vec<Note>>, Memory>
-    ensures { IfOk result (λ notes. option_map (λ list. list.items) notes ≡ notes_of elf.now text.now) }
+    ensures notes { IfOk result (λ notes. option_map (λ list. list.items) notes ≡ notes_of elf.now text.now) }
+    ensures count { IfOk result (λ notes. IfSome notes (λ list. length list.items < 2 ^ 32)) }
 {
     match note_section(elf) {
         NoteSection::Missing => Ok(Some(Vec::new(alloc))),

@@ -1,15 +1,18 @@
 //! The program of a file.
 
-ghost use Rattle.std.specs.Prelude.{◌≡◌, ◌⊎◌, IfOk, Err};
+ghost use Rattle.std.specs.Prelude.{◌≡◌, ◌<◌, ◌^◌, ◌⊎◌, length, IfOk, Err};
+ghost use Rattle.std.specs.List.{AllByRecursion};
 ghost use Rattle.sq_num.specs.declared.refusal.Refusal.{Refusal};
-ghost use Rattle.sq_lift.specs.Refused.{IsReadText, IsTextRefusal};
+ghost use Rattle.sq_lift.specs.Refused.{IsReadText, IsTextRefusal, IsReadNoted, IsEarlyRefusal};
 
 use crate::faults::text_fault;
-use crate::reached::Reached;
+use crate::notes::{Note, notes_of};
+use crate::procedures::bad_note;
 use crate::search::reached_words;
 use crate::text::{Text, read_text};
+use crate::word_set::WordSet;
 use sq_elf::Elf;
-use sq_num::Denied;
+use sq_num::{Denied, Refusal};
 use sq_reloc::Relocs;
 use std::alloc::Global;
 
@@ -17,7 +20,7 @@ use std::alloc::Global;
 #[derive(Drop)]
 pub struct Program {
     pub text: Text,
-    pub reached: Reached,
+    pub reached: WordSet,
 }
 
 /// Reads the program of the file, or refuses it by its text: by the first reached word that has a fault, and of
@@ -35,5 +38,42 @@ pub fn read_program(alloc: Global, elf: &Elf<'_>, relocs: &Relocs<'_>) -> Result
     match text_fault(&text, &reached) {
         Some(refusal) => Err(Denied::Refused(refusal)),
         None => Ok(Program { text, reached }),
+    }
+}
+
+/// A program and the procedures that its note lists.
+#[derive(Drop)]
+pub struct NotedProgram {
+    pub program: Program,
+    pub notes: Vec<Note>,
+}
+
+/// Reads the program of the file and its note, or refuses it: by its text, or by a note that can't be read, or by the
+/// first entry that is not as it is to be.
+pub fn read_noted(alloc: Global, elf: &Elf<'_>, relocs: &Relocs<'_>) -> Result<NotedProgram, Denied>
+    requires { relocs.now ≡ elf.now }
+    ensures read { IfOk result (λ noted. IsReadNoted elf.now noted.program.text noted.program.reached noted.notes.items) }
+    ensures count { IfOk result (λ noted. length noted.notes.items < 2 ^ 32) }
+    ensures links { IfOk result (λ noted. AllByRecursion (λ note. note.link < 32) noted.notes.items) }
+    ensures refused { (refusal : Refusal) → result ≡ Err (Denied.Refused refusal) → IsEarlyRefusal elf.now refusal }
+    ensures exact { (refusal : Refusal) → IsEarlyRefusal elf.now refusal → (result ≡ Err (Denied.Refused refusal)) ⊎ (result ≡ Err Denied.Memory) }
+{
+    let _bytes = elf.bytes();
+    let code_words = relocs.code_words();
+    let program = read_program(alloc, elf, relocs)?;
+    let Some(notes) = notes_of(alloc, elf, &program.text)? else {
+        return Err(Denied::Refused(Refusal::BadNote { entry: 0 }));
+    };
+    let reached = &program.reached;
+    match bad_note(
+        alloc,
+        &program.text,
+        reached,
+        elf.entry(),
+        code_words,
+        &notes,
+    )? {
+        Some(entry) => Err(Denied::Refused(Refusal::BadNote { entry })),
+        None => Ok(NotedProgram { program, notes }),
     }
 }

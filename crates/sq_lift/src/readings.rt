@@ -1,7 +1,7 @@
 //! How words of text are read.
 
 ghost use Rattle.std.specs.Prelude.{◌≡◌, option_map};
-ghost use Rattle.sq_program.specs.Readings.{jal_reading, plain_reading, upper_item, upper_reading, lower_reading, marked_reading, reading_of};
+ghost use Rattle.sq_program.specs.Readings.{jal_reading, plain_reading, upper_item, upper_reading, lower_reading, marked_reading, reading_of, reading_at};
 ghost use Rattle.sq_lift.specs.Read.{seen, lower_reading_inside, lower_reading_outside};
 
 use crate::leads::target_from;
@@ -179,6 +179,16 @@ pub fn reading_of(text: &Text, at: u32, word: &TextWord) -> Option<Reading>
 {
     match decode(word.number) {
         Some(insn) => marked_reading(text, at, &word.mark, &insn),
+        None => None,
+    }
+}
+
+/// How the word at an address is read.
+pub fn reading_at(text: &Text, at: u32) -> Option<Reading>
+    ensures { option_map seen result ≡ reading_at text.now at }
+{
+    match text.word(at) {
+        Some(word) => reading_of(text, at, &word),
         None => None,
     }
 }

@@ -4,8 +4,8 @@ ghost use Rattle.std.specs.Prelude.{◌≡◌, IfOk};
 ghost use Rattle.sq_lift.specs.Flags.{is_flagged, DecidesFor};
 
 use crate::leads::{goes_on, half_target, jump_target};
-use crate::reached::Reached;
 use crate::text::{Text, TextWord};
+use crate::word_set::WordSet;
 use sq_decode::decode;
 use sq_isa::Insn;
 use sq_num::Memory;
@@ -16,7 +16,7 @@ use std::marker::Model;
 /// What a search has found.
 #[derive(Drop)]
 pub(crate) struct Search {
-    reached: Reached,
+    reached: WordSet,
     // The addresses of reached words that are yet to be looked at.
     waiting: Vec<u32>,
 }
@@ -38,7 +38,7 @@ impl Search {
     fn new(alloc: Global, text: &Text) -> Result<Search, Memory>
         ensures { IfOk result (λ s. s ≡ record { reached = record { lo = text.now.lo; flags = replicate (length text.now.words) false }; waiting = [] }) }
     {
-        let reached = Reached::new(alloc, text)?;
+        let reached = WordSet::new(alloc, text)?;
         Ok(Search {
             reached,
             waiting: Vec::new(alloc),
@@ -46,7 +46,7 @@ impl Search {
     }
 
     /// The words that were reached.
-    fn into_reached(self) -> Reached
+    fn into_reached(self) -> WordSet
         ensures { result ≡ self.reached }
     {
         self.reached
@@ -140,7 +140,7 @@ pub fn reached_words(
     text: &Text,
     entry: u32,
     code_words: &[CodeWord],
-) -> Result<Reached, Memory>
+) -> Result<WordSet, Memory>
     ensures { IfOk result (λ reached. DecidesFor text.now entry code_words.now (is_flagged reached)) }
 {
     let mut search = Search::new(alloc, text)?;

@@ -29,8 +29,24 @@ fn size_of(words: &[u32]) -> u32 {
     u32::try_from(words.len()).unwrap_or(0).wrapping_mul(4)
 }
 
+/// The types of a section that isn't used and of a note.
+const UNUSED: u32 = 0;
+
+const NOTE: u32 = 0x8051_5a31;
+
 /// A file of one segment with this text, with these entries of relocations, of three words each, and with this note.
 fn file_of(alloc: Global, text: &[u32], entries: &[u32], note: &[u32]) -> Result<Vec<u8>, Memory> {
+    file_with(alloc, text, UNUSED, entries, note)
+}
+
+/// The same with a last section of this type over the bytes of the note.
+fn file_with(
+    alloc: Global,
+    text: &[u32],
+    kind: u32,
+    entries: &[u32],
+    note: &[u32],
+) -> Result<Vec<u8>, Memory> {
     let size = size_of(text);
     let symbols = size.wrapping_add(84);
     let relocs = symbols.wrapping_add(16);
@@ -41,7 +57,7 @@ fn file_of(alloc: Global, text: &[u32], entries: &[u32], note: &[u32]) -> Result
         &mut file,
         &[0x464c457f, 0x00010101, 0, 0, 0x00f30002, 1, TEXT],
     )?;
-    push_words(&mut file, &[52, sections, 0, 0x00200034, 0x00280001, 5])?;
+    push_words(&mut file, &[52, sections, 0, 0x00200034, 0x00280001, 6])?;
     push_words(&mut file, &[1, 84, TEXT, TEXT, size, size, 5, 1])?;
     push_words(&mut file, text)?;
     push_words(&mut file, &[0; 4])?;
@@ -56,7 +72,11 @@ fn file_of(alloc: Global, text: &[u32], entries: &[u32], note: &[u32]) -> Result
     )?;
     push_words(
         &mut file,
-        &[0, 0x80515a31, 0, 0, noted, size_of(note), 0, 0, 4, 0],
+        &[0, NOTE, 0, 0, noted, size_of(note), 0, 0, 4, 0],
+    )?;
+    push_words(
+        &mut file,
+        &[0, kind, 0, 0, noted, size_of(note), 0, 0, 4, 0],
     )?;
     Ok(file)
 }
@@ -151,5 +171,138 @@ fn notes_are_read(rt: HostRuntime) -> Result<(), Fail> {
     assert_eq!(rt; full.length, 9);
     let too_long = first_note(alloc, &[0x325a5153, 1, TEXT, 5, 9, 0])?;
     assert!(rt; too_long.is_none());
+    Ok(())
+}
+
+/// Two `jal t0` to the last two words, an exit, a jump to itself, and then `addi a1,a1,1` and `jalr x0,0(t0)`.
+const CALLS: [u32; 7] = [
+    0x0140_02ef,
+    0x0100_02ef,
+    0x05d0_0893,
+    0x0000_0073,
+    STAY,
+    0x0015_8593,
+    0x0002_8067,
+];
+
+/// Where the last two words stand.
+const NOTED: u32 = 0x0001_0014;
+
+const VERSION_1: u32 = 0x315a_5153;
+
+const VERSION_2: u32 = 0x325a_5153;
+
+/// A note of one procedure.
+fn note_of(address: u32, link: u32, length: u32) -> [u32; 5] {
+    [VERSION_2, 1, address, link, length]
+}
+
+/// Why a file with this text, a last section of this type and this note is refused.
+fn noted_refusal(
+    alloc: Global,
+    text: &[u32],
+    kind: u32,
+    entries: &[u32],
+    note: &[u32],
+) -> Result<Option<Denied>, Denied> {
+    let file = file_with(alloc, text, kind, entries, note)?;
+    let elf = read_elf(alloc, &file)?;
+    let relocs = read_relocs(alloc, &elf)?;
+    Ok(read_noted(alloc, &elf, &relocs).err())
+}
+
+/// The entry of the note for which a file of the calls with this note is refused.
+fn refused_entry(alloc: Global, text: &[u32], note: &[u32]) -> Result<Option<u32>, Denied> {
+    Ok(entry_of(noted_refusal(alloc, text, UNUSED, &[], note)?))
+}
+
+fn entry_of(denied: Option<Denied>) -> Option<u32> {
+    match denied {
+        Some(Denied::Refused(Refusal::BadNote { entry })) => Some(entry),
+        _ => None,
+    }
+}
+
+#[test]
+fn good_notes_are_accepted(rt: HostRuntime) -> Result<(), Fail> {
+    let alloc = rt.alloc();
+    let full = note_of(NOTED, 5, 1);
+    assert_eq!(rt; noted_refusal(alloc, &CALLS, UNUSED, &[], &full)?, None);
+    let short = [VERSION_1, 1, NOTED, 5];
+    assert_eq!(rt; noted_refusal(alloc, &CALLS, UNUSED, &[], &short)?, None);
+    // What isn't reached needs no body.
+    let unreached = [EXIT[0], EXIT[1], EXIT[2], STAY, CONTROL];
+    let note = note_of(0x1_0010, 5, 3);
+    assert_eq!(rt; noted_refusal(alloc, &unreached, UNUSED, &[], &note)?, None);
+    Ok(())
+}
+
+#[test]
+fn notes_that_are_none(rt: HostRuntime) -> Result<(), Fail> {
+    let alloc = rt.alloc();
+    let full = note_of(NOTED, 5, 1);
+    let twice = noted_refusal(alloc, &CALLS, NOTE, &[], &full)?;
+    assert_eq!(rt; entry_of(twice), Some(0));
+    assert_eq!(rt; refused_entry(alloc, &CALLS, &[0x335a_5153, 0])?, Some(0));
+    assert_eq!(rt; refused_entry(alloc, &CALLS, &[VERSION_2])?, Some(0));
+    let count = [VERSION_2, 2, NOTED, 5, 1];
+    assert_eq!(rt; refused_entry(alloc, &CALLS, &count)?, Some(0));
+    Ok(())
+}
+
+#[test]
+fn notes_of_no_procedure(rt: HostRuntime) -> Result<(), Fail> {
+    let alloc = rt.alloc();
+    assert_eq!(rt;
+        refused_entry(alloc, &CALLS, &note_of(0x1_0015, 5, 1))?,
+        Some(1)
+    );
+    assert_eq!(rt;
+        refused_entry(alloc, &CALLS, &note_of(NOTED, 0, 1))?,
+        Some(1)
+    );
+    assert_eq!(rt;
+        refused_entry(alloc, &CALLS, &note_of(NOTED, 32, 1))?,
+        Some(1)
+    );
+    let twice = [VERSION_1, 2, NOTED, 5, NOTED, 5];
+    assert_eq!(rt; refused_entry(alloc, &CALLS, &twice)?, Some(2));
+    assert_eq!(rt;
+        refused_entry(alloc, &CALLS, &note_of(NOTED, 6, 1))?,
+        Some(1)
+    );
+    assert_eq!(rt;
+        refused_entry(alloc, &CALLS, &note_of(NOTED, 5, 2))?,
+        Some(1)
+    );
+    assert_eq!(rt;
+        refused_entry(alloc, &CALLS, &note_of(NOTED, 5, 0))?,
+        Some(1)
+    );
+    Ok(())
+}
+
+#[test]
+fn notes_that_are_entered(rt: HostRuntime) -> Result<(), Fail> {
+    let alloc = rt.alloc();
+    let note = note_of(NOTED, 5, 1);
+    let [first, second, third, fourth, stay, item, last] = CALLS;
+    // `jal t1`
+    let other_link = [first, 0x0100_036f, third, fourth, stay, item, last];
+    assert_eq!(rt; refused_entry(alloc, &other_link, &note)?, Some(1));
+    // `beq a0,a0`
+    let branch = [first, 0x00a5_0863, third, fourth, stay, item, last];
+    assert_eq!(rt; refused_entry(alloc, &branch, &note)?, Some(1));
+    // `jal t0` to the second word
+    let inside = [first, 0x0140_02ef, third, fourth, stay, item, last];
+    assert_eq!(rt; refused_entry(alloc, &inside, &note)?, Some(1));
+    // `addi x0,x0,0`
+    let fall = [first, second, third, fourth, 0x0000_0013, item, last];
+    assert_eq!(rt; refused_entry(alloc, &fall, &note)?, Some(1));
+    // `lui a1,%hi` of its own address
+    let half = [first, second, third, fourth, stay, 0x0001_05b7, last];
+    let entries = [NOTED, 26, NOTED];
+    let refusal = noted_refusal(alloc, &half, UNUSED, &entries, &note)?;
+    assert_eq!(rt; entry_of(refusal), Some(1));
     Ok(())
 }

@@ -47,7 +47,7 @@ impl Model for Text {
 }
 
 impl Text {
-    ghost use Rattle.std.specs.Prelude.{◌≡◌, ◌+◌, ◌*◌, ◌≤◌, ◌^◌, length};
+    ghost use Rattle.std.specs.Prelude.{◌≡◌, ◌+◌, ◌*◌, ◌≤◌, ◌^◌, None, length, IfNone, IfSome};
     ghost use Rattle.sq_program.specs.Programs.{word_at, is_word, is_in_text, end_of};
 
     /// The address of the first word.
@@ -81,6 +81,22 @@ impl Text {
         match place_of(self.lo, address) {
             Some(place) => self.words.get(place).copied(),
             None => None,
+        }
+    }
+
+    /// The address behind this one, or None where there is no word.
+    pub fn next(&self, address: u32) -> Option<u32>
+        ensures some { IfSome result (λ next. next ≡ address + 4) }
+        ensures none { IfNone result (word_at self.now (address + 4) ≡ None) }
+        ensures end { IfNone result (end_of self.now ≤ address + 4) }
+    {
+        // Its contract has that no address is 2^32 or more.
+        let _lo = self.lo;
+        let next = u64::from(address) + 4;
+        if next < self.end() {
+            Some(next as u32)
+        } else {
+            None
         }
     }
 

@@ -16,7 +16,7 @@ use Rattle.sq_program.specs.Programs.{Word, Text, Note, Program, word_at}
 use Rattle.sq_program.specs.Reached.{Decides}
 use Rattle.sq_program.specs.Readings.{Reading, reading_of}
 use Rattle.sq_program.specs.Lifted.{Form, ItemForm, TermForm, form_of, Rest, between, with_form, with_reading, begun_if}
-use Rattle.sq_lifting.specs.Lifting.{IsMarkedText, IsFine}
+use Rattle.sq_lifting.specs.Lifting.{IsMarkedText, IsReadable}
 use Rattle.sq_lifting.proofs.Lifts.{HasName, form_line, closes, IsNamed}
 use Rattle.sq_lifting.proofs.TextWords.{at_here, some_is}
 use Rattle.sq_lifting.proofs.Facts.{ReadWord, reached_word}
@@ -70,7 +70,7 @@ item_open (Hi rd to) = refl
 item_open (Lo rd rs to) = refl
 item_open (Out procedure) = refl
 
-module _ (p : Program) (is : ℕ → Bool) (marked : IsMarkedText p.text) (dec : Decides p is) (fine : IsFine is p) where
+module _ (p : Program) (is : ℕ → Bool) (marked : IsMarkedText p.text) (dec : Decides p is) (fine : IsReadable is p) where
   abbrev t : Text
   t = T p is marked dec fine
 

@@ -19,7 +19,7 @@ use Rattle.sq_program.specs.Reached.{Decides}
 use Rattle.sq_program.specs.Readings.{Reading, IsItem, IsTerm, Links, reading_of, reading_at}
 use Rattle.sq_program.specs.Notes.{is_in_procedures, is_within, has_body, is_item_without}
 use Rattle.sq_program.specs.Lifted.{Form, ItemForm, TermForm, link_form, form_of, form_leads, reading_leads, words_lead, Rest, between, with_form, with_reading, begun_if, procedure_at, with_item, body_from, procedure_of}
-use Rattle.sq_lifting.specs.Lifting.{IsLinked, IsFine}
+use Rattle.sq_lifting.specs.Lifting.{IsLinked, IsReadable}
 use Rattle.sq_lifting.proofs.TextWords.{same_itself, at_here, at_later, stood}
 use Rattle.sq_lifting.proofs.Lifts.{form_line, closes}
 use Rattle.sq_lifting.proofs.Facts.{or_false, ReadWord}
@@ -151,7 +151,7 @@ is_led is ns t at (w ∷ words) x e = go (or_cases (is at && is_among (reading_l
         let s = stood r.pc (at + 4) r.word words r.there in
         record { pc = r.pc; word = r.word; reached = r.reached; there = at_later r.pc at w words s.least ∙ r.there; leads = r.leads }
 
-module _ (p : Program) (is : ℕ → Bool) (linked : IsLinked p) (dec : Decides p is) (fine : IsFine is p) where
+module _ (p : Program) (is : ℕ → Bool) (linked : IsLinked p) (dec : Decides p is) (fine : IsReadable is p) where
   abbrev t : Text
   t = p.text
 

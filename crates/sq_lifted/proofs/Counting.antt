@@ -12,7 +12,7 @@ use Rattle.sq_program.specs.Reached.{half_target, jump_target, next_word, insn_g
 use Rattle.sq_program.specs.Readings.{IsItem, reading_of, reading_at}
 use Rattle.sq_program.specs.Notes.{is_within, is_in_procedure, is_in_procedures, has_body, is_item_without, is_call, enters_from_outside, marked_enters}
 use Rattle.sq_program.specs.Lifted.{Form, ItemForm, TermForm, form_of, Rest, between, with_form, with_reading, begun_if, body_from, procedure_of, procedure_at}
-use Rattle.sq_lifting.specs.Lifting.{IsLinked, IsFine}
+use Rattle.sq_lifting.specs.Lifting.{IsLinked, IsReadable}
 use Rattle.sq_lifting.proofs.Lifts.{form_line, closes}
 use Rattle.sq_lifting.proofs.Facts.{or_false, any_none, one, ReadWord, next_reached}
 use Rattle.sq_lifting.proofs.NoteFacts.{or_cases, in_procedure_start, read_item, return_is, own_number, IsGoodNote, good_note}
@@ -20,6 +20,7 @@ use Rattle.sq_lifting.proofs.Cutting.{kept_is, read_at, true_not_false, when_fal
 use Rattle.sq_lifting.proofs.CutLines.{N, K, L, G, Cut, IsSuffix, tail_suffix, form_at, goes_of, IsTermForm, closed_cut, first_lead}
 use Rattle.sq_lifted.specs.Lifted.{LiftedIsGood}
 use Rattle.sq_lifted.proofs.Blocks.{item_open}
+use Rattle.sq_lifting.proofs.Whole.{readable}
 use Rattle.sq_lifted.proofs.Graphs.{each_at, is_graph, is_sound}
 use Rattle.sq_lifted.proofs.Canonical.{IsReal, form_real, here_is, closed_next, is_canonical}
 use Rattle.sq_lifted.proofs.Reaching.{one_if, real_word, in_reach}
@@ -136,7 +137,7 @@ procedures_words t (n ∷ ns) h =
     let d = procedures_words t ns h.1 in
     omega arith
 
-module _ (p : Program) (is : ℕ → Bool) (linked : IsLinked p) (dec : Decides p is) (fine : IsFine is p) where
+module _ (p : Program) (is : ℕ → Bool) (linked : IsLinked p) (dec : Decides p is) (fine : IsReadable is p) where
   abbrev t : Text
   t = p.text
 
@@ -320,10 +321,12 @@ module _ (p : Program) (is : ℕ → Bool) (linked : IsLinked p) (dec : Decides 
       omega arith
 
 pub lifted_good : LiftedIsGood
-lifted_good p is linked short ascending dec fine = record {
-  graph = is_graph p is linked dec fine ascending;
-  canonical = is_canonical p is linked dec fine;
-  sound = is_sound p is linked dec fine;
-  reach = in_reach p is linked dec fine short;
-  words = words_fit p is linked dec fine;
-}
+lifted_good p is linked short ascending dec fine =
+    let early = readable is p fine in
+    record {
+      graph = is_graph p is linked dec early ascending;
+      canonical = is_canonical p is linked dec early;
+      sound = is_sound p is linked dec early fine.dies;
+      reach = in_reach p is linked dec early short;
+      words = words_fit p is linked dec early;
+    }

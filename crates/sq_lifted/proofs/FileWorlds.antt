@@ -19,12 +19,12 @@ use Rattle.sq_elf.proofs.Passing.{row_passes, behind_row, IsFirst, found_from}
 use Rattle.sq_elf.proofs.TextFacts.{both_true, neither, second_false, TextFacts, text_facts}
 use Rattle.sq_follow.specs.Worlds.{StartPiece, piece_of, layout_of}
 use Rattle.sq_program.specs.Programs.{Word, Note, Program, word_at}
-use Rattle.sq_program.specs.FilePrograms.{text_of, note_refusal, IsReadAs, IsAccepted}
+use Rattle.sq_program.specs.FilePrograms.{text_of, note_refusal, early_refusal, IsReadAs, IsAccepted}
 use Rattle.sq_program.specs.Notes.{bad_note}
 use Rattle.sq_program.specs.NoteSections.{notes_of}
 use Rattle.sq_program.specs.Faults.{text_refusal}
 use Rattle.sq_program.specs.FileRuns.{segment_pieces, world_of}
-use Rattle.sq_lifting.specs.Lifting.{IsFine, IsWorldOf}
+use Rattle.sq_lifting.specs.Lifting.{IsReadable, IsFine, IsWorldOf}
 use Rattle.sq_lifting.proofs.TextWords.{stood}
 use Rattle.sq_lifting.proofs.Facts.{or_none}
 use Rattle.sq_follow.specs.Follows.{Follows}
@@ -192,10 +192,14 @@ good_notes : (is : ℕ → Bool) (p : Program) (o : Option (List Note)) → note
 good_notes is p None e = absurd (cc)
 good_notes is p (Some notes) e = none_mapped (bad_note is p) e
 
+pub early_readable : (bytes : List ℕ) (is : ℕ → Bool) (p : Program) → early_refusal bytes is p ≡ None → IsReadable is p
+early_readable bytes is p early =
+    let e = or_none (text_refusal is p) (note_refusal is p (notes_of bytes p.text)) early in
+    record { text = e.0; notes = good_notes is p (notes_of bytes p.text) e.1 }
+
 accepted_fine : (bytes : List ℕ) (is : ℕ → Bool) (p : Program) → IsAccepted bytes is p → IsFine is p
 accepted_fine bytes is p a =
-    let e = or_none (text_refusal is p) (note_refusal is p (notes_of bytes p.text)) a.early in
-    record { text = e.0; notes = good_notes is p (notes_of bytes p.text) e.1; dies = a.dies }
+    let early = early_readable bytes is p a.early in record { text = early.text; notes = early.notes; dies = a.dies }
 
 pub files_keep_runs : LiftedFilesKeepRuns
 files_keep_runs bytes is p fit a start =

@@ -21,7 +21,7 @@ use Rattle.sq_program.specs.Reached.{Decides}
 use Rattle.sq_program.specs.Readings.{Reading, IsItem, IsTerm, Links, reading_at}
 use Rattle.sq_program.specs.Notes.{has_body, is_item_without}
 use Rattle.sq_program.specs.Lifted.{Form, link_form, form_of, procedure_at, with_item, body_from, procedure_of, code_ref}
-use Rattle.sq_lifting.specs.Lifting.{IsLinked, IsFine}
+use Rattle.sq_lifting.specs.Lifting.{IsLinked, IsReadable, NotesDie}
 use Rattle.sq_lifting.proofs.Facts.{one_is, none_in, ReadWord, marked_of}
 use Rattle.sq_lifting.proofs.NoteFacts.{at_number, read_item, IsGoodNote, good_note}
 use Rattle.sq_lifting.proofs.ReadingFacts.{form_uses, IsReadItem}
@@ -83,7 +83,7 @@ increasing (w ∷ v ∷ words) h (suc k) lt =
     let next : suc k + 1 ≡ suc (k + 1) = omega arith in
     subst (λ i. slice_index ats (suc k) < slice_index ats i) (sym next) (increasing (v ∷ words) h.1 k (omega (arith, lt)))
 
-module _ (p : Program) (is : ℕ → Bool) (linked : IsLinked p) (dec : Decides p is) (fine : IsFine is p) where
+module _ (p : Program) (is : ℕ → Bool) (linked : IsLinked p) (dec : Decides p is) (fine : IsReadable is p) where
   abbrev t : Text
   t = p.text
 
@@ -228,8 +228,8 @@ module _ (p : Program) (is : ℕ → Bool) (linked : IsLinked p) (dec : Decides 
     free = All-from_recursion (λ item. IsFreeOf n.link (line_of item)) (body_from t n.address n.length) (each_weaker (IsBodyItem n) (λ item. IsFreeOf n.link (line_of item)) (λ item h. item_free n.link item h.1 h.2) (body_from t n.address n.length) (body_is n good));
   }
 
-  pub is_sound : IsSound g
-  is_sound = record {
+  pub is_sound : NotesDie is p → IsSound g
+  is_sound dies = record {
     bodies = All-from_recursion IsSoundBody g.procedures (each_map (procedure_of t) IsSoundBody ns (each_weaker (IsGoodNote is p) (λ n. IsSoundBody (procedure_of t n)) sound_body ns notes_are));
-    links_die = dies_lines p is linked dec fine (lines_of g.blocks) (die_all p is linked dec fine);
+    links_die = dies_lines p is linked dec fine (lines_of g.blocks) (die_all p is linked dec fine dies);
   }

@@ -7,3 +7,5 @@ pub mod Counting
 pub mod Files
 pub mod FileWorlds
 pub mod FileLayouts
+pub mod Named
+pub mod EarlyGraphs

@@ -15,7 +15,7 @@ use Rattle.sq_program.specs.Programs.{Word, Text, Note, Program, word_from, word
 use Rattle.sq_program.specs.Reached.{target_from, Decides}
 use Rattle.sq_program.specs.Readings.{Reading, IsItem, IsTerm, Links, reading_of}
 use Rattle.sq_program.specs.Lifted.{Form, ItemForm, TermForm, form_of, Rest, between, with_form, with_reading, begun_if, procedure_at, link_form}
-use Rattle.sq_lifting.specs.Lifting.{IsLinked, IsFine}
+use Rattle.sq_lifting.specs.Lifting.{IsLinked, IsReadable}
 use Rattle.sq_lifting.proofs.TextWords.{same_itself, Stood, stood}
 use Rattle.sq_lifting.proofs.Facts.{one, ReadWord}
 use Rattle.sq_lifting.proofs.ReadingFacts.{form_uses}
@@ -121,7 +121,7 @@ module _ (keep : ℕ → Bool) where
           let r1 = r.1 in
           (omega arith, omega arith)
 
-module _ (p : Program) (is : ℕ → Bool) (linked : IsLinked p) (dec : Decides p is) (fine : IsFine is p) (short : IsShort p.text) where
+module _ (p : Program) (is : ℕ → Bool) (linked : IsLinked p) (dec : Decides p is) (fine : IsReadable is p) (short : IsShort p.text) where
   abbrev t : Text
   t = p.text
 

@@ -6,6 +6,10 @@
 //! rewriting asks of the graph that it begins with.
 #![tactic(auto)]
 
+mod lift;
+
+pub use lift::early_graph;
+
 ghost use Rattle.sq_lifted.specs.Lifted.{LiftedIsGood};
 ghost use Rattle.sq_lifted.specs.Files.{FilesAreLinked, FileWorldsFit, LiftedFilesAreGood, LiftedFilesKeepRuns, LiftedFilesFollow, FilesAreLaidOut};
 

@@ -26,7 +26,7 @@ use Rattle.sq_program.specs.Reached.{jump_target, half_target, insn_goes_on, Dec
 use Rattle.sq_program.specs.Readings.{Reading, IsItem, IsTerm, Links, marked_reading, reading_of, reading_at}
 use Rattle.sq_program.specs.Notes.{is_in_procedure, has_body, is_item_without}
 use Rattle.sq_program.specs.Lifted.{Form, ItemForm, TermForm, link_form, form_of, form_leads, Rest, between, with_form, with_reading, begun_if, cut, with_item, body_from, procedure_of, lifted, procedure_at}
-use Rattle.sq_lifting.specs.Lifting.{IsMarkedText, IsFine}
+use Rattle.sq_lifting.specs.Lifting.{IsMarkedText, IsReadable}
 use Rattle.sq_lifting.proofs.Lifts.{HasName, form_line, closes, onward, IsNamed, SlotIf, GoodLine, BodyReads, ProcedureReads, IsDoor, Lifts, lift_end, lift_name, lift_line}
 use Rattle.sq_lifting.proofs.TextWords.{same_itself, at_here, at_later, some_is, stood}
 use Rattle.sq_lifting.proofs.Facts.{one, none_in, reading_uses, IsSoundWord, ReadWord, marked_of, reached_word, next_reached, used, used_reached, UsedBy}
@@ -172,7 +172,7 @@ live_body : (g : Graph) (link back : ℕ) (items : List Item) (rest : List Line)
 live_body g link back [] rest q h = live_return g link back rest h
 live_body g link back (item ∷ items) rest q h = live_body g link back items rest q.1 (live_past g item link (map line_of items ++ (Return back ∷ rest)) q.0.0 q.0.1 h)
 
-module _ (p : Program) (is : ℕ → Bool) (marked : IsMarkedText p.text) (dec : Decides p is) (fine : IsFine is p) where
+module _ (p : Program) (is : ℕ → Bool) (marked : IsMarkedText p.text) (dec : Decides p is) (fine : IsReadable is p) where
   abbrev pub T : Text
   T = p.text
 

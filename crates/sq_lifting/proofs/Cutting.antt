@@ -14,7 +14,7 @@ use Rattle.sq_program.specs.Reached.{target_from, jump_target, half_target, insn
 use Rattle.sq_program.specs.Readings.{Reading, Links, marked_reading, reading_of}
 use Rattle.sq_program.specs.Notes.{used_notes, is_in_procedure, is_in_procedures, is_within, is_call, enters_from_outside, insn_enters, marked_enters}
 use Rattle.sq_program.specs.Lifted.{Form, ItemForm, TermForm, link_form, form_of, form_leads, reading_leads, words_lead, is_leader, is_kept, Rest, procedure_at}
-use Rattle.sq_lifting.specs.Lifting.{IsMarkedText, IsFine}
+use Rattle.sq_lifting.specs.Lifting.{IsMarkedText, IsReadable}
 use Rattle.sq_lifting.proofs.Lifts.{form_line, closes}
 use Rattle.sq_lifting.proofs.TextWords.{same_itself, in_text_of}
 use Rattle.sq_lifting.proofs.Facts.{or_false, any_none, one, one_is, none_in, reading_uses, IsSoundWord, UsedBy, ReadWord, read_word, marked_of, used, used_reached, next_reached}
@@ -56,7 +56,7 @@ leads_by is ns t x at y w (v ∷ words) i e l = go (x == at) refl e (λ h. leads
         or_left (is at && is_among (reading_leads ns at (reading_of t at v)) y) (words_lead is ns t (at + 4) words y) (subst (λ z. (is z && is_among (reading_leads ns z (reading_of t z v)) y) ≡ true) q m)
     go false b h rec = or_right (is at && is_among (reading_leads ns at (reading_of t at v)) y) (words_lead is ns t (at + 4) words y) (rec h)
 
-module _ (p : Program) (is : ℕ → Bool) (marked : IsMarkedText p.text) (dec : Decides p is) (fine : IsFine is p) where
+module _ (p : Program) (is : ℕ → Bool) (marked : IsMarkedText p.text) (dec : Decides p is) (fine : IsReadable is p) where
   abbrev pub t : Text
   t = p.text
 

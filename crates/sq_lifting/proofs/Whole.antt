@@ -28,14 +28,17 @@ use Rattle.sq_program.specs.FilePrograms.{LinkDies}
 use Rattle.sq_program.specs.Monitored as monitored
 use Rattle.sq_program.specs.Monitored.{Watched, monitored_step}
 use Rattle.sq_program.specs.FileRuns.{watched_start}
-use Rattle.sq_lifting.specs.Lifting.{IsLinked, IsFine, IsWorldOf, LiftingKeepsRuns}
+use Rattle.sq_lifting.specs.Lifting.{IsLinked, IsReadable, NotesDie, IsFine, IsWorldOf, LiftingKeepsRuns}
 use Rattle.sq_lifting.proofs.Lifts.{ties, IsNamed, NeverLost}
 use Rattle.sq_lifting.proofs.NoteFacts.{notes_find, IsGoodNote, good_note, used_good, own_number}
 use Rattle.sq_lifting.proofs.Cutting.{true_not_false, when_false, kept_from, lead_entry, lead_code}
 use Rattle.sq_lifting.proofs.CutLines.{has_name_of, lifts_whole}
 use Rattle.sq_lifting.proofs.Lifting.{lifted_locks, starts_alike}
 
-module _ (p : Program) (is : ℕ → Bool) (linked : IsLinked p) (dec : Decides p is) (fine : IsFine is p) where
+pub readable : (is : ℕ → Bool) (p : Program) → IsFine is p → IsReadable is p
+readable is p fine = record { text = fine.text; notes = fine.notes }
+
+module _ (p : Program) (is : ℕ → Bool) (linked : IsLinked p) (dec : Decides p is) (fine : IsReadable is p) where
   abbrev G : Graph
   G = lifted is p
 
@@ -67,10 +70,10 @@ module _ (p : Program) (is : ℕ → Bool) (linked : IsLinked p) (dec : Decides 
     dies_lines rest (λ q n e. (f q n e).1),
   )
 
-  pub die_all : DieAll (lines_of G.blocks)
-  die_all q n e =
+  pub die_all : NotesDie is p → DieAll (lines_of G.blocks)
+  die_all dies q n e =
       let u = used_good is p None 1 p.notes q n fine.notes e in
-      fine.dies u.index n u.there q (own_number is p None 1 p.notes q n fine.notes e)
+      dies u.index n u.there q (own_number is p None 1 p.notes q n fine.notes e)
 
   -- NAMES
 
@@ -129,10 +132,10 @@ module _ (p : Program) (is : ℕ → Bool) (linked : IsLinked p) (dec : Decides 
       (map_own (map target_of p.code_words) ∙ sym (names_are p.code_words))
       (start_memory_rel (ties p.text N G) (λ x. x) w (map target_of p.code_words) start code_tied)
 
-  starts : (w : World) (start : Start) → IsWorldOf w start p → LocksWith (monitored_step (layout_of w start) p.text) (watched_start w p start) (graph_step (setting_of w start) G) (state_at_start w G start)
-  starts w start of =
+  starts : NotesDie is p → (w : World) (start : Start) → IsWorldOf w start p → LocksWith (monitored_step (layout_of w start) p.text) (watched_start w p start) (graph_step (setting_of w start) G) (state_at_start w G start)
+  starts dies w start of =
       let text = linked.text in
-      let lifts = lifts_whole p is text dec fine (lines_make G) (dies_lines (lines_of G.blocks) die_all) in
+      let lifts = lifts_whole p is text dec fine (lines_make G) (dies_lines (lines_of G.blocks) (die_all dies)) in
       let same : setting_of w start ≡ with_code (monitored.setting_of (layout_of w start) p.text) all_names = rw (of.lo, of.hi) refl in
       subst (λ s. LocksWith (monitored_step (layout_of w start) p.text) (watched_start w p start) (graph_step s G) (state_at_start w G start)) (sym same)
       (lifted_locks p.text N G (layout_of w start) None lifts text.small of.executable (watched_start w p start) (state_at_start w G start)
@@ -143,4 +146,4 @@ module _ (p : Program) (is : ℕ → Bool) (linked : IsLinked p) (dec : Decides 
       })))
 
 pub lifting_keeps : LiftingKeepsRuns
-lifting_keeps p is linked dec fine w start of = starts p is linked dec fine w start of
+lifting_keeps p is linked dec fine w start of = starts p is linked dec (readable is p fine) fine.dies w start of

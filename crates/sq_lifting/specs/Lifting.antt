@@ -39,6 +39,15 @@ pub record IsLinked (p : Program) : Type 0 where
   pub entry : IsWord p.text p.entry
   pub code_words : (x : ℕ) → Contains (map target_of p.code_words) x → IsWord p.text x
 
+-- neither the text of a program nor its notes are refused, but for what is asked of the graph
+pub record IsReadable (is : ℕ → Bool) (p : Program) : Type 0 where
+  pub text : text_refusal is p ≡ None
+  pub notes : bad_note is p ≡ None
+
+-- behind each `jal` to a noted procedure its link is dead
+abbrev pub NotesDie : (ℕ → Bool) → Program → Type 0
+NotesDie is p = (i : ℕ) (note : Note) → slice_get p.notes i ≡ Some note → NoteDies is p note
+
 -- nothing of a program is refused
 pub record IsFine (is : ℕ → Bool) (p : Program) : Type 0 where
   pub text : text_refusal is p ≡ None

@@ -154,18 +154,63 @@ fn first_texts(
         alloc,
         &Parts {
             blocks: &[
-                BlockPart { length: 4, term: Term::Call { link: ra, to: 4 } },
-                BlockPart { length: 4, term: Term::Call { link: ra, to: 4 } },
-                BlockPart { length: 2, term: Term::Fall },
-                BlockPart { length: 0, term: Term::Jump { to: 3 } },
-                BlockPart { length: 0, term: Term::Indirect { link: x0, at: ra, offset: 0 } },
-                BlockPart { length: 0, term: Term::Branch { cond: Cond::Beq, a: Reg::A0, b: x0, to: 7 } },
-                BlockPart { length: 2, term: Term::Jump { to: 8 } },
-                BlockPart { length: 2, term: Term::Fall },
-                BlockPart { length: 2, term: Term::Fall },
-                BlockPart { length: 0, term: Term::Jump { to: 9 } },
-                BlockPart { length: 3, term: Term::Fall },
-                BlockPart { length: 0, term: Term::Jump { to: 11 } },
+                BlockPart {
+                    length: 4,
+                    term: Term::Call { link: ra, to: 4 },
+                },
+                BlockPart {
+                    length: 4,
+                    term: Term::Call { link: ra, to: 4 },
+                },
+                BlockPart {
+                    length: 2,
+                    term: Term::Fall,
+                },
+                BlockPart {
+                    length: 0,
+                    term: Term::Jump { to: 3 },
+                },
+                BlockPart {
+                    length: 0,
+                    term: Term::Indirect {
+                        link: x0,
+                        at: ra,
+                        offset: 0,
+                    },
+                },
+                BlockPart {
+                    length: 0,
+                    term: Term::Branch {
+                        cond: Cond::Beq,
+                        a: Reg::A0,
+                        b: x0,
+                        to: 7,
+                    },
+                },
+                BlockPart {
+                    length: 2,
+                    term: Term::Jump { to: 8 },
+                },
+                BlockPart {
+                    length: 2,
+                    term: Term::Fall,
+                },
+                BlockPart {
+                    length: 2,
+                    term: Term::Fall,
+                },
+                BlockPart {
+                    length: 0,
+                    term: Term::Jump { to: 9 },
+                },
+                BlockPart {
+                    length: 3,
+                    term: Term::Fall,
+                },
+                BlockPart {
+                    length: 0,
+                    term: Term::Jump { to: 11 },
+                },
             ],
             items: &[
                 addi!(Reg::A1, Reg::A1, 1),
@@ -219,16 +264,55 @@ fn second_texts(
         alloc,
         &Parts {
             blocks: &[
-                BlockPart { length: 4, term: Term::Call { link: ra, to: 4 } },
-                BlockPart { length: 4, term: Term::Call { link: ra, to: 4 } },
-                BlockPart { length: 3, term: Term::Fall },
-                BlockPart { length: 0, term: Term::Jump { to: 3 } },
-                BlockPart { length: 0, term: Term::Indirect { link: x0, at: ra, offset: 0 } },
-                BlockPart { length: 0, term: Term::Branch { cond: Cond::Beq, a: Reg::A0, b: x0, to: 7 } },
-                BlockPart { length: 2, term: Term::Jump { to: 8 } },
-                BlockPart { length: 2, term: Term::Fall },
-                BlockPart { length: 3, term: Term::Fall },
-                BlockPart { length: 0, term: Term::Jump { to: 9 } },
+                BlockPart {
+                    length: 4,
+                    term: Term::Call { link: ra, to: 4 },
+                },
+                BlockPart {
+                    length: 4,
+                    term: Term::Call { link: ra, to: 4 },
+                },
+                BlockPart {
+                    length: 3,
+                    term: Term::Fall,
+                },
+                BlockPart {
+                    length: 0,
+                    term: Term::Jump { to: 3 },
+                },
+                BlockPart {
+                    length: 0,
+                    term: Term::Indirect {
+                        link: x0,
+                        at: ra,
+                        offset: 0,
+                    },
+                },
+                BlockPart {
+                    length: 0,
+                    term: Term::Branch {
+                        cond: Cond::Beq,
+                        a: Reg::A0,
+                        b: x0,
+                        to: 7,
+                    },
+                },
+                BlockPart {
+                    length: 2,
+                    term: Term::Jump { to: 8 },
+                },
+                BlockPart {
+                    length: 2,
+                    term: Term::Fall,
+                },
+                BlockPart {
+                    length: 3,
+                    term: Term::Fall,
+                },
+                BlockPart {
+                    length: 0,
+                    term: Term::Jump { to: 9 },
+                },
             ],
             items: &[
                 addi!(Reg::A1, Reg::A1, 1),

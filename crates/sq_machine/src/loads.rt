@@ -16,17 +16,19 @@ use sq_num::{Bytes, Memory};
 impl Hart {
     /// The byte at an address, where one is in memory.
     #[tactic(auto, unfolding(crate::specs::Views::state_of))]
-    fn cell(&self, x: u32) -> Option<u8>
-        ensures { result ≡ (state_of self.now).memory x }
+    fn cell(&mut self, x: u32) -> Option<u8>
+        ensures value { result ≡ (state_of self.old).memory x }
+        ensures state { state_of self.new ≡ state_of self.old }
     {
         self.memory.get(x)
     }
 
     /// The byte at an address.
     #[tactic(auto, unfolding(crate::specs::State::number_at))]
-    fn byte(&self, x: u32) -> Option<u32>
-        ensures value { result ≡ aligned_number (state_of self.now).memory x 1 }
+    fn byte(&mut self, x: u32) -> Option<u32>
+        ensures value { result ≡ aligned_number (state_of self.old).memory x 1 }
         ensures range { IfSome result (λ v. v < 256) }
+        ensures state { state_of self.new ≡ state_of self.old }
     {
         let byte = self.cell(x)?;
         Some(u32::from(byte))
@@ -34,9 +36,10 @@ impl Hart {
 
     /// The number of two bytes at an address that is a multiple of 2.
     #[tactic(auto, unfolding(crate::specs::State::number_at))]
-    fn half(&self, x: u32) -> Option<u32>
-        ensures value { result ≡ aligned_number (state_of self.now).memory x 2 }
+    fn half(&mut self, x: u32) -> Option<u32>
+        ensures value { result ≡ aligned_number (state_of self.old).memory x 2 }
         ensures range { IfSome result (λ v. v < 65536) }
+        ensures state { state_of self.new ≡ state_of self.old }
     {
         if x % 2 != 0 {
             return None;
@@ -48,8 +51,9 @@ impl Hart {
 
     /// The number of four bytes at an address that is a multiple of 4.
     #[tactic(auto, unfolding(crate::specs::State::number_at))]
-    pub fn word(&self, x: u32) -> Option<u32>
-        ensures { result ≡ aligned_number (state_of self.now).memory x 4 }
+    pub fn word(&mut self, x: u32) -> Option<u32>
+        ensures value { result ≡ aligned_number (state_of self.old).memory x 4 }
+        ensures state { state_of self.new ≡ state_of self.old }
     {
         if x % 4 != 0 {
             return None;
@@ -62,8 +66,9 @@ impl Hart {
     }
 
     /// What a load at an address gives.
-    pub fn loaded(&self, kind: LoadKind, x: u32) -> Option<u32>
-        ensures { result ≡ loaded kind (state_of self.now).memory x }
+    pub fn loaded(&mut self, kind: LoadKind, x: u32) -> Option<u32>
+        ensures value { result ≡ loaded kind (state_of self.old).memory x }
+        ensures state { state_of self.new ≡ state_of self.old }
     {
         match kind {
             LoadKind::Lb => self.byte(x).map(extend_byte),
@@ -75,16 +80,18 @@ impl Hart {
     }
 
     /// Whether a byte is in memory.
-    fn is_in_memory(&self, x: u32) -> bool
-        ensures { result ≡ is_in_memory (state_of self.now).memory x }
+    fn is_in_memory(&mut self, x: u32) -> bool
+        ensures value { result ≡ is_in_memory (state_of self.old).memory x }
+        ensures state { state_of self.new ≡ state_of self.old }
     {
         self.cell(x).is_some()
     }
 
     /// Whether the n bytes from `x` on are in memory.
-    pub fn are_in_memory(&self, x: u32, n: u32) -> bool
-        ensures value { result ≡ is_range (is_in_memory (state_of self.now).memory) x n }
+    pub fn are_in_memory(&mut self, x: u32, n: u32) -> bool
+        ensures value { result ≡ is_range (is_in_memory (state_of self.old).memory) x n }
         ensures end { IsTrue result → x + n ≤ 2 ^ 32 }
+        ensures state { state_of self.new ≡ state_of self.old }
     {
         if passes_end(x, n) {
             return false;
@@ -99,9 +106,10 @@ impl Hart {
 
     /// The n bytes from `x` on, or none where they are not all in memory.
     #[tactic(auto, unfolding(crate::specs::Views::state_of))]
-    pub fn bytes(&self, x: u32, n: u32) -> Result<Bytes, Memory>
+    pub fn bytes(&mut self, x: u32, n: u32) -> Result<Bytes, Memory>
         requires { x + n ≤ 2 ^ 32 }
-        ensures { IfOk result (λ bytes. bytes ≡ bytes_at (state_of self.now).memory x n) }
+        ensures value { IfOk result (λ bytes. bytes ≡ bytes_at (state_of self.old).memory x n) }
+        ensures state { state_of self.new ≡ state_of self.old }
     {
         let alloc = *self.input.allocator();
         match self.memory.get_all(alloc, x, n)? {

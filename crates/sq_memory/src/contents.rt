@@ -1,6 +1,6 @@
 // Memory that a run reads and writes.
 
-ghost use Rattle.std.specs.Prelude.{◌≡◌, ◌↔◌, IsTrue, position, is_some};
+ghost use Rattle.std.specs.Prelude.{◌≡◌, ◌<◌, ◌↔◌, IsTrue, position, is_some};
 ghost use Rattle.std.specs.List.{list_any};
 ghost use Rattle.sq_memory.specs.Regions.{region_cell, meet, AreApart};
 ghost use Rattle.sq_memory.specs.Contents.{region_of, regions_of};
@@ -88,14 +88,23 @@ fn are_apart<C: Copy>(regions: &[Region<C>]) -> bool
     true
 }
 
+// For how many pages of 4 KiB the region that served is remembered: pages whose numbers are equal modulo this share.
+const PAGES: usize = 64;
+
+fn page_of(address: u32) -> usize
+    ensures { result < 64 }
+{
+    (address / 4096) as usize % PAGES
+}
+
 /// Cells at addresses. The first region that has one at an address holds it.
 #[derive(Drop)]
 pub struct Contents<C> {
     regions: Vec<Region<C>>,
     /// Whether no two regions have a cell at one address.
     apart: bool,
-    /// The place of the region that served last. It only saves time.
-    last: usize,
+    /// The places of the regions that served last, by the page of the address. They only save time.
+    near: [usize; PAGES],
 }
 
 impl<C> Model for Contents<C> {
@@ -123,20 +132,23 @@ impl<C: Copy> Contents<C> {
         Contents {
             regions,
             apart,
-            last: 0,
+            near: [0; PAGES],
         }
     }
 
-    // The first region that has a cell at an address. Where none meet, the one that served last is asked first.
+    // The first region that has a cell at an address. Where none meet, the one that served this page last is asked
+    // first.
     fn place_of(&mut self, address: u32) -> Option<usize>
         ensures value { result ≡ position (λ r. is_some (region_cell r address)) self.old }
         ensures kept { self.new ≡ self.old }
     {
-        if self.apart && self.last < self.regions.len() && self.regions[self.last].has(address) {
-            return Some(self.last);
+        let page = page_of(address);
+        let near = self.near[page];
+        if self.apart && near < self.regions.len() && self.regions[near].has(address) {
+            return Some(near);
         }
         let place = place(&self.regions, address)?;
-        self.last = place;
+        self.near[page] = place;
         Some(place)
     }
 
@@ -215,7 +227,7 @@ mod tests {
         Ok(())
     }
 
-    // Two regions that touch stand apart, so the one that served last is asked first.
+    // Two regions that touch stand apart, so the one that served their page last is asked first.
     #[test]
     fn the_region_that_served_last_serves_again(rt: HostRuntime) -> Result<(), Fail> {
         let alloc = rt.alloc();

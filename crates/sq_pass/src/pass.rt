@@ -1,6 +1,6 @@
 //! The trait of passes.
 
-ghost use Rattle.std.specs.Prelude.{◌≡◌, ◌×◌, ◌≤◌, None, Ok, IfOk, IfSome};
+ghost use Rattle.std.specs.Prelude.{◌≡◌, ◌≤◌, None, Ok, IfOk, IfSome};
 ghost use Rattle.sq_graph.specs.declared.parts.Room.{Room as Spare};
 ghost use Rattle.sq_graph.specs.Graph.{Graph as Parts};
 ghost use Rattle.sq_graph.specs.Room.{Covers, KeepsTotal};
@@ -44,12 +44,7 @@ pub trait Pass: Drop {
         ensures none { result ≡ Ok None → (given : Told) → IsCompleted cut given → ¬ is_candidate self.now graph.now.graph given };
 
     /// A candidate, or None where there is none.
-    fn find(
-        &self,
-        alloc: Global,
-        graph: &Graph,
-        live: &Liveness,
-    ) -> Result<Option<Cut>, Memory>
+    fn find(&self, alloc: Global, graph: &Graph, live: &Liveness) -> Result<Option<Cut>, Memory>
         requires { IsLivenessOf graph.now.graph live.now }
         ensures some { IfOk result (λ found. IfSome found (λ cut. is_candidate self.now graph.now.graph cut)) }
         ensures none { result ≡ Ok None → (cut : Told) → ¬ is_candidate self.now graph.now.graph cut };

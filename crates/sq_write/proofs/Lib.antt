@@ -1,4 +1,16 @@
+mod Examples
+pub mod Assembling
+pub mod CodeWordCount
+pub mod Files
+pub mod Fitting
 pub mod Laying
+pub mod Lengths
+pub mod PieceWalks
 pub mod Reading
+pub mod SegmentFacts
+pub mod Segments
 pub mod Splitting
+pub mod TextWalks
+pub mod Texts
+pub mod WordEntries
 pub mod Words

@@ -1,3 +1,8 @@
 pub mod Output
 pub mod Parts
 pub mod Plain
+pub mod Points
+pub mod Pieces
+pub mod Written
+pub mod Standing
+pub mod Laid

@@ -17,18 +17,24 @@ pub const TEXT_AT: u32 = 84;
 /// ELF, 32 bits, least byte first, version 1.
 const IDENTIFICATION: [u8; 16] = [0x7f, b'E', b'L', b'F', 1, 1, 1, 0, 0, 0, 0, 0, 0, 0, 0, 0];
 
-const SYMBOL_TABLE: [u8; 16] = [0; 16];
+pub const SYMBOL_TABLE: [u8; 16] = [0; 16];
 
-const SYMBOL_NAMES: [u8; 1] = [0];
+pub const SYMBOL_NAMES: [u8; 1] = [0];
 
 /// The name and version of the note, and the count 0.
 const EMPTY_NOTE: [u8; 8] = *b"SQZ1\0\0\0\0";
 
-const SECTION_NAMES: [u8; 53] = *b"\0.text\0.symtab\0.strtab\0.rela.text\0.squeeze\0.shstrtab\0";
+pub const SECTION_NAMES: [u8; 53] =
+    *b"\0.text\0.symtab\0.strtab\0.rela.text\0.squeeze\0.shstrtab\0";
 
 /// Appends the header of an executable for RISC-V with `count` pieces and seven section headers at
 /// the offset `sections`.
-fn push_file_header(file: &mut Vec<u8>, entry: u32, count: u16, sections: u32) -> Result<(), Memory>
+pub fn push_file_header(
+    file: &mut Vec<u8>,
+    entry: u32,
+    count: u16,
+    sections: u32,
+) -> Result<(), Memory>
     ensures { OnOk result (file.new.items ≡ file.old.items ++ file_header entry count sections) }
 {
     file.extend_from_slice(&IDENTIFICATION)?;

@@ -1,4 +1,4 @@
-use Rattle.std.proofs.Common.{◌≡◌, ◌<◌, ℕ, pos, lit<, false, refl, List, [], ◌∷◌, subst, sym, arith}
+use Rattle.std.proofs.Common.{ℕ, pos, lit<, refl, List, [], ◌∷◌, subst, sym, arith}
 use Rattle.std.specs.List.{IsDistinct}
 use Rattle.std.proofs.lemmas.Int.{ints}
 use Rattle.std.proofs.lemmas.List.Elements.{All-nil, All-cons}
@@ -6,10 +6,10 @@ use Rattle.sq_isa.specs.declared.instructions.Insn.TheVariants.{Op as Operation,
 use Rattle.sq_isa.specs.declared.instructions.RegOp.TheVariants.{Add}
 use Rattle.sq_isa.specs.declared.instructions.ImmOp.TheVariants.{Addi}
 use Rattle.sq_isa.specs.declared.instructions.Cond.TheVariants.{Beq}
-use Rattle.sq_graph.specs.declared.item.Item.{Item}
+use Rattle.sq_graph.specs.declared.item.Item.{}
 use Rattle.sq_graph.specs.declared.item.Item.TheVariants.{Op}
 use Rattle.sq_graph.specs.declared.item.Term.TheVariants.{Fall, Jump, Branch, Call, Indirect}
-use Rattle.sq_graph.specs.Graph.{Block, Procedure, Graph}
+use Rattle.sq_graph.specs.Graph.{Block, Graph}
 use Rattle.sq_graph.specs.Blocks.{HasBlock, HasProcedure}
 use Rattle.sq_graph.specs.Rules.{IsGraph, ItemFits, TermFits, ProcedureFits}
 use Rattle.sq_live.proofs.tests.second_texts.Goals as goal
@@ -41,7 +41,7 @@ rules = record {
   called_all = All-nil (HasProcedure graph);
   ends = refl;
   code_words = λ k above. absurd (omega (arith, above));
-  items = (All-cons ItemFits (Op (OpImm Addi 11 11 (pos 1))) (Op (OpImm Addi 12 12 (pos 2)) ∷ Op (OpImm Addi 13 13 (pos 3)) ∷ Op (OpImm Addi 14 14 (pos 4)) ∷ Op (OpImm Addi 11 11 (pos 1)) ∷ Op (OpImm Addi 12 12 (pos 2)) ∷ Op (OpImm Addi 13 13 (pos 3)) ∷ Op (OpImm Addi 14 14 (pos 4)) ∷ Op (OpImm Addi 10 5 (pos 0)) ∷ Op (OpImm Addi 17 0 (pos 93)) ∷ Op Ecall ∷ Op (OpImm Addi 6 11 (pos 1)) ∷ Op (Operation Add 12 6 6) ∷ Op (OpImm Addi 7 11 (pos 1)) ∷ Op (Operation Add 12 7 7) ∷ Op (OpImm Addi 10 7 (pos 0)) ∷ Op (OpImm Addi 17 0 (pos 93)) ∷ Op Ecall ∷ []) (tt, ((lit< tt, lit< tt), (omega (arith, ints), omega (arith, ints)))) (All-cons ItemFits (Op (OpImm Addi 12 12 (pos 2))) (Op (OpImm Addi 13 13 (pos 3)) ∷ Op (OpImm Addi 14 14 (pos 4)) ∷ Op (OpImm Addi 11 11 (pos 1)) ∷ Op (OpImm Addi 12 12 (pos 2)) ∷ Op (OpImm Addi 13 13 (pos 3)) ∷ Op (OpImm Addi 14 14 (pos 4)) ∷ Op (OpImm Addi 10 5 (pos 0)) ∷ Op (OpImm Addi 17 0 (pos 93)) ∷ Op Ecall ∷ Op (OpImm Addi 6 11 (pos 1)) ∷ Op (Operation Add 12 6 6) ∷ Op (OpImm Addi 7 11 (pos 1)) ∷ Op (Operation Add 12 7 7) ∷ Op (OpImm Addi 10 7 (pos 0)) ∷ Op (OpImm Addi 17 0 (pos 93)) ∷ Op Ecall ∷ []) (tt, ((lit< tt, lit< tt), (omega (arith, ints), omega (arith, ints)))) (All-cons ItemFits (Op (OpImm Addi 13 13 (pos 3))) (Op (OpImm Addi 14 14 (pos 4)) ∷ Op (OpImm Addi 11 11 (pos 1)) ∷ Op (OpImm Addi 12 12 (pos 2)) ∷ Op (OpImm Addi 13 13 (pos 3)) ∷ Op (OpImm Addi 14 14 (pos 4)) ∷ Op (OpImm Addi 10 5 (pos 0)) ∷ Op (OpImm Addi 17 0 (pos 93)) ∷ Op Ecall ∷ Op (OpImm Addi 6 11 (pos 1)) ∷ Op (Operation Add 12 6 6) ∷ Op (OpImm Addi 7 11 (pos 1)) ∷ Op (Operation Add 12 7 7) ∷ Op (OpImm Addi 10 7 (pos 0)) ∷ Op (OpImm Addi 17 0 (pos 93)) ∷ Op Ecall ∷ []) (tt, ((lit< tt, lit< tt), (omega (arith, ints), omega (arith, ints)))) (All-cons ItemFits (Op (OpImm Addi 14 14 (pos 4))) (Op (OpImm Addi 11 11 (pos 1)) ∷ Op (OpImm Addi 12 12 (pos 2)) ∷ Op (OpImm Addi 13 13 (pos 3)) ∷ Op (OpImm Addi 14 14 (pos 4)) ∷ Op (OpImm Addi 10 5 (pos 0)) ∷ Op (OpImm Addi 17 0 (pos 93)) ∷ Op Ecall ∷ Op (OpImm Addi 6 11 (pos 1)) ∷ Op (Operation Add 12 6 6) ∷ Op (OpImm Addi 7 11 (pos 1)) ∷ Op (Operation Add 12 7 7) ∷ Op (OpImm Addi 10 7 (pos 0)) ∷ Op (OpImm Addi 17 0 (pos 93)) ∷ Op Ecall ∷ []) (tt, ((lit< tt, lit< tt), (omega (arith, ints), omega (arith, ints)))) (All-cons ItemFits (Op (OpImm Addi 11 11 (pos 1))) (Op (OpImm Addi 12 12 (pos 2)) ∷ Op (OpImm Addi 13 13 (pos 3)) ∷ Op (OpImm Addi 14 14 (pos 4)) ∷ Op (OpImm Addi 10 5 (pos 0)) ∷ Op (OpImm Addi 17 0 (pos 93)) ∷ Op Ecall ∷ Op (OpImm Addi 6 11 (pos 1)) ∷ Op (Operation Add 12 6 6) ∷ Op (OpImm Addi 7 11 (pos 1)) ∷ Op (Operation Add 12 7 7) ∷ Op (OpImm Addi 10 7 (pos 0)) ∷ Op (OpImm Addi 17 0 (pos 93)) ∷ Op Ecall ∷ []) (tt, ((lit< tt, lit< tt), (omega (arith, ints), omega (arith, ints)))) (All-cons ItemFits (Op (OpImm Addi 12 12 (pos 2))) (Op (OpImm Addi 13 13 (pos 3)) ∷ Op (OpImm Addi 14 14 (pos 4)) ∷ Op (OpImm Addi 10 5 (pos 0)) ∷ Op (OpImm Addi 17 0 (pos 93)) ∷ Op Ecall ∷ Op (OpImm Addi 6 11 (pos 1)) ∷ Op (Operation Add 12 6 6) ∷ Op (OpImm Addi 7 11 (pos 1)) ∷ Op (Operation Add 12 7 7) ∷ Op (OpImm Addi 10 7 (pos 0)) ∷ Op (OpImm Addi 17 0 (pos 93)) ∷ Op Ecall ∷ []) (tt, ((lit< tt, lit< tt), (omega (arith, ints), omega (arith, ints)))) (All-cons ItemFits (Op (OpImm Addi 13 13 (pos 3))) (Op (OpImm Addi 14 14 (pos 4)) ∷ Op (OpImm Addi 10 5 (pos 0)) ∷ Op (OpImm Addi 17 0 (pos 93)) ∷ Op Ecall ∷ Op (OpImm Addi 6 11 (pos 1)) ∷ Op (Operation Add 12 6 6) ∷ Op (OpImm Addi 7 11 (pos 1)) ∷ Op (Operation Add 12 7 7) ∷ Op (OpImm Addi 10 7 (pos 0)) ∷ Op (OpImm Addi 17 0 (pos 93)) ∷ Op Ecall ∷ []) (tt, ((lit< tt, lit< tt), (omega (arith, ints), omega (arith, ints)))) (All-cons ItemFits (Op (OpImm Addi 14 14 (pos 4))) (Op (OpImm Addi 10 5 (pos 0)) ∷ Op (OpImm Addi 17 0 (pos 93)) ∷ Op Ecall ∷ Op (OpImm Addi 6 11 (pos 1)) ∷ Op (Operation Add 12 6 6) ∷ Op (OpImm Addi 7 11 (pos 1)) ∷ Op (Operation Add 12 7 7) ∷ Op (OpImm Addi 10 7 (pos 0)) ∷ Op (OpImm Addi 17 0 (pos 93)) ∷ Op Ecall ∷ []) (tt, ((lit< tt, lit< tt), (omega (arith, ints), omega (arith, ints)))) (All-cons ItemFits (Op (OpImm Addi 10 5 (pos 0))) (Op (OpImm Addi 17 0 (pos 93)) ∷ Op Ecall ∷ Op (OpImm Addi 6 11 (pos 1)) ∷ Op (Operation Add 12 6 6) ∷ Op (OpImm Addi 7 11 (pos 1)) ∷ Op (Operation Add 12 7 7) ∷ Op (OpImm Addi 10 7 (pos 0)) ∷ Op (OpImm Addi 17 0 (pos 93)) ∷ Op Ecall ∷ []) (tt, ((lit< tt, lit< tt), (omega (arith, ints), omega (arith, ints)))) (All-cons ItemFits (Op (OpImm Addi 17 0 (pos 93))) (Op Ecall ∷ Op (OpImm Addi 6 11 (pos 1)) ∷ Op (Operation Add 12 6 6) ∷ Op (OpImm Addi 7 11 (pos 1)) ∷ Op (Operation Add 12 7 7) ∷ Op (OpImm Addi 10 7 (pos 0)) ∷ Op (OpImm Addi 17 0 (pos 93)) ∷ Op Ecall ∷ []) (tt, ((lit< tt, lit< tt), (omega (arith, ints), omega (arith, ints)))) (All-cons ItemFits (Op Ecall) (Op (OpImm Addi 6 11 (pos 1)) ∷ Op (Operation Add 12 6 6) ∷ Op (OpImm Addi 7 11 (pos 1)) ∷ Op (Operation Add 12 7 7) ∷ Op (OpImm Addi 10 7 (pos 0)) ∷ Op (OpImm Addi 17 0 (pos 93)) ∷ Op Ecall ∷ []) (tt, tt) (All-cons ItemFits (Op (OpImm Addi 6 11 (pos 1))) (Op (Operation Add 12 6 6) ∷ Op (OpImm Addi 7 11 (pos 1)) ∷ Op (Operation Add 12 7 7) ∷ Op (OpImm Addi 10 7 (pos 0)) ∷ Op (OpImm Addi 17 0 (pos 93)) ∷ Op Ecall ∷ []) (tt, ((lit< tt, lit< tt), (omega (arith, ints), omega (arith, ints)))) (All-cons ItemFits (Op (Operation Add 12 6 6)) (Op (OpImm Addi 7 11 (pos 1)) ∷ Op (Operation Add 12 7 7) ∷ Op (OpImm Addi 10 7 (pos 0)) ∷ Op (OpImm Addi 17 0 (pos 93)) ∷ Op Ecall ∷ []) (tt, (lit< tt, lit< tt, lit< tt)) (All-cons ItemFits (Op (OpImm Addi 7 11 (pos 1))) (Op (Operation Add 12 7 7) ∷ Op (OpImm Addi 10 7 (pos 0)) ∷ Op (OpImm Addi 17 0 (pos 93)) ∷ Op Ecall ∷ []) (tt, ((lit< tt, lit< tt), (omega (arith, ints), omega (arith, ints)))) (All-cons ItemFits (Op (Operation Add 12 7 7)) (Op (OpImm Addi 10 7 (pos 0)) ∷ Op (OpImm Addi 17 0 (pos 93)) ∷ Op Ecall ∷ []) (tt, (lit< tt, lit< tt, lit< tt)) (All-cons ItemFits (Op (OpImm Addi 10 7 (pos 0))) (Op (OpImm Addi 17 0 (pos 93)) ∷ Op Ecall ∷ []) (tt, ((lit< tt, lit< tt), (omega (arith, ints), omega (arith, ints)))) (All-cons ItemFits (Op (OpImm Addi 17 0 (pos 93))) (Op Ecall ∷ []) (tt, ((lit< tt, lit< tt), (omega (arith, ints), omega (arith, ints)))) (All-cons ItemFits (Op Ecall) ([]) (tt, tt) (All-nil ItemFits)))))))))))))))))));
+  items = (All-cons ItemFits (Op (OpImm Addi 11 11 (pos 1))) (Op (OpImm Addi 12 12 (pos 2)) ∷ Op (OpImm Addi 13 13 (pos 3)) ∷ Op (OpImm Addi 14 14 (pos 4)) ∷ Op (OpImm Addi 11 11 (pos 1)) ∷ Op (OpImm Addi 12 12 (pos 2)) ∷ Op (OpImm Addi 13 13 (pos 3)) ∷ Op (OpImm Addi 14 14 (pos 4)) ∷ Op (OpImm Addi 10 5 (pos 0)) ∷ Op (OpImm Addi 17 0 (pos 93)) ∷ Op Ecall ∷ Op (OpImm Addi 6 11 (pos 1)) ∷ Op (Operation Add 12 6 6) ∷ Op (OpImm Addi 7 11 (pos 1)) ∷ Op (Operation Add 12 7 7) ∷ Op (OpImm Addi 10 7 (pos 0)) ∷ Op (OpImm Addi 17 0 (pos 93)) ∷ Op Ecall ∷ []) (tt, (lit< tt, lit< tt, (omega (arith, ints), omega (arith, ints)))) (All-cons ItemFits (Op (OpImm Addi 12 12 (pos 2))) (Op (OpImm Addi 13 13 (pos 3)) ∷ Op (OpImm Addi 14 14 (pos 4)) ∷ Op (OpImm Addi 11 11 (pos 1)) ∷ Op (OpImm Addi 12 12 (pos 2)) ∷ Op (OpImm Addi 13 13 (pos 3)) ∷ Op (OpImm Addi 14 14 (pos 4)) ∷ Op (OpImm Addi 10 5 (pos 0)) ∷ Op (OpImm Addi 17 0 (pos 93)) ∷ Op Ecall ∷ Op (OpImm Addi 6 11 (pos 1)) ∷ Op (Operation Add 12 6 6) ∷ Op (OpImm Addi 7 11 (pos 1)) ∷ Op (Operation Add 12 7 7) ∷ Op (OpImm Addi 10 7 (pos 0)) ∷ Op (OpImm Addi 17 0 (pos 93)) ∷ Op Ecall ∷ []) (tt, (lit< tt, lit< tt, (omega (arith, ints), omega (arith, ints)))) (All-cons ItemFits (Op (OpImm Addi 13 13 (pos 3))) (Op (OpImm Addi 14 14 (pos 4)) ∷ Op (OpImm Addi 11 11 (pos 1)) ∷ Op (OpImm Addi 12 12 (pos 2)) ∷ Op (OpImm Addi 13 13 (pos 3)) ∷ Op (OpImm Addi 14 14 (pos 4)) ∷ Op (OpImm Addi 10 5 (pos 0)) ∷ Op (OpImm Addi 17 0 (pos 93)) ∷ Op Ecall ∷ Op (OpImm Addi 6 11 (pos 1)) ∷ Op (Operation Add 12 6 6) ∷ Op (OpImm Addi 7 11 (pos 1)) ∷ Op (Operation Add 12 7 7) ∷ Op (OpImm Addi 10 7 (pos 0)) ∷ Op (OpImm Addi 17 0 (pos 93)) ∷ Op Ecall ∷ []) (tt, (lit< tt, lit< tt, (omega (arith, ints), omega (arith, ints)))) (All-cons ItemFits (Op (OpImm Addi 14 14 (pos 4))) (Op (OpImm Addi 11 11 (pos 1)) ∷ Op (OpImm Addi 12 12 (pos 2)) ∷ Op (OpImm Addi 13 13 (pos 3)) ∷ Op (OpImm Addi 14 14 (pos 4)) ∷ Op (OpImm Addi 10 5 (pos 0)) ∷ Op (OpImm Addi 17 0 (pos 93)) ∷ Op Ecall ∷ Op (OpImm Addi 6 11 (pos 1)) ∷ Op (Operation Add 12 6 6) ∷ Op (OpImm Addi 7 11 (pos 1)) ∷ Op (Operation Add 12 7 7) ∷ Op (OpImm Addi 10 7 (pos 0)) ∷ Op (OpImm Addi 17 0 (pos 93)) ∷ Op Ecall ∷ []) (tt, (lit< tt, lit< tt, (omega (arith, ints), omega (arith, ints)))) (All-cons ItemFits (Op (OpImm Addi 11 11 (pos 1))) (Op (OpImm Addi 12 12 (pos 2)) ∷ Op (OpImm Addi 13 13 (pos 3)) ∷ Op (OpImm Addi 14 14 (pos 4)) ∷ Op (OpImm Addi 10 5 (pos 0)) ∷ Op (OpImm Addi 17 0 (pos 93)) ∷ Op Ecall ∷ Op (OpImm Addi 6 11 (pos 1)) ∷ Op (Operation Add 12 6 6) ∷ Op (OpImm Addi 7 11 (pos 1)) ∷ Op (Operation Add 12 7 7) ∷ Op (OpImm Addi 10 7 (pos 0)) ∷ Op (OpImm Addi 17 0 (pos 93)) ∷ Op Ecall ∷ []) (tt, (lit< tt, lit< tt, (omega (arith, ints), omega (arith, ints)))) (All-cons ItemFits (Op (OpImm Addi 12 12 (pos 2))) (Op (OpImm Addi 13 13 (pos 3)) ∷ Op (OpImm Addi 14 14 (pos 4)) ∷ Op (OpImm Addi 10 5 (pos 0)) ∷ Op (OpImm Addi 17 0 (pos 93)) ∷ Op Ecall ∷ Op (OpImm Addi 6 11 (pos 1)) ∷ Op (Operation Add 12 6 6) ∷ Op (OpImm Addi 7 11 (pos 1)) ∷ Op (Operation Add 12 7 7) ∷ Op (OpImm Addi 10 7 (pos 0)) ∷ Op (OpImm Addi 17 0 (pos 93)) ∷ Op Ecall ∷ []) (tt, (lit< tt, lit< tt, (omega (arith, ints), omega (arith, ints)))) (All-cons ItemFits (Op (OpImm Addi 13 13 (pos 3))) (Op (OpImm Addi 14 14 (pos 4)) ∷ Op (OpImm Addi 10 5 (pos 0)) ∷ Op (OpImm Addi 17 0 (pos 93)) ∷ Op Ecall ∷ Op (OpImm Addi 6 11 (pos 1)) ∷ Op (Operation Add 12 6 6) ∷ Op (OpImm Addi 7 11 (pos 1)) ∷ Op (Operation Add 12 7 7) ∷ Op (OpImm Addi 10 7 (pos 0)) ∷ Op (OpImm Addi 17 0 (pos 93)) ∷ Op Ecall ∷ []) (tt, (lit< tt, lit< tt, (omega (arith, ints), omega (arith, ints)))) (All-cons ItemFits (Op (OpImm Addi 14 14 (pos 4))) (Op (OpImm Addi 10 5 (pos 0)) ∷ Op (OpImm Addi 17 0 (pos 93)) ∷ Op Ecall ∷ Op (OpImm Addi 6 11 (pos 1)) ∷ Op (Operation Add 12 6 6) ∷ Op (OpImm Addi 7 11 (pos 1)) ∷ Op (Operation Add 12 7 7) ∷ Op (OpImm Addi 10 7 (pos 0)) ∷ Op (OpImm Addi 17 0 (pos 93)) ∷ Op Ecall ∷ []) (tt, (lit< tt, lit< tt, (omega (arith, ints), omega (arith, ints)))) (All-cons ItemFits (Op (OpImm Addi 10 5 (pos 0))) (Op (OpImm Addi 17 0 (pos 93)) ∷ Op Ecall ∷ Op (OpImm Addi 6 11 (pos 1)) ∷ Op (Operation Add 12 6 6) ∷ Op (OpImm Addi 7 11 (pos 1)) ∷ Op (Operation Add 12 7 7) ∷ Op (OpImm Addi 10 7 (pos 0)) ∷ Op (OpImm Addi 17 0 (pos 93)) ∷ Op Ecall ∷ []) (tt, (lit< tt, lit< tt, (omega (arith, ints), omega (arith, ints)))) (All-cons ItemFits (Op (OpImm Addi 17 0 (pos 93))) (Op Ecall ∷ Op (OpImm Addi 6 11 (pos 1)) ∷ Op (Operation Add 12 6 6) ∷ Op (OpImm Addi 7 11 (pos 1)) ∷ Op (Operation Add 12 7 7) ∷ Op (OpImm Addi 10 7 (pos 0)) ∷ Op (OpImm Addi 17 0 (pos 93)) ∷ Op Ecall ∷ []) (tt, (lit< tt, lit< tt, (omega (arith, ints), omega (arith, ints)))) (All-cons ItemFits (Op Ecall) (Op (OpImm Addi 6 11 (pos 1)) ∷ Op (Operation Add 12 6 6) ∷ Op (OpImm Addi 7 11 (pos 1)) ∷ Op (Operation Add 12 7 7) ∷ Op (OpImm Addi 10 7 (pos 0)) ∷ Op (OpImm Addi 17 0 (pos 93)) ∷ Op Ecall ∷ []) (tt, tt) (All-cons ItemFits (Op (OpImm Addi 6 11 (pos 1))) (Op (Operation Add 12 6 6) ∷ Op (OpImm Addi 7 11 (pos 1)) ∷ Op (Operation Add 12 7 7) ∷ Op (OpImm Addi 10 7 (pos 0)) ∷ Op (OpImm Addi 17 0 (pos 93)) ∷ Op Ecall ∷ []) (tt, (lit< tt, lit< tt, (omega (arith, ints), omega (arith, ints)))) (All-cons ItemFits (Op (Operation Add 12 6 6)) (Op (OpImm Addi 7 11 (pos 1)) ∷ Op (Operation Add 12 7 7) ∷ Op (OpImm Addi 10 7 (pos 0)) ∷ Op (OpImm Addi 17 0 (pos 93)) ∷ Op Ecall ∷ []) (tt, (lit< tt, lit< tt, lit< tt)) (All-cons ItemFits (Op (OpImm Addi 7 11 (pos 1))) (Op (Operation Add 12 7 7) ∷ Op (OpImm Addi 10 7 (pos 0)) ∷ Op (OpImm Addi 17 0 (pos 93)) ∷ Op Ecall ∷ []) (tt, (lit< tt, lit< tt, (omega (arith, ints), omega (arith, ints)))) (All-cons ItemFits (Op (Operation Add 12 7 7)) (Op (OpImm Addi 10 7 (pos 0)) ∷ Op (OpImm Addi 17 0 (pos 93)) ∷ Op Ecall ∷ []) (tt, (lit< tt, lit< tt, lit< tt)) (All-cons ItemFits (Op (OpImm Addi 10 7 (pos 0))) (Op (OpImm Addi 17 0 (pos 93)) ∷ Op Ecall ∷ []) (tt, (lit< tt, lit< tt, (omega (arith, ints), omega (arith, ints)))) (All-cons ItemFits (Op (OpImm Addi 17 0 (pos 93))) (Op Ecall ∷ []) (tt, (lit< tt, lit< tt, (omega (arith, ints), omega (arith, ints)))) (All-cons ItemFits (Op Ecall) ([]) (tt, tt) (All-nil ItemFits)))))))))))))))))));
   terms = (All-cons {X = Block} (λ b. TermFits b.term) (record { name = 0; items = Op (OpImm Addi 11 11 (pos 1)) ∷ Op (OpImm Addi 12 12 (pos 2)) ∷ Op (OpImm Addi 13 13 (pos 3)) ∷ Op (OpImm Addi 14 14 (pos 4)) ∷ []; term = Call 1 4 }) (record { name = 1; items = Op (OpImm Addi 11 11 (pos 1)) ∷ Op (OpImm Addi 12 12 (pos 2)) ∷ Op (OpImm Addi 13 13 (pos 3)) ∷ Op (OpImm Addi 14 14 (pos 4)) ∷ []; term = Call 1 4 } ∷ record { name = 2; items = Op (OpImm Addi 10 5 (pos 0)) ∷ Op (OpImm Addi 17 0 (pos 93)) ∷ Op Ecall ∷ []; term = Fall } ∷ record { name = 3; items = []; term = Jump 3 } ∷ record { name = 4; items = []; term = Indirect 0 1 (pos 0) } ∷ record { name = 5; items = []; term = Branch Beq 10 0 7 } ∷ record { name = 6; items = Op (OpImm Addi 6 11 (pos 1)) ∷ Op (Operation Add 12 6 6) ∷ []; term = Jump 8 } ∷ record { name = 7; items = Op (OpImm Addi 7 11 (pos 1)) ∷ Op (Operation Add 12 7 7) ∷ []; term = Fall } ∷ record { name = 8; items = Op (OpImm Addi 10 7 (pos 0)) ∷ Op (OpImm Addi 17 0 (pos 93)) ∷ Op Ecall ∷ []; term = Fall } ∷ record { name = 9; items = []; term = Jump 9 } ∷ []) (λ same. omega (arith, same)) (All-cons {X = Block} (λ b. TermFits b.term) (record { name = 1; items = Op (OpImm Addi 11 11 (pos 1)) ∷ Op (OpImm Addi 12 12 (pos 2)) ∷ Op (OpImm Addi 13 13 (pos 3)) ∷ Op (OpImm Addi 14 14 (pos 4)) ∷ []; term = Call 1 4 }) (record { name = 2; items = Op (OpImm Addi 10 5 (pos 0)) ∷ Op (OpImm Addi 17 0 (pos 93)) ∷ Op Ecall ∷ []; term = Fall } ∷ record { name = 3; items = []; term = Jump 3 } ∷ record { name = 4; items = []; term = Indirect 0 1 (pos 0) } ∷ record { name = 5; items = []; term = Branch Beq 10 0 7 } ∷ record { name = 6; items = Op (OpImm Addi 6 11 (pos 1)) ∷ Op (Operation Add 12 6 6) ∷ []; term = Jump 8 } ∷ record { name = 7; items = Op (OpImm Addi 7 11 (pos 1)) ∷ Op (Operation Add 12 7 7) ∷ []; term = Fall } ∷ record { name = 8; items = Op (OpImm Addi 10 7 (pos 0)) ∷ Op (OpImm Addi 17 0 (pos 93)) ∷ Op Ecall ∷ []; term = Fall } ∷ record { name = 9; items = []; term = Jump 9 } ∷ []) (λ same. omega (arith, same)) (All-cons {X = Block} (λ b. TermFits b.term) (record { name = 2; items = Op (OpImm Addi 10 5 (pos 0)) ∷ Op (OpImm Addi 17 0 (pos 93)) ∷ Op Ecall ∷ []; term = Fall }) (record { name = 3; items = []; term = Jump 3 } ∷ record { name = 4; items = []; term = Indirect 0 1 (pos 0) } ∷ record { name = 5; items = []; term = Branch Beq 10 0 7 } ∷ record { name = 6; items = Op (OpImm Addi 6 11 (pos 1)) ∷ Op (Operation Add 12 6 6) ∷ []; term = Jump 8 } ∷ record { name = 7; items = Op (OpImm Addi 7 11 (pos 1)) ∷ Op (Operation Add 12 7 7) ∷ []; term = Fall } ∷ record { name = 8; items = Op (OpImm Addi 10 7 (pos 0)) ∷ Op (OpImm Addi 17 0 (pos 93)) ∷ Op Ecall ∷ []; term = Fall } ∷ record { name = 9; items = []; term = Jump 9 } ∷ []) tt (All-cons {X = Block} (λ b. TermFits b.term) (record { name = 3; items = []; term = Jump 3 }) (record { name = 4; items = []; term = Indirect 0 1 (pos 0) } ∷ record { name = 5; items = []; term = Branch Beq 10 0 7 } ∷ record { name = 6; items = Op (OpImm Addi 6 11 (pos 1)) ∷ Op (Operation Add 12 6 6) ∷ []; term = Jump 8 } ∷ record { name = 7; items = Op (OpImm Addi 7 11 (pos 1)) ∷ Op (Operation Add 12 7 7) ∷ []; term = Fall } ∷ record { name = 8; items = Op (OpImm Addi 10 7 (pos 0)) ∷ Op (OpImm Addi 17 0 (pos 93)) ∷ Op Ecall ∷ []; term = Fall } ∷ record { name = 9; items = []; term = Jump 9 } ∷ []) tt (All-cons {X = Block} (λ b. TermFits b.term) (record { name = 4; items = []; term = Indirect 0 1 (pos 0) }) (record { name = 5; items = []; term = Branch Beq 10 0 7 } ∷ record { name = 6; items = Op (OpImm Addi 6 11 (pos 1)) ∷ Op (Operation Add 12 6 6) ∷ []; term = Jump 8 } ∷ record { name = 7; items = Op (OpImm Addi 7 11 (pos 1)) ∷ Op (Operation Add 12 7 7) ∷ []; term = Fall } ∷ record { name = 8; items = Op (OpImm Addi 10 7 (pos 0)) ∷ Op (OpImm Addi 17 0 (pos 93)) ∷ Op Ecall ∷ []; term = Fall } ∷ record { name = 9; items = []; term = Jump 9 } ∷ []) (omega (arith, ints), omega (arith, ints)) (All-cons {X = Block} (λ b. TermFits b.term) (record { name = 5; items = []; term = Branch Beq 10 0 7 }) (record { name = 6; items = Op (OpImm Addi 6 11 (pos 1)) ∷ Op (Operation Add 12 6 6) ∷ []; term = Jump 8 } ∷ record { name = 7; items = Op (OpImm Addi 7 11 (pos 1)) ∷ Op (Operation Add 12 7 7) ∷ []; term = Fall } ∷ record { name = 8; items = Op (OpImm Addi 10 7 (pos 0)) ∷ Op (OpImm Addi 17 0 (pos 93)) ∷ Op Ecall ∷ []; term = Fall } ∷ record { name = 9; items = []; term = Jump 9 } ∷ []) tt (All-cons {X = Block} (λ b. TermFits b.term) (record { name = 6; items = Op (OpImm Addi 6 11 (pos 1)) ∷ Op (Operation Add 12 6 6) ∷ []; term = Jump 8 }) (record { name = 7; items = Op (OpImm Addi 7 11 (pos 1)) ∷ Op (Operation Add 12 7 7) ∷ []; term = Fall } ∷ record { name = 8; items = Op (OpImm Addi 10 7 (pos 0)) ∷ Op (OpImm Addi 17 0 (pos 93)) ∷ Op Ecall ∷ []; term = Fall } ∷ record { name = 9; items = []; term = Jump 9 } ∷ []) tt (All-cons {X = Block} (λ b. TermFits b.term) (record { name = 7; items = Op (OpImm Addi 7 11 (pos 1)) ∷ Op (Operation Add 12 7 7) ∷ []; term = Fall }) (record { name = 8; items = Op (OpImm Addi 10 7 (pos 0)) ∷ Op (OpImm Addi 17 0 (pos 93)) ∷ Op Ecall ∷ []; term = Fall } ∷ record { name = 9; items = []; term = Jump 9 } ∷ []) tt (All-cons {X = Block} (λ b. TermFits b.term) (record { name = 8; items = Op (OpImm Addi 10 7 (pos 0)) ∷ Op (OpImm Addi 17 0 (pos 93)) ∷ Op Ecall ∷ []; term = Fall }) (record { name = 9; items = []; term = Jump 9 } ∷ []) tt (All-cons {X = Block} (λ b. TermFits b.term) (record { name = 9; items = []; term = Jump 9 }) ([]) tt (All-nil {X = Block} (λ b. TermFits b.term))))))))))));
   procedures = All-nil ProcedureFits;
 }

@@ -5,4 +5,7 @@ use Rattle.sq_machine.specs.Views.{state_of}
 use Rattle.sq_machine.proofs.hart.Hart.are_in_memory.Given as goal
 
 abbrev pub invariant-loop-i : goal.invariant-loop-i
-invariant-loop-i l = are_all (is_in_memory (state_of l.self).memory) l.x l.i ≡ true
+invariant-loop-i l = record {
+  found : are_all (is_in_memory (state_of l.initial.self).memory) l.x l.i ≡ true;
+  state : state_of l.self ≡ state_of l.initial.self;
+}

@@ -1,0 +1,5 @@
+pub mod Raising
+pub mod Numbering
+pub mod Cutting
+pub mod Assembling
+pub mod NoteBodies

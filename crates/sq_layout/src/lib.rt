@@ -1,0 +1,17 @@
+//! Where the words of a graph stand.
+//!
+//! To the layers above it promises that `words_of` counts the words of a graph, that `place` gives each block and each
+//! procedure its address (blocks in layout order, and procedures behind them), and that `reaches` is the reach of a
+//! branch.
+#![tactic(auto)]
+
+mod facts;
+mod places;
+mod reach;
+#[cfg(test)]
+mod tests;
+mod words;
+
+pub use places::{Places, place};
+pub use reach::reaches;
+pub use words::words_of;

@@ -1,0 +1,74 @@
+//! The file of a graph.
+
+ghost use Rattle.std.specs.Prelude.{◌≡◌, ℕ, ◌+◌, ◌*◌, ◌≤◌, ◌^◌, Some, None, IsSome, IfOk};
+ghost use Rattle.std.specs.List.{All};
+ghost use Rattle.sq_elf.specs.Refusing.{file_refusal_of};
+ghost use Rattle.sq_elf.specs.Text.{text_of};
+ghost use Rattle.sq_reloc.specs.CodeWords.{IsCodeWord};
+ghost use Rattle.sq_reloc.specs.Outside.{code_word_at};
+ghost use Rattle.sq_graph.specs.Places.{IsInReach};
+ghost use Rattle.sq_graph.specs.Words.{words_of};
+ghost use Rattle.sq_layout.specs.Addresses.{ArePlaces};
+ghost use Rattle.sq_write.specs.Written.{written};
+
+use crate::code_words::set_words;
+use crate::entries::text_and_entries;
+use crate::file_parts::FileParts;
+use crate::note::note_of;
+use crate::output::output_file;
+use crate::piece::Piece;
+use crate::pieces::{pieces_before, pieces_behind};
+use crate::placed::Placed;
+use sq_elf::Elf;
+use sq_graph::Graph;
+use sq_layout::Places;
+use sq_num::Memory;
+use sq_reloc::Relocs;
+use std::alloc::Global;
+
+/// What is true of a file and its relocations: text is at most one mebibyte, and what code words are.
+#[tactic(auto, using(crate::proofs::SegmentFacts::few_text))]
+fn facts(elf: &Elf<'_>, relocs: &Relocs<'_>)
+    requires { relocs.now ≡ elf.now }
+    ensures accepted { file_refusal_of elf.now ≡ None }
+    ensures text { (text_of elf.now).hi ≤ (text_of elf.now).lo + 1048576 }
+    ensures high { (text_of elf.now).hi ≤ 2 ^ 32 }
+    ensures code_words { (address target : ℕ) → code_word_at elf.now address ≡ Some target → IsCodeWord elf.now address target }
+{
+    let _bytes = elf.bytes();
+    let _text = elf.text();
+    let _words = relocs.code_words();
+}
+
+/// The file of the graph: the data of the file that was read, with the words of the graph as its text.
+pub fn write_elf(
+    alloc: Global,
+    elf: &Elf<'_>,
+    relocs: &Relocs<'_>,
+    g: &Graph,
+    places: &Places,
+) -> Result<Vec<u8>, Memory>
+    requires file { relocs.now ≡ elf.now }
+    requires code_words { All (λ word. IsSome (code_word_at elf.now word.at)) g.now.graph.code_words }
+    requires reach { IsInReach g.now.graph }
+    requires words { (text_of elf.now).lo + 4 * words_of g.now.graph ≤ (text_of elf.now).hi }
+    requires places { ArePlaces g.now.graph (text_of elf.now).lo places.now }
+    ensures { IfOk result (λ file. file.items ≡ written elf.now g.now.graph) }
+{
+    facts(elf, relocs);
+    let lo = elf.text().lo;
+    let placed = Placed { g, places, lo };
+    let entry = placed.address(g.entry());
+    let set = set_words(alloc, &placed)?;
+    let text = text_and_entries(alloc, &placed)?;
+    let parts = FileParts {
+        entry,
+        before: pieces_before(alloc, elf, &set)?,
+        text: Piece::text(lo, text.text),
+        behind: pieces_behind(alloc, elf, &set)?,
+        entries: text.entries,
+        note: note_of(alloc, &placed)?,
+    };
+    let file = output_file(alloc, &parts)?;
+    Ok(file)
+}
