@@ -39,6 +39,7 @@ mod Merging
 mod Recalling
 mod Inserting
 mod Reordering
+mod Saving
 mod Bypassing
 mod Joining
 pub mod Renaming

@@ -118,7 +118,7 @@ one_item [] at item e = absurd (cc)
 one_item (x ∷ items) zero item e = ap (λ y. y ∷ []) (same_some x item e)
 one_item (x ∷ items) (suc at) item e = one_item items at item e
 
-item_within : (items : List Item) (at : ℕ) (item : Item) → slice_get items at ≡ Some item → at + 1 ≤ length items
+pub item_within : (items : List Item) (at : ℕ) (item : Item) → slice_get items at ≡ Some item → at + 1 ≤ length items
 item_within [] at item e = absurd (cc)
 item_within (x ∷ items) zero item e = omega arith
 item_within (x ∷ items) (suc at) item e = let l = item_within items at item e in omega (arith, l)

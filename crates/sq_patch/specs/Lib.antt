@@ -10,3 +10,4 @@ pub mod Calls
 pub mod Merges
 pub mod Recalls
 pub mod Inserts
+pub mod Savings
