@@ -19,6 +19,10 @@ use Rattle.sq_graph.specs.Resolve.{lone_jump}
 use Rattle.sq_graph.specs.Lines.{Name, End, body_lines, lines_of, behind_name, term_lines, block_lines}
 use Rattle.sq_graph.specs.Walks.{link_names, first_name, code_targets}
 use Rattle.sq_graph.specs.Soundness.{IsSound}
+use Rattle.sq_graph.specs.Words.{term_words, block_words, words_of}
+use Rattle.sq_graph.specs.declared.item.Item.{Item}
+use Rattle.std.proofs.lemmas.List.Sums.{sum_by-cons, sum_by-append}
+use Rattle.std.proofs.Common.{◌+◌, length, sum_by}
 use Rattle.sq_graph.proofs.Located.{IsAt, located}
 use Rattle.sq_graph.proofs.Changes.{with_blocks-at}
 use Rattle.sq_graph.proofs.Kept.{absent_behind}
@@ -270,3 +274,25 @@ module _ (g : Graph) (block : ℕ) (cond : Cond) (a b over behind to : ℕ) (rul
 
   pub invert_sound : IsSound g → IsSound h
   invert_sound sound = placed_sound Other all_matter (Unit {0}) g h rules known refl refl holds (stand.x ∷ n ∷ []) (y ∷ []) back refl turn front two after refl (every_carrier g) (λ xs r l. tt) tt sound
+
+  -- the Jump's word
+  lone_word : block_words n ≡ 1
+  lone_word = omega (arith, ap (λ (is : List Item). length is) stand.lone.0, ap term_words stand.lone.1)
+
+  branch_word : term_words stand.x.term ≡ 1
+  branch_word = ap term_words stand.branch
+
+  pub invert_saves : words_of h + 1 ≡ words_of g
+  invert_saves =
+      omega (
+        arith,
+        ap (λ bs. sum_by block_words bs) after,
+        sum_by-append block_words front (y ∷ back),
+        sum_by-cons block_words y back,
+        ap (λ bs. sum_by block_words bs) two,
+        sum_by-append block_words front (stand.x ∷ n ∷ back),
+        sum_by-cons block_words stand.x (n ∷ back),
+        sum_by-cons block_words n back,
+        lone_word,
+        branch_word,
+      )

@@ -21,6 +21,9 @@ use Rattle.sq_graph.specs.Resolve.{jump_of}
 use Rattle.sq_graph.proofs.Bypassing.{absent-other}
 use Rattle.sq_patch.specs.Restrictions.{procedures_held, number_held, restricted}
 use Rattle.sq_patch.specs.Operations.{hastened}
+use Rattle.sq_patch.specs.Savings.{SaveWords}
+use Rattle.sq_patch.proofs.Inverting.{invert_saves}
+use Rattle.sq_patch.proofs.Merging.{merge_saves}
 use Rattle.sq_patch.specs.Calls.{call_end, called_there}
 use Rattle.sq_patch.specs.LoneJumps.{IsPassable, without_jump}
 use Rattle.sq_patch.proofs.Falling.{found_at}
@@ -220,3 +223,20 @@ jump_goes_saves g block to passable =
       sum_mapped block_words (retargeted_block f) g.blocks (moved_words f),
       sum_mapped procedure_words (retargeted_procedure f) g.procedures (moved_procedure_words f),
     )
+
+pub saved : SaveWords
+saved = record {
+  restrict = restrict_saves;
+  fall = fall_saves;
+  jump_goes = jump_goes_saves;
+  invert = λ g block cond a b over behind to rules jumped. invert_saves g block cond a b over behind to rules jumped;
+  hasten = hasten_saves;
+  drop = drop_saves;
+  merge = λ g dropped at kept term rules can e. merge_saves g dropped at kept rules can term e;
+  call = call_saves;
+  inline = inline_saves;
+  outline = outline_saves;
+  recall = recall_saves;
+  uncalled_goes = uncalled_goes_saves;
+  insert = insert_saves;
+}

@@ -14,6 +14,7 @@ ghost use Rattle.sq_patch.specs.Operations.{SplitFollows, SplitIsSound, FallFoll
 ghost use Rattle.sq_patch.specs.Calls.{CallFollows, CallIsSound, MatchFollows, MatchIsSound};
 ghost use Rattle.sq_patch.specs.Merges.{MergeFollows, MergeIsSound};
 ghost use Rattle.sq_patch.specs.Recalls.{RecallFollows, RecallIsSound, UncalledGoesFollows, UncalledGoesIsSound};
+ghost use Rattle.sq_patch.specs.Savings.{SaveWords};
 ghost use Rattle.sq_patch.specs.Inserts.{InsertFollows, InsertIsSound, ReorderFollows, ReorderIsSound};
 
 /// From states that agree on what is live, a graph steps to such states again, with the same event or to the
@@ -207,4 +208,9 @@ pub fn match_keeps_soundness()
 /// A graph with a body of its own items as one more procedure is sound where the graph and the body are.
 pub fn outline_keeps_soundness()
     ensures { OutlineIsSound }
+{}
+
+/// How many words each of these operations saves.
+pub fn operations_save_words()
+    ensures { SaveWords }
 {}
