@@ -2,9 +2,9 @@
 //!
 //! To the layers above it promises that two runs of one graph which agree on memory and on the registers
 //! that are live go on to agree: what is dead may differ, and what the first run has lost may be anything; and
-//! that eight operations on graphs keep runs: a split, a Jump to the next slot that becomes Fall, a dead upper
-//! half that goes, a jump by an upper half that becomes a Call or a Jump, a body in place of its call, the
-//! canonical form, other names of blocks, and one more procedure.
+//! that the operations of which rewrites are made keep runs, and sound graphs sound: splits, shorter terms, blocks
+//! and procedures that go, equal ends that become one, items that become calls and calls that become items, other
+//! names, other orders, and the canonical form. It says how many words they save.
 #![tactic(auto)]
 
 ghost use Rattle.sq_patch.specs.LiveAgreement.{StepsAgree, PlacesMakeTargets};
