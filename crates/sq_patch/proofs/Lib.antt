@@ -28,6 +28,7 @@ mod Relating
 mod Placing
 mod Ending
 mod Inverting
+mod Exchanging
 mod Replacing
 mod Calls
 mod Matching

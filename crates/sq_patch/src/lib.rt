@@ -9,7 +9,7 @@
 
 ghost use Rattle.sq_patch.specs.LiveAgreement.{StepsAgree, PlacesMakeTargets};
 ghost use Rattle.sq_patch.specs.Restrictions.{RestrictFollows, RestrictIsSound, ReachedAreClosed};
-ghost use Rattle.sq_patch.specs.LoneJumps.{JumpGoesFollows, JumpGoesIsSound, InvertFollows, InvertIsSound};
+ghost use Rattle.sq_patch.specs.LoneJumps.{JumpGoesFollows, JumpGoesIsSound, InvertFollows, InvertIsSound, ExchangeFollows, ExchangeIsSound};
 ghost use Rattle.sq_patch.specs.Operations.{SplitFollows, SplitIsSound, FallFollows, FallIsSound, DropFollows, DropIsSound, HastenFollows, HastenIsSound, InlineFollows, InlineIsSound, CanonicalFollows, CanonicalIsSound, RenameFollows, OutlineFollows, OutlineIsSound};
 ghost use Rattle.sq_patch.specs.Calls.{CallFollows, CallIsSound, MatchFollows, MatchIsSound};
 ghost use Rattle.sq_patch.specs.Merges.{MergeFollows, MergeIsSound};
@@ -107,6 +107,16 @@ pub fn invert_keeps_runs()
 /// A graph in which a Branch over a lone Jump became the inverted one is sound where the graph is.
 pub fn invert_keeps_soundness()
     ensures { InvertIsSound }
+{}
+
+/// A graph in which a Branch and the lone Jump behind it exchanged their targets, the Branch inverted, follows it.
+pub fn exchange_keeps_runs()
+    ensures { ExchangeFollows }
+{}
+
+/// A graph in which a Branch and the lone Jump behind it exchanged their targets is sound where the graph is.
+pub fn exchange_keeps_soundness()
+    ensures { ExchangeIsSound }
 {}
 
 /// A graph with a call in place of the items of a procedure's body, whose link is dead behind them, follows it.
