@@ -21,12 +21,13 @@ use Rattle.sq_patch.specs.Changes.{Change, Alike, enter_after, return_after}
 use Rattle.sq_patch.specs.Calls.{IsCallable, called_there}
 use Rattle.sq_patch.proofs.Patch.{later as among_later}
 use Rattle.sq_patch.proofs.Falling.{every, absent_from, name_at}
+use Rattle.sq_patch.proofs.Keeping.{NoMode, no_stands}
 use Rattle.sq_patch.proofs.Dropping.{live, live_carrier}
 use Rattle.sq_patch.proofs.Carrying.{same_some, carry_items, Backs}
 use Rattle.sq_patch.proofs.Restricting.{own}
 use Rattle.sq_patch.proofs.Standing.{distinct_at, block_at}
 use Rattle.sq_patch.proofs.Placing.{bodies_stay}
-use Rattle.sq_patch.proofs.Replacing.{own_items, known, holds, C as replacing, place, x as block_there, out, behind, replaced_follows, replaced_sound}
+use Rattle.sq_patch.proofs.Replacing.{own_items, C as replacing, place, x as block_there, out, behind, replaced_follows, replaced_sound}
 use Rattle.sq_patch.proofs.Used.{contains_first, contains_later, from_slice, slice_there, from_all}
 
 -- a register that none of these items mentions, which are no calls, isn't live before them where it is dead behind
@@ -59,10 +60,10 @@ behind_items items zero rest l = refl
 behind_items [] (suc n) rest l = absurd (omega arith)
 behind_items (item ∷ items) (suc n) rest l = behind_items items n rest (omega (arith, l))
 
-range_is : (items : List Item) (at n : ℕ) → slice_range items at (at + n) ≡ take n (drop at items)
+pub range_is : (items : List Item) (at n : ℕ) → slice_range items at (at + n) ≡ take n (drop at items)
 range_is items at n = ap (λ k. take k (drop at items)) (let e : (at + n) - at ≡ n = omega arith in e)
 
-not_both : (t : Bool) → (t && (false || false)) ≡ false
+pub not_both : (t : Bool) → (t && (false || false)) ≡ false
 not_both true = refl
 not_both false = refl
 
@@ -83,19 +84,19 @@ module _ (g : Graph) (block at procedure : ℕ) (rules : IsGraph g) (callable : 
   h = called_there g block at procedure
 
   abbrev C : Change
-  C = replacing (live g) (Unit {0}) g h rules refl refl
+  C = replacing NoMode no_stands (live g) (Unit {0}) g h rules refl refl
 
   abbrev x : Block
-  x = block_there (live g) (Unit {0}) g (live_carrier g) rules block at many by callable.block_there
+  x = block_there NoMode no_stands (live g) (Unit {0}) g (live_carrier g) rules block at many by callable.block_there
 
   abbrev later : List Line
-  later = behind (live g) (Unit {0}) g (live_carrier g) rules block at many by callable.block_there
+  later = behind NoMode no_stands (live g) (Unit {0}) g (live_carrier g) rules block at many by callable.block_there
 
   abbrev before : List Item
-  before = out (live g) (Unit {0}) g (live_carrier g) rules block at many by callable.block_there
+  before = out NoMode no_stands (live g) (Unit {0}) g (live_carrier g) rules block at many by callable.block_there
 
   abbrev spot : IsAt g.blocks block
-  spot = place (live g) (Unit {0}) g (live_carrier g) rules block at many by callable.block_there
+  spot = place NoMode no_stands (live g) (Unit {0}) g (live_carrier g) rules block at many by callable.block_there
 
   -- the procedure, and its body
   found : (p : Procedure) × (slice_get g.procedures procedure ≡ Some p)
@@ -140,7 +141,7 @@ module _ (g : Graph) (block at procedure : ℕ) (rules : IsGraph g) (callable : 
   -- the items go on like the call
   calls : (b : Bool) → Alike C b None later later → Alike C b None (map line_of before ++ later) (map line_of by ++ later)
   calls b k =
-      let each = bodies_stay every (live g) (Unit {0}) g h rules (known (live g) (Unit {0}) g h rules refl refl) refl refl (holds (live g) (Unit {0}) g h rules refl refl) p here in
+      let each = bodies_stay every (live g) (Unit {0}) g h rules (λ n c. tt) refl refl (λ n c. tt) p here in
       let inner : Alike C b None (map line_of p.body ++ later) (inside p later) =
       subst (λ items. Alike C b None (map line_of p.body ++ later) (map line_of items ++ (Return p.link ∷ later))) (own_items p.body) (carry_items C own p.body later (Return p.link ∷ later) each (return_after k)) in
       subst (λ items. Alike C b None (map line_of items ++ later) (Enter procedure ∷ later)) (sym before_is)
@@ -160,7 +161,7 @@ module _ (g : Graph) (block at procedure : ℕ) (rules : IsGraph g) (callable : 
   )
 
   pub call_follows : Follows g h
-  call_follows = replaced_follows (live g) (Unit {0}) g (live_carrier g) rules block at many by callable.block_there calls no_lowers dies
+  call_follows = replaced_follows NoMode no_stands (live g) (Unit {0}) g (live_carrier g) rules block at many by callable.block_there calls no_lowers dies
 
   pub call_sound : IsSound g → IsSound h
-  call_sound sound = replaced_sound (live g) (Unit {0}) g (live_carrier g) rules block at many by callable.block_there calls no_lowers dies (λ xs r l. l) tt sound
+  call_sound sound = replaced_sound NoMode no_stands (live g) (Unit {0}) g (live_carrier g) rules block at many by callable.block_there calls no_lowers dies (λ xs r l. l) tt sound

@@ -19,7 +19,7 @@ use Rattle.sq_graph.proofs.Changes.{with_blocks-at}
 use Rattle.sq_graph.proofs.OperationRules.{inserted_after_rules}
 use Rattle.sq_follow.specs.Follows.{Follows}
 use Rattle.sq_patch.specs.Changes.{Change, Alike, name_before, name_after, jump_after}
-use Rattle.sq_patch.proofs.Keeping.{all_matter, every_carrier}
+use Rattle.sq_patch.proofs.Keeping.{NoMode, no_stands, all_matter, every_carrier}
 use Rattle.sq_patch.proofs.Staying.{body_unnamed}
 use Rattle.sq_patch.proofs.Changing.{ahead}
 use Rattle.sq_patch.proofs.Falling.{absent_from, next_at, name_at}
@@ -51,7 +51,7 @@ module _ (g : Graph) (new block next : ℕ) (rules : IsGraph g) (fresh : IsNew g
   MayHold n m = Contains (code_targets g) n × MayGo n m
 
   abbrev C : Change
-  C = relating MayHold MayGo all_matter (Unit {0}) g h
+  C = relating NoMode no_stands MayHold MayGo all_matter (Unit {0}) g h
 
   old : (n : ℕ) → HasBlock g n → Old n
   old n there = not_new g new n fresh there
@@ -148,9 +148,9 @@ module _ (g : Graph) (new block next : ℕ) (rules : IsGraph g) (fresh : IsNew g
   next_goes : (b : Bool) → Alike C b None (body_lines w (lines_of rest)) (body_lines w (lines_of rest))
   next_goes b =
       let e3 : ((front ++ x ∷ []) ++ w ∷ []) ++ rest ≡ g.blocks = ahead (front ++ x ∷ []) w rest ∙ one in
-      subst (λ z. Alike C b None (body_lines w (lines_of rest)) (body_lines z (lines_of rest))) (sym (block_stays MayHold MayGo Old all_matter (Unit {0}) g h rules refl refl may_hold may_go w))
-      (carry_body C own w (lines_of rest) (lines_of rest) (block_goes MayHold MayGo Old all_matter (Unit {0}) g h rules refl refl may_hold may_go (front ++ x ∷ []) w rest rest one refl)
-      (λ f. carries_lines C own Old b refl (all_stay MayHold MayGo Old all_matter (Unit {0}) g h rules refl refl may_hold may_go true ((front ++ x ∷ []) ++ w ∷ []) rest e3)))
+      subst (λ z. Alike C b None (body_lines w (lines_of rest)) (body_lines z (lines_of rest))) (sym (block_stays NoMode no_stands MayHold MayGo Old all_matter (Unit {0}) g h rules refl refl may_hold may_go w))
+      (carry_body C own w (lines_of rest) (lines_of rest) (block_goes NoMode no_stands MayHold MayGo Old all_matter (Unit {0}) g h rules refl refl may_hold may_go (front ++ x ∷ []) w rest rest one refl)
+      (λ f. carries_lines C own Old b refl (all_stay NoMode no_stands MayHold MayGo Old all_matter (Unit {0}) g h rules refl refl may_hold may_go true ((front ++ x ∷ []) ++ w ∷ []) rest e3)))
 
   abbrev back : List Line
   back = lines_of (w ∷ rest)
@@ -166,11 +166,11 @@ module _ (g : Graph) (new block next : ℕ) (rules : IsGraph g) (fresh : IsNew g
 
   goes : BlockGoes C own x back (lines_of (jump ∷ w ∷ rest))
   goes =
-      let as_was = block_goes MayHold MayGo Old all_matter (Unit {0}) g h rules refl refl may_hold may_go front x (w ∷ rest) (w ∷ rest) two refl in
+      let as_was = block_goes NoMode no_stands MayHold MayGo Old all_matter (Unit {0}) g h rules refl refl may_hold may_go front x (w ∷ rest) (w ∷ rest) two refl in
       record { items = as_was.items; term = as_was.term; slot = linked }
 
   x_is : carried_block C own x ≡ x
-  x_is = sym (block_stays MayHold MayGo Old all_matter (Unit {0}) g h rules refl refl may_hold may_go x)
+  x_is = sym (block_stays NoMode no_stands MayHold MayGo Old all_matter (Unit {0}) g h rules refl refl may_hold may_go x)
 
   body : (b : Bool) → Alike C b None (body_lines x back) (body_lines x (lines_of (jump ∷ w ∷ rest)))
   body b =
@@ -208,7 +208,7 @@ module _ (g : Graph) (new block next : ℕ) (rules : IsGraph g) (fresh : IsNew g
   }
 
   same : (n : ℕ) → Old n → Alike C false None (block_lines g n) (block_lines h n)
-  same n k = same_names MayHold MayGo Old all_matter (Unit {0}) g h rules refl refl may_hold may_go (x ∷ []) (x ∷ jump ∷ []) (w ∷ rest) refl turn front two after n k
+  same n k = same_names NoMode no_stands MayHold MayGo Old all_matter (Unit {0}) g h rules refl refl may_hold may_go (x ∷ []) (x ∷ jump ∷ []) (w ∷ rest) refl turn front two after n k
 
   names : (n m : ℕ) → MayGo n m → Alike C false None (block_lines g n) (block_lines h m)
   names n m j =
@@ -224,7 +224,7 @@ module _ (g : Graph) (new block next : ℕ) (rules : IsGraph g) (fresh : IsNew g
   values n m v = v
 
   pub insert_follows : Follows g h
-  insert_follows = placed_follows MayHold MayGo Old all_matter (Unit {0}) g h rules refl refl may_hold may_go (x ∷ []) (x ∷ jump ∷ []) (w ∷ rest) refl turn front two after refl (every_carrier g) values names
+  insert_follows = placed_follows NoMode no_stands MayHold MayGo Old all_matter (Unit {0}) g h rules refl refl may_hold may_go (x ∷ []) (x ∷ jump ∷ []) (w ∷ rest) refl turn front two after refl (every_carrier g) values names
 
   pub insert_sound : IsSound g → IsSound h
-  insert_sound sound = placed_sound MayHold MayGo Old all_matter (Unit {0}) g h rules refl refl may_hold may_go (x ∷ []) (x ∷ jump ∷ []) (w ∷ rest) refl turn front two after refl (every_carrier g) values names (λ xs r l. tt) tt sound
+  insert_sound sound = placed_sound NoMode no_stands MayHold MayGo Old all_matter (Unit {0}) g h rules refl refl may_hold may_go (x ∷ []) (x ∷ jump ∷ []) (w ∷ rest) refl turn front two after refl (every_carrier g) values names (λ xs r l. tt) tt sound

@@ -19,6 +19,10 @@ use Rattle.sq_graph.specs.Resolve.{lone_jump}
 use Rattle.sq_graph.specs.Lines.{Name, End, body_lines, lines_of, behind_name, term_lines, block_lines}
 use Rattle.sq_graph.specs.Walks.{link_names, first_name, code_targets}
 use Rattle.sq_graph.specs.Soundness.{IsSound}
+use Rattle.sq_graph.specs.Words.{term_words, block_words, words_of}
+use Rattle.sq_graph.specs.declared.item.Item.{Item}
+use Rattle.std.proofs.lemmas.List.Sums.{sum_by-cons, sum_by-append}
+use Rattle.std.proofs.Common.{◌+◌, length, sum_by}
 use Rattle.sq_graph.proofs.Located.{IsAt, located}
 use Rattle.sq_graph.proofs.Changes.{with_blocks-at}
 use Rattle.sq_graph.proofs.Kept.{absent_behind}
@@ -33,6 +37,9 @@ use Rattle.sq_patch.proofs.Layouts.{passed, Turn, carries_lines}
 use Rattle.sq_patch.proofs.Restricting.{own, target_from}
 use Rattle.sq_patch.proofs.Standing.{stands_at, distinct_at, block_at}
 use Rattle.sq_patch.proofs.Passing.{lone_block, lone_lines}
+use Rattle.sq_patch.proofs.Moving.{term_use}
+use Rattle.sq_patch.proofs.Used.{contains_first}
+use Rattle.sq_graph.specs.Uses.{term_uses}
 use Rattle.sq_patch.proofs.Placing.{C as placing, block_stays, block_goes, all_stay, placed_follows, placed_sound}
 use Rattle.sq_patch.proofs.Ending.{term_turn}
 
@@ -53,7 +60,7 @@ no_first false bs m e c = none_in m c
 no_first true [] m e c = none_in m c
 no_first true (b ∷ bs) m e c = (absent_first b bs m e).0 (only b.name m c)
 
-neither : {A B : Type 0} → A ⊎ B → (A → ⊥) → (B → ⊥) → ⊥
+pub neither : {A B : Type 0} → A ⊎ B → (A → ⊥) → (B → ⊥) → ⊥
 neither (inl a) p q = p a
 neither (inr b) p q = q b
 
@@ -65,7 +72,7 @@ no_slot b (next ∷ bs) m e c =
     (no_first (links b.term) (next ∷ bs) m e) (no_slot next bs m (absent_first next bs m e).1)
 
 -- nor is it where the slot before doesn't link, and no other block has the name
-no_slot_at : (front : List Block) (x n : Block) (back : List Block) → links x.term ≡ false → value_of (named (front ++ x ∷ [])) n.name ≡ None → value_of (named back) n.name ≡ None → Contains (link_names (front ++ (x ∷ n ∷ back))) n.name → ⊥
+pub no_slot_at : (front : List Block) (x n : Block) (back : List Block) → links x.term ≡ false → value_of (named (front ++ x ∷ [])) n.name ≡ None → value_of (named back) n.name ≡ None → Contains (link_names (front ++ (x ∷ n ∷ back))) n.name → ⊥
 no_slot_at [] x n back l e f c =
     neither (Contains-append_cases (if links x.term then n.name ∷ [] else []) (link_names (n ∷ back)) n.name c)
     (λ d. none_in n.name (subst (λ t. Contains (if t then n.name ∷ [] else []) n.name) l d)) (no_slot n back n.name f)
@@ -78,11 +85,11 @@ no_slot_at (y ∷ z ∷ front) x n back l e f c =
     (no_first (links y.term) (z ∷ (front ++ x ∷ [])) n.name e') (no_slot_at (z ∷ front) x n back l e' f)
 
 -- the name of the first of these entries
-first_is : (bs : List Block) (m : ℕ) → first_key (named bs) ≡ Some m → (b : Block) × ((rest : List Block) × ((bs ≡ b ∷ rest) × (b.name ≡ m)))
+pub first_is : (bs : List Block) (m : ℕ) → first_key (named bs) ≡ Some m → (b : Block) × ((rest : List Block) × ((bs ≡ b ∷ rest) × (b.name ≡ m)))
 first_is [] m e = absurd (cc)
 first_is (b ∷ rest) m e = (b, (rest, (refl, same_some b.name m e)))
 
-branch_unlinked : (t : Term) (cond : Cond) (a b to : ℕ) → t ≡ Branch cond a b to → links t ≡ false
+pub branch_unlinked : (t : Term) (cond : Cond) (a b to : ℕ) → t ≡ Branch cond a b to → links t ≡ false
 branch_unlinked t cond a b to e = rw e refl
 
 -- the blocks once that of this name has become others
@@ -91,7 +98,7 @@ placed_by front x bs name f blocks e i absent =
     with_blocks-at f blocks name (record { front = front; block = x; back = bs; whole = sym e; has_name = i; ahead = absent })
 
 -- a block of the same name in place of the last
-same_names : (front : List Block) (x y : Block) (m : ℕ) → y.name ≡ x.name → value_of (named (front ++ x ∷ [])) m ≡ None → value_of (named (front ++ y ∷ [])) m ≡ None
+pub same_names : (front : List Block) (x y : Block) (m : ℕ) → y.name ≡ x.name → value_of (named (front ++ x ∷ [])) m ≡ None → value_of (named (front ++ y ∷ [])) m ≡ None
 same_names [] x y m i e = let o = other_name (x.name == m) x None e in let t : (y.name == m) ≡ false = ap (λ k. k == m) i ∙ o.0 in rw t refl
 same_names (w ∷ front) x y m i e = let o = other_name (w.name == m) w (value_of (named (front ++ x ∷ [])) m) e in rw o.0 (same_names front x y m i o.1)
 
@@ -243,11 +250,16 @@ module _ (g : Graph) (block : ℕ) (cond : Cond) (a b over behind to : ℕ) (rul
       subst (λ lines. Alike C true None lines (lines_of back)) (sym at)
       (name_after (subst (λ w. Alike C true None (body_lines z (lines_of stand.back)) (body_lines w (lines_of stand.back))) (sym (block_stays Other all_matter (Unit {0}) g h rules known refl refl holds z)) go))
 
+  -- the target of the Jump is used, so it is another block
+  to_other : Other to
+  to_other =
+      known to (term_use g n to (stands_at g rules (front ++ stand.x ∷ []) n back one) (subst (λ t. Contains (term_uses t) to) (sym stand.lone.1) (contains_first to [])))
+
   -- the slot behind the Branch goes on like the target of the Jump
   jump_goes : Alike C true None (lines_of (n ∷ back)) (block_lines h to)
   jump_goes =
       subst (λ lines. Alike C true None (Name n.name ∷ lines) (block_lines h to)) (sym (lone_lines n.items n.term n.name to (lines_of back) stand.lone.0 stand.lone.1))
-      (name_before (jump_before (promised (refl, jumped.other))))
+      (name_before (jump_before (promised (refl, to_other))))
 
   ended : (t : Bool) → Alike C t None (term_lines stand.x.term (lines_of (n ∷ back))) (term_lines turned (lines_of back))
   ended t = subst (λ u. Alike C t None (term_lines u (lines_of (n ∷ back))) (End turned ∷ lines_of back)) (sym stand.branch) (both_turned cond a b behind to target_goes jump_goes)
@@ -270,3 +282,25 @@ module _ (g : Graph) (block : ℕ) (cond : Cond) (a b over behind to : ℕ) (rul
 
   pub invert_sound : IsSound g → IsSound h
   invert_sound sound = placed_sound Other all_matter (Unit {0}) g h rules known refl refl holds (stand.x ∷ n ∷ []) (y ∷ []) back refl turn front two after refl (every_carrier g) (λ xs r l. tt) tt sound
+
+  -- the Jump's word
+  lone_word : block_words n ≡ 1
+  lone_word = omega (arith, ap (λ (is : List Item). length is) stand.lone.0, ap term_words stand.lone.1)
+
+  branch_word : term_words stand.x.term ≡ 1
+  branch_word = ap term_words stand.branch
+
+  pub invert_saves : words_of h + 1 ≡ words_of g
+  invert_saves =
+      omega (
+        arith,
+        ap (λ bs. sum_by block_words bs) after,
+        sum_by-append block_words front (y ∷ back),
+        sum_by-cons block_words y back,
+        ap (λ bs. sum_by block_words bs) two,
+        sum_by-append block_words front (stand.x ∷ n ∷ back),
+        sum_by-cons block_words stand.x (n ∷ back),
+        sum_by-cons block_words n back,
+        lone_word,
+        branch_word,
+      )

@@ -28,8 +28,11 @@ mod Relating
 mod Placing
 mod Ending
 mod Inverting
+mod Exchanging
 mod Replacing
 mod Calls
+mod Matching
+mod MatchedCalls
 mod Sounding
 mod Leading
 mod Meeting
@@ -37,6 +40,7 @@ mod Merging
 mod Recalling
 mod Inserting
 mod Reordering
+mod Saving
 mod Bypassing
 mod Joining
 pub mod Renaming

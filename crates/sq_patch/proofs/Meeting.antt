@@ -10,7 +10,7 @@ use Rattle.sq_graph.specs.Lines.{Line, End, term_lines, slot_name}
 use Rattle.sq_graph.specs.Resolve.{ResolvedTerm, resolved, resolved_term, next_if, jump_to}
 use Rattle.sq_graph.specs.Walks.{code_targets}
 use Rattle.sq_patch.specs.Changes.{Change, Alike, SameSlot, ends, promised, name_before, name_after, jump_before, jump_after, both_end}
-use Rattle.sq_patch.proofs.Keeping.{all_matter}
+use Rattle.sq_patch.proofs.Keeping.{NoMode, no_stands, all_matter}
 use Rattle.sq_patch.proofs.Relating.{relating}
 use Rattle.sq_patch.proofs.Leading.{slot_lines}
 
@@ -27,7 +27,7 @@ module _ (g h : Graph) where
   MayHold n m = Contains (code_targets g) n × MayGo n m
 
   abbrev pub C : Change
-  C = relating MayHold MayGo all_matter (Unit {0}) g h
+  C = relating NoMode no_stands MayHold MayGo all_matter (Unit {0}) g h
 
   abbrev R : ℕ → ℕ
   R n = resolved g n

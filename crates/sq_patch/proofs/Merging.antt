@@ -7,7 +7,7 @@ use Rattle.sq_graph.specs.declared.item.Item.{Item}
 use Rattle.sq_graph.specs.declared.item.Term.{Term}
 use Rattle.sq_graph.specs.declared.item.Term.TheVariants.{Jump}
 use Rattle.sq_graph.specs.Graph.{Block, Graph}
-use Rattle.sq_graph.specs.Blocks.{named, block_of, block_items, items_of, next_of}
+use Rattle.sq_graph.specs.Blocks.{named, block_of, block_items, block_term, items_of, term_of, next_of}
 use Rattle.sq_graph.specs.Terms.{links}
 use Rattle.sq_graph.specs.Uses.{uses}
 use Rattle.sq_graph.specs.Rules.{IsGraph}
@@ -16,11 +16,14 @@ use Rattle.sq_graph.specs.Resolve.{jump_of, jump_from, resolved, resolved_term, 
 use Rattle.sq_graph.specs.Lines.{Line, End, line_of, term_lines, body_lines, lines_of, behind_name, slot_name, block_lines}
 use Rattle.sq_graph.specs.Walks.{lower_names, code_targets}
 use Rattle.sq_graph.specs.Soundness.{LinksDieIn, IsSound}
+use Rattle.sq_graph.specs.Words.{term_words, block_words, words_of}
+use Rattle.std.proofs.lemmas.List.Sums.{sum_by-cons, sum_by-append}
+use Rattle.std.proofs.Common.{length-append, take-append-drop, sum_by}
 use Rattle.sq_graph.proofs.Located.{IsAt, located}
 use Rattle.sq_follow.specs.Follows.{Follows}
 use Rattle.sq_patch.specs.Changes.{Change, Alike, name_before, name_after, jump_before, jump_after}
 use Rattle.sq_patch.specs.Merges.{IsMergeable, merged}
-use Rattle.sq_patch.proofs.Keeping.{all_matter, every_carrier}
+use Rattle.sq_patch.proofs.Keeping.{NoMode, no_stands, all_matter, every_carrier}
 use Rattle.sq_patch.proofs.Staying.{body_unnamed}
 use Rattle.sq_patch.proofs.Splitting.{take_in, drop_in, map_parts}
 use Rattle.sq_patch.proofs.Falling.{every, absent_from, next_at}
@@ -158,7 +161,7 @@ module _ (g : Graph) (dropped at kept : ℕ) (rules : IsGraph g) (can : IsMergea
   may_go n c = refl
 
   each : AreOf C own (ItemGoes C own) x.items
-  each = items_stay (MayHold g h) (MayGo g h) every all_matter (Unit {0}) g h rules refl refl may_hold may_go x in_graph
+  each = items_stay NoMode no_stands (MayHold g h) (MayGo g h) every all_matter (Unit {0}) g h rules refl refl may_hold may_go x in_graph
 
   keep : (b : Bool) (items : List Item) (xs ys : List Line) → AreOf C own (ItemGoes C own) items → Alike C b None xs ys → Alike C b None (map line_of items ++ xs) (map line_of items ++ ys)
   keep b items xs ys f p = subst (λ is. Alike C b None (map line_of items ++ xs) (map line_of is ++ ys)) (own_items items) (carry_items C own items xs ys f p)
@@ -253,7 +256,7 @@ module _ (g : Graph) (dropped at kept : ℕ) (rules : IsGraph g) (can : IsMergea
 
   -- a name leads to what stands there, in both graphs
   same : (n : ℕ) → Alike C false None (block_lines g n) (block_lines h n)
-  same n = same_names (MayHold g h) (MayGo g h) every all_matter (Unit {0}) g h rules refl refl may_hold may_go (x ∷ []) (y ∷ []) back refl turn front whole after n tt
+  same n = same_names NoMode no_stands (MayHold g h) (MayGo g h) every all_matter (Unit {0}) g h rules refl refl may_hold may_go (x ∷ []) (y ∷ []) back refl turn front whole after n tt
 
   -- a lone Jump is another block than the first, and stays
   jumps_on : (n m : ℕ) → jump_from g n ≡ Some m → (rest : List Line) × (block_lines h n ≡ End (Jump m) ∷ rest)
@@ -284,7 +287,28 @@ module _ (g : Graph) (dropped at kept : ℕ) (rules : IsGraph g) (can : IsMergea
   values n m v = v
 
   pub merge_follows : Follows g h
-  merge_follows = placed_follows (MayHold g h) (MayGo g h) every all_matter (Unit {0}) g h rules refl refl may_hold may_go (x ∷ []) (y ∷ []) back refl turn front whole after refl (every_carrier g) values names
+  merge_follows = placed_follows NoMode no_stands (MayHold g h) (MayGo g h) every all_matter (Unit {0}) g h rules refl refl may_hold may_go (x ∷ []) (y ∷ []) back refl turn front whole after refl (every_carrier g) values names
 
   pub merge_sound : IsSound g → IsSound h
-  merge_sound sound = placed_sound (MayHold g h) (MayGo g h) every all_matter (Unit {0}) g h rules refl refl may_hold may_go (x ∷ []) (y ∷ []) back refl turn front whole after refl (every_carrier g) values names (λ xs r l. tt) tt sound
+  merge_sound sound = placed_sound NoMode no_stands (MayHold g h) (MayGo g h) every all_matter (Unit {0}) g h rules refl refl may_hold may_go (x ∷ []) (y ∷ []) back refl turn front whole after refl (every_carrier g) values names (λ xs r l. tt) tt sound
+
+  -- the words of the end go, and that of the Jump comes
+  first_words : length x.items ≡ length first + length k.items
+  first_words = omega (arith, ap (λ (is : List Item). length is) (take-append-drop at x.items), length-append first (drop at x.items), ap (λ (is : List Item). length is) end_is)
+
+  pub merge_saves : (term : Term) → term_of g dropped ≡ Some term → words_of h + (length (items_of g kept) + term_words term) ≡ words_of g + 1
+  merge_saves term e =
+      let was : x.term ≡ term = same_some x.term term (sym (ap block_term found) ∙ e) in
+      omega (
+        arith,
+        ap (λ bs. sum_by block_words bs) after,
+        sum_by-append block_words front (y ∷ back),
+        sum_by-cons block_words y back,
+        ap (λ bs. sum_by block_words bs) whole,
+        sum_by-append block_words front (x ∷ back),
+        sum_by-cons block_words x back,
+        first_words,
+        ap (λ (is : List Item). length is) y_items,
+        ap (λ (is : List Item). length is) kept_items,
+        ap term_words was,
+      )

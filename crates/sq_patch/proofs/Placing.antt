@@ -10,7 +10,7 @@ use Rattle.sq_graph.specs.Walks.{IsLive, code_targets}
 use Rattle.sq_graph.specs.Soundness.{IsSound}
 use Rattle.sq_follow.specs.Follows.{Follows}
 use Rattle.sq_patch.specs.Changes.{Change, Alike, IsCarrier}
-use Rattle.sq_patch.proofs.Keeping.{staying}
+use Rattle.sq_patch.proofs.Keeping.{NoMode, no_stands, staying}
 use Rattle.sq_patch.proofs.Carrying.{ItemGoes, BlockGoes, carried_block}
 use Rattle.sq_patch.proofs.Layouts.{Turn, Carries}
 use Rattle.sq_patch.proofs.Restricting.{own}
@@ -28,19 +28,19 @@ module _ (K : ℕ → Type 0) (X : List Line → ℕ → Type 0) (Z : Type 0) (g
     may_go n c = (refl, known n c)
 
     pub block_stays : (x : Block) → x ≡ carried_block C own x
-    block_stays x = block_stays_in C.MayHold C.MayGo K X Z g h rules procedures words may_hold may_go x
+    block_stays x = block_stays_in NoMode no_stands C.MayHold C.MayGo K X Z g h rules procedures words may_hold may_go x
 
     pub items_stay : (x : Block) → Contains g.blocks x → (item : Item) → Contains x.items item → ItemGoes C own item
-    items_stay x c = items_stay_in C.MayHold C.MayGo K X Z g h rules procedures words may_hold may_go x c
+    items_stay x c = items_stay_in NoMode no_stands C.MayHold C.MayGo K X Z g h rules procedures words may_hold may_go x c
 
     pub bodies_stay : (p : Procedure) → Contains g.procedures p → (item : Item) → Contains p.body item → ItemGoes C own item
-    bodies_stay p c = bodies_stay_in C.MayHold C.MayGo K X Z g h rules procedures words may_hold may_go p c
+    bodies_stay p c = bodies_stay_in NoMode no_stands C.MayHold C.MayGo K X Z g h rules procedures words may_hold may_go p c
 
     pub block_goes : (front : List Block) (x : Block) (bs cs : List Block) → front ++ (x ∷ bs) ≡ g.blocks → slot_name (lines_of cs) ≡ slot_name (lines_of bs) → BlockGoes C own x (lines_of bs) (lines_of cs)
-    block_goes front x bs cs e same = block_goes_in C.MayHold C.MayGo K X Z g h rules procedures words may_hold may_go front x bs cs e same
+    block_goes front x bs cs e same = block_goes_in NoMode no_stands C.MayHold C.MayGo K X Z g h rules procedures words may_hold may_go front x bs cs e same
 
     pub all_stay : (into : Bool) (front bs : List Block) → front ++ bs ≡ g.blocks → Carries C own K into bs bs
-    all_stay into front bs e = all_stay_in C.MayHold C.MayGo K X Z g h rules procedures words may_hold may_go into front bs e
+    all_stay into front bs e = all_stay_in NoMode no_stands C.MayHold C.MayGo K X Z g h rules procedures words may_hold may_go into front bs e
 
     module _ (us vs back : List Block) (first : slot_name (lines_of (vs ++ back)) ≡ slot_name (lines_of (us ++ back))) (turn : Turn C own K true true us vs back back) (front : List Block) (whole : front ++ (us ++ back) ≡ g.blocks) (after : h.blocks ≡ front ++ (vs ++ back)) (entry : h.entry ≡ g.entry) (carrier : IsCarrier g X) where
       values : (n m : ℕ) → C.MayHold n m → Contains (code_targets g) n × C.MayGo n m
@@ -49,10 +49,10 @@ module _ (K : ℕ → Type 0) (X : List Line → ℕ → Type 0) (Z : Type 0) (g
       names : (n m : ℕ) → C.MayGo n m → Alike C false None (block_lines g n) (block_lines h m)
       names n m j =
           subst (λ k. Alike C false None (block_lines g n) (block_lines h k)) (sym j.0)
-          (same_names C.MayHold C.MayGo K X Z g h rules procedures words may_hold may_go us vs back first turn front whole after n j.1)
+          (same_names NoMode no_stands C.MayHold C.MayGo K X Z g h rules procedures words may_hold may_go us vs back first turn front whole after n j.1)
 
       pub placed_follows : Follows g h
-      placed_follows = placed_follows_in C.MayHold C.MayGo K X Z g h rules procedures words may_hold may_go us vs back first turn front whole after entry carrier values names
+      placed_follows = placed_follows_in NoMode no_stands C.MayHold C.MayGo K X Z g h rules procedures words may_hold may_go us vs back first turn front whole after entry carrier values names
 
       pub placed_sound : ((xs : List Line) (r : ℕ) → IsLive g r xs → X xs r) → Z → IsSound g → IsSound h
-      placed_sound matters safe sound = placed_sound_in C.MayHold C.MayGo K X Z g h rules procedures words may_hold may_go us vs back first turn front whole after entry carrier values names matters safe sound
+      placed_sound matters safe sound = placed_sound_in NoMode no_stands C.MayHold C.MayGo K X Z g h rules procedures words may_hold may_go us vs back first turn front whole after entry carrier values names matters safe sound

@@ -1,17 +1,20 @@
 -- A graph whose procedures have other numbers, some in place of others, follows it.
-use Rattle.std.proofs.Common.{◌≡◌, ◌≢◌, ℕ, zero, suc, ◌<◌, ◌-◌, nat_lt, arith, Bool, true, false, ◌==◌, inl, inr, List, [], ◌∷◌, ◌++◌, Some, None, map, take, drop, remove, slice_get, refl, sym, ap, ◌∙◌, subst}
+use Rattle.std.proofs.Common.{◌≡◌, ◌≢◌, ℕ, zero, suc, ◌<◌, ◌+◌, ◌-◌, nat_lt, arith, Bool, true, false, ◌==◌, inl, inr, List, [], ◌∷◌, ◌++◌, Option, Some, None, IsSome, map, take, drop, remove, slice_get, refl, sym, ap, ◌∙◌, subst}
 use Rattle.std.proofs.lemmas.Bool.{cases_Bool, eqb-true, ltb-true, ltb-false}
 use Rattle.std.proofs.lemmas.Option.{slice_get-map}
 use Rattle.std.specs.Option.{option_map}
-use Rattle.std.specs.List.{Contains, flat_map}
+use Rattle.std.proofs.lemmas.List.Elements.{All-nil, All-cons, All-append, Contains-append_cases}
+use Rattle.std.specs.List.{All, Contains, flat_map, slice_range}
+use Rattle.sq_arena.specs.Entries.{value_of}
+use Rattle.sq_graph.proofs.Located.{located}
 use Rattle.sq_graph.specs.declared.item.Item.{Item}
 use Rattle.sq_graph.specs.declared.item.Item.TheVariants.{Op, Hi, Lo, Out}
 use Rattle.sq_graph.specs.Graph.{Block, Procedure, Graph}
-use Rattle.sq_graph.specs.Blocks.{HasProcedure, procedure_body, procedure_link, all_items}
+use Rattle.sq_graph.specs.Blocks.{named, block_items, items_of, HasProcedure, procedure_body, procedure_link, all_items}
 use Rattle.sq_graph.specs.Terms.{links}
 use Rattle.sq_graph.specs.Uses.{item_calls, calls}
 use Rattle.sq_graph.specs.Rules.{IsGraph}
-use Rattle.sq_graph.specs.Operations.{redirected_calls, without_procedure}
+use Rattle.sq_graph.specs.Operations.{redirected_calls, without_procedure, outlined}
 use Rattle.sq_graph.specs.Renames.{recalled_block, recalled_procedure, swapped, lowered}
 use Rattle.sq_graph.specs.Lines.{lines_of, slot_name, block_lines}
 use Rattle.sq_graph.specs.Walks.{word_name, lower_names, code_targets}
@@ -26,8 +29,10 @@ use Rattle.sq_patch.proofs.Changing.{ahead, same_map}
 use Rattle.sq_patch.proofs.Falling.{every}
 use Rattle.sq_patch.proofs.Carrying.{same_some, CallGoes, ItemGoes, SlotGoes, BlockGoes, carry_inside}
 use Rattle.sq_patch.proofs.Layouts.{IsHeld, Carries, done, stays, carries_behind, carried_sound}
-use Rattle.sq_patch.proofs.Restricting.{own_block, own_procedure, flat_from, from_map_of, lower_recalled, body_recalled, each_has, block_target, procedure_target, slot_target}
-use Rattle.sq_patch.proofs.Standing.{stands_at}
+use Rattle.sq_patch.proofs.Restricting.{own, own_block, own_procedure, flat_from, from_map_of, lower_recalled, body_recalled, each_has, block_target, procedure_target, slot_target}
+use Rattle.sq_patch.proofs.Standing.{stands_at, block_at, own_called_block, own_called_procedure}
+use Rattle.sq_patch.proofs.Splitting.{take_in, drop_in}
+use Rattle.sq_patch.proofs.Calls.{range_is}
 use Rattle.sq_patch.proofs.Used.{contains_first, contains_later, flat_contains, from_slice, slice_there, from_all, item_called, block_item, body_calls_none}
 
 -- The second graph has the same blocks with other numbers of procedures, under which those that are called are there.
@@ -36,7 +41,7 @@ pub record IsRenumbered (g h : Graph) (number : ℕ → ℕ) : Type 0 where
   pub entry : h.entry ≡ g.entry
   pub words : h.code_words ≡ g.code_words
   pub called : (q : ℕ) (p : Procedure) → Contains (calls g) q → slice_get g.procedures q ≡ Some p → slice_get h.procedures (number q) ≡ Some (recalled_procedure number p)
-  pub were : (p : Procedure) → Contains h.procedures p → (o : Procedure) × (Contains g.procedures o × (p ≡ recalled_procedure number o))
+  pub lowers : (p : Procedure) (m : ℕ) → Contains h.procedures p → Contains (flat_map lower_names p.body) m → Contains (code_targets g) m
 
 module _ (g h : Graph) (number : ℕ → ℕ) (rules : IsGraph g) (same : IsRenumbered g h number) where
   abbrev C : Change
@@ -105,18 +110,27 @@ module _ (g h : Graph) (number : ℕ → ℕ) (rules : IsGraph g) (same : IsRenu
 
   bodies_held : (m : ℕ) → Contains (flat_map (λ (p : Procedure). flat_map lower_names p.body) h.procedures) m → IsHeld C number every m
   bodies_held m c =
-      let o = flat_from (λ (p : Procedure). flat_map lower_names p.body) h.procedures m c in
-      let p = same.were o.0 o.1.0 in
-      let d : Contains (flat_map lower_names p.0.body) m = subst (λ ns. Contains ns m) (lower_recalled number p.0.body) (subst (λ (w : Procedure). Contains (flat_map lower_names w.body) m) p.1.1 o.1.1) in
-      (m, may_hold m (procedure_target g p.0 m p.1.0 d))
+      let o = flat_from (λ (p : Procedure). flat_map lower_names p.body) h.procedures m c in (m, may_hold m (same.lowers o.0 m o.1.0 o.1.1))
 
-  pub renumbered_sound : IsSound g → IsSound h
-  renumbered_sound sound =
+  pub renumbered_sound : IsSound g → All IsSoundBody h.procedures → IsSound h
+  renumbered_sound sound sound_bodies =
       carried_sound C number every steady (λ xs r l. tt) tt every_block
       (λ m c. (m, may_hold m (word_target g m (subst (λ ws. Contains (map word_name ws) m) same.words c))))
-      bodies_held sound
-      (each_has IsSoundBody h.procedures
-      (λ p c. let o = same.were p c in subst IsSoundBody (sym o.1.1) (body_recalled number o.0 (from_all IsSoundBody g.procedures o.0 sound.bodies o.1.0))))
+      bodies_held sound sound_bodies
+
+-- procedures that were those of the graph under other numbers
+abbrev Were : Graph → Graph → (ℕ → ℕ) → Type 0
+Were g h number = (p : Procedure) → Contains h.procedures p → (o : Procedure) × (Contains g.procedures o × (p ≡ recalled_procedure number o))
+
+lowers_were : (g h : Graph) (number : ℕ → ℕ) → Were g h number → (p : Procedure) (m : ℕ) → Contains h.procedures p → Contains (flat_map lower_names p.body) m → Contains (code_targets g) m
+lowers_were g h number were p m c d =
+    let o = were p c in
+    procedure_target g o.0 m o.1.0 (subst (λ ns. Contains ns m) (lower_recalled number o.0.body) (subst (λ (w : Procedure). Contains (flat_map lower_names w.body) m) o.1.1 d))
+
+sound_were : (g h : Graph) (number : ℕ → ℕ) → Were g h number → IsSound g → All IsSoundBody h.procedures
+sound_were g h number were sound =
+    each_has IsSoundBody h.procedures
+    (λ p c. let o = were p c in subst IsSoundBody (sym o.1.1) (body_recalled number o.0 (from_all IsSoundBody g.procedures o.0 sound.bodies o.1.0)))
 
 -- one procedure in place of another
 same_procedure : (a b : Procedure) → procedure_body (Some a) ≡ procedure_body (Some b) → procedure_link (Some a) ≡ procedure_link (Some b) → a ≡ b
@@ -141,20 +155,23 @@ module _ (g : Graph) (from to : ℕ) (rules : IsGraph g) (equal : AreEqual g fro
         | inr apart ↦ rw apart e
       ]
 
+  were : Were g (redirected_calls g from to) r
+  were p c = from_map_of (recalled_procedure r) g.procedures p c
+
   renumbered : IsRenumbered g (redirected_calls g from to) r
   renumbered = record {
     blocks = refl;
     entry = refl;
     words = refl;
     called = λ q p c e. slice_get-map (recalled_procedure r) g.procedures (r q) ∙ ap (option_map (recalled_procedure r)) (found q p e);
-    were = λ p c. from_map_of (recalled_procedure r) g.procedures p c;
+    lowers = lowers_were g (redirected_calls g from to) r were;
   }
 
   pub recall_follows : Follows g (redirected_calls g from to)
   recall_follows = renumbered_follows g (redirected_calls g from to) r rules renumbered
 
   pub recall_sound : IsSound g → IsSound (redirected_calls g from to)
-  recall_sound sound = renumbered_sound g (redirected_calls g from to) r rules renumbered sound
+  recall_sound sound = renumbered_sound g (redirected_calls g from to) r rules renumbered sound (sound_were g (redirected_calls g from to) r were sound)
 
 -- the number of a procedure once another is gone
 abbrev lower : ℕ → ℕ → ℕ
@@ -196,6 +213,9 @@ removed_was (x ∷ ps) (suc gone) p (zero, l, e) = (zero, omega arith, e)
 removed_was (x ∷ ps) (suc gone) p (suc i, l, e) = contains_later x p ps (removed_was ps gone p (i, omega (arith, l), e))
 
 module _ (g : Graph) (gone : ℕ) (rules : IsGraph g) (unused : ¬ Contains (calls g) gone) where
+  left : Were g (without_procedure g gone) (lowered gone)
+  left p c = let o = from_map_of (recalled_procedure (lowered gone)) (remove g.procedures gone) p c in (o.0, (removed_was g.procedures gone o.0 o.1.0, o.1.1))
+
   fewer : IsRenumbered g (without_procedure g gone) (lowered gone)
   fewer = record {
     blocks = refl;
@@ -205,11 +225,69 @@ module _ (g : Graph) (gone : ℕ) (rules : IsGraph g) (unused : ¬ Contains (cal
         let other : q ≢ gone = λ i. unused (subst (λ k. Contains (calls g) k) i c) in
         slice_get-map (recalled_procedure (lowered gone)) (remove g.procedures gone) (lowered gone q)
         ∙ ap (option_map (recalled_procedure (lowered gone))) (ap (slice_get (remove g.procedures gone)) (lowered_is gone q other) ∙ removed_at g.procedures gone q p other e);
-    were = λ p c. let o = from_map_of (recalled_procedure (lowered gone)) (remove g.procedures gone) p c in (o.0, (removed_was g.procedures gone o.0 o.1.0, o.1.1));
+    lowers = lowers_were g (without_procedure g gone) (lowered gone) left;
   }
 
   pub uncalled_goes_follows : Follows g (without_procedure g gone)
   uncalled_goes_follows = renumbered_follows g (without_procedure g gone) (lowered gone) rules fewer
 
   pub uncalled_goes_sound : IsSound g → IsSound (without_procedure g gone)
-  uncalled_goes_sound sound = renumbered_sound g (without_procedure g gone) (lowered gone) rules fewer sound
+  uncalled_goes_sound sound = renumbered_sound g (without_procedure g gone) (lowered gone) rules fewer sound (sound_were g (without_procedure g gone) (lowered gone) left sound)
+
+-- one more procedure
+still_there : (ps more : List Procedure) (q : ℕ) (p : Procedure) → slice_get ps q ≡ Some p → slice_get (ps ++ more) q ≡ Some p
+still_there [] more q p e = absurd (cc)
+still_there (x ∷ ps) more zero p e = e
+still_there (x ∷ ps) more (suc q) p e = still_there ps more q p e
+
+-- an item of a block's piece is one of the block
+piece_in : (items : List Item) (at n : ℕ) (item : Item) → Contains (slice_range items at (at + n)) item → Contains items item
+piece_in items at n item c = drop_in items at item (take_in (drop at items) n item (subst (λ is. Contains is item) (range_is items at n) c))
+
+module _ (g : Graph) (block at length link : ℕ) (rules : IsGraph g) where
+  abbrev new : Procedure
+  new = record { link = link; body = slice_range (items_of g block) at (at + length) }
+
+  abbrev oh : Graph
+  oh = outlined g block at length link
+
+  same_blocks : (bs : List Block) → bs ≡ map (recalled_block own) bs
+  same_blocks [] = refl
+  same_blocks (b ∷ bs) = ap (λ c. c ∷ bs) (sym (own_called_block b)) ∙ ap (λ cs. recalled_block own b ∷ cs) (same_blocks bs)
+
+  -- the items of a block are those of a block that is there
+  block_lowers : (o : Option Block) → value_of (named g.blocks) block ≡ o → (m : ℕ) → Contains (flat_map lower_names (slice_range (block_items o) at (at + length))) m → Contains (code_targets g) m
+  block_lowers None e m c =
+      let o = flat_from lower_names (slice_range [] at (at + length)) m c in
+      absurd (let d = piece_in [] at length o.0 o.1.0 in let l : d.0 < 0 = d.1 in omega arith)
+  block_lowers (Some b) e m c =
+      let o = flat_from lower_names (slice_range b.items at (at + length)) m c in
+      let spot = located g.blocks block (subst IsSome (sym e) refl) in
+      let found = subst (λ k. value_of (named g.blocks) k ≡ Some spot.block) spot.has_name (block_at g rules spot.front spot.block spot.back (sym spot.whole)) in
+      let same : spot.block ≡ b = same_some spot.block b (sym found ∙ e) in
+      let there : Contains g.blocks b = subst (λ w. Contains g.blocks w) same (stands_at g rules spot.front spot.block spot.back (sym spot.whole)) in
+      block_target g b m there (flat_contains lower_names b.items o.0 m (piece_in b.items at length o.0 o.1.0) o.1.1)
+
+  more_lowers : (p : Procedure) (m : ℕ) → Contains (g.procedures ++ new ∷ []) p → Contains (flat_map lower_names p.body) m → Contains (code_targets g) m
+  more_lowers p m c d =
+      elim (Contains-append_cases g.procedures (new ∷ []) p c) [
+        | inl old ↦ procedure_target g p m old d
+        | inr last ↦ block_lowers (value_of (named g.blocks) block) refl m (subst (λ (w : Procedure). Contains (flat_map lower_names w.body) m) (sym (only last)) d)
+      ]
+    where
+      only : Contains (new ∷ []) p → new ≡ p
+      only (zero, l, e) = e
+      only (suc i, l, e) = absurd (omega arith)
+
+  more : IsRenumbered g oh own
+  more = record {
+    blocks = same_blocks g.blocks;
+    entry = refl;
+    words = refl;
+    called = λ q p c e. still_there g.procedures (new ∷ []) q p e ∙ ap Some (sym (own_called_procedure p));
+    lowers = more_lowers;
+  }
+
+  pub outline_sound : IsSoundBody new → IsSound g → IsSound oh
+  outline_sound fits sound =
+      renumbered_sound g oh own rules more sound (All-append IsSoundBody g.procedures (new ∷ []) sound.bodies (All-cons IsSoundBody new [] fits (All-nil IsSoundBody)))

@@ -15,7 +15,6 @@ use Rattle.sq_follow.specs.Follows.{Follows, word_address}
 use Rattle.sq_patch.specs.Changes.{Change, Alike, IsSteady, IsCarrier, falls}
 use Rattle.sq_patch.proofs.LiveTargets.{word_target}
 use Rattle.sq_patch.proofs.Patch.{change_follows}
-use Rattle.sq_patch.proofs.Keeping.{NoMode, no_stands}
 use Rattle.sq_patch.proofs.Changing.{ahead, same_map}
 use Rattle.sq_patch.proofs.Carrying.{same_some, SlotGoes, BlockGoes, ItemGoes, carried_block}
 use Rattle.sq_patch.proofs.Layouts.{Turn, Carries, done, stays, turns, carries_behind, carried_sound}
@@ -23,23 +22,23 @@ use Rattle.sq_patch.proofs.Restricting.{own, own_block, slot_target}
 use Rattle.sq_patch.proofs.Standing.{stands_at, own_called_block, items_go, body_goes, term_goes, words_held, bodies_held, procedures_sound}
 use Rattle.sq_patch.proofs.Used.{contains_first, from_slice}
 
--- A change in which names and registers stay, but some names may be held for others, or gone to for others.
-abbrev pub relating : (MayHold MayGo : ℕ → ℕ → Type 0) → (List Line → ℕ → Type 0) → Type 0 → Graph → Graph → Change
-relating MayHold MayGo X Z g h = record {
+-- A change in which names stay, but some may be held for others, or gone to for others.
+abbrev pub relating : (Mode : Type 0) (StandsIn : Mode → ℕ → ℕ → Type 0) (MayHold MayGo : ℕ → ℕ → Type 0) → (List Line → ℕ → Type 0) → Type 0 → Graph → Graph → Change
+relating Mode StandsIn MayHold MayGo X Z g h = record {
   before = g;
   after = h;
   MayHold = MayHold;
   MayGo = MayGo;
   renamed = λ n. n;
   Matters = X;
-  Mode = NoMode;
-  StandsIn = no_stands;
+  Mode = Mode;
+  StandsIn = StandsIn;
   Sound = Z;
 }
 
-module _ (MayHold MayGo : ℕ → ℕ → Type 0) (K : ℕ → Type 0) (X : List Line → ℕ → Type 0) (Z : Type 0) (g h : Graph) (rules : IsGraph g) (procedures : h.procedures ≡ g.procedures) (words : h.code_words ≡ g.code_words) where
+module _ (Mode : Type 0) (StandsIn : Mode → ℕ → ℕ → Type 0) (MayHold MayGo : ℕ → ℕ → Type 0) (K : ℕ → Type 0) (X : List Line → ℕ → Type 0) (Z : Type 0) (g h : Graph) (rules : IsGraph g) (procedures : h.procedures ≡ g.procedures) (words : h.code_words ≡ g.code_words) where
   abbrev pub C : Change
-  C = relating MayHold MayGo X Z g h
+  C = relating Mode StandsIn MayHold MayGo X Z g h
 
   module _ (may_hold : (n : ℕ) → Contains (code_targets g) n → MayHold n n) (may_go : (n : ℕ) → Contains (uses g) n → MayGo n n) where
     procedures_stay : h.procedures ≡ map (retargeted_procedure own) g.procedures

@@ -11,7 +11,7 @@ use Rattle.sq_graph.specs.Terms.{links}
 use Rattle.sq_graph.specs.Uses.{uses}
 use Rattle.sq_graph.specs.Rules.{IsGraph}
 use Rattle.sq_graph.specs.Operations.{replaced_items, replaced}
-use Rattle.sq_graph.specs.Lines.{Line, line_of, term_lines, body_lines, lines_of, behind_name}
+use Rattle.sq_graph.specs.Lines.{Line, line_of, term_lines, body_lines, lines_of, behind_name, block_lines}
 use Rattle.sq_graph.specs.Renames.{retargeted_items, recalled_items}
 use Rattle.sq_graph.specs.Walks.{IsLive, lower_names, link_names, first_name, code_targets}
 use Rattle.sq_graph.specs.Soundness.{LinksDieIn, IsSound}
@@ -19,7 +19,6 @@ use Rattle.sq_graph.proofs.Located.{IsAt, located}
 use Rattle.sq_graph.proofs.Changes.{with_blocks-at}
 use Rattle.sq_follow.specs.Follows.{Follows}
 use Rattle.sq_patch.specs.Changes.{Change, Alike, IsCarrier, name_before, name_after}
-use Rattle.sq_patch.proofs.Keeping.{staying}
 use Rattle.sq_patch.proofs.Staying.{body_unnamed}
 use Rattle.sq_patch.proofs.Changing.{ahead}
 use Rattle.sq_patch.proofs.Falling.{every}
@@ -29,7 +28,7 @@ use Rattle.sq_patch.proofs.Carrying.{AreOf, ItemGoes, carry_items, carry_term, B
 use Rattle.sq_patch.proofs.Layouts.{Turn, carries_lines}
 use Rattle.sq_patch.proofs.Restricting.{own, own_block, block_target, slot_targets}
 use Rattle.sq_patch.proofs.Standing.{stands_at, own_called_block}
-use Rattle.sq_patch.proofs.Placing.{block_stays, items_stay, block_goes, all_stay, placed_follows, placed_sound}
+use Rattle.sq_patch.proofs.Relating.{relating, block_stays, items_stay, block_goes, all_stay, same_names, placed_follows, placed_sound}
 use Rattle.sq_patch.proofs.Ending.{all_of, one_slot}
 
 -- items under their own names and numbers
@@ -44,15 +43,22 @@ three_parts items at length =
     ap (λ rest. take at items ++ (take length (drop at items) ++ rest)) (sym (drop-drop length at items))
     ∙ ap (λ rest. take at items ++ rest) (take-append-drop length (drop at items)) ∙ take-append-drop at items
 
-module _ (X : List Line → ℕ → Type 0) (Z : Type 0) (g h : Graph) (rules : IsGraph g) (procedures : h.procedures ≡ g.procedures) (words : h.code_words ≡ g.code_words) where
-  pub known : (n : ℕ) → Contains (uses g) n → every n
-  known n c = tt
+module _ (Mode : Type 0) (StandsIn : Mode → ℕ → ℕ → Type 0) (X : List Line → ℕ → Type 0) (Z : Type 0) (g h : Graph) (rules : IsGraph g) (procedures : h.procedures ≡ g.procedures) (words : h.code_words ≡ g.code_words) where
+  -- each name for itself
+  abbrev pub Go : ℕ → ℕ → Type 0
+  Go n m = (m ≡ n) × every n
 
-  pub holds : (n : ℕ) → Contains (code_targets g) n → every n
-  holds n c = tt
+  abbrev pub Hold : ℕ → ℕ → Type 0
+  Hold n m = (m ≡ n) × (every n × Contains (code_targets g) n)
+
+  pub may_go : (n : ℕ) → Contains (uses g) n → Go n n
+  may_go n c = (refl, tt)
+
+  pub may_hold : (n : ℕ) → Contains (code_targets g) n → Hold n n
+  may_hold n c = (refl, (tt, c))
 
   abbrev pub C : Change
-  C = staying every X Z g h
+  C = relating Mode StandsIn Hold Go X Z g h
 
   module _ (x : Block) (back : List Block) (first out rest by : List Item) (are : x.items ≡ first ++ (out ++ rest)) (there : Contains g.blocks x) where
     abbrev y : Block
@@ -66,7 +72,7 @@ module _ (X : List Line → ℕ → Type 0) (Z : Type 0) (g h : Graph) (rules : 
     later = map line_of rest ++ end
 
     all : AreOf C own (ItemGoes C own) x.items
-    all = items_stay every X Z g h rules known procedures words holds x there
+    all = items_stay Mode StandsIn Hold Go every X Z g h rules procedures words may_hold may_go x there
 
     in_first : AreOf C own (ItemGoes C own) first
     in_first item c = all item (subst (λ is. Contains is item) (sym are) (Contains-append_left first (out ++ rest) item c))
@@ -140,12 +146,24 @@ module _ (X : List Line → ℕ → Type 0) (Z : Type 0) (g h : Graph) (rules : 
         }
 
 -- a block in a graph, in which `length` of its items, from `at` on, become others
-module _ (X : List Line → ℕ → Type 0) (Z : Type 0) (g : Graph) (carrier : IsCarrier g X) (rules : IsGraph g) (block at length : ℕ) (by : List Item) (has : HasBlock g block) where
+module _ (Mode : Type 0) (StandsIn : Mode → ℕ → ℕ → Type 0) (X : List Line → ℕ → Type 0) (Z : Type 0) (g : Graph) (carrier : IsCarrier g X) (rules : IsGraph g) (block at length : ℕ) (by : List Item) (has : HasBlock g block) where
   abbrev pub h : Graph
   h = replaced g block at length by
 
   abbrev D : Change
-  D = C X Z g h rules refl refl
+  D = C Mode StandsIn X Z g h rules refl refl
+
+  abbrev G : ℕ → ℕ → Type 0
+  G = Go Mode StandsIn X Z g h rules refl refl
+
+  abbrev H : ℕ → ℕ → Type 0
+  H = Hold Mode StandsIn X Z g h rules refl refl
+
+  goes : (n : ℕ) → Contains (uses g) n → G n n
+  goes = may_go Mode StandsIn X Z g h rules refl refl
+
+  held : (n : ℕ) → Contains (code_targets g) n → H n n
+  held = may_hold Mode StandsIn X Z g h rules refl refl
 
   abbrev pub place : IsAt g.blocks block
   place = located g.blocks block has
@@ -179,23 +197,32 @@ module _ (X : List Line → ℕ → Type 0) (Z : Type 0) (g : Graph) (carrier : 
 
   ended : (b : Bool) → Alike D b None (term_lines x.term (lines_of back)) (term_lines x.term (lines_of back))
   ended b =
-      let go = block_goes every X Z g h rules (known X Z g h rules refl refl) refl refl (holds X Z g h rules refl refl) place.front x back back whole refl in
+      let go = block_goes Mode StandsIn H G every X Z g h rules refl refl held goes place.front x back back whole refl in
       let p = carry_term D own x.term (lines_of back) (lines_of back) go.term go.slot
-      (λ f. carries_lines D own every b refl (all_stay every X Z g h rules (known X Z g h rules refl refl) refl refl (holds X Z g h rules refl refl) true (place.front ++ x ∷ []) back (ahead place.front x back ∙ whole))) in
-      subst (λ t. Alike D b None (term_lines x.term (lines_of back)) (term_lines t (lines_of back))) (ap (λ (w : Block). w.term) (sym (block_stays every X Z g h rules (known X Z g h rules refl refl) refl refl (holds X Z g h rules refl refl) x))) p
+      (λ f. carries_lines D own every b refl (all_stay Mode StandsIn H G every X Z g h rules refl refl held goes true (place.front ++ x ∷ []) back (ahead place.front x back ∙ whole))) in
+      subst (λ t. Alike D b None (term_lines x.term (lines_of back)) (term_lines t (lines_of back))) (ap (λ (w : Block). w.term) (sym (block_stays Mode StandsIn H G every X Z g h rules refl refl held goes x))) p
 
   slot : (m : ℕ) → links x.term ≡ true → Contains (first_name back) m → Contains (code_targets g) m
   slot m l c = slot_targets g place.front x back whole l m c
 
   module _ (middle : (b : Bool) → Alike D b None behind behind → Alike D b None (map line_of out ++ behind) (map line_of by ++ behind)) (lowers : (m : ℕ) → Contains (flat_map lower_names by) m → Contains (code_targets g) m) (dies : Backs D own → Alike D true None behind behind → LinksDieIn g (map line_of out ++ behind) → LinksDieIn h behind → LinksDieIn h (map line_of by ++ behind)) where
     turn : Turn D own every true true (x ∷ []) (record x { items = replaced_items x.items at length by } ∷ []) back back
-    turn = item_turn X Z g h rules refl refl x back (take at x.items) out rest by parts there ended middle lowers dies slot
+    turn = item_turn Mode StandsIn X Z g h rules refl refl x back (take at x.items) out rest by parts there ended middle lowers dies slot
 
     after : h.blocks ≡ place.front ++ (record x { items = replaced_items x.items at length by } ∷ back)
     after = with_blocks-at (λ b. record b { items = replaced_items b.items at length by } ∷ []) g.blocks block place
 
+    same : (n : ℕ) → Alike D false None (block_lines g n) (block_lines h n)
+    same n = same_names Mode StandsIn H G every X Z g h rules refl refl held goes (x ∷ []) (record x { items = replaced_items x.items at length by } ∷ []) back refl turn place.front whole after n tt
+
+    names : (n m : ℕ) → G n m → Alike D false None (block_lines g n) (block_lines h m)
+    names n m j = subst (λ k. Alike D false None (block_lines g n) (block_lines h k)) (sym j.0) (same n)
+
+    values : (n m : ℕ) → H n m → Contains (code_targets g) n × G n m
+    values n m v = (v.1.1, (v.0, tt))
+
     pub replaced_follows : Follows g h
-    replaced_follows = placed_follows every X Z g h rules (known X Z g h rules refl refl) refl refl (holds X Z g h rules refl refl) (x ∷ []) (record x { items = replaced_items x.items at length by } ∷ []) back refl turn place.front whole after refl carrier
+    replaced_follows = placed_follows Mode StandsIn H G every X Z g h rules refl refl held goes (x ∷ []) (record x { items = replaced_items x.items at length by } ∷ []) back refl turn place.front whole after refl carrier values names
 
     pub replaced_sound : ((xs : List Line) (r : ℕ) → IsLive g r xs → X xs r) → Z → IsSound g → IsSound h
-    replaced_sound matters safe sound = placed_sound every X Z g h rules (known X Z g h rules refl refl) refl refl (holds X Z g h rules refl refl) (x ∷ []) (record x { items = replaced_items x.items at length by } ∷ []) back refl turn place.front whole after refl carrier matters safe sound
+    replaced_sound matters safe sound = placed_sound Mode StandsIn H G every X Z g h rules refl refl held goes (x ∷ []) (record x { items = replaced_items x.items at length by } ∷ []) back refl turn place.front whole after refl carrier values names matters safe sound

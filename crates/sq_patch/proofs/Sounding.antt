@@ -21,7 +21,7 @@ use Rattle.sq_graph.proofs.Located.{IsAt, located}
 use Rattle.sq_graph.proofs.Changes.{with_blocks-at}
 use Rattle.sq_patch.specs.Changes.{Change, Alike, name_before, name_after, jump_before, enter_before, return_before, dead_before}
 use Rattle.sq_patch.specs.Operations.{hastened}
-use Rattle.sq_patch.proofs.Keeping.{all_matter, every_carrier}
+use Rattle.sq_patch.proofs.Keeping.{NoMode, no_stands, all_matter, every_carrier}
 use Rattle.sq_patch.proofs.Staying.{body_unnamed}
 use Rattle.sq_patch.proofs.Changing.{ahead}
 use Rattle.sq_patch.proofs.Falling.{every, other_name, absent_from, name_at, term_is, next_is, slot_goes}
@@ -36,7 +36,7 @@ use Rattle.sq_patch.proofs.Restricting.{own, block_target, procedure_target, slo
 use Rattle.sq_patch.proofs.Standing.{stands_at, distinct_at, block_at}
 use Rattle.sq_patch.proofs.Placing.{C as placing, block_stays, block_goes, all_stay, items_stay, bodies_stay, placed_sound}
 use Rattle.sq_patch.proofs.Ending.{all_of, one_slot, term_turn}
-use Rattle.sq_patch.proofs.Replacing.{own_items, known, holds, C as replacing, place, out, behind, replaced_sound}
+use Rattle.sq_patch.proofs.Replacing.{own_items, C as replacing, place, out, behind, replaced_sound}
 use Rattle.sq_patch.proofs.Calls.{items_dead, behind_items, is_other}
 use Rattle.sq_patch.proofs.Used.{contains_first, contains_later, flat_contains, from_slice, from_all, slice_there, item_called, block_item}
 
@@ -118,7 +118,7 @@ one_item [] at item e = absurd (cc)
 one_item (x ∷ items) zero item e = ap (λ y. y ∷ []) (same_some x item e)
 one_item (x ∷ items) (suc at) item e = one_item items at item e
 
-item_within : (items : List Item) (at : ℕ) (item : Item) → slice_get items at ≡ Some item → at + 1 ≤ length items
+pub item_within : (items : List Item) (at : ℕ) (item : Item) → slice_get items at ≡ Some item → at + 1 ≤ length items
 item_within [] at item e = absurd (cc)
 item_within (x ∷ items) zero item e = omega arith
 item_within (x ∷ items) (suc at) item e = let l = item_within items at item e in omega (arith, l)
@@ -147,16 +147,16 @@ module _ (g : Graph) (block at rd to : ℕ) (rules : IsGraph g) (there : slice_g
   dh = replaced g block at 1 []
 
   abbrev DC : Change
-  DC = replacing (live g) (Unit {0}) g dh rules refl refl
+  DC = replacing NoMode no_stands (live g) (Unit {0}) g dh rules refl refl
 
   abbrev dspot : IsAt g.blocks block
-  dspot = place (live g) (Unit {0}) g (live_carrier g) rules block at 1 [] drop_there
+  dspot = place NoMode no_stands (live g) (Unit {0}) g (live_carrier g) rules block at 1 [] drop_there
 
   abbrev dlater : List Line
-  dlater = behind (live g) (Unit {0}) g (live_carrier g) rules block at 1 [] drop_there
+  dlater = behind NoMode no_stands (live g) (Unit {0}) g (live_carrier g) rules block at 1 [] drop_there
 
   abbrev dbefore : List Item
-  dbefore = out (live g) (Unit {0}) g (live_carrier g) rules block at 1 [] drop_there
+  dbefore = out NoMode no_stands (live g) (Unit {0}) g (live_carrier g) rules block at 1 [] drop_there
 
   hi_there : slice_get dspot.block.items at ≡ Some (Hi rd to)
   hi_there = subst (λ items. slice_get items at ≡ Some (Hi rd to)) (items_at g rules block dspot) there
@@ -171,7 +171,7 @@ module _ (g : Graph) (block at rd to : ℕ) (rules : IsGraph g) (there : slice_g
 
   pub drop_sound : IsSound g → IsSound dh
   drop_sound sound =
-      replaced_sound (live g) (Unit {0}) g (live_carrier g) rules block at 1 [] drop_there drops (λ m c. absurd (let l : c.0 < 0 = c.1 in omega arith)) (λ backs k die die'. die') (λ xs r l. l) tt sound
+      replaced_sound NoMode no_stands (live g) (Unit {0}) g (live_carrier g) rules block at 1 [] drop_there drops (λ m c. absurd (let l : c.0 < 0 = c.1 in omega arith)) (λ backs k die die'. die') (λ xs r l. l) tt sound
 
 -- a register that is dead behind a return is dead at it
 return_dead : (g : Graph) (link r : ℕ) (rest : List Line) → ¬ IsLive g r rest → ¬ IsLive g r (Return link ∷ rest)
@@ -204,16 +204,16 @@ module _ (g : Graph) (block at q : ℕ) (rules : IsGraph g) (there : slice_get (
   ih = inlined g block at
 
   abbrev IC : Change
-  IC = replacing (live g) (IsSound g) g ih rules refl refl
+  IC = replacing NoMode no_stands (live g) (IsSound g) g ih rules refl refl
 
   abbrev ispot : IsAt g.blocks block
-  ispot = place (live g) (IsSound g) g (live_carrier g) rules block at 1 by inline_there
+  ispot = place NoMode no_stands (live g) (IsSound g) g (live_carrier g) rules block at 1 by inline_there
 
   abbrev ilater : List Line
-  ilater = behind (live g) (IsSound g) g (live_carrier g) rules block at 1 by inline_there
+  ilater = behind NoMode no_stands (live g) (IsSound g) g (live_carrier g) rules block at 1 by inline_there
 
   abbrev ibefore : List Item
-  ibefore = out (live g) (IsSound g) g (live_carrier g) rules block at 1 by inline_there
+  ibefore = out NoMode no_stands (live g) (IsSound g) g (live_carrier g) rules block at 1 by inline_there
 
   out_there : slice_get ispot.block.items at ≡ Some (Out q)
   out_there = subst (λ items. slice_get items at ≡ Some (Out q)) (items_at g rules block ispot) there
@@ -248,7 +248,7 @@ module _ (g : Graph) (block at q : ℕ) (rules : IsGraph g) (there : slice_get (
 
   inlines : (b : Bool) → Alike IC b None ilater ilater → Alike IC b None (map line_of ibefore ++ ilater) (map line_of by ++ ilater)
   inlines b k =
-      let each = bodies_stay every (live g) (IsSound g) g ih rules (known (live g) (IsSound g) g ih rules refl refl) refl refl (holds (live g) (IsSound g) g ih rules refl refl) p here in
+      let each = bodies_stay every (live g) (IsSound g) g ih rules (λ n c. tt) refl refl (λ n c. tt) p here in
       let inner : Alike IC b None (inside p ilater) (map line_of p.body ++ ilater) =
       subst (λ items. Alike IC b None (inside p ilater) (map line_of items ++ ilater)) (own_items p.body) (carry_items IC own p.body (Return p.link ∷ ilater) ilater each (return_before k)) in
       subst (λ items. Alike IC b None (map line_of items ++ ilater) (map line_of by ++ ilater)) (sym (one_item ispot.block.items at (Out q) out_there))
@@ -265,7 +265,7 @@ module _ (g : Graph) (block at q : ℕ) (rules : IsGraph g) (there : slice_get (
 
   pub inline_sound : IsSound g → IsSound ih
   inline_sound sound =
-      replaced_sound (live g) (IsSound g) g (live_carrier g) rules block at 1 by inline_there inlines
+      replaced_sound NoMode no_stands (live g) (IsSound g) g (live_carrier g) rules block at 1 by inline_there inlines
       (λ m c. procedure_target g p m here (subst (λ items. Contains (flat_map lower_names items) m) by_is c))
       (λ backs k die die'. subst (λ (items : List Item). LinksDieIn ih (map line_of items ++ ilater)) (sym by_is) (body_dies p.body ilater calls_none die'))
       (λ xs r l. l) sound sound

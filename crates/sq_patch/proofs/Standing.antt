@@ -33,7 +33,7 @@ own_calls (Out q ∷ items) = ap (λ is. Out q ∷ is) (own_calls items)
 pub own_called_block : (b : Block) → recalled_block own b ≡ b
 own_called_block b = ap (λ (is : List Item). record b { items = is }) (own_calls b.items)
 
-own_called_procedure : (p : Procedure) → recalled_procedure own p ≡ p
+pub own_called_procedure : (p : Procedure) → recalled_procedure own p ≡ p
 own_called_procedure p = ap (λ (is : List Item). record p { body = is }) (own_calls p.body)
 
 -- a block of a graph, by its place

@@ -1,6 +1,7 @@
 -- Items of a block that become a call of a procedure.
-use Rattle.std.specs.Prelude.{◌≡◌, ℕ, ◌+◌, ◌≤◌, length, [], ◌∷◌, Some}
+use Rattle.std.specs.Prelude.{◌≡◌, ℕ, ◌+◌, ◌≤◌, length, List, [], ◌∷◌, Some}
 use Rattle.std.specs.List.{slice_range}
+use Rattle.sq_graph.specs.declared.item.Item.{Item}
 use Rattle.sq_graph.specs.declared.item.Item.TheVariants.{Out}
 use Rattle.sq_graph.specs.Graph.{Graph}
 use Rattle.sq_graph.specs.Blocks.{HasBlock, HasProcedure, items_of, body_of, link_of}
@@ -10,6 +11,7 @@ use Rattle.sq_graph.specs.Lines.{place_lines}
 use Rattle.sq_graph.specs.Walks.{IsLive}
 use Rattle.sq_graph.specs.Soundness.{IsSound}
 use Rattle.sq_follow.specs.Follows.{Follows}
+use Rattle.sq_patch.specs.Matches.{Match, PairsDie}
 
 -- where the items end that stand in a block from `at` on and are as many as the procedure's body has
 abbrev pub call_end : Graph → ℕ → ℕ → ℕ
@@ -33,3 +35,23 @@ CallFollows = (g : Graph) (block at procedure : ℕ) → IsGraph g → IsCallabl
 
 abbrev pub CallIsSound : Type 0
 CallIsSound = (g : Graph) (block at procedure : ℕ) → IsGraph g → IsCallable g block at procedure → IsSound g → IsSound (called_there g block at procedure)
+
+-- the items that become the call
+abbrev pub call_items : Graph → ℕ → ℕ → ℕ → List Item
+call_items g block at procedure = slice_range (items_of g block) at (call_end g at procedure)
+
+-- These items match the procedure's body. Behind them its link is dead, and so are registers that are a pair of two.
+pub record IsMatching (g : Graph) (block at procedure : ℕ) : Type 0 where
+  pub block_there : HasBlock g block
+  pub procedure_there : HasProcedure g procedure
+  pub within : call_end g at procedure ≤ length (items_of g block)
+  pub match : Match (call_items g block at procedure) (body_of g procedure)
+  pub pairs_die : PairsDie (call_items g block at procedure) (body_of g procedure) (λ r. IsLive g r (place_lines g block (call_end g at procedure)))
+  pub link_dies : (link : ℕ) → link_of g procedure ≡ Some link → ¬ IsLive g link (place_lines g block (call_end g at procedure))
+
+-- A graph with a call in place of such items follows it, and is sound where it is.
+abbrev pub MatchFollows : Type 0
+MatchFollows = (g : Graph) (block at procedure : ℕ) → IsGraph g → IsMatching g block at procedure → Follows g (called_there g block at procedure)
+
+abbrev pub MatchIsSound : Type 0
+MatchIsSound = (g : Graph) (block at procedure : ℕ) → IsGraph g → IsMatching g block at procedure → IsSound g → IsSound (called_there g block at procedure)

@@ -4,7 +4,7 @@ use Rattle.std.specs.List.{Contains}
 use Rattle.sq_isa.specs.Branches.{inverse_of}
 use Rattle.sq_isa.specs.declared.instructions.Cond.{Cond}
 use Rattle.sq_graph.specs.declared.item.Term.{Term}
-use Rattle.sq_graph.specs.declared.item.Term.TheVariants.{Branch}
+use Rattle.sq_graph.specs.declared.item.Term.TheVariants.{Jump, Branch}
 use Rattle.sq_graph.specs.Graph.{Graph}
 use Rattle.sq_graph.specs.Blocks.{next_of, term_of}
 use Rattle.sq_graph.specs.Terms.{goes_on}
@@ -42,7 +42,6 @@ pub record IsJumpedOver (g : Graph) (block : ℕ) (cond : Cond) (a b over behind
   pub next : next_of g block ≡ Some over
   pub slot : next_of g over ≡ Some behind
   pub jump : jump_from g over ≡ Some to
-  pub other : to ≢ over
   pub unused : ¬ Contains (uses g) over
 
 -- The Branch is inverted, to the target of the Jump, and the Jump goes.
@@ -57,3 +56,23 @@ InvertFollows =
 abbrev pub InvertIsSound : Type 0
 InvertIsSound =
     (g : Graph) (block : ℕ) (cond : Cond) (a b over behind to : ℕ) → IsGraph g → IsJumpedOver g block cond a b over behind to → IsSound g → IsSound (inverted_over g block cond a b over to)
+
+-- A Branch over the next slot, which is a lone Jump block that nothing names.
+pub record IsOverJump (g : Graph) (block : ℕ) (cond : Cond) (a b over away to : ℕ) : Type 0 where
+  pub branch : term_of g block ≡ Some (Branch cond a b away)
+  pub next : next_of g block ≡ Some over
+  pub jump : jump_from g over ≡ Some to
+  pub unnamed : ¬ Contains (uses g) over
+
+-- The two exchange their targets, and the Branch is inverted.
+abbrev pub exchanged : Graph → ℕ → Cond → ℕ → ℕ → ℕ → ℕ → ℕ → Graph
+exchanged g block cond a b over away to = with_term (with_term g block (Branch (inverse_of cond) a b to)) over (Jump away)
+
+-- A graph in which the two exchanged their targets follows it, and is sound where it is.
+abbrev pub ExchangeFollows : Type 0
+ExchangeFollows =
+    (g : Graph) (block : ℕ) (cond : Cond) (a b over away to : ℕ) → IsGraph g → IsOverJump g block cond a b over away to → Follows g (exchanged g block cond a b over away to)
+
+abbrev pub ExchangeIsSound : Type 0
+ExchangeIsSound =
+    (g : Graph) (block : ℕ) (cond : Cond) (a b over away to : ℕ) → IsGraph g → IsOverJump g block cond a b over away to → IsSound g → IsSound (exchanged g block cond a b over away to)

@@ -1,5 +1,6 @@
 -- Operations on graphs that keep runs.
 use Rattle.std.specs.Prelude.{◌≡◌, ℕ, zero, suc, ◌+◌, [], Some, slice_get}
+use Rattle.std.specs.List.{slice_range}
 use Rattle.sq_graph.specs.declared.item.Item.TheVariants.{Hi, Out}
 use Rattle.sq_graph.specs.declared.item.Term.{Term}
 use Rattle.sq_graph.specs.declared.item.Term.TheVariants.{Fall, Jump, Call, PartJump}
@@ -11,7 +12,7 @@ use Rattle.sq_graph.specs.Renames.{renamed}
 use Rattle.sq_graph.specs.Canonical.{canonical_of}
 use Rattle.sq_graph.specs.Lines.{place_lines}
 use Rattle.sq_graph.specs.Walks.{IsLive}
-use Rattle.sq_graph.specs.Soundness.{IsSound}
+use Rattle.sq_graph.specs.Soundness.{IsSoundBody, IsSound}
 use Rattle.sq_follow.specs.Follows.{Follows}
 
 -- A graph with one block split follows it, and is sound where it is.
@@ -67,6 +68,10 @@ abbrev pub RenameFollows : Type 0
 RenameFollows =
     (g : Graph) (f : ℕ → ℕ) → IsGraph g → ((m n : ℕ) → HasBlock g m → HasBlock g n → f m ≡ f n → m ≡ n) → Follows g (renamed f g)
 
--- A graph with a body of its own items as one more procedure follows it.
+-- A graph with a body of its own items as one more procedure follows it, and is sound where it and the body are.
 abbrev pub OutlineFollows : Type 0
 OutlineFollows = (g : Graph) (block at length link : ℕ) → IsGraph g → Follows g (outlined g block at length link)
+
+abbrev pub OutlineIsSound : Type 0
+OutlineIsSound =
+    (g : Graph) (block at length link : ℕ) → IsGraph g → IsSoundBody (record { link = link; body = slice_range (items_of g block) at (at + length) }) → IsSound g → IsSound (outlined g block at length link)

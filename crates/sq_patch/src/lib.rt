@@ -2,18 +2,19 @@
 //!
 //! To the layers above it promises that two runs of one graph which agree on memory and on the registers
 //! that are live go on to agree: what is dead may differ, and what the first run has lost may be anything; and
-//! that eight operations on graphs keep runs: a split, a Jump to the next slot that becomes Fall, a dead upper
-//! half that goes, a jump by an upper half that becomes a Call or a Jump, a body in place of its call, the
-//! canonical form, other names of blocks, and one more procedure.
+//! that the operations of which rewrites are made keep runs, and sound graphs sound: splits, shorter terms, blocks
+//! and procedures that go, equal ends that become one, items that become calls and calls that become items, other
+//! names, other orders, and the canonical form. It says how many words they save.
 #![tactic(auto)]
 
 ghost use Rattle.sq_patch.specs.LiveAgreement.{StepsAgree, PlacesMakeTargets};
 ghost use Rattle.sq_patch.specs.Restrictions.{RestrictFollows, RestrictIsSound, ReachedAreClosed};
-ghost use Rattle.sq_patch.specs.LoneJumps.{JumpGoesFollows, JumpGoesIsSound, InvertFollows, InvertIsSound};
-ghost use Rattle.sq_patch.specs.Operations.{SplitFollows, SplitIsSound, FallFollows, FallIsSound, DropFollows, DropIsSound, HastenFollows, HastenIsSound, InlineFollows, InlineIsSound, CanonicalFollows, CanonicalIsSound, RenameFollows, OutlineFollows};
-ghost use Rattle.sq_patch.specs.Calls.{CallFollows, CallIsSound};
+ghost use Rattle.sq_patch.specs.LoneJumps.{JumpGoesFollows, JumpGoesIsSound, InvertFollows, InvertIsSound, ExchangeFollows, ExchangeIsSound};
+ghost use Rattle.sq_patch.specs.Operations.{SplitFollows, SplitIsSound, FallFollows, FallIsSound, DropFollows, DropIsSound, HastenFollows, HastenIsSound, InlineFollows, InlineIsSound, CanonicalFollows, CanonicalIsSound, RenameFollows, OutlineFollows, OutlineIsSound};
+ghost use Rattle.sq_patch.specs.Calls.{CallFollows, CallIsSound, MatchFollows, MatchIsSound};
 ghost use Rattle.sq_patch.specs.Merges.{MergeFollows, MergeIsSound};
 ghost use Rattle.sq_patch.specs.Recalls.{RecallFollows, RecallIsSound, UncalledGoesFollows, UncalledGoesIsSound};
+ghost use Rattle.sq_patch.specs.Savings.{SaveWords};
 ghost use Rattle.sq_patch.specs.Inserts.{InsertFollows, InsertIsSound, ReorderFollows, ReorderIsSound};
 
 /// From states that agree on what is live, a graph steps to such states again, with the same event or to the
@@ -108,6 +109,16 @@ pub fn invert_keeps_soundness()
     ensures { InvertIsSound }
 {}
 
+/// A graph in which a Branch and the lone Jump behind it exchanged their targets, the Branch inverted, follows it.
+pub fn exchange_keeps_runs()
+    ensures { ExchangeFollows }
+{}
+
+/// A graph in which a Branch and the lone Jump behind it exchanged their targets is sound where the graph is.
+pub fn exchange_keeps_soundness()
+    ensures { ExchangeIsSound }
+{}
+
 /// A graph with a call in place of the items of a procedure's body, whose link is dead behind them, follows it.
 pub fn call_keeps_runs()
     ensures { CallFollows }
@@ -191,4 +202,25 @@ pub fn reorder_keeps_runs()
 /// A graph with its blocks in such an order is sound where the graph is.
 pub fn reorder_keeps_soundness()
     ensures { ReorderIsSound }
+{}
+
+/// A graph with a call in place of items that match a procedure's body follows it, where the procedure's link and the
+/// pairs of two registers are dead behind them.
+pub fn match_keeps_runs()
+    ensures { MatchFollows }
+{}
+
+/// A graph with a call in place of items that match a procedure's body is sound where the graph is.
+pub fn match_keeps_soundness()
+    ensures { MatchIsSound }
+{}
+
+/// A graph with a body of its own items as one more procedure is sound where the graph and the body are.
+pub fn outline_keeps_soundness()
+    ensures { OutlineIsSound }
+{}
+
+/// How many words each of these operations saves.
+pub fn operations_save_words()
+    ensures { SaveWords }
 {}

@@ -1,0 +1,241 @@
+-- Items that match others go on like them, with the registers of the pairs.
+use Rattle.std.proofs.Common.{◌≡◌, ◌≢◌, ℕ, zero, suc, Bool, true, false, not, ◌&&◌, ◌||◌, ◌==◌, ◌⊎◌, List, [], ◌∷◌, ◌++◌, Option, Some, None, length, map, pos, refl, sym, ap, ◌∙◌, subst, inl, inr, ⊎_elim}
+use Rattle.std.proofs.lemmas.Bool.{cases_eq, eq-eqb, ne_eqb, or_left, or_right}
+use Rattle.std.specs.List.{Contains}
+use Rattle.sq_isa.specs.Forms.{first_of, second_of}
+use Rattle.sq_isa.specs.Registers.{is_among, is_among_but_x0}
+use Rattle.sq_isa.specs.Uses.{sources_of, destination_of, is_read, is_written}
+use Rattle.sq_isa.specs.declared.instructions.Insn.{Insn}
+use Rattle.sq_isa.specs.declared.instructions.Insn.TheVariants.{Lui, Auipc, Jal, Jalr, Branch, Load, Store, OpImm, Op as Reg, Fence, Ecall, Ebreak, Unimp, Atomic}
+use Rattle.sq_isa.specs.declared.instructions.ImmOp.TheVariants.{Addi}
+use Rattle.sq_graph.specs.declared.item.Item.{Item}
+use Rattle.sq_graph.specs.declared.item.Item.TheVariants.{Op, Hi, Lo, Out}
+use Rattle.sq_graph.specs.Graph.{Graph}
+use Rattle.sq_graph.specs.Lines.{AddressHalf, Plain, Upper, Lower, Line, Do, line_of}
+use Rattle.sq_graph.specs.Walks.{is_register}
+use Rattle.sq_patch.specs.Registers.{with_registers, IsSource, AreSources}
+use Rattle.sq_patch.specs.Changes.{Change, Alike, IsNamedHalf, both_do, guarded}
+use Rattle.sq_patch.specs.Matches.{registers_of, item_reads, item_writes, IsSameInsn, IsSameForm, AreSameForms, IsPairIn, IsPair, IsWrittenFirst, Match, PairsDie}
+use Rattle.sq_patch.proofs.Carrying.{AreOf, ItemGoes, later_items}
+use Rattle.sq_patch.proofs.Restricting.{own}
+use Rattle.sq_patch.proofs.Relating.{relating}
+use Rattle.sq_patch.proofs.Used.{contains_first}
+
+-- where items stand for others: the registers written so far, and the link that is lost
+pub record Matched : Type 0 where
+  pub items : List Item
+  pub others : List Item
+  pub link : ℕ
+  pub written : List ℕ
+
+abbrev pub wrote : List ℕ → ℕ → Bool
+wrote [] r = false
+wrote (d ∷ ds) r = is_register d r || wrote ds r
+
+-- r of the first stands for s of the second
+pub record StandsMatched (m : Matched) (r s : ℕ) : Type 0 where
+  pub link : is_register m.link s ≡ false
+  pub there : (t : ℕ) → IsPair m.items m.others r t → t ≡ s
+  pub back : (q : ℕ) → IsPair m.items m.others q s → q ≡ r
+  pub known : (s ≡ r) ⊎ (wrote m.written r ≡ true)
+
+-- a register is itself, but for x0
+none_left : (t : Bool) → (t && (false || false)) ≡ false
+none_left true = refl
+none_left false = refl
+
+not_register : (d r : ℕ) → d ≢ r → is_register d r ≡ false
+not_register d r e = let t : (d == r) ≡ false = ne_eqb d r e in rw t (none_left (not (r == 0)))
+
+is_itself : (r : ℕ) → is_register (suc r) (suc r) ≡ true
+is_itself r =
+    let same : (suc r == suc r) ≡ true = eq-eqb (suc r) (suc r) refl in
+    let other : (suc r == 0) ≡ false = ne_eqb (suc r) 0 (λ e. absurd (cc)) in rw (same, other) refl
+
+zero_register : (r : ℕ) → is_register 0 r ≡ false
+zero_register zero = refl
+zero_register (suc r) = not_register 0 (suc r) (λ e. absurd (cc))
+
+-- both are the destination, or neither is
+written_same : (d e r s : ℕ) → (d ≡ 0 → e ≡ 0) → (e ≡ 0 → d ≡ 0) → (s ≡ e → r ≡ d) → (r ≡ d → s ≡ e) → is_register e s ≡ is_register d r
+written_same zero zero r s z y h k = zero_register s ∙ sym (zero_register r)
+written_same zero (suc e) r s z y h k = absurd (let i = z refl in cc)
+written_same (suc d) zero r s z y h k = absurd (let i = y refl in cc)
+written_same (suc d) (suc e) r s z y h k =
+    ⊎_elim
+    (λ i. subst (λ q. is_register (suc e) q ≡ is_register (suc d) r) (sym i) (subst (λ q. is_register (suc e) (suc e) ≡ is_register (suc d) q) (sym (h i)) (is_itself e ∙ sym (is_itself d))))
+    (λ ne. not_register (suc e) s (λ i. ne (sym i)) ∙ sym (not_register (suc d) r (λ i. ne (k (sym i)))))
+    (cases_eq s (suc e))
+
+-- an instruction with other registers has as many sources
+same_count : (d x y : ℕ) (insn : Insn) → length (sources_of (with_registers d x y insn)) ≡ length (sources_of insn)
+same_count d x y (Lui rd upper) = refl
+same_count d x y (Auipc rd upper) = refl
+same_count d x y (Jal rd offset) = refl
+same_count d x y (Jalr rd rs offset) = refl
+same_count d x y (Branch c a b offset) = refl
+same_count d x y (Load kind rd rs offset) = refl
+same_count d x y (Store kind rs src offset) = refl
+same_count d x y (OpImm op rd rs imm) = refl
+same_count d x y (Reg op rd a b) = refl
+same_count d x y (Fence word) = refl
+same_count d x y Ecall = refl
+same_count d x y Ebreak = refl
+same_count d x y (Unimp word) = refl
+same_count d x y (Atomic op order rd rs src) = refl
+
+are_sources : (P : ℕ → ℕ → Type 0) (xs ys : List ℕ) → length ys ≡ length xs → ((r s : ℕ) → IsPairIn xs ys r s → IsSource P r s) → AreSources P xs ys
+are_sources P [] [] n h = tt
+are_sources P [] (y ∷ ys) n h = absurd (cc)
+are_sources P (x ∷ xs) [] n h = absurd (cc)
+are_sources P (x ∷ xs) (y ∷ ys) n h = (h x y (inl (refl, refl)), are_sources P xs ys (let m : length ys ≡ length xs = cc in m) (λ r s p. h r s (inr p)))
+
+-- a source is read
+among : (xs ys : List ℕ) (r s : ℕ) → IsPairIn xs ys r s → is_among xs r ≡ true
+among [] ys r s p = absurd p
+among (x ∷ xs) [] r s p = absurd p
+among (x ∷ xs) (y ∷ ys) r s (inl e) = or_left (x == r) (is_among xs r) (eq-eqb x r (sym e.0))
+among (x ∷ xs) (y ∷ ys) r s (inr p) = or_right (x == r) (is_among xs r) (among xs ys r s p)
+
+-- and its counterpart is among the others
+among_seconds : (xs ys : List ℕ) (r s : ℕ) → IsPairIn xs ys r s → is_among ys s ≡ true
+among_seconds [] ys r s p = absurd p
+among_seconds (x ∷ xs) [] r s p = absurd p
+among_seconds (x ∷ xs) (y ∷ ys) r s (inl e) = or_left (y == s) (is_among ys s) (eq-eqb y s (sym e.1))
+among_seconds (x ∷ xs) (y ∷ ys) r s (inr p) = or_right (y == s) (is_among ys s) (among_seconds xs ys r s p)
+
+pub among_others : (xs ys : List ℕ) (r s : ℕ) → IsPairIn xs ys r s → s ≢ 0 → is_among_but_x0 ys s ≡ true
+among_others xs ys r s p nz = let e = among_seconds xs ys r s p in let n : (s == 0) ≡ false = ne_eqb s 0 nz in rw (n, e) refl
+
+read_at : (xs ys : List ℕ) (r s : ℕ) → IsPairIn xs ys r s → r ≢ 0 → is_among_but_x0 xs r ≡ true
+read_at xs ys r s p nz = let e = among xs ys r s p in let n : (r == 0) ≡ false = ne_eqb r 0 nz in rw (n, e) refl
+
+none_read : (t : Bool) → (t && false) ≡ true → ⊥
+none_read true e = cc
+none_read false e = cc
+
+-- the destination of an item
+abbrev pub item_dest : Item → ℕ
+item_dest (Op insn) = destination_of insn
+item_dest (Hi rd to) = rd
+item_dest (Lo rd rs to) = rd
+item_dest (Out procedure) = 0
+
+writes_dest : (item : Item) (r : ℕ) → item_writes item r ≡ true → is_register (item_dest item) r ≡ true
+writes_dest (Op insn) r e = e
+writes_dest (Hi rd to) r e = e
+writes_dest (Lo rd rs to) r e = e
+writes_dest (Out procedure) r e = absurd (cc)
+
+module _ (MayHold MayGo : ℕ → ℕ → Type 0) (X : List Line → ℕ → Type 0) (Z : Type 0) (g h : Graph) (a b : List Item) (link : ℕ) (match : Match a b) (free : (r s : ℕ) → IsPair a b r s → is_register link s ≡ false) where
+  abbrev C : Change
+  C = relating Matched StandsMatched MayHold MayGo X Z g h
+
+  abbrev pub at : List ℕ → Matched
+  at ws = record { items = a; others = b; link = link; written = ws }
+
+  -- of two different registers that are a pair the first is written already, or will be before it is read
+  abbrev Ready : List ℕ → List Item → Type 0
+  Ready ws items = (r s : ℕ) → IsPair a b r s → s ≢ r → (wrote ws r ≡ true) ⊎ IsWrittenFirst r items
+
+  abbrev Known : List ℕ → ℕ → ℕ → Type 0
+  Known ws r s = (s ≡ r) ⊎ (wrote ws r ≡ true)
+
+  source : (ws : List ℕ) (r s : ℕ) → IsPair a b r s → (r ≢ 0 → Known ws r s) → IsSource (StandsMatched (at ws)) r s
+  source ws zero zero p k = tt
+  source ws zero (suc s) p k = absurd (let i = match.zero_there (suc s) p in cc)
+  source ws (suc r) zero p k = absurd (let i = match.zero_back (suc r) p in cc)
+  source ws (suc r) (suc s) p k = record {
+    link = free (suc r) (suc s) p;
+    there = λ t q. match.there (suc r) t (suc s) q p;
+    back = λ q t. match.back q (suc r) (suc s) t p;
+    known = k (λ e. absurd (cc));
+  }
+
+  known_after : (d : ℕ) (ws : List ℕ) (r s : ℕ) → is_register d r ≡ false → Known (d ∷ ws) r s → Known ws r s
+  known_after d ws r s e (inl i) = inl i
+  known_after d ws r s e (inr w) = inr (either (is_register d r) (wrote ws r) e w)
+    where
+      either : (t u : Bool) → t ≡ false → (t || u) ≡ true → u ≡ true
+      either true u e w = absurd (cc)
+      either false u e w = w
+
+  ready_next : (ws : List ℕ) (i : Item) (is : List Item) → Ready ws (i ∷ is) → Ready (item_dest i ∷ ws) is
+  ready_next ws i is rd r s p ne =
+      ⊎_elim
+      (λ w. inl (or_right (is_register (item_dest i) r) (wrote ws r) w))
+      (λ f. ⊎_elim (λ w. inl (or_left (is_register (item_dest i) r) (wrote ws r) (writes_dest i r w))) (λ l. inr l) f.1)
+      (rd r s p ne)
+
+  -- what a register that is read here stands for
+  known_read : (ws : List ℕ) (i : Item) (is : List Item) (r s : ℕ) → Ready ws (i ∷ is) → IsPair a b r s → item_reads i r ≡ true → Known ws r s
+  known_read ws i is r s rd p e =
+      ⊎_elim (λ same. inl same) (λ ne. ⊎_elim (λ w. inr w) (λ f. absurd (let n : item_reads i r ≡ false = f.0 in cc)) (rd r s p ne)) (cases_eq s r)
+
+  match_do : (f : Bool) (half half' : AddressHalf) (i j : Insn) (ws : List ℕ) (xs ys : List Line) → IsNamedHalf C half half' i → IsSameInsn i j → ((r s : ℕ) → IsPairIn (destination_of i ∷ sources_of i) (destination_of j ∷ sources_of j) r s → IsPair a b r s) → ((r s : ℕ) → IsPair a b r s → is_read i r ≡ true → Known ws r s) → Alike C true (Some (at (destination_of i ∷ ws))) xs ys → Alike C f (Some (at ws)) (Do half i ∷ xs) (Do half' j ∷ ys)
+  match_do f half half' i j ws xs ys named same sub known p =
+      let P : ℕ → ℕ → Type 0 = StandsMatched (at ws) in
+      let d = sub (destination_of i) (destination_of j) (inl (refl, refl)) in
+      let count : length (sources_of j) ≡ length (sources_of i) = ap (λ o. length (sources_of o)) same ∙ same_count (destination_of j) (first_of j) (second_of j) i in
+      let sources : AreSources P (sources_of i) (sources_of j) =
+      are_sources P (sources_of i) (sources_of j) count (λ r s q. source ws r s (sub r s (inr q)) (λ nz. known r s (sub r s (inr q)) (read_at (sources_of i) (sources_of j) r s q nz))) in
+      let made : Alike C f (Some (at ws)) (Do half i ∷ xs) (Do half' (with_registers (destination_of j) (first_of j) (second_of j) i) ∷ ys) =
+      both_do {m = Some (at ws)} {m' = Some (at (destination_of i ∷ ws))} i (destination_of j) (first_of j) (second_of j) named
+      (subst (λ o. AreSources P (sources_of i) (sources_of o)) same sources)
+      (λ r s x n. (
+        subst (λ o. is_register (destination_of o) s ≡ is_register (destination_of i) r) same
+            (written_same (destination_of i) (destination_of j) r s
+            (λ z. match.zero_there (destination_of j) (subst (λ y. IsPair a b y (destination_of j)) z d))
+            (λ z. match.zero_back (destination_of i) (subst (λ y. IsPair a b (destination_of i) y) z d))
+            (λ z. sym (n.back (destination_of i) (subst (λ y. IsPair a b (destination_of i) y) (sym z) d)))
+            (λ z. sym (n.there (destination_of j) (subst (λ y. IsPair a b y (destination_of j)) (sym z) d)))),
+        λ e. record { link = n.link; there = n.there; back = n.back; known = known_after (destination_of i) ws r s e n.known },
+      )) p in
+      subst (λ o. Alike C f (Some (at ws)) (Do half i ∷ xs) (Do half' o ∷ ys)) (sym same) made
+
+  match_item : (f : Bool) (i j : Item) (is js : List Item) (ws : List ℕ) (xs ys : List Line) → IsSameForm i j → ItemGoes C own i → ((r s : ℕ) → IsPair (i ∷ is) (j ∷ js) r s → IsPair a b r s) → Ready ws (i ∷ is) → Alike C true (Some (at (item_dest i ∷ ws))) xs ys → Alike C f (Some (at ws)) (line_of i ∷ xs) (line_of j ∷ ys)
+  match_item f (Op i) (Op j) is js ws xs ys same goes sub rd p =
+      match_do f Plain Plain i j ws xs ys tt same (λ r s q. sub r s (inl q)) (λ r s q e. known_read ws (Op i) is r s rd q e) p
+  match_item f (Hi d to) (Hi d' to') is js ws xs ys same goes sub rd p =
+      match_do f (Upper to None) (Upper to' None) (Lui d 0) (Lui d' 0) ws xs ys same refl (λ r s q. sub r s (inl q)) (λ r s q e. absurd (none_read (not (r == 0)) e)) p
+  match_item f (Lo d o to) (Lo d' o' to') is js ws xs ys same goes sub rd p =
+      match_do f (Lower to) (Lower to') (OpImm Addi d o (pos 0)) (OpImm Addi d' o' (pos 0)) ws xs ys (same, subst (λ n. MayHold to n) (sym same) goes) refl (λ r s q. sub r s (inl q)) (λ r s q e. known_read ws (Lo d o to) is r s rd q e) p
+  match_item f (Op i) (Hi d' to') is js ws xs ys same goes sub rd p = absurd same
+  match_item f (Op i) (Lo d' o' to') is js ws xs ys same goes sub rd p = absurd same
+  match_item f (Op i) (Out q') is js ws xs ys same goes sub rd p = absurd same
+  match_item f (Hi d to) (Op j) is js ws xs ys same goes sub rd p = absurd same
+  match_item f (Hi d to) (Lo d' o' to') is js ws xs ys same goes sub rd p = absurd same
+  match_item f (Hi d to) (Out q') is js ws xs ys same goes sub rd p = absurd same
+  match_item f (Lo d o to) (Op j) is js ws xs ys same goes sub rd p = absurd same
+  match_item f (Lo d o to) (Hi d' to') is js ws xs ys same goes sub rd p = absurd same
+  match_item f (Lo d o to) (Out q') is js ws xs ys same goes sub rd p = absurd same
+  match_item f (Out q) j is js ws xs ys same goes sub rd p = absurd same
+
+  lift_in : {f : Bool} {m : Option Matched} {xs ys : List Line} → Alike C f m xs ys → Alike C true m xs ys
+  lift_in {f = true} p = p
+  lift_in {f = false} p = guarded p
+
+  match_items : (f : Bool) (is js : List Item) (ws : List ℕ) (xs ys : List Line) → AreSameForms is js → AreOf C own (ItemGoes C own) is → ((r s : ℕ) → IsPair is js r s → IsPair a b r s) → Ready ws is → ((ws : List ℕ) → Alike C f (Some (at ws)) xs ys) → Alike C f (Some (at ws)) (map line_of is ++ xs) (map line_of js ++ ys)
+  match_items f [] [] ws xs ys same each sub rd p = p ws
+  match_items f [] (j ∷ js) ws xs ys same each sub rd p = absurd same
+  match_items f (i ∷ is) [] ws xs ys same each sub rd p = absurd same
+  match_items f (i ∷ is) (j ∷ js) ws xs ys same each sub rd p =
+      match_item f i j is js ws (map line_of is ++ xs) (map line_of js ++ ys) same.0 (each i (contains_first i is)) sub rd
+      (match_items true is js (item_dest i ∷ ws) xs ys same.1 (later_items C own (ItemGoes C own) i is each) (λ r s q. sub r s (inr q)) (ready_next ws i is rd) (λ ws. lift_in (p ws)))
+
+  -- the items go on like those that they match
+  pub matched : (f : Bool) (xs ys : List Line) → AreOf C own (ItemGoes C own) a → ((ws : List ℕ) → Alike C f (Some (at ws)) xs ys) → Alike C f (Some (at [])) (map line_of a ++ xs) (map line_of b ++ ys)
+  matched f xs ys each p = match_items f a b [] xs ys match.forms each (λ r s q. q) (λ r s q ne. inr (match.first r s q ne)) p
+
+  -- before them each register stands for itself
+  pub at_first : (r s : ℕ) → StandsMatched (at []) r s → s ≡ r
+  at_first r s n = ⊎_elim (λ e. e) (λ e. absurd (let w : false ≡ true = e in cc)) n.known
+
+  -- and behind them each that is live
+  pub at_last : (ws : List ℕ) (xs : List Line) → PairsDie a b (X xs) → ((r : ℕ) → X xs r → is_register link r ≡ false) → (r s : ℕ) → X xs r → s ≡ r → StandsMatched (at ws) r s
+  at_last ws xs dead lost r s x e = subst (λ s. StandsMatched (at ws) r s) (sym e) (record {
+    link = lost r x;
+    there = λ t q. ⊎_elim (λ i. i) (λ ne. absurd ((dead r t q ne).0 x)) (cases_eq t r);
+    back = λ q t. ⊎_elim (λ i. i) (λ ne. absurd ((dead q r t (λ i. ne (sym i))).1 x)) (cases_eq q r);
+    known = inl refl;
+  })
