@@ -23,7 +23,7 @@ use Rattle.sq_graph.specs.Rules.{IsGraph}
 use Rattle.sq_graph.specs.Renames.{retargeted_item, retargeted_items, retargeted_term, retargeted_words, retargeted_procedure, renamed_block, renamed}
 use Rattle.sq_graph.specs.Lines.{AddressHalf, Plain, Upper, Lower, Line, Name, Do, Enter, Return, End, line_of, term_lines, lines_of, inside, has_name, behind_name, block_lines}
 use Rattle.sq_graph.specs.Walks.{word_name, lower_names, link_names, first_name, code_targets, term_sources, term_link, is_register, is_link_of, line_reads, line_writes, TermGoes, Goes, IsLive, read_here, live_behind}
-use Rattle.sq_program.specs.Alike.{IsOneToOne}
+use Rattle.sq_graph.specs.Alike.{IsOneToOne}
 use Rattle.sq_program.specs.FilePrograms.{LinkDies}
 
 -- LISTS
