@@ -1,4 +1,4 @@
-use Rattle.std.proofs.Common.{◌≡◌, ℕ, pos, lit<, false, refl, sym, ap, subst, inl, [], ◌∷◌, slice_index, arith}
+use Rattle.std.proofs.Common.{◌≡◌, ℕ, pos, lit<, false, refl, sym, subst, inl, [], ◌∷◌, slice_index, arith}
 use Rattle.std.proofs.lemmas.Int.{ints}
 use Rattle.std.specs.List.{IsDistinct}
 use Rattle.std.proofs.lemmas.List.Elements.{All-nil, All-cons}
