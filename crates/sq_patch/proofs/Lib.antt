@@ -41,6 +41,7 @@ mod Recalling
 mod Inserting
 mod Reordering
 mod Saving
+mod Shortening
 mod Bypassing
 mod Joining
 pub mod Renaming

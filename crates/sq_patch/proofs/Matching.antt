@@ -47,12 +47,12 @@ none_left false = refl
 not_register : (d r : ℕ) → d ≢ r → is_register d r ≡ false
 not_register d r e = let t : (d == r) ≡ false = ne_eqb d r e in rw t (none_left (not (r == 0)))
 
-is_itself : (r : ℕ) → is_register (suc r) (suc r) ≡ true
+pub is_itself : (r : ℕ) → is_register (suc r) (suc r) ≡ true
 is_itself r =
     let same : (suc r == suc r) ≡ true = eq-eqb (suc r) (suc r) refl in
     let other : (suc r == 0) ≡ false = ne_eqb (suc r) 0 (λ e. absurd (cc)) in rw (same, other) refl
 
-zero_register : (r : ℕ) → is_register 0 r ≡ false
+pub zero_register : (r : ℕ) → is_register 0 r ≡ false
 zero_register zero = refl
 zero_register (suc r) = not_register 0 (suc r) (λ e. absurd (cc))
 

@@ -34,7 +34,7 @@ use Rattle.sq_patch.proofs.Carrying.{same_some, slot_same, AreOf, ItemGoes, carr
 use Rattle.sq_patch.proofs.Layouts.{Turn, carries_lines}
 use Rattle.sq_patch.proofs.Restricting.{own, block_target, procedure_target, slot_targets, target_from, flat_from}
 use Rattle.sq_patch.proofs.Standing.{stands_at, distinct_at, block_at}
-use Rattle.sq_patch.proofs.Placing.{C as placing, block_stays, block_goes, all_stay, items_stay, bodies_stay, placed_sound}
+use Rattle.sq_patch.proofs.Placing.{C as placing, block_stays, block_goes, all_stay, items_stay, bodies_stay, placed_sound, placed_live}
 use Rattle.sq_patch.proofs.Ending.{all_of, one_slot, term_turn}
 use Rattle.sq_patch.proofs.Replacing.{own_items, C as replacing, place, out, behind, replaced_sound}
 use Rattle.sq_patch.proofs.Calls.{items_dead, behind_items, is_other}
@@ -111,6 +111,14 @@ module _ (g : Graph) (block link part to : ℕ) (rules : IsGraph g) (jumps : ter
       (term_turn every all_matter (Unit {0}) g hh rules (λ m c. tt) refl refl (λ m c. tt) hat.block [] hat.back (hastened link to) (stands_at g rules hat.front hat.block hat.back hwhole) hended (λ m k. refl)
       (λ m l c. (m, (refl, (tt, slot_targets g hat.front hat.block hat.back hwhole (ap links jump_is ∙ as_linked link l) m c)))))
       hat.front hwhole (with_blocks-at (λ b. record b { term = hastened link to } ∷ []) g.blocks block hat) refl (every_carrier g) (λ xs r l. tt) tt sound
+
+  -- what is live at a name is so before
+  pub hasten_live : (r n : ℕ) → IsLive hh r (block_lines hh n) → IsLive g r (block_lines g n)
+  hasten_live r n live =
+      placed_live every all_matter (Unit {0}) g hh rules (λ m c. tt) refl refl (λ m c. tt) (hat.block ∷ []) (record hat.block { term = hastened link to } ∷ []) hat.back refl
+      (term_turn every all_matter (Unit {0}) g hh rules (λ m c. tt) refl refl (λ m c. tt) hat.block [] hat.back (hastened link to) (stands_at g rules hat.front hat.block hat.back hwhole) hended (λ m k. refl)
+      (λ m l c. (m, (refl, (tt, slot_targets g hat.front hat.block hat.back hwhole (ap links jump_is ∙ as_linked link l) m c)))))
+      hat.front hwhole (with_blocks-at (λ b. record b { term = hastened link to } ∷ []) g.blocks block hat) refl (every_carrier g) (λ xs r l. tt) tt r n tt live
 
 -- one item, and that it is there
 one_item : (items : List Item) (at : ℕ) (item : Item) → slice_get items at ≡ Some item → take 1 (drop at items) ≡ item ∷ []

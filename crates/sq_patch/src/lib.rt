@@ -10,7 +10,7 @@
 ghost use Rattle.sq_patch.specs.LiveAgreement.{StepsAgree, PlacesMakeTargets};
 ghost use Rattle.sq_patch.specs.Restrictions.{RestrictFollows, RestrictIsSound, ReachedAreClosed};
 ghost use Rattle.sq_patch.specs.LoneJumps.{JumpGoesFollows, JumpGoesIsSound, InvertFollows, InvertIsSound, ExchangeFollows, ExchangeIsSound};
-ghost use Rattle.sq_patch.specs.Operations.{SplitFollows, SplitIsSound, FallFollows, FallIsSound, DropFollows, DropIsSound, HastenFollows, HastenIsSound, InlineFollows, InlineIsSound, CanonicalFollows, CanonicalIsSound, RenameFollows, OutlineFollows, OutlineIsSound};
+ghost use Rattle.sq_patch.specs.Operations.{SplitFollows, SplitIsSound, FallFollows, FallIsSound, DropFollows, DropIsSound, HastenFollows, HastenIsSound, InlineFollows, InlineIsSound, CanonicalFollows, CanonicalIsSound, RenameFollows, OutlineFollows, OutlineIsSound, ShortenFollows, ShortenIsSound};
 ghost use Rattle.sq_patch.specs.Calls.{CallFollows, CallIsSound, MatchFollows, MatchIsSound};
 ghost use Rattle.sq_patch.specs.Merges.{MergeFollows, MergeIsSound};
 ghost use Rattle.sq_patch.specs.Recalls.{RecallFollows, RecallIsSound, UncalledGoesFollows, UncalledGoesIsSound};
@@ -72,6 +72,17 @@ pub fn rename_keeps_runs()
 /// A graph with items of one of its blocks as the body of one more procedure follows it.
 pub fn outline_keeps_runs()
     ensures { OutlineFollows }
+{}
+
+/// A graph in which a jump by an upper half became a Call or a Jump, and the upper half went, follows it, where its
+/// register is the link or dead at the target.
+pub fn shorten_keeps_runs()
+    ensures { ShortenFollows }
+{}
+
+/// A graph in which a jump by an upper half became a shorter one without it is sound where the graph is.
+pub fn shorten_keeps_soundness()
+    ensures { ShortenIsSound }
 {}
 
 /// A graph with the blocks of a closed set alone, and the procedures that these call, follows it.
