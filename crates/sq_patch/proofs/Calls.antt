@@ -27,7 +27,7 @@ use Rattle.sq_patch.proofs.Carrying.{same_some, carry_items, Backs}
 use Rattle.sq_patch.proofs.Restricting.{own}
 use Rattle.sq_patch.proofs.Standing.{distinct_at, block_at}
 use Rattle.sq_patch.proofs.Placing.{bodies_stay}
-use Rattle.sq_patch.proofs.Replacing.{own_items, C as replacing, place, x as block_there, out, behind, replaced_follows, replaced_sound}
+use Rattle.sq_patch.proofs.Replacing.{own_items, behind_items, C as replacing, place, x as block_there, out, behind, replaced_follows, replaced_sound}
 use Rattle.sq_patch.proofs.Used.{contains_first, contains_later, from_slice, slice_there, from_all}
 
 -- a register that none of these items mentions, which are no calls, isn't live before them where it is dead behind
@@ -53,12 +53,6 @@ items_dead g (Lo rd rs to ∷ items) r rest n m dead =
     do_dead g _ (OpImm _ rd rs _) r (map line_of items ++ rest) (m (Lo rd rs to) (contains_first (Lo rd rs to) items))
     (items_dead g items r rest (λ item c. n item (contains_later (Lo rd rs to) item items c)) (λ item c. m item (contains_later (Lo rd rs to) item items c)) dead)
 items_dead g (Out q ∷ items) r rest n m dead = absurd (let e : q ∷ [] ≡ [] = n (Out q) (contains_first (Out q) items) in cc)
-
--- what stands behind items of a block
-pub behind_items : (items : List Item) (n : ℕ) (rest : List Line) → n ≤ length items → drop n (map line_of items ++ rest) ≡ map line_of (drop n items) ++ rest
-behind_items items zero rest l = refl
-behind_items [] (suc n) rest l = absurd (omega arith)
-behind_items (item ∷ items) (suc n) rest l = behind_items items n rest (omega (arith, l))
 
 pub range_is : (items : List Item) (at n : ℕ) → slice_range items at (at + n) ≡ take n (drop at items)
 range_is items at n = ap (λ k. take k (drop at items)) (let e : (at + n) - at ≡ n = omega arith in e)

@@ -25,8 +25,8 @@ use Rattle.sq_patch.proofs.Carrying.{same_some, AreOf, ItemGoes, Backs}
 use Rattle.sq_patch.proofs.Restricting.{own}
 use Rattle.sq_patch.proofs.Standing.{stands_at, distinct_at, block_at}
 use Rattle.sq_patch.proofs.Relating.{items_stay}
-use Rattle.sq_patch.proofs.Replacing.{C as replacing, Hold, Go, may_hold, may_go, place, x as block_there, out, behind, replaced_follows, replaced_sound}
-use Rattle.sq_patch.proofs.Calls.{behind_items, range_is, is_other, not_both}
+use Rattle.sq_patch.proofs.Replacing.{behind_items, C as replacing, Hold, Go, may_hold, may_go, place, x as block_there, out, behind, replaced_follows, replaced_sound}
+use Rattle.sq_patch.proofs.Calls.{range_is, is_other, not_both}
 use Rattle.sq_patch.proofs.Matching.{Matched, StandsMatched, at as in_mode, matched, at_first, at_last, among_others}
 use Rattle.sq_patch.proofs.Used.{contains_first, contains_later, from_slice, slice_there, from_all}
 

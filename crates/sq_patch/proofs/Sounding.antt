@@ -36,8 +36,8 @@ use Rattle.sq_patch.proofs.Restricting.{own, block_target, procedure_target, slo
 use Rattle.sq_patch.proofs.Standing.{stands_at, distinct_at, block_at}
 use Rattle.sq_patch.proofs.Placing.{C as placing, block_stays, block_goes, all_stay, items_stay, bodies_stay, placed_sound, placed_live}
 use Rattle.sq_patch.proofs.Ending.{all_of, one_slot, term_turn}
-use Rattle.sq_patch.proofs.Replacing.{own_items, C as replacing, place, out, behind, replaced_sound}
-use Rattle.sq_patch.proofs.Calls.{items_dead, behind_items, is_other}
+use Rattle.sq_patch.proofs.Replacing.{behind_items, own_items, C as replacing, place, out, behind, replaced_sound}
+use Rattle.sq_patch.proofs.Calls.{items_dead, is_other}
 use Rattle.sq_patch.proofs.Used.{contains_first, contains_later, flat_contains, from_slice, from_all, slice_there, item_called, block_item}
 
 -- a block of which the term or an item is known is there
