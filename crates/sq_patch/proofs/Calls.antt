@@ -9,7 +9,7 @@ use Rattle.sq_isa.specs.declared.instructions.Insn.TheVariants.{Lui, OpImm}
 use Rattle.sq_graph.specs.declared.item.Item.{Item}
 use Rattle.sq_graph.specs.declared.item.Item.TheVariants.{Op, Hi, Lo, Out}
 use Rattle.sq_graph.specs.Graph.{Block, Procedure, Graph}
-use Rattle.sq_graph.specs.Blocks.{named, block_items, items_of, body_of, procedure_body, procedure_link}
+use Rattle.sq_graph.specs.Blocks.{HasBlock, named, block_items, items_of, body_of, procedure_body, procedure_link}
 use Rattle.sq_graph.specs.Uses.{item_calls}
 use Rattle.sq_graph.specs.Rules.{IsGraph, mentions, ProcedureFits}
 use Rattle.sq_graph.specs.Lines.{Line, Enter, Return, Do, line_of, term_lines, body_lines, lines_of, inside, behind_name, block_lines, place_lines}
@@ -27,7 +27,7 @@ use Rattle.sq_patch.proofs.Carrying.{same_some, carry_items, Backs}
 use Rattle.sq_patch.proofs.Restricting.{own}
 use Rattle.sq_patch.proofs.Standing.{distinct_at, block_at}
 use Rattle.sq_patch.proofs.Placing.{bodies_stay}
-use Rattle.sq_patch.proofs.Replacing.{own_items, behind_items, C as replacing, place, x as block_there, out, behind, replaced_follows, replaced_sound}
+use Rattle.sq_patch.proofs.Replacing.{own_items, behind_items, C as replacing, place, x as block_there, out, behind, replaced_follows, replaced_sound, replaced_live}
 use Rattle.sq_patch.proofs.Used.{contains_first, contains_later, from_slice, slice_there, from_all}
 
 -- a register that none of these items mentions, which are no calls, isn't live before them where it is dead behind
@@ -159,3 +159,11 @@ module _ (g : Graph) (block at procedure : ℕ) (rules : IsGraph g) (callable : 
 
   pub call_sound : IsSound g → IsSound h
   call_sound sound = replaced_sound NoMode no_stands (live g) (Unit {0}) g (live_carrier g) rules block at many by callable.block_there calls no_lowers dies (λ xs r l. l) tt sound
+
+  -- the items begin in the block
+  begin : at ≤ length x.items
+  begin = let l : at + many ≤ length x.items = subst (λ items. at + many ≤ length items) items_are callable.within in omega (arith, l)
+
+  pub call_dead : (other spot r : ℕ) → HasBlock g other → spot ≤ length (items_of g other) → (other ≡ block → spot ≤ at) → ¬ IsLive g r (place_lines g other spot) → ¬ IsLive h r (place_lines h other spot)
+  call_dead other spot r has l ahead_of gone lives =
+      gone (replaced_live NoMode no_stands (live g) (Unit {0}) g (live_carrier g) rules block at many by callable.block_there calls no_lowers dies (λ xs r l. l) tt begin other spot r has l ahead_of lives)

@@ -8,7 +8,7 @@ use Rattle.sq_isa.specs.Uses.{destination_of, sources_of}
 use Rattle.sq_graph.specs.declared.item.Item.{Item}
 use Rattle.sq_graph.specs.declared.item.Item.TheVariants.{Op, Hi, Lo, Out}
 use Rattle.sq_graph.specs.Graph.{Block, Procedure, Graph}
-use Rattle.sq_graph.specs.Blocks.{named, block_items, items_of, body_of, procedure_body, procedure_link}
+use Rattle.sq_graph.specs.Blocks.{HasBlock, named, block_items, items_of, body_of, procedure_body, procedure_link}
 use Rattle.sq_graph.specs.Rules.{IsGraph, mentions, ProcedureFits}
 use Rattle.sq_graph.specs.Lines.{Line, Enter, Return, line_of, term_lines, body_lines, lines_of, inside, behind_name, block_lines, place_lines}
 use Rattle.sq_graph.specs.Walks.{IsLive, is_register, lower_names, code_targets}
@@ -25,7 +25,7 @@ use Rattle.sq_patch.proofs.Carrying.{same_some, AreOf, ItemGoes, Backs}
 use Rattle.sq_patch.proofs.Restricting.{own}
 use Rattle.sq_patch.proofs.Standing.{stands_at, distinct_at, block_at}
 use Rattle.sq_patch.proofs.Relating.{items_stay}
-use Rattle.sq_patch.proofs.Replacing.{behind_items, C as replacing, Hold, Go, may_hold, may_go, place, x as block_there, out, behind, replaced_follows, replaced_sound}
+use Rattle.sq_patch.proofs.Replacing.{behind_items, C as replacing, Hold, Go, may_hold, may_go, place, x as block_there, out, behind, replaced_follows, replaced_sound, replaced_live}
 use Rattle.sq_patch.proofs.Calls.{range_is, is_other, not_both}
 use Rattle.sq_patch.proofs.Matching.{Matched, StandsMatched, at as in_mode, matched, at_first, at_last, among_others}
 use Rattle.sq_patch.proofs.Used.{contains_first, contains_later, from_slice, slice_there, from_all}
@@ -165,3 +165,11 @@ module _ (g : Graph) (block at procedure : ℕ) (rules : IsGraph g) (callable : 
 
   pub match_sound : IsSound g → IsSound h
   match_sound sound = replaced_sound Matched StandsMatched (live g) (Unit {0}) g (live_carrier g) rules block at many by callable.block_there calls no_lowers dies (λ xs r l. l) tt sound
+
+  -- the items begin in the block
+  begin : at ≤ length x.items
+  begin = let l : at + many ≤ length x.items = subst (λ items. at + many ≤ length items) items_are callable.within in omega (arith, l)
+
+  pub match_dead : (other spot r : ℕ) → HasBlock g other → spot ≤ length (items_of g other) → (other ≡ block → spot ≤ at) → ¬ IsLive g r (place_lines g other spot) → ¬ IsLive h r (place_lines h other spot)
+  match_dead other spot r has l ahead_of gone lives =
+      gone (replaced_live Matched StandsMatched (live g) (Unit {0}) g (live_carrier g) rules block at many by callable.block_there calls no_lowers dies (λ xs r l. l) tt begin other spot r has l ahead_of lives)

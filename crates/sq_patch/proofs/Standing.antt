@@ -23,7 +23,7 @@ use Rattle.sq_patch.proofs.Restricting.{own, flat_from, from_map_of, block_targe
 use Rattle.sq_patch.proofs.Used.{contains_first, flat_contains, from_slice, slice_there, item_called, block_item, body_calls_none}
 
 -- under their own numbers the procedures that are called are the same
-own_calls : (items : List Item) → recalled_items own items ≡ items
+pub own_calls : (items : List Item) → recalled_items own items ≡ items
 own_calls [] = refl
 own_calls (Op insn ∷ items) = ap (λ is. Op insn ∷ is) (own_calls items)
 own_calls (Hi rd to ∷ items) = ap (λ is. Hi rd to ∷ is) (own_calls items)
