@@ -1,5 +1,5 @@
 -- A graph with two ends of blocks merged follows it.
-use Rattle.std.proofs.Common.{◌≡◌, ◌≢◌, ℕ, ◌≤◌, ◌+◌, arith, Bool, true, false, ◌==◌, if◌then◌else◌, inr, List, [], ◌∷◌, ◌++◌, Option, Some, None, IsSome, map, take, drop, length, drop-drop, nat_eq, refl, sym, ap, ◌∙◌, subst}
+use Rattle.std.proofs.Common.{◌≡◌, ◌≢◌, ℕ, ◌≤◌, ◌+◌, arith, Bool, true, false, ◌==◌, inr, List, [], ◌∷◌, ◌++◌, Option, Some, None, IsSome, map, take, drop, length, drop-drop, nat_eq, refl, sym, ap, ◌∙◌, subst}
 use Rattle.std.proofs.lemmas.List.{drop_all, append-nil}
 use Rattle.std.specs.List.{IsDistinct, Contains, flat_map}
 use Rattle.sq_arena.specs.Entries.{value_of, first_key, next_key, behind as entries_behind, HasDistinctKeys}
@@ -29,7 +29,7 @@ use Rattle.sq_patch.proofs.Splitting.{take_in, drop_in, map_parts}
 use Rattle.sq_patch.proofs.Falling.{every, absent_from, next_at}
 use Rattle.sq_patch.proofs.Changing.{ahead}
 use Rattle.sq_patch.proofs.Carrying.{same_some, AreOf, ItemGoes, carry_items, carry_some, Backs, items_die}
-use Rattle.sq_patch.proofs.Layouts.{Turn}
+use Rattle.sq_patch.proofs.Layouts.{Turn, choose}
 use Rattle.sq_patch.proofs.Restricting.{own, flat_from, block_target, slot_targets}
 use Rattle.sq_patch.proofs.Standing.{stands_at, distinct_at, block_at}
 use Rattle.sq_patch.proofs.Passing.{lone_block, lone_lines, jump_lines, jumps_from}
@@ -226,10 +226,6 @@ module _ (g : Graph) (dropped at kept : ℕ) (rules : IsGraph g) (can : IsMergea
       subst (λ xs. Alike C b None xs (body_lines y (lines_of back))) (sym x_lines)
       (subst (λ ys. Alike C b None (map line_of first ++ (map line_of (drop at x.items) ++ end)) ys) (sym y_lines)
       (keep b first (map line_of (drop at x.items) ++ end) (End (Jump kept) ∷ lines_of back) in_first (end_goes b)))
-
-  choose : (c : Bool) (xs ys us vs : List Line) → Alike C false None xs us → Alike C false None ys vs → Alike C false None (if c then xs else ys) (if c then us else vs)
-  choose true xs ys us vs p q = p
-  choose false xs ys us vs p q = q
 
   lower_in : (m : ℕ) → Contains (flat_map lower_names y.items) m → Contains (code_targets g) m
   lower_in m c =

@@ -22,6 +22,7 @@ use Rattle.sq_graph.specs.Soundness.{IsSoundBody, IsSound}
 use Rattle.sq_follow.specs.Follows.{Follows, word_address}
 use Rattle.sq_patch.specs.Changes.{Change, Alike, IsSteady, falls}
 use Rattle.sq_patch.specs.Recalls.{AreEqual}
+use Rattle.sq_patch.proofs.Renaming.{still_there}
 use Rattle.sq_patch.proofs.LiveTargets.{word_target}
 use Rattle.sq_patch.proofs.Patch.{change_follows}
 use Rattle.sq_patch.proofs.Keeping.{staying, all_matter, every_carrier}
@@ -265,12 +266,6 @@ module _ (g : Graph) (gone : ℕ) (rules : IsGraph g) (unused : ¬ Contains (cal
 
   pub uncalled_goes_sound : IsSound g → IsSound (without_procedure g gone)
   uncalled_goes_sound sound = renumbered_sound g (without_procedure g gone) (lowered gone) rules fewer sound (sound_were g (without_procedure g gone) (lowered gone) left sound)
-
--- one more procedure
-still_there : (ps more : List Procedure) (q : ℕ) (p : Procedure) → slice_get ps q ≡ Some p → slice_get (ps ++ more) q ≡ Some p
-still_there [] more q p e = absurd (cc)
-still_there (x ∷ ps) more zero p e = e
-still_there (x ∷ ps) more (suc q) p e = still_there ps more q p e
 
 -- an item of a block's piece is one of the block
 piece_in : (items : List Item) (at n : ℕ) (item : Item) → Contains (slice_range items at (at + n)) item → Contains items item

@@ -1,7 +1,7 @@
 -- A block with other items in place of some, in a place of a graph.
-use Rattle.std.proofs.Common.{◌≤◌, ◌≡◌, ℕ, Bool, true, false, ◌==◌, if◌then◌else◌, inl, inr, List, [], ◌∷◌, ◌++◌, ◌+◌, None, map, take, drop, take-append-drop, drop-drop, refl, sym, ap, ◌∙◌, subst}
+use Rattle.std.proofs.Common.{◌≤◌, ◌≡◌, ℕ, Bool, true, false, ◌==◌, inl, inr, List, [], ◌∷◌, ◌++◌, ◌+◌, None, map, take, drop, take-append-drop, drop-drop, refl, sym, ap, ◌∙◌, subst}
 use Rattle.std.specs.List.{IsDistinct}
-use Rattle.std.proofs.Common.{length-take-le, length, length as count, arith, zero, suc, ◌<◌, nat_eq, ◌≢◌, ◌⊎◌, Option, Some}
+use Rattle.std.proofs.Common.{length-take-le, length, length as count, arith, zero, suc, nat_eq, ◌≢◌, ◌⊎◌, Option, Some}
 use Rattle.std.proofs.lemmas.Bool.{cases_eq}
 use Rattle.sq_arena.specs.Entries.{value_of, first_key, next_key, behind as entries_behind, HasDistinctKeys}
 use Rattle.sq_graph.specs.Blocks.{named, block_of, block_items, items_of, next_of}
@@ -39,7 +39,7 @@ use Rattle.sq_patch.proofs.Falling.{every}
 use Rattle.sq_patch.proofs.Inlining.{with_others}
 use Rattle.sq_patch.proofs.Dying.{items_rest, term_dies}
 use Rattle.sq_patch.proofs.Carrying.{AreOf, ItemGoes, carry_items, carry_term, Backs, items_die}
-use Rattle.sq_patch.proofs.Layouts.{Turn, carries_lines}
+use Rattle.sq_patch.proofs.Layouts.{Turn, carries_lines, choose}
 use Rattle.sq_patch.proofs.Restricting.{own, own_block, block_target, slot_targets}
 use Rattle.sq_patch.proofs.Standing.{stands_at, own_called_block}
 use Rattle.sq_patch.proofs.Relating.{relating, block_stays, items_stay, block_goes, all_stay, same_names, placed_follows, placed_sound}
@@ -118,10 +118,6 @@ module _ (Mode : Type 0) (StandsIn : Mode → ℕ → ℕ → Type 0) (X : List 
           subst (λ xs. Alike C b None xs (body_lines y (lines_of back))) (sym lines_before)
           (subst (λ ys. Alike C b None (map line_of first ++ (map line_of out ++ later)) ys) (sym lines_after)
           (keep b first (map line_of out ++ later) (map line_of by ++ later) in_first (middle b (behind_it b))))
-
-      choose : (c : Bool) (xs ys us vs : List Line) → Alike C false None xs us → Alike C false None ys vs → Alike C false None (if c then xs else ys) (if c then us else vs)
-      choose true xs ys us vs p q = p
-      choose false xs ys us vs p q = q
 
       lower_in : (m : ℕ) → Contains (flat_map lower_names x.items) m → Contains (code_targets g) m
       lower_in m c = block_target g x m there c

@@ -1,15 +1,13 @@
 -- A graph in which a jump by an upper half became a shorter one, and the upper half went, follows it.
-use Rattle.std.proofs.Common.{◌≡◌, ◌≢◌, ℕ, zero, suc, ◌<◌, ◌≤◌, ◌+◌, ◌⊎◌, Bool, true, false, ◌==◌, inl, inr, List, [], ◌∷◌, ◌++◌, Option, Some, None, IsSome, map, drop, length, slice_get, refl, sym, ap, ◌∙◌, subst, arith}
+use Rattle.std.proofs.Common.{◌≡◌, ℕ, zero, suc, ◌+◌, true, false, ◌==◌, inl, inr, List, [], ◌∷◌, ◌++◌, Some, None, IsSome, map, drop, length, slice_get, refl, sym, ap, ◌∙◌, subst, arith}
 use Rattle.std.proofs.lemmas.Bool.{cases_Bool, ne_eqb}
 use Rattle.std.proofs.lemmas.List.{drop_all}
 use Rattle.std.proofs.lemmas.List.Elements.{All-nil, All-cons}
 use Rattle.std.specs.List.{All, Contains}
 use Rattle.sq_arena.specs.Entries.{value_of, first_key, behind as entries_behind}
-use Rattle.sq_isa.specs.Uses.{sources_of}
-use Rattle.sq_graph.specs.declared.item.Item.{Item}
 use Rattle.sq_graph.specs.declared.item.Item.TheVariants.{Hi}
 use Rattle.sq_graph.specs.declared.item.Term.{Term}
-use Rattle.sq_graph.specs.declared.item.Term.TheVariants.{Jump, Call, PartJump}
+use Rattle.sq_graph.specs.declared.item.Term.TheVariants.{PartJump}
 use Rattle.sq_graph.specs.Graph.{Block, Graph}
 use Rattle.sq_graph.specs.Blocks.{named, HasBlock, block_of, block_items, items_of, block_term, next_of}
 use Rattle.sq_graph.specs.Terms.{goes_on}
@@ -32,7 +30,7 @@ use Rattle.sq_patch.proofs.Hastening.{hasten_follows}
 use Rattle.sq_patch.proofs.Dropping.{drop_follows}
 use Rattle.sq_patch.proofs.Carrying.{same_some}
 use Rattle.sq_patch.proofs.Replacing.{behind_items}
-use Rattle.sq_patch.proofs.Standing.{stands_at, distinct_at, block_at}
+use Rattle.sq_patch.proofs.Standing.{stands_at, distinct_at, block_at, there_by_term}
 use Rattle.sq_patch.proofs.Matching.{is_itself, zero_register}
 use Rattle.sq_patch.proofs.Sounding.{hasten_live, hasten_sound, drop_sound}
 use Rattle.sq_patch.proofs.Used.{contains_first, term_used}
@@ -67,10 +65,6 @@ commute p q (x ∷ bs) name a b c =
           rw here (rw (first, second) (ap (λ y. y ∷ bs) (c x)))
       | inr apart ↦ rw apart (rw apart (ap (λ ys. x ∷ ys) (commute p q bs name a b c)))
     ]
-
-there_by_term : (o : Option Block) (t : Term) → block_term o ≡ Some t → IsSome o
-there_by_term None t e = absurd (cc)
-there_by_term (Some b) t e = refl
 
 module _ (g : Graph) (block at link part to : ℕ) (rules : IsGraph g) (can : IsShortable g block at link part to) where
   abbrev new : Term
@@ -127,6 +121,7 @@ module _ (g : Graph) (block at link part to : ℕ) (rules : IsGraph g) (can : Is
     where
       goes : goes_on x.term ≡ true
       goes = ap goes_on jump_is ∙ goes_as_was link e
+
       by_back : (bs : List Block) → bs ≡ back → IsSome (next_of g block)
       by_back [] i =
           let last : last_goes_on (spot.front ++ (x ∷ [])) ≡ false = ap (λ cs. last_goes_on (spot.front ++ (x ∷ cs))) i ∙ ap last_goes_on whole ∙ rules.ends in
