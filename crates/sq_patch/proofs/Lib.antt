@@ -37,6 +37,7 @@ mod Sounding
 mod Leading
 mod Meeting
 mod Merging
+mod Tailing
 mod Recalling
 mod Inserting
 mod Reordering

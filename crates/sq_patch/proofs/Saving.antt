@@ -23,7 +23,7 @@ use Rattle.sq_patch.specs.Restrictions.{procedures_held, number_held, restricted
 use Rattle.sq_patch.specs.Operations.{hastened}
 use Rattle.sq_patch.specs.Savings.{SaveWords}
 use Rattle.sq_patch.proofs.Inverting.{invert_saves}
-use Rattle.sq_patch.proofs.Merging.{merge_saves}
+use Rattle.sq_patch.proofs.Merging.{can_merge, merge_saves}
 use Rattle.sq_patch.specs.Calls.{call_end, called_there}
 use Rattle.sq_patch.specs.LoneJumps.{IsPassable, without_jump}
 use Rattle.sq_patch.proofs.Falling.{found_at}
@@ -232,7 +232,7 @@ saved = record {
   invert = λ g block cond a b over behind to rules jumped. invert_saves g block cond a b over behind to rules jumped;
   hasten = hasten_saves;
   drop = drop_saves;
-  merge = λ g dropped at kept term rules can e. merge_saves g dropped at kept rules can term e;
+  merge = λ g dropped at kept term rules can e. merge_saves g dropped at kept rules (can_merge g dropped at kept can) term e;
   call = call_saves;
   inline = inline_saves;
   outline = outline_saves;
