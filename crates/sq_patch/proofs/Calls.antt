@@ -1,5 +1,5 @@
 -- A graph with a call in place of the items of a procedure's body follows it.
-use Rattle.std.proofs.Common.{◌≡◌, ◌≢◌, ℕ, zero, suc, ◌<◌, ◌≤◌, ◌+◌, ◌-◌, Bool, true, false, not, ◌&&◌, ◌||◌, ◌==◌, ⊎_elim, List, [], ◌∷◌, ◌++◌, Some, None, map, take, drop, length, slice_get, refl, sym, ap, ◌∙◌, subst, arith}
+use Rattle.std.proofs.Common.{◌≡◌, ◌≢◌, ℕ, ◌<◌, ◌≤◌, ◌+◌, ◌-◌, Bool, true, false, not, ◌&&◌, ◌||◌, ◌==◌, ⊎_elim, List, [], ◌∷◌, ◌++◌, Some, None, map, take, drop, length, slice_get, refl, sym, ap, ◌∙◌, subst, arith}
 use Rattle.std.proofs.lemmas.Bool.{cases_eq, ne_eqb}
 use Rattle.std.specs.List.{Contains, flat_map, slice_range}
 use Rattle.sq_arena.specs.Entries.{value_of}
@@ -9,7 +9,7 @@ use Rattle.sq_isa.specs.declared.instructions.Insn.TheVariants.{Lui, OpImm}
 use Rattle.sq_graph.specs.declared.item.Item.{Item}
 use Rattle.sq_graph.specs.declared.item.Item.TheVariants.{Op, Hi, Lo, Out}
 use Rattle.sq_graph.specs.Graph.{Block, Procedure, Graph}
-use Rattle.sq_graph.specs.Blocks.{named, block_items, items_of, body_of, procedure_body, procedure_link}
+use Rattle.sq_graph.specs.Blocks.{HasBlock, named, block_items, items_of, body_of, procedure_body, procedure_link}
 use Rattle.sq_graph.specs.Uses.{item_calls}
 use Rattle.sq_graph.specs.Rules.{IsGraph, mentions, ProcedureFits}
 use Rattle.sq_graph.specs.Lines.{Line, Enter, Return, Do, line_of, term_lines, body_lines, lines_of, inside, behind_name, block_lines, place_lines}
@@ -27,7 +27,7 @@ use Rattle.sq_patch.proofs.Carrying.{same_some, carry_items, Backs}
 use Rattle.sq_patch.proofs.Restricting.{own}
 use Rattle.sq_patch.proofs.Standing.{distinct_at, block_at}
 use Rattle.sq_patch.proofs.Placing.{bodies_stay}
-use Rattle.sq_patch.proofs.Replacing.{own_items, C as replacing, place, x as block_there, out, behind, replaced_follows, replaced_sound}
+use Rattle.sq_patch.proofs.Replacing.{own_items, behind_items, C as replacing, place, x as block_there, out, behind, replaced_follows, replaced_sound, replaced_live}
 use Rattle.sq_patch.proofs.Used.{contains_first, contains_later, from_slice, slice_there, from_all}
 
 -- a register that none of these items mentions, which are no calls, isn't live before them where it is dead behind
@@ -53,12 +53,6 @@ items_dead g (Lo rd rs to ∷ items) r rest n m dead =
     do_dead g _ (OpImm _ rd rs _) r (map line_of items ++ rest) (m (Lo rd rs to) (contains_first (Lo rd rs to) items))
     (items_dead g items r rest (λ item c. n item (contains_later (Lo rd rs to) item items c)) (λ item c. m item (contains_later (Lo rd rs to) item items c)) dead)
 items_dead g (Out q ∷ items) r rest n m dead = absurd (let e : q ∷ [] ≡ [] = n (Out q) (contains_first (Out q) items) in cc)
-
--- what stands behind items of a block
-pub behind_items : (items : List Item) (n : ℕ) (rest : List Line) → n ≤ length items → drop n (map line_of items ++ rest) ≡ map line_of (drop n items) ++ rest
-behind_items items zero rest l = refl
-behind_items [] (suc n) rest l = absurd (omega arith)
-behind_items (item ∷ items) (suc n) rest l = behind_items items n rest (omega (arith, l))
 
 pub range_is : (items : List Item) (at n : ℕ) → slice_range items at (at + n) ≡ take n (drop at items)
 range_is items at n = ap (λ k. take k (drop at items)) (let e : (at + n) - at ≡ n = omega arith in e)
@@ -165,3 +159,11 @@ module _ (g : Graph) (block at procedure : ℕ) (rules : IsGraph g) (callable : 
 
   pub call_sound : IsSound g → IsSound h
   call_sound sound = replaced_sound NoMode no_stands (live g) (Unit {0}) g (live_carrier g) rules block at many by callable.block_there calls no_lowers dies (λ xs r l. l) tt sound
+
+  -- the items begin in the block
+  begin : at ≤ length x.items
+  begin = let l : at + many ≤ length x.items = subst (λ items. at + many ≤ length items) items_are callable.within in omega (arith, l)
+
+  pub call_dead : (other spot r : ℕ) → HasBlock g other → spot ≤ length (items_of g other) → (other ≡ block → spot ≤ at) → ¬ IsLive g r (place_lines g other spot) → ¬ IsLive h r (place_lines h other spot)
+  call_dead other spot r has l ahead_of gone lives =
+      gone (replaced_live NoMode no_stands (live g) (Unit {0}) g (live_carrier g) rules block at many by callable.block_there calls no_lowers dies (λ xs r l. l) tt begin other spot r has l ahead_of lives)

@@ -15,7 +15,7 @@ use Rattle.sq_patch.specs.Changes.{Change, Alike, name_before, name_after}
 use Rattle.sq_patch.proofs.Staying.{body_unnamed}
 use Rattle.sq_patch.proofs.Dying.{term_dies}
 use Rattle.sq_patch.proofs.Carrying.{AreOf, ItemGoes, carried_items, carry_items, items_die}
-use Rattle.sq_patch.proofs.Layouts.{IsHeld, Turn}
+use Rattle.sq_patch.proofs.Layouts.{IsHeld, Turn, choose}
 use Rattle.sq_patch.proofs.Restricting.{own, block_target}
 use Rattle.sq_patch.proofs.Placing.{C as placing, block_stays, items_stay}
 
@@ -56,10 +56,6 @@ module _ (K : ℕ → Type 0) (X : List Line → ℕ → Type 0) (Z : Type 0) (g
 
     body : (b : Bool) → Alike C b None (term_lines x.term rest) (term_lines t (lines_of back)) → Alike C b None (body_lines x rest) (body_lines y (lines_of back))
     body b p = subst (λ is. Alike C b None (body_lines x rest) (map line_of is ++ term_lines t (lines_of back))) items_same (carry_items C own x.items (term_lines x.term rest) (term_lines t (lines_of back)) items p)
-
-    choose : (c : Bool) (xs ys us vs : List Line) → Alike C false None xs us → Alike C false None ys vs → Alike C false None (if c then xs else ys) (if c then us else vs)
-    choose true xs ys us vs p q = p
-    choose false xs ys us vs p q = q
 
     -- the block ends otherwise, and blocks behind it may go
     pub term_turn : ((b : Bool) → Alike C b None (term_lines x.term rest) (term_lines t (lines_of back))) → ((m : ℕ) → K m → behind_name m rest ≡ behind_name m (lines_of back)) → ((m : ℕ) → links t ≡ true → Contains (first_name back) m → IsHeld C own K m) → Turn C own K true true (x ∷ mid) (y ∷ []) back back

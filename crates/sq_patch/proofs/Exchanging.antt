@@ -1,5 +1,5 @@
 -- A graph in which a Branch and the lone Jump behind it exchanged their targets follows it.
-use Rattle.std.proofs.Common.{◌≡◌, ◌≢◌, ℕ, zero, suc, ◌<◌, Bool, true, false, ◌==◌, if◌then◌else◌, inl, inr, List, [], ◌∷◌, ◌++◌, Option, Some, None, IsSome, map, refl, sym, ap, ◌∙◌, subst, arith}
+use Rattle.std.proofs.Common.{◌≡◌, ◌≢◌, ℕ, Bool, true, false, ◌==◌, inr, List, [], ◌∷◌, ◌++◌, Some, None, map, refl, sym, ap, ◌∙◌, subst}
 use Rattle.std.proofs.lemmas.Bool.{ne_eqb}
 use Rattle.std.specs.List.{Contains, flat_map}
 use Rattle.sq_arena.specs.Entries.{value_of, behind as entries_behind, first_key, HasDistinctKeys}
@@ -10,12 +10,12 @@ use Rattle.sq_graph.specs.declared.item.Item.{Item}
 use Rattle.sq_graph.specs.declared.item.Term.{Term}
 use Rattle.sq_graph.specs.declared.item.Term.TheVariants.{Jump, Branch}
 use Rattle.sq_graph.specs.Graph.{Block, Graph}
-use Rattle.sq_graph.specs.Blocks.{named, block_of, block_term, term_of, next_of}
+use Rattle.sq_graph.specs.Blocks.{named, block_of, block_term}
 use Rattle.sq_graph.specs.Uses.{term_uses, uses}
 use Rattle.sq_graph.specs.Rules.{IsGraph}
 use Rattle.sq_graph.specs.Operations.{with_term}
 use Rattle.sq_graph.specs.Resolve.{lone_jump}
-use Rattle.sq_graph.specs.Lines.{Line, Name, End, line_of, body_lines, lines_of, behind_name, term_lines, block_lines}
+use Rattle.sq_graph.specs.Lines.{Name, End, line_of, body_lines, lines_of, behind_name, term_lines, block_lines}
 use Rattle.sq_graph.specs.Walks.{lower_names, link_names, code_targets}
 use Rattle.sq_graph.specs.Soundness.{LinksDieIn, IsSound}
 use Rattle.sq_graph.proofs.Located.{IsAt, located}
@@ -28,9 +28,9 @@ use Rattle.sq_patch.proofs.Staying.{body_unnamed}
 use Rattle.sq_patch.proofs.Changing.{ahead}
 use Rattle.sq_patch.proofs.Falling.{absent_from, next_at, named_split}
 use Rattle.sq_patch.proofs.Carrying.{same_some, AreOf, ItemGoes, carry_items, Backs, items_die}
-use Rattle.sq_patch.proofs.Layouts.{passed, Turn}
+use Rattle.sq_patch.proofs.Layouts.{passed, Turn, choose}
 use Rattle.sq_patch.proofs.Restricting.{own, block_target, target_from}
-use Rattle.sq_patch.proofs.Standing.{stands_at, distinct_at, block_at}
+use Rattle.sq_patch.proofs.Standing.{stands_at, distinct_at, block_at, there_by_term}
 use Rattle.sq_patch.proofs.Passing.{lone_block, lone_lines}
 use Rattle.sq_patch.proofs.Moving.{term_use}
 use Rattle.sq_patch.proofs.Used.{contains_first}
@@ -38,10 +38,6 @@ use Rattle.sq_patch.proofs.Placing.{C as placing, items_stay, placed_follows, pl
 use Rattle.sq_patch.proofs.Ending.{all_of}
 use Rattle.sq_patch.proofs.Replacing.{own_items}
 use Rattle.sq_patch.proofs.Inverting.{neither, no_slot_at, first_is, branch_unlinked, same_names, placed_by}
-
-there_by_term : (o : Option Block) (t : Term) → block_term o ≡ Some t → IsSome o
-there_by_term None t e = absurd (cc)
-there_by_term (Some b) t e = refl
 
 module _ (g : Graph) (block : ℕ) (cond : Cond) (a b over away to : ℕ) (rules : IsGraph g) (over_jump : IsOverJump g block cond a b over away to) where
   at : IsAt g.blocks block
@@ -164,10 +160,6 @@ module _ (g : Graph) (block : ℕ) (cond : Cond) (a b over away to : ℕ) (rules
   body t =
       subst (λ is. Alike C t None (body_lines x (lines_of (n ∷ back))) (map line_of is ++ (End turned ∷ lines_of (m ∷ back)))) (own_items x.items)
       (carry_items C own x.items (term_lines x.term (lines_of (n ∷ back))) (End turned ∷ lines_of (m ∷ back)) each (ended t))
-
-  choose : (c : Bool) (xs ys us vs : List Line) → Alike C false None xs us → Alike C false None ys vs → Alike C false None (if c then xs else ys) (if c then us else vs)
-  choose true xs ys us vs p q = p
-  choose false xs ys us vs p q = q
 
   other_than : (k : ℕ) → Other k → (n.name == k) ≡ false
   other_than k j = ne_eqb n.name k (λ e. j (sym e ∙ second.1.1.1))

@@ -1,5 +1,5 @@
 -- A graph with a lone Jump to the next slot behind a block follows it.
-use Rattle.std.proofs.Common.{◌≡◌, ◌≢◌, ℕ, zero, suc, ◌⊎◌, arith, Bool, true, false, ◌==◌, if◌then◌else◌, inl, inr, List, [], ◌∷◌, ◌++◌, Some, None, IsSome, refl, sym, ap, ◌∙◌, subst}
+use Rattle.std.proofs.Common.{◌≡◌, ◌≢◌, ℕ, zero, suc, ◌⊎◌, arith, Bool, true, false, ◌==◌, inl, inr, List, [], ◌∷◌, ◌++◌, Some, None, IsSome, refl, sym, ap, ◌∙◌, subst}
 use Rattle.std.proofs.lemmas.Bool.{ne_eqb}
 use Rattle.std.proofs.lemmas.List.Elements.{All-nil, All-cons}
 use Rattle.std.specs.List.{Contains, flat_map}
@@ -26,7 +26,7 @@ use Rattle.sq_patch.proofs.Falling.{absent_from, next_at, name_at}
 use Rattle.sq_patch.proofs.Bypassing.{slot_known}
 use Rattle.sq_patch.proofs.Dying.{term_dies}
 use Rattle.sq_patch.proofs.Carrying.{same_some, BlockGoes, carry_body, carry_term, carried_block, Backs, items_die}
-use Rattle.sq_patch.proofs.Layouts.{IsHeld, Turn, carries_lines}
+use Rattle.sq_patch.proofs.Layouts.{IsHeld, Turn, carries_lines, choose}
 use Rattle.sq_patch.proofs.Restricting.{own, block_target, slot_target, target_from}
 use Rattle.sq_patch.proofs.Standing.{stands_at, distinct_at, block_at}
 use Rattle.sq_patch.proofs.Relating.{relating, block_stays, block_goes, all_stay, same_names, placed_follows, placed_sound}
@@ -176,10 +176,6 @@ module _ (g : Graph) (new block next : ℕ) (rules : IsGraph g) (fresh : IsNew g
   body b =
       subst (λ z. Alike C b None (body_lines x back) (body_lines z (lines_of (jump ∷ w ∷ rest)))) x_is
       (carry_body C own x back (lines_of (jump ∷ w ∷ rest)) goes (λ f. jump_goes b))
-
-  choose : (c : Bool) (xs ys us vs : List Line) → Alike C false None xs us → Alike C false None ys vs → Alike C false None (if c then xs else ys) (if c then us else vs)
-  choose true xs ys us vs p q = p
-  choose false xs ys us vs p q = q
 
   jump_passed : (m : ℕ) → Old m → behind_name m (lines_of (jump ∷ w ∷ rest)) ≡ behind_name m back
   jump_passed m k = let apart : (new == m) ≡ false = ne_eqb new m (λ e. k (sym e)) in rw apart refl

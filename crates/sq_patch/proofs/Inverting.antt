@@ -1,5 +1,5 @@
 -- A graph in which a Branch over a lone Jump became the inverted one, to the Jump's target, follows it.
-use Rattle.std.proofs.Common.{◌≡◌, ◌≢◌, ℕ, zero, suc, ◌<◌, Bool, true, false, ◌==◌, if◌then◌else◌, ◌⊎◌, inl, inr, List, [], ◌∷◌, ◌++◌, Option, Some, None, IsSome, refl, sym, ap, ◌∙◌, subst, arith}
+use Rattle.std.proofs.Common.{◌≡◌, ◌≢◌, ℕ, zero, suc, Bool, true, false, ◌==◌, if◌then◌else◌, ◌⊎◌, inl, inr, List, [], ◌∷◌, ◌++◌, Some, None, refl, sym, ap, ◌∙◌, subst, arith}
 use Rattle.std.proofs.lemmas.Bool.{ne_eqb, eqb-false}
 use Rattle.std.proofs.lemmas.List.Elements.{Contains-append_cases}
 use Rattle.std.specs.List.{Contains}
@@ -10,7 +10,7 @@ use Rattle.sq_isa.specs.declared.instructions.Cond.{Cond}
 use Rattle.sq_graph.specs.declared.item.Term.{Term}
 use Rattle.sq_graph.specs.declared.item.Term.TheVariants.{Jump, Branch}
 use Rattle.sq_graph.specs.Graph.{Block, Graph}
-use Rattle.sq_graph.specs.Blocks.{named, block_of, block_term, term_of, next_of}
+use Rattle.sq_graph.specs.Blocks.{named, block_of, block_term, next_of}
 use Rattle.sq_graph.specs.Terms.{links}
 use Rattle.sq_graph.specs.Uses.{uses}
 use Rattle.sq_graph.specs.Rules.{IsGraph}
@@ -33,18 +33,15 @@ use Rattle.sq_patch.proofs.Keeping.{all_matter, every_carrier}
 use Rattle.sq_patch.proofs.Changing.{ahead}
 use Rattle.sq_patch.proofs.Falling.{absent_from, next_at, name_at, named_split, other_name}
 use Rattle.sq_patch.proofs.Carrying.{same_some, carry_body}
-use Rattle.sq_patch.proofs.Layouts.{passed, Turn, carries_lines}
+use Rattle.sq_patch.proofs.Layouts.{passed, Turn, carries_lines, none_in}
 use Rattle.sq_patch.proofs.Restricting.{own, target_from}
-use Rattle.sq_patch.proofs.Standing.{stands_at, distinct_at, block_at}
+use Rattle.sq_patch.proofs.Standing.{stands_at, distinct_at, block_at, there_by_term}
 use Rattle.sq_patch.proofs.Passing.{lone_block, lone_lines}
 use Rattle.sq_patch.proofs.Moving.{term_use}
 use Rattle.sq_patch.proofs.Used.{contains_first}
 use Rattle.sq_graph.specs.Uses.{term_uses}
 use Rattle.sq_patch.proofs.Placing.{C as placing, block_stays, block_goes, all_stay, placed_follows, placed_sound}
 use Rattle.sq_patch.proofs.Ending.{term_turn}
-
-none_in : {X : Type 0} (m : ℕ) → Contains {X = ℕ} [] m → X
-none_in m c = absurd (let l : c.0 < 0 = c.1 in omega arith)
 
 -- a name that no block has is no slot behind a link
 absent_first : (b : Block) (bs : List Block) (m : ℕ) → value_of (named (b ∷ bs)) m ≡ None → (b.name ≡ m → ⊥) × (value_of (named bs) m ≡ None)
@@ -117,15 +114,8 @@ record Stand (g : Graph) (block over behind to : ℕ) (cond : Cond) (a b : ℕ) 
   pub lone : (n.items ≡ []) × (n.term ≡ Jump to)
 
 module _ (g : Graph) (block : ℕ) (cond : Cond) (a b over behind to : ℕ) (rules : IsGraph g) (jumped : IsJumpedOver g block cond a b over behind to) where
-  named_by : (name : ℕ) (term : Term) → term_of g name ≡ Some term → IsSome (block_of g name)
-  named_by name term e = has_term (block_of g name) e
-    where
-      has_term : (o : Option Block) → block_term o ≡ Some term → IsSome o
-      has_term None e = absurd (cc)
-      has_term (Some b) e = refl
-
   at : IsAt g.blocks block
-  at = located g.blocks block (named_by block (Branch cond a b behind) jumped.branch)
+  at = located g.blocks block (there_by_term (block_of g block) (Branch cond a b behind) jumped.branch)
 
   abbrev x : Block
   x = at.block

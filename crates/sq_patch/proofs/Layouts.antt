@@ -22,6 +22,14 @@ use Rattle.sq_patch.proofs.Used.{contains_first}
 pub passed : (x : Block) (n : ℕ) (bs : List Block) → (x.name == n) ≡ false → behind_name n (lines_of (x ∷ bs)) ≡ behind_name n (lines_of bs)
 passed x n bs apart = rw apart (body_unnamed n x (lines_of bs))
 
+-- cases on a test of a name
+pub choose : {C : Change} (t : Bool) (xs ys us vs : List Line) → Alike C false None xs us → Alike C false None ys vs → Alike C false None (if t then xs else ys) (if t then us else vs)
+choose true xs ys us vs p q = p
+choose false xs ys us vs p q = q
+
+pub none_in : {X : Type 0} (m : ℕ) → Contains {X = ℕ} [] m → X
+none_in m c = absurd (let l : c.0 < 0 = c.1 in omega arith)
+
 module _ (C : Change) (number : ℕ → ℕ) (K : ℕ → Type 0) where
   -- a value may hold the name for one of the first graph
   abbrev pub IsHeld : ℕ → Type 0
@@ -67,10 +75,6 @@ module _ (C : Change) (number : ℕ → ℕ) (K : ℕ → Type 0) where
       subst (λ z. Both b (x ∷ bs) (z ∷ cs)) (sym same) (name_before (name_after (carry_body C number x (lines_of bs) (lines_of cs) go (λ f. carries_lines b f rest))))
   carries_lines b e (turns us vs turn rest) = turn.lines b e (λ f. carries_lines b f rest)
 
-  choose : (t : Bool) (xs ys us vs : List Line) → Alike C false None xs us → Alike C false None ys vs → Alike C false None (if t then xs else ys) (if t then us else vs)
-  choose true xs ys us vs p q = p
-  choose false xs ys us vs p q = q
-
   pub carries_behind : (n : ℕ) → K n → {into : Bool} {bs cs : List Block} → Carries into bs cs → Behind n bs cs
   carries_behind n k done = ends
   carries_behind n k (stays x y {bs = bs} {cs = cs} same go rest) =
@@ -97,9 +101,6 @@ module _ (C : Change) (number : ℕ → ℕ) (K : ℕ → Type 0) where
       (term_dies C.after (retargeted_term C.renamed x.term) (lines_of cs) (carries_die backs rest (body_rest C.before x (lines_of bs) die))))
   carries_die backs (turns us vs {bs = bs} turn rest) die =
       turn.dies backs (λ f. carries_lines true f rest) die (carries_die backs rest (blocks_rest C.before us bs die))
-
-  none_in : {X : Type 0} (m : ℕ) → Contains {X = ℕ} [] m → X
-  none_in m c = absurd (let l : c.0 < 0 = c.1 in omega arith)
 
   one_or_later : (n m : ℕ) (rest : List ℕ) {Q : Type 0} → Contains (n ∷ rest) m → (m ≡ n → Q) → (Contains rest m → Q) → Q
   one_or_later n m rest (zero, l, e) p q = p (sym e)

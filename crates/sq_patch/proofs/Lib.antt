@@ -37,10 +37,12 @@ mod Sounding
 mod Leading
 mod Meeting
 mod Merging
+mod Tailing
 mod Recalling
 mod Inserting
 mod Reordering
 mod Saving
+mod Shortening
 mod Bypassing
 mod Joining
 pub mod Renaming

@@ -1,22 +1,21 @@
 -- A graph with a call in place of items that match a procedure's body follows it.
-use Rattle.std.proofs.Common.{◌≡◌, ◌≢◌, ℕ, zero, suc, ◌<◌, ◌≤◌, ◌+◌, Bool, true, false, not, ◌&&◌, ◌==◌, ⊎_elim, inl, inr, List, [], ◌∷◌, ◌++◌, Option, Some, None, map, take, drop, length, slice_get, refl, sym, ap, ◌∙◌, subst, arith}
+use Rattle.std.proofs.Common.{◌≡◌, ◌≢◌, ℕ, ◌<◌, ◌≤◌, ◌+◌, Bool, true, false, not, ◌&&◌, ◌==◌, ⊎_elim, inl, inr, List, [], ◌∷◌, ◌++◌, Some, None, map, drop, length, slice_get, refl, sym, ap, ◌∙◌, subst, arith}
 use Rattle.std.proofs.lemmas.Bool.{cases_eq, ne_eqb}
-use Rattle.std.specs.List.{All, Contains, flat_map, slice_range}
+use Rattle.std.specs.List.{Contains, flat_map, slice_range}
 use Rattle.sq_arena.specs.Entries.{value_of}
-use Rattle.sq_isa.specs.Registers.{is_among, is_among_but_x0}
-use Rattle.sq_isa.specs.Uses.{destination_of, sources_of}
+use Rattle.sq_isa.specs.Registers.{is_among_but_x0}
 use Rattle.sq_graph.specs.declared.item.Item.{Item}
 use Rattle.sq_graph.specs.declared.item.Item.TheVariants.{Op, Hi, Lo, Out}
 use Rattle.sq_graph.specs.Graph.{Block, Procedure, Graph}
-use Rattle.sq_graph.specs.Blocks.{named, block_items, items_of, body_of, procedure_body, procedure_link}
+use Rattle.sq_graph.specs.Blocks.{HasBlock, named, block_items, items_of, body_of, procedure_body, procedure_link}
 use Rattle.sq_graph.specs.Rules.{IsGraph, mentions, ProcedureFits}
-use Rattle.sq_graph.specs.Lines.{Line, Enter, Return, line_of, term_lines, body_lines, lines_of, inside, behind_name, block_lines, place_lines}
+use Rattle.sq_graph.specs.Lines.{Line, Return, line_of, term_lines, body_lines, lines_of, behind_name, block_lines, place_lines}
 use Rattle.sq_graph.specs.Walks.{IsLive, is_register, lower_names, code_targets}
 use Rattle.sq_graph.specs.Soundness.{LinksDieIn, IsSound}
 use Rattle.sq_graph.proofs.Located.{IsAt}
 use Rattle.sq_follow.specs.Follows.{Follows}
 use Rattle.sq_patch.specs.Changes.{Change, Alike, enter_after, return_after, shift}
-use Rattle.sq_patch.specs.Matches.{registers_of, IsPairIn, IsPair, Match, PairsDie}
+use Rattle.sq_patch.specs.Matches.{registers_of, IsPair, Match, PairsDie}
 use Rattle.sq_patch.specs.Calls.{IsMatching, call_items, called_there}
 use Rattle.sq_patch.proofs.Falling.{every, absent_from, name_at}
 use Rattle.sq_patch.proofs.Dropping.{live, live_carrier}
@@ -25,8 +24,8 @@ use Rattle.sq_patch.proofs.Carrying.{same_some, AreOf, ItemGoes, Backs}
 use Rattle.sq_patch.proofs.Restricting.{own}
 use Rattle.sq_patch.proofs.Standing.{stands_at, distinct_at, block_at}
 use Rattle.sq_patch.proofs.Relating.{items_stay}
-use Rattle.sq_patch.proofs.Replacing.{C as replacing, Hold, Go, may_hold, may_go, place, x as block_there, out, behind, replaced_follows, replaced_sound}
-use Rattle.sq_patch.proofs.Calls.{behind_items, range_is, is_other, not_both}
+use Rattle.sq_patch.proofs.Replacing.{behind_items, C as replacing, Hold, Go, may_hold, may_go, place, x as block_there, out, behind, replaced_follows, replaced_sound, replaced_live}
+use Rattle.sq_patch.proofs.Calls.{range_is, is_other, not_both}
 use Rattle.sq_patch.proofs.Matching.{Matched, StandsMatched, at as in_mode, matched, at_first, at_last, among_others}
 use Rattle.sq_patch.proofs.Used.{contains_first, contains_later, from_slice, slice_there, from_all}
 
@@ -123,9 +122,9 @@ module _ (g : Graph) (block at procedure : ℕ) (rules : IsGraph g) (callable : 
   free r s q =
       ⊎_elim
       (λ (e : p.link ≡ s).
-          let o = pair_mentioned before p.body r s q (λ z. fits.link (e ∙ z)) in
-          let none : mentions o.0 p.link ≡ false = from_all (λ item. mentions item p.link ≡ false) p.body o.0 fits.no_mention o.1.0 in
-          absurd (let some : mentions o.0 p.link ≡ true = subst (λ k. mentions o.0 k ≡ true) (sym e) o.1.1 in cc))
+      let o = pair_mentioned before p.body r s q (λ z. fits.link (e ∙ z)) in
+      let none : mentions o.0 p.link ≡ false = from_all (λ item. mentions item p.link ≡ false) p.body o.0 fits.no_mention o.1.0 in
+      absurd (let some : mentions o.0 p.link ≡ true = subst (λ k. mentions o.0 k ≡ true) (sym e) o.1.1 in cc))
       (λ (e : p.link ≢ s). let t : (p.link == s) ≡ false = ne_eqb p.link s e in rw t (not_both (not (s == 0)))) (cases_eq p.link s)
 
   abbrev Holds : ℕ → ℕ → Type 0
@@ -165,3 +164,11 @@ module _ (g : Graph) (block at procedure : ℕ) (rules : IsGraph g) (callable : 
 
   pub match_sound : IsSound g → IsSound h
   match_sound sound = replaced_sound Matched StandsMatched (live g) (Unit {0}) g (live_carrier g) rules block at many by callable.block_there calls no_lowers dies (λ xs r l. l) tt sound
+
+  -- the items begin in the block
+  begin : at ≤ length x.items
+  begin = let l : at + many ≤ length x.items = subst (λ items. at + many ≤ length items) items_are callable.within in omega (arith, l)
+
+  pub match_dead : (other spot r : ℕ) → HasBlock g other → spot ≤ length (items_of g other) → (other ≡ block → spot ≤ at) → ¬ IsLive g r (place_lines g other spot) → ¬ IsLive h r (place_lines h other spot)
+  match_dead other spot r has l ahead_of gone lives =
+      gone (replaced_live Matched StandsMatched (live g) (Unit {0}) g (live_carrier g) rules block at many by callable.block_there calls no_lowers dies (λ xs r l. l) tt begin other spot r has l ahead_of lives)

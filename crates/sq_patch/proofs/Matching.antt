@@ -1,10 +1,9 @@
 -- Items that match others go on like them, with the registers of the pairs.
 use Rattle.std.proofs.Common.{◌≡◌, ◌≢◌, ℕ, zero, suc, Bool, true, false, not, ◌&&◌, ◌||◌, ◌==◌, ◌⊎◌, List, [], ◌∷◌, ◌++◌, Option, Some, None, length, map, pos, refl, sym, ap, ◌∙◌, subst, inl, inr, ⊎_elim}
 use Rattle.std.proofs.lemmas.Bool.{cases_eq, eq-eqb, ne_eqb, or_left, or_right}
-use Rattle.std.specs.List.{Contains}
 use Rattle.sq_isa.specs.Forms.{first_of, second_of}
 use Rattle.sq_isa.specs.Registers.{is_among, is_among_but_x0}
-use Rattle.sq_isa.specs.Uses.{sources_of, destination_of, is_read, is_written}
+use Rattle.sq_isa.specs.Uses.{sources_of, destination_of, is_read}
 use Rattle.sq_isa.specs.declared.instructions.Insn.{Insn}
 use Rattle.sq_isa.specs.declared.instructions.Insn.TheVariants.{Lui, Auipc, Jal, Jalr, Branch, Load, Store, OpImm, Op as Reg, Fence, Ecall, Ebreak, Unimp, Atomic}
 use Rattle.sq_isa.specs.declared.instructions.ImmOp.TheVariants.{Addi}
@@ -15,7 +14,7 @@ use Rattle.sq_graph.specs.Lines.{AddressHalf, Plain, Upper, Lower, Line, Do, lin
 use Rattle.sq_graph.specs.Walks.{is_register}
 use Rattle.sq_patch.specs.Registers.{with_registers, IsSource, AreSources}
 use Rattle.sq_patch.specs.Changes.{Change, Alike, IsNamedHalf, both_do, guarded}
-use Rattle.sq_patch.specs.Matches.{registers_of, item_reads, item_writes, IsSameInsn, IsSameForm, AreSameForms, IsPairIn, IsPair, IsWrittenFirst, Match, PairsDie}
+use Rattle.sq_patch.specs.Matches.{item_reads, item_writes, IsSameInsn, IsSameForm, AreSameForms, IsPairIn, IsPair, IsWrittenFirst, Match, PairsDie}
 use Rattle.sq_patch.proofs.Carrying.{AreOf, ItemGoes, later_items}
 use Rattle.sq_patch.proofs.Restricting.{own}
 use Rattle.sq_patch.proofs.Relating.{relating}
@@ -47,12 +46,12 @@ none_left false = refl
 not_register : (d r : ℕ) → d ≢ r → is_register d r ≡ false
 not_register d r e = let t : (d == r) ≡ false = ne_eqb d r e in rw t (none_left (not (r == 0)))
 
-is_itself : (r : ℕ) → is_register (suc r) (suc r) ≡ true
+pub is_itself : (r : ℕ) → is_register (suc r) (suc r) ≡ true
 is_itself r =
     let same : (suc r == suc r) ≡ true = eq-eqb (suc r) (suc r) refl in
     let other : (suc r == 0) ≡ false = ne_eqb (suc r) 0 (λ e. absurd (cc)) in rw (same, other) refl
 
-zero_register : (r : ℕ) → is_register 0 r ≡ false
+pub zero_register : (r : ℕ) → is_register 0 r ≡ false
 zero_register zero = refl
 zero_register (suc r) = not_register 0 (suc r) (λ e. absurd (cc))
 

@@ -1,5 +1,5 @@
 -- A graph with two ends of blocks merged follows it.
-use Rattle.std.proofs.Common.{◌≡◌, ◌≢◌, ℕ, ◌≤◌, ◌+◌, arith, Bool, true, false, ◌==◌, if◌then◌else◌, inr, List, [], ◌∷◌, ◌++◌, Option, Some, None, IsSome, map, take, drop, length, drop-drop, nat_eq, refl, sym, ap, ◌∙◌, subst}
+use Rattle.std.proofs.Common.{◌≡◌, ◌≢◌, ℕ, ◌≤◌, ◌+◌, arith, Bool, true, false, ◌==◌, inr, List, [], ◌∷◌, ◌++◌, Option, Some, None, IsSome, map, take, drop, length, drop-drop, nat_eq, refl, sym, ap, ◌∙◌, subst}
 use Rattle.std.proofs.lemmas.List.{drop_all, append-nil}
 use Rattle.std.specs.List.{IsDistinct, Contains, flat_map}
 use Rattle.sq_arena.specs.Entries.{value_of, first_key, next_key, behind as entries_behind, HasDistinctKeys}
@@ -12,7 +12,7 @@ use Rattle.sq_graph.specs.Terms.{links}
 use Rattle.sq_graph.specs.Uses.{uses}
 use Rattle.sq_graph.specs.Rules.{IsGraph}
 use Rattle.sq_graph.specs.Operations.{replaced_items, replaced}
-use Rattle.sq_graph.specs.Resolve.{jump_of, jump_from, resolved, resolved_term, block_resolved}
+use Rattle.sq_graph.specs.Resolve.{jump_of, jump_from, resolved_term, resolved_term_of, block_resolved}
 use Rattle.sq_graph.specs.Lines.{Line, End, line_of, term_lines, body_lines, lines_of, behind_name, slot_name, block_lines}
 use Rattle.sq_graph.specs.Walks.{lower_names, code_targets}
 use Rattle.sq_graph.specs.Soundness.{LinksDieIn, IsSound}
@@ -29,7 +29,7 @@ use Rattle.sq_patch.proofs.Splitting.{take_in, drop_in, map_parts}
 use Rattle.sq_patch.proofs.Falling.{every, absent_from, next_at}
 use Rattle.sq_patch.proofs.Changing.{ahead}
 use Rattle.sq_patch.proofs.Carrying.{same_some, AreOf, ItemGoes, carry_items, carry_some, Backs, items_die}
-use Rattle.sq_patch.proofs.Layouts.{Turn}
+use Rattle.sq_patch.proofs.Layouts.{Turn, choose}
 use Rattle.sq_patch.proofs.Restricting.{own, flat_from, block_target, slot_targets}
 use Rattle.sq_patch.proofs.Standing.{stands_at, distinct_at, block_at}
 use Rattle.sq_patch.proofs.Passing.{lone_block, lone_lines, jump_lines, jumps_from}
@@ -38,11 +38,11 @@ use Rattle.sq_patch.proofs.Ending.{all_of}
 use Rattle.sq_patch.proofs.Replacing.{own_items}
 use Rattle.sq_patch.proofs.Inverting.{placed_by}
 use Rattle.sq_patch.proofs.Leading.{slot_lines, first_slot, leads, keys_same, others_same, next_same, Hops, stop, hop, hops}
-use Rattle.sq_patch.proofs.Meeting.{MayGo, MayHold, C as meeting, meet}
+use Rattle.sq_patch.proofs.Meeting.{EndsMeet, meet_weaker, Resolve, resolved_meet, Joint, joint_itself, joint_resolved, MayGo, MayHold, C as meeting, meet}
 use Rattle.sq_patch.proofs.Used.{contains_first, flat_contains}
 
 -- a block with an item is there
-with_items : (o : Option Block) → block_items o ≢ [] → (b : Block) × (o ≡ Some b)
+pub with_items : (o : Option Block) → block_items o ≢ [] → (b : Block) × (o ≡ Some b)
 with_items None some = absurd (some refl)
 with_items (Some b) some = (b, refl)
 
@@ -53,7 +53,33 @@ no_drop at items none = drop_all at items (subst (λ (is : List Item). length is
 unlone : (items : List Item) (t : Term) (to : ℕ) → items ≢ [] → jump_of items t ≡ Some to → ⊥
 unlone items t to some e = some (lone_block items t to e).0
 
-module _ (g : Graph) (dropped at kept : ℕ) (rules : IsGraph g) (can : IsMergeable g dropped at kept) where
+-- The end of one block is another block, by its items and by where the two lead.
+pub record CanMerge (g : Graph) (dropped at kept : ℕ) : Type 0 where
+  pub other : kept ≢ dropped
+  pub items : drop at (items_of g dropped) ≡ items_of g kept
+  pub some : items_of g kept ≢ []
+  pub terms : (t u : Term) → term_of g dropped ≡ Some t → term_of g kept ≡ Some u → EndsMeet (Joint g) t u (next_of g dropped) (next_of g kept)
+
+-- blocks with equal resolved terms lead to the same
+pub joint_terms : (g : Graph) (dropped kept : ℕ) → resolved_term_of g dropped ≡ resolved_term_of g kept → (t u : Term) → term_of g dropped ≡ Some t → term_of g kept ≡ Some u → EndsMeet (Joint g) t u (next_of g dropped) (next_of g kept)
+joint_terms g dropped kept e t u i j =
+    let o = block_of_term (block_of g dropped) t i in
+    let p = block_of_term (block_of g kept) u j in
+    let same : resolved_term g t (next_of g dropped) ≡ resolved_term g u (next_of g kept) =
+    same_some (resolved_term g t (next_of g dropped)) (resolved_term g u (next_of g kept))
+    (sym (resolved_of (block_of g dropped) (next_of g dropped) o.0 t o.1.0 o.1.1) ∙ e ∙ resolved_of (block_of g kept) (next_of g kept) p.0 u p.1.0 p.1.1) in
+    meet_weaker (Resolve g) (Joint g) (joint_resolved g) (resolved_meet g t u (next_of g dropped) (next_of g kept) same)
+  where
+    block_of_term : (o : Option Block) (t : Term) → block_term o ≡ Some t → (b : Block) × ((o ≡ Some b) × (b.term ≡ t))
+    block_of_term None t i = absurd (cc)
+    block_of_term (Some b) t i = (b, (refl, same_some b.term t i))
+    resolved_of : (o : Option Block) (next : Option ℕ) (b : Block) (t : Term) → o ≡ Some b → b.term ≡ t → block_resolved g o next ≡ Some (resolved_term g t next)
+    resolved_of o next b t i k = ap (λ w. block_resolved g w next) i ∙ ap (λ w. Some (resolved_term g w next)) k
+
+pub can_merge : (g : Graph) (dropped at kept : ℕ) → IsMergeable g dropped at kept → CanMerge g dropped at kept
+can_merge g dropped at kept can = record { other = can.other; items = can.items; some = can.some; terms = joint_terms g dropped kept can.terms }
+
+module _ (g : Graph) (dropped at kept : ℕ) (rules : IsGraph g) (can : CanMerge g dropped at kept) where
   abbrev h : Graph
   h = merged g dropped at kept
 
@@ -155,10 +181,10 @@ module _ (g : Graph) (dropped at kept : ℕ) (rules : IsGraph g) (can : IsMergea
 
   -- names
   may_hold : (n : ℕ) → Contains (code_targets g) n → MayHold g h n n
-  may_hold n c = (c, refl)
+  may_hold n c = (c, joint_itself g n)
 
   may_go : (n : ℕ) → Contains (uses g) n → MayGo g h n n
-  may_go n c = refl
+  may_go n c = joint_itself g n
 
   each : AreOf C own (ItemGoes C own) x.items
   each = items_stay NoMode no_stands (MayHold g h) (MayGo g h) every all_matter (Unit {0}) g h rules refl refl may_hold may_go x in_graph
@@ -180,11 +206,9 @@ module _ (g : Graph) (dropped at kept : ℕ) (rules : IsGraph g) (can : IsMergea
   in_end : AreOf C own (ItemGoes C own) k.items
   in_end item c = each item (drop_in x.items at item (subst (λ items. Contains items item) (sym end_is) c))
 
-  -- the two resolved terms
-  terms_same : resolved_term g x.term (next_of g dropped) ≡ resolved_term g k.term (next_of g kept)
-  terms_same =
-      same_some (resolved_term g x.term (next_of g dropped)) (resolved_term g k.term (next_of g kept))
-      (sym (ap (λ o. block_resolved g o (next_of g dropped)) found) ∙ can.terms ∙ ap (λ o. block_resolved g o (next_of g kept)) kept_block.1)
+  -- the two terms
+  ends_meet : EndsMeet (Joint g) x.term k.term (next_of g dropped) (next_of g kept)
+  ends_meet = can.terms x.term k.term (ap block_term found) (ap block_term kept_block.1)
 
   abbrev end : List Line
   end = term_lines x.term (lines_of back)
@@ -211,7 +235,7 @@ module _ (g : Graph) (dropped at kept : ℕ) (rules : IsGraph g) (can : IsMergea
   end_goes b =
       let met : Alike C true None end (term_lines k.term (slot_lines h.blocks (next_of g kept))) =
       subst (λ lines. Alike C true None (term_lines x.term lines) (term_lines k.term (slot_lines h.blocks (next_of g kept)))) (sym slot_is)
-      (meet g h x.term k.term (next_of g dropped) (next_of g kept) terms_same slot_targeted) in
+      (meet g h ends_meet slot_targeted) in
       subst (λ items. Alike C b None (map line_of items ++ end) (End (Jump kept) ∷ lines_of back)) (sym end_is)
       (jump_after (subst (λ lines. Alike C b None (map line_of k.items ++ end) lines) (sym kept_lines) (keep_some b k.items end (term_lines k.term (slot_lines h.blocks (next_of g kept))) some in_end met)))
 
@@ -226,10 +250,6 @@ module _ (g : Graph) (dropped at kept : ℕ) (rules : IsGraph g) (can : IsMergea
       subst (λ xs. Alike C b None xs (body_lines y (lines_of back))) (sym x_lines)
       (subst (λ ys. Alike C b None (map line_of first ++ (map line_of (drop at x.items) ++ end)) ys) (sym y_lines)
       (keep b first (map line_of (drop at x.items) ++ end) (End (Jump kept) ∷ lines_of back) in_first (end_goes b)))
-
-  choose : (c : Bool) (xs ys us vs : List Line) → Alike C false None xs us → Alike C false None ys vs → Alike C false None (if c then xs else ys) (if c then us else vs)
-  choose true xs ys us vs p q = p
-  choose false xs ys us vs p q = q
 
   lower_in : (m : ℕ) → Contains (flat_map lower_names y.items) m → Contains (code_targets g) m
   lower_in m c =
@@ -249,7 +269,7 @@ module _ (g : Graph) (dropped at kept : ℕ) (rules : IsGraph g) (can : IsMergea
         choose (x.name == m) (body_lines x (lines_of back)) (behind_name m (body_lines x (lines_of back))) (body_lines y (lines_of back)) (behind_name m (body_lines y (lines_of back))) (body false)
         (subst (λ xs. Alike C false None xs (behind_name m (body_lines y (lines_of back)))) (sym (body_unnamed m x (lines_of back)))
         (subst (λ ys. Alike C false None (behind_name m (lines_of back)) ys) (sym (body_unnamed m y (lines_of back))) q));
-    lowers = λ m c. (m, (lower_in m (all_of (flat_map lower_names y.items) m c), refl));
+    lowers = λ m c. (m, (lower_in m (all_of (flat_map lower_names y.items) m c), joint_itself g m));
     slots = λ m c. inr c;
     dies = λ backs p die die'. first_dies backs die die';
   }
@@ -279,9 +299,7 @@ module _ (g : Graph) (dropped at kept : ℕ) (rules : IsGraph g) (can : IsMergea
       let o = jumps_on n m e in subst (λ ys. Alike C false None xs ys) (sym o.1) (jump_after (walk_after m r xs later p))
 
   names : (n m : ℕ) → MayGo g h n m → Alike C false None (block_lines g n) (block_lines h m)
-  names n m e =
-      let r = resolved g n in
-      walk_before n r (block_lines h m) (hops g n) (walk_after m r (block_lines g r) (subst (λ s. Hops g m s) (sym e) (hops g m)) (same r))
+  names n m j = walk_before n j.0 (block_lines h m) j.1.0 (walk_after m j.0 (block_lines g j.0) j.1.1 (same j.0))
 
   values : (n m : ℕ) → MayHold g h n m → Contains (code_targets g) n × MayGo g h n m
   values n m v = v

@@ -14,7 +14,7 @@ use Rattle.sq_patch.proofs.Keeping.{NoMode, no_stands, staying}
 use Rattle.sq_patch.proofs.Carrying.{ItemGoes, BlockGoes, carried_block}
 use Rattle.sq_patch.proofs.Layouts.{Turn, Carries}
 use Rattle.sq_patch.proofs.Restricting.{own}
-use Rattle.sq_patch.proofs.Relating.{block_stays as block_stays_in, items_stay as items_stay_in, bodies_stay as bodies_stay_in, block_goes as block_goes_in, all_stay as all_stay_in, same_names, placed_follows as placed_follows_in, placed_sound as placed_sound_in}
+use Rattle.sq_patch.proofs.Relating.{block_stays as block_stays_in, items_stay as items_stay_in, bodies_stay as bodies_stay_in, block_goes as block_goes_in, all_stay as all_stay_in, same_names, placed_follows as placed_follows_in, placed_sound as placed_sound_in, placed_live as placed_live_in}
 
 module _ (K : ℕ → Type 0) (X : List Line → ℕ → Type 0) (Z : Type 0) (g h : Graph) (rules : IsGraph g) (known : (n : ℕ) → Contains (uses g) n → K n) (procedures : h.procedures ≡ g.procedures) (words : h.code_words ≡ g.code_words) where
   abbrev pub C : Change
@@ -56,3 +56,6 @@ module _ (K : ℕ → Type 0) (X : List Line → ℕ → Type 0) (Z : Type 0) (g
 
       pub placed_sound : ((xs : List Line) (r : ℕ) → IsLive g r xs → X xs r) → Z → IsSound g → IsSound h
       placed_sound matters safe sound = placed_sound_in NoMode no_stands C.MayHold C.MayGo K X Z g h rules procedures words may_hold may_go us vs back first turn front whole after entry carrier values names matters safe sound
+
+      pub placed_live : ((xs : List Line) (r : ℕ) → IsLive g r xs → X xs r) → Z → (q n : ℕ) → K n → IsLive h q (block_lines h n) → IsLive g q (block_lines g n)
+      placed_live matters safe q n k live = placed_live_in NoMode no_stands C.MayHold C.MayGo K X Z g h rules procedures words may_hold may_go us vs back first turn front whole after entry carrier values names matters safe q n n (refl, k) live

@@ -22,6 +22,7 @@ use Rattle.sq_graph.specs.Soundness.{IsSoundBody, IsSound}
 use Rattle.sq_follow.specs.Follows.{Follows, word_address}
 use Rattle.sq_patch.specs.Changes.{Change, Alike, IsSteady, falls}
 use Rattle.sq_patch.specs.Recalls.{AreEqual}
+use Rattle.sq_patch.proofs.Renaming.{still_there}
 use Rattle.sq_patch.proofs.LiveTargets.{word_target}
 use Rattle.sq_patch.proofs.Patch.{change_follows}
 use Rattle.sq_patch.proofs.Keeping.{staying, all_matter, every_carrier}
@@ -33,6 +34,16 @@ use Rattle.sq_patch.proofs.Restricting.{own, own_block, own_procedure, flat_from
 use Rattle.sq_patch.proofs.Standing.{stands_at, block_at, own_called_block, own_called_procedure}
 use Rattle.sq_patch.proofs.Splitting.{take_in, drop_in}
 use Rattle.sq_patch.proofs.Calls.{range_is}
+use Rattle.sq_patch.proofs.Replacing.{behind_items}
+use Rattle.std.proofs.Common.{◌≤◌, length as size_of}
+use Rattle.sq_graph.specs.Blocks.{HasBlock}
+use Rattle.sq_graph.specs.Renames.{recalled_items}
+use Rattle.sq_graph.specs.Lines.{line_of, term_lines, body_lines, behind_name, place_lines}
+use Rattle.sq_graph.specs.Walks.{IsLive}
+use Rattle.sq_patch.proofs.Carrying.{carry_body, Backs}
+use Rattle.sq_patch.proofs.Layouts.{carries_lines, carries_back}
+use Rattle.sq_patch.proofs.Falling.{absent_from, name_at}
+use Rattle.sq_patch.proofs.Standing.{distinct_at, own_calls}
 use Rattle.sq_patch.proofs.Used.{contains_first, contains_later, flat_contains, from_slice, slice_there, from_all, item_called, block_item, body_calls_none}
 
 -- The second graph has the same blocks with other numbers of procedures, under which those that are called are there.
@@ -117,6 +128,28 @@ module _ (g h : Graph) (number : ℕ → ℕ) (rules : IsGraph g) (same : IsRenu
       carried_sound C number every steady (λ xs r l. tt) tt every_block
       (λ m c. (m, may_hold m (word_target g m (subst (λ ws. Contains (map word_name ws) m) same.words c))))
       bodies_held sound sound_bodies
+
+  -- what is live at a place of the second graph is live where the first goes on like it
+  backs : Backs C number
+  backs =
+      carries_back C number every steady (λ xs r l. tt) tt every_block
+      (λ m c. (m, may_hold m (word_target g m (subst (λ ws. Contains (map word_name ws) m) same.words c)))) bodies_held
+
+  -- a place of a block goes on like itself
+  place_alike : (front : List Block) (x : Block) (bs : List Block) → front ++ (x ∷ bs) ≡ g.blocks → (spot : ℕ) → Alike C true None (map line_of (drop spot x.items) ++ term_lines x.term (lines_of bs)) (map line_of (recalled_items number (drop spot x.items)) ++ term_lines x.term (lines_of (moved bs)))
+  place_alike front x bs e spot =
+      let go = block_goes front x bs e in
+      let later = λ (f : falls x.term ≡ true). carries_lines C number every true refl (all true (front ++ x ∷ []) bs (ahead front x bs ∙ e)) in
+      let b : Block = record x { items = drop spot x.items } in
+      subst (λ w. Alike C true None (body_lines b (lines_of bs)) (body_lines w (lines_of (moved bs)))) (ap (recalled_block number) (own_block b))
+      (carry_body C number b (lines_of bs) (lines_of (moved bs)) (record { items = λ item c. go.items item (drop_in x.items spot item c); term = go.term; slot = go.slot }) later)
+
+  pub place_live : (front : List Block) (x : Block) (bs : List Block) → front ++ (x ∷ bs) ≡ g.blocks → (spot r : ℕ) → IsLive h r (map line_of (recalled_items number (drop spot x.items)) ++ term_lines x.term (lines_of (moved bs))) → IsLive g r (map line_of (drop spot x.items) ++ term_lines x.term (lines_of bs))
+  place_live front x bs e spot r lives =
+      let before = map line_of (drop spot x.items) ++ term_lines x.term (lines_of bs) in
+      let o = backs r (map line_of (recalled_items number (drop spot x.items)) ++ term_lines x.term (lines_of (moved bs))) lives true None before (place_alike front x bs e spot) in
+      let is : r ≡ o.0 = o.1.0 in
+      subst (λ q. IsLive g q before) (sym is) o.1.1
 
 -- procedures that were those of the graph under other numbers
 abbrev Were : Graph → Graph → (ℕ → ℕ) → Type 0
@@ -234,12 +267,6 @@ module _ (g : Graph) (gone : ℕ) (rules : IsGraph g) (unused : ¬ Contains (cal
   pub uncalled_goes_sound : IsSound g → IsSound (without_procedure g gone)
   uncalled_goes_sound sound = renumbered_sound g (without_procedure g gone) (lowered gone) rules fewer sound (sound_were g (without_procedure g gone) (lowered gone) left sound)
 
--- one more procedure
-still_there : (ps more : List Procedure) (q : ℕ) (p : Procedure) → slice_get ps q ≡ Some p → slice_get (ps ++ more) q ≡ Some p
-still_there [] more q p e = absurd (cc)
-still_there (x ∷ ps) more zero p e = e
-still_there (x ∷ ps) more (suc q) p e = still_there ps more q p e
-
 -- an item of a block's piece is one of the block
 piece_in : (items : List Item) (at n : ℕ) (item : Item) → Contains (slice_range items at (at + n)) item → Contains items item
 piece_in items at n item c = drop_in items at item (take_in (drop at items) n item (subst (λ is. Contains is item) (range_is items at n) c))
@@ -291,3 +318,19 @@ module _ (g : Graph) (block at length link : ℕ) (rules : IsGraph g) where
   pub outline_sound : IsSoundBody new → IsSound g → IsSound oh
   outline_sound fits sound =
       renumbered_sound g oh own rules more sound (All-append IsSoundBody g.procedures (new ∷ []) sound.bodies (All-cons IsSoundBody new [] fits (All-nil IsSoundBody)))
+
+  -- what is dead at a place stays dead
+  pub outline_dead : (other spot r : ℕ) → HasBlock g other → spot ≤ size_of (items_of g other) → ¬ IsLive g r (place_lines g other spot) → ¬ IsLive oh r (place_lines oh other spot)
+  outline_dead other spot r has l gone lives =
+      let z = located g.blocks other has in
+      let e : z.front ++ (z.block ∷ z.back) ≡ g.blocks = sym z.whole in
+      let items_are : items_of g other ≡ z.block.items = ap block_items (subst (λ k. value_of (named g.blocks) k ≡ Some z.block) z.has_name (block_at g rules z.front z.block z.back e)) in
+      let lines_are : block_lines g other ≡ body_lines z.block (lines_of z.back) =
+      subst (λ k. behind_name k (lines_of g.blocks) ≡ body_lines z.block (lines_of z.back)) z.has_name
+      (subst (λ cs. behind_name z.block.name (lines_of cs) ≡ body_lines z.block (lines_of z.back)) e (name_at z.front z.block z.back (absent_from z.front z.block z.back (distinct_at g rules z.front z.block z.back e)))) in
+      let place_is : place_lines g other spot ≡ map line_of (drop spot z.block.items) ++ term_lines z.block.term (lines_of z.back) =
+      ap (drop spot) lines_are ∙ behind_items z.block.items spot (term_lines z.block.term (lines_of z.back)) (subst (λ items. spot ≤ size_of items) items_are l) in
+      let there : IsLive oh r (map line_of (recalled_items own (drop spot z.block.items)) ++ term_lines z.block.term (lines_of (map (recalled_block own) z.back))) =
+      subst (λ is. IsLive oh r (map line_of is ++ term_lines z.block.term (lines_of (map (recalled_block own) z.back)))) (sym (own_calls (drop spot z.block.items)))
+      (subst (λ bs. IsLive oh r (map line_of (drop spot z.block.items) ++ term_lines z.block.term (lines_of bs))) (same_blocks z.back) (subst (λ lines. IsLive oh r lines) place_is lives)) in
+      gone (subst (λ lines. IsLive g r lines) (sym place_is) (place_live g oh own rules more z.front z.block z.back e spot r there))

@@ -12,12 +12,12 @@ use Rattle.sq_graph.specs.Walks.{IsLive, word_name, code_targets}
 use Rattle.sq_graph.specs.Soundness.{IsSound}
 use Rattle.sq_graph.proofs.Bypassing.{retargeted_same}
 use Rattle.sq_follow.specs.Follows.{Follows, word_address}
-use Rattle.sq_patch.specs.Changes.{Change, Alike, IsSteady, IsCarrier, falls}
+use Rattle.sq_patch.specs.Changes.{Change, Alike, guarded, IsSteady, IsCarrier, falls}
 use Rattle.sq_patch.proofs.LiveTargets.{word_target}
 use Rattle.sq_patch.proofs.Patch.{change_follows}
 use Rattle.sq_patch.proofs.Changing.{ahead, same_map}
-use Rattle.sq_patch.proofs.Carrying.{same_some, SlotGoes, BlockGoes, ItemGoes, carried_block}
-use Rattle.sq_patch.proofs.Layouts.{Turn, Carries, done, stays, turns, carries_behind, carried_sound}
+use Rattle.sq_patch.proofs.Carrying.{same_some, SlotGoes, BlockGoes, ItemGoes, carried_block, Backs}
+use Rattle.sq_patch.proofs.Layouts.{Turn, Carries, done, stays, turns, carries_behind, carries_back, carried_sound}
 use Rattle.sq_patch.proofs.Restricting.{own, own_block, slot_target}
 use Rattle.sq_patch.proofs.Standing.{stands_at, own_called_block, items_go, body_goes, term_goes, words_held, bodies_held, procedures_sound}
 use Rattle.sq_patch.proofs.Used.{contains_first, from_slice}
@@ -132,3 +132,15 @@ module _ (Mode : Type 0) (StandsIn : Mode → ℕ → ℕ → Type 0) (MayHold M
               carried_sound C own K steady matters safe every
               (words_held C rules may_hold may_go procedures_stay words_stay) (bodies_held C rules may_hold may_go procedures_stay words_stay) sound
               (procedures_sound C rules may_hold may_go procedures_stay words_stay sound)
+
+          -- what is live at a place of the second graph is live where the first goes on like it
+          pub placed_backs : ((xs : List Line) (r : ℕ) → IsLive g r xs → X xs r) → Z → Backs C own
+          placed_backs matters safe =
+              carries_back C own K steady matters safe every
+              (words_held C rules may_hold may_go procedures_stay words_stay) (bodies_held C rules may_hold may_go procedures_stay words_stay)
+
+          pub placed_live : ((xs : List Line) (r : ℕ) → IsLive g r xs → X xs r) → Z → (q n m : ℕ) → MayGo n m → IsLive h q (block_lines h m) → IsLive g q (block_lines g n)
+          placed_live matters safe q n m j live =
+              let o = placed_backs matters safe q (block_lines h m) live true None (block_lines g n) (guarded (names n m j)) in
+              let is : q ≡ o.0 = o.1.0 in
+              subst (λ r. IsLive g r (block_lines g n)) (sym is) o.1.1

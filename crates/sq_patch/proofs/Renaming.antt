@@ -86,7 +86,7 @@ pub rename_follows : RenameFollows
 rename_follows g f rules apart = renamed_follows g f rules apart (map (retargeted_procedure f) g.procedures) (procedure_moved f g.procedures)
 
 -- more procedures behind those of a list
-still_there : (ps more : List Procedure) (q : ℕ) (p : Procedure) → slice_get ps q ≡ Some p → slice_get (ps ++ more) q ≡ Some p
+pub still_there : (ps more : List Procedure) (q : ℕ) (p : Procedure) → slice_get ps q ≡ Some p → slice_get (ps ++ more) q ≡ Some p
 still_there [] more q p e = absurd (cc)
 still_there (x ∷ ps) more zero p e = e
 still_there (x ∷ ps) more (suc q) p e = still_there ps more q p e

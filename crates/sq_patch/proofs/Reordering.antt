@@ -16,6 +16,7 @@ use Rattle.sq_graph.proofs.Located.{located}
 use Rattle.sq_follow.specs.Follows.{Follows}
 use Rattle.sq_patch.specs.Changes.{Change, Alike, ends, name_before, name_after, IsSteady}
 use Rattle.sq_patch.specs.Inserts.{AreReordered}
+use Rattle.sq_patch.proofs.Layouts.{none_in}
 use Rattle.sq_patch.proofs.LiveTargets.{word_target}
 use Rattle.sq_patch.proofs.Patch.{change_follows}
 use Rattle.sq_patch.proofs.Shrink.{shrinks}
@@ -45,9 +46,6 @@ record Linked (bs : List Block) (m : ℕ) : Type 0 where
   pub whole : front ++ (block ∷ next ∷ back) ≡ bs
   pub links_on : links block.term ≡ true
   pub name : next.name ≡ m
-
-none_in : {X : Type 0} (m : ℕ) → Contains {X = ℕ} [] m → X
-none_in m c = absurd (let l : c.0 < 0 = c.1 in omega arith)
 
 linked_later : (x : Block) (bs : List Block) (m : ℕ) → Linked bs m → Linked (x ∷ bs) m
 linked_later x bs m o = record { front = x ∷ o.front; block = o.block; next = o.next; back = o.back; whole = ap (λ cs. x ∷ cs) o.whole; links_on = o.links_on; name = o.name }

@@ -1,5 +1,19 @@
 -- A block with other items in place of some, in a place of a graph.
-use Rattle.std.proofs.Common.{◌≡◌, ℕ, Bool, true, false, ◌==◌, if◌then◌else◌, inl, inr, List, [], ◌∷◌, ◌++◌, ◌+◌, None, map, take, drop, take-append-drop, drop-drop, refl, sym, ap, ◌∙◌, subst}
+use Rattle.std.proofs.Common.{◌≤◌, ◌≡◌, ℕ, Bool, true, false, ◌==◌, inl, inr, List, [], ◌∷◌, ◌++◌, ◌+◌, None, map, take, drop, take-append-drop, drop-drop, refl, sym, ap, ◌∙◌, subst}
+use Rattle.std.specs.List.{IsDistinct}
+use Rattle.std.proofs.Common.{length-take-le, length, length as count, arith, zero, suc, nat_eq, ◌≢◌, ◌⊎◌, Option, Some}
+use Rattle.std.proofs.lemmas.Bool.{cases_eq}
+use Rattle.sq_arena.specs.Entries.{value_of, first_key, next_key, behind as entries_behind, HasDistinctKeys}
+use Rattle.sq_graph.specs.Blocks.{named, block_of, block_items, items_of, next_of}
+use Rattle.sq_graph.specs.Lines.{slot_name, place_lines}
+use Rattle.sq_patch.specs.Changes.{ends, guarded}
+use Rattle.sq_patch.proofs.Falling.{absent_from, next_at, name_at}
+use Rattle.sq_patch.proofs.Splitting.{take_in, drop_in}
+use Rattle.sq_patch.proofs.Carrying.{same_some, SlotGoes}
+use Rattle.sq_patch.proofs.Standing.{distinct_at, block_at}
+use Rattle.sq_patch.proofs.Relating.{placed_backs}
+use Rattle.sq_patch.proofs.Leading.{slot_lines, leads, keys_same, others_same, next_same}
+use Rattle.sq_patch.proofs.Used.{contains_first}
 use Rattle.std.proofs.lemmas.List.Concat.{flat_map-append}
 use Rattle.std.proofs.lemmas.List.Elements.{Contains-append_cases, Contains-append_left, Contains-append_right}
 use Rattle.std.specs.List.{Contains, flat_map}
@@ -25,7 +39,7 @@ use Rattle.sq_patch.proofs.Falling.{every}
 use Rattle.sq_patch.proofs.Inlining.{with_others}
 use Rattle.sq_patch.proofs.Dying.{items_rest, term_dies}
 use Rattle.sq_patch.proofs.Carrying.{AreOf, ItemGoes, carry_items, carry_term, Backs, items_die}
-use Rattle.sq_patch.proofs.Layouts.{Turn, carries_lines}
+use Rattle.sq_patch.proofs.Layouts.{Turn, carries_lines, choose}
 use Rattle.sq_patch.proofs.Restricting.{own, own_block, block_target, slot_targets}
 use Rattle.sq_patch.proofs.Standing.{stands_at, own_called_block}
 use Rattle.sq_patch.proofs.Relating.{relating, block_stays, items_stay, block_goes, all_stay, same_names, placed_follows, placed_sound}
@@ -36,6 +50,12 @@ pub own_items : (items : List Item) → recalled_items own (retargeted_items own
 own_items items =
     let b : Block = record { name = 0; items = items; term = Fall } in
     ap (λ (c : Block). c.items) (ap (λ (c : Block). record c { items = recalled_items own c.items }) (own_block b) ∙ own_called_block b)
+
+-- what stands behind items of a block
+pub behind_items : (items : List Item) (n : ℕ) (rest : List Line) → n ≤ length items → drop n (map line_of items ++ rest) ≡ map line_of (drop n items) ++ rest
+behind_items items zero rest l = refl
+behind_items [] (suc n) rest l = absurd (omega arith)
+behind_items (item ∷ items) (suc n) rest l = behind_items items n rest (omega (arith, l))
 
 -- items in three parts
 pub three_parts : (items : List Item) (at length : ℕ) → take at items ++ (take length (drop at items) ++ drop (at + length) items) ≡ items
@@ -98,10 +118,6 @@ module _ (Mode : Type 0) (StandsIn : Mode → ℕ → ℕ → Type 0) (X : List 
           subst (λ xs. Alike C b None xs (body_lines y (lines_of back))) (sym lines_before)
           (subst (λ ys. Alike C b None (map line_of first ++ (map line_of out ++ later)) ys) (sym lines_after)
           (keep b first (map line_of out ++ later) (map line_of by ++ later) in_first (middle b (behind_it b))))
-
-      choose : (c : Bool) (xs ys us vs : List Line) → Alike C false None xs us → Alike C false None ys vs → Alike C false None (if c then xs else ys) (if c then us else vs)
-      choose true xs ys us vs p q = p
-      choose false xs ys us vs p q = q
 
       lower_in : (m : ℕ) → Contains (flat_map lower_names x.items) m → Contains (code_targets g) m
       lower_in m c = block_target g x m there c
@@ -226,3 +242,95 @@ module _ (Mode : Type 0) (StandsIn : Mode → ℕ → ℕ → Type 0) (X : List 
 
     pub replaced_sound : ((xs : List Line) (r : ℕ) → IsLive g r xs → X xs r) → Z → IsSound g → IsSound h
     replaced_sound matters safe sound = placed_sound Mode StandsIn H G every X Z g h rules refl refl held goes (x ∷ []) (record x { items = replaced_items x.items at length by } ∷ []) back refl turn place.front whole after refl carrier values names matters safe sound
+
+    -- PLACES. What is live at one in the second graph is so in the first, where it is in another block, or ahead of the items
+    abbrev new_items : List Item
+    new_items = replaced_items x.items at length by
+
+    abbrev made : Block
+    made = record x { items = new_items }
+
+    -- the second graph has the same names, next slots and other blocks
+    distinct : HasDistinctKeys (named h.blocks)
+    distinct =
+        subst (λ blocks. HasDistinctKeys (named blocks)) (sym after)
+        (subst (λ ns. IsDistinct nat_eq ns) (sym (keys_same place.front x made back refl)) (distinct_at g rules place.front x back whole))
+
+    other_block : (n : ℕ) → n ≢ block → block_of h n ≡ block_of g n
+    other_block n differs =
+        ap (λ blocks. value_of (named blocks) n) after
+        ∙ others_same place.front x made back n refl (λ e. differs (e ∙ place.has_name))
+        ∙ ap (λ blocks. value_of (named blocks) n) whole
+
+    next_slot : (n : ℕ) → next_of h n ≡ next_of g n
+    next_slot n = ap (λ blocks. next_key (named blocks) n) after ∙ next_same place.front x made back n refl ∙ ap (λ blocks. next_key (named blocks) n) whole
+
+    -- a slot goes on like itself
+    slots_alike : (o : Option ℕ) → Alike D true None (slot_lines g.blocks o) (slot_lines h.blocks o)
+    slots_alike None = ends
+    slots_alike (Some n) = name_before (name_after (guarded (same n)))
+
+    slots_go : (o : Option ℕ) → ((n : ℕ) → o ≡ Some n → Contains (code_targets g) n) → SlotGoes D own (slot_name (slot_lines g.blocks o)) (slot_name (slot_lines h.blocks o))
+    slots_go None t = tt
+    slots_go (Some n) t = held n (t n refl)
+
+    keep_items : (items : List Item) (xs ys : List Line) → AreOf D own (ItemGoes D own) items → Alike D true None xs ys → Alike D true None (map line_of items ++ xs) (map line_of items ++ ys)
+    keep_items items xs ys each p = subst (λ is. Alike D true None (map line_of items ++ xs) (map line_of is ++ ys)) (own_items items) (carry_items D own items xs ys each p)
+
+    items_ok : (z : Block) → Contains g.blocks z → AreOf D own (ItemGoes D own) z.items
+    items_ok z c = items_stay Mode StandsIn H G every X Z g h rules refl refl held goes z c
+
+    -- a place in another block
+    other_alike : (z : Block) (front bs : List Block) → front ++ (z ∷ bs) ≡ g.blocks → z.name ≢ block → (spot : ℕ) → spot ≤ count z.items → Alike D true None (place_lines g z.name spot) (place_lines h z.name spot)
+    other_alike z front bs e differs spot l =
+        let found = block_at g rules front z bs e in
+        let o = next_of g z.name in
+        let first : o ≡ first_key (named bs) = ap first_key (subst (λ cs. entries_behind (named cs) z.name ≡ named bs) e (next_at front z bs (absent_from front z bs (distinct_at g rules front z bs e)))) in
+        let before : place_lines g z.name spot ≡ map line_of (drop spot z.items) ++ term_lines z.term (slot_lines g.blocks o) =
+        ap (drop spot) (leads g.blocks z.name z rules.distinct found) ∙ behind_items z.items spot (term_lines z.term (slot_lines g.blocks o)) l in
+        let later : place_lines h z.name spot ≡ map line_of (drop spot z.items) ++ term_lines z.term (slot_lines h.blocks o) =
+        ap (drop spot) (leads h.blocks z.name z distinct (other_block z.name differs ∙ found) ∙ ap (λ k. body_lines z (slot_lines h.blocks k)) (next_slot z.name)) ∙ behind_items z.items spot (term_lines z.term (slot_lines h.blocks o)) l in
+        let c = stands_at g rules front z bs e in
+        let term : Alike D true None (term_lines z.term (slot_lines g.blocks o)) (term_lines z.term (slot_lines h.blocks o)) =
+        subst (λ t. Alike D true None (term_lines z.term (slot_lines g.blocks o)) (term_lines t (slot_lines h.blocks o))) (ap (λ (w : Block). w.term) (sym (block_stays Mode StandsIn H G every X Z g h rules refl refl held goes z)))
+        (carry_term D own z.term (slot_lines g.blocks o) (slot_lines h.blocks o) (λ n d. (refl, tt)) (λ k. slots_go o (λ n i. slot_targets g front z bs e k n (first_in bs n (sym first ∙ i)))) (λ f. slots_alike o)) in
+        subst (λ xs. Alike D true None xs (place_lines h z.name spot)) (sym before)
+        (subst (λ ys. Alike D true None (map line_of (drop spot z.items) ++ term_lines z.term (slot_lines g.blocks o)) ys) (sym later)
+        (keep_items (drop spot z.items) (term_lines z.term (slot_lines g.blocks o)) (term_lines z.term (slot_lines h.blocks o)) (λ item d. items_ok z c item (drop_in z.items spot item d)) term))
+      where
+        first_in : (bs : List Block) (n : ℕ) → first_key (named bs) ≡ Some n → Contains (first_name bs) n
+        first_in [] n e = absurd (cc)
+        first_in (w ∷ bs) n e = subst (λ k. Contains (w.name ∷ []) k) (same_some w.name n e) (contains_first w.name [])
+
+    -- a place ahead of the items
+    ahead_alike : at ≤ count x.items → (spot : ℕ) → spot ≤ at → Alike D true None (place_lines g block spot) (place_lines h block spot)
+    ahead_alike within spot l =
+        let first = take at x.items in
+        let fits : spot ≤ count first = (let n = length-take-le at x.items within in omega (arith, l, n)) in
+        let absent = absent_from place.front x back (distinct_at g rules place.front x back whole) in
+        let before : block_lines g block ≡ map line_of first ++ (map line_of out ++ behind) =
+        subst (λ k. behind_name k (lines_of g.blocks) ≡ body_lines x (lines_of back)) place.has_name (subst (λ cs. behind_name x.name (lines_of cs) ≡ body_lines x (lines_of back)) whole (name_at place.front x back absent))
+        ∙ ap (λ is. map line_of is ++ term_lines x.term (lines_of back)) parts ∙ with_others first out rest (term_lines x.term (lines_of back)) in
+        let later : block_lines h block ≡ map line_of first ++ (map line_of by ++ behind) =
+        subst (λ k. behind_name k (lines_of h.blocks) ≡ body_lines made (lines_of back)) place.has_name (subst (λ cs. behind_name x.name (lines_of cs) ≡ body_lines made (lines_of back)) (sym after) (name_at place.front made back absent))
+        ∙ with_others first by rest (term_lines x.term (lines_of back)) in
+        subst (λ xs. Alike D true None xs (place_lines h block spot)) (sym (ap (drop spot) before ∙ behind_items first spot (map line_of out ++ behind) fits))
+        (subst (λ ys. Alike D true None (map line_of (drop spot first) ++ (map line_of out ++ behind)) ys) (sym (ap (drop spot) later ∙ behind_items first spot (map line_of by ++ behind) fits))
+        (keep_items (drop spot first) (map line_of out ++ behind) (map line_of by ++ behind) (λ item d. items_ok x there item (take_in x.items at item (drop_in first spot item d)))
+        (middle true (keep_items rest (term_lines x.term (lines_of back)) (term_lines x.term (lines_of back)) (λ item d. items_ok x there item (drop_in x.items (at + length) item d)) (ended true)))))
+
+    pub replaced_live : ((xs : List Line) (r : ℕ) → IsLive g r xs → X xs r) → Z → at ≤ count x.items → (other spot r : ℕ) → HasBlock g other → spot ≤ count (items_of g other) → (other ≡ block → spot ≤ at) → IsLive h r (place_lines h other spot) → IsLive g r (place_lines g other spot)
+    replaced_live matters safe within other spot r has_other l ahead_of live =
+        let backs = placed_backs Mode StandsIn H G every X Z g h rules refl refl held goes (x ∷ []) (made ∷ []) back refl turn place.front whole after refl carrier values names matters safe in
+        let o = backs r (place_lines h other spot) live true None (place_lines g other spot) (alike (cases_eq other block)) in
+        let is : r ≡ o.0 = o.1.0 in
+        subst (λ q. IsLive g q (place_lines g other spot)) (sym is) o.1.1
+      where
+        alike : (other ≡ block) ⊎ (other ≢ block) → Alike D true None (place_lines g other spot) (place_lines h other spot)
+        alike (inl here) = subst (λ n. Alike D true None (place_lines g n spot) (place_lines h n spot)) (sym here) (ahead_alike within spot (ahead_of here))
+        alike (inr differs) =
+            let at' = located g.blocks other has_other in
+            let e : at'.front ++ (at'.block ∷ at'.back) ≡ g.blocks = sym at'.whole in
+            let are : items_of g other ≡ at'.block.items = ap block_items (subst (λ k. value_of (named g.blocks) k ≡ Some at'.block) at'.has_name (block_at g rules at'.front at'.block at'.back e)) in
+            subst (λ n. Alike D true None (place_lines g n spot) (place_lines h n spot)) at'.has_name
+            (other_alike at'.block at'.front at'.back e (λ i. differs (sym at'.has_name ∙ i)) spot (subst (λ items. spot ≤ count items) are l))

@@ -1,19 +1,19 @@
 -- How many words the operations save.
-use Rattle.std.proofs.Common.{◌≡◌, ℕ, zero, suc, ◌<◌, ◌≤◌, ◌+◌, ◌-◌, Bool, true, false, not, ◌==◌, if◌then◌else◌, inl, inr, List, [], ◌∷◌, ◌++◌, Option, Some, None, IsSome, map, take, drop, remove, length, sum_by, slice_get, length-append, refl, sym, ap, ◌∙◌, subst, arith}
+use Rattle.std.proofs.Common.{◌≡◌, ℕ, zero, suc, ◌<◌, ◌≤◌, ◌+◌, Bool, not, inl, inr, List, [], ◌∷◌, ◌++◌, Option, Some, None, IsSome, map, take, drop, remove, length, sum_by, slice_get, length-append, refl, sym, ap, ◌∙◌, subst, arith}
 use Rattle.std.proofs.lemmas.Bool.{cases_Bool}
 use Rattle.std.proofs.Common.{length-take-le}
 use Rattle.std.proofs.lemmas.List.{map-append, length-map, length-drop, length-take}
-use Rattle.std.proofs.lemmas.List.Sums.{sum_by-cons, sum_by-append, sum_by-remove}
+use Rattle.std.proofs.lemmas.List.Sums.{sum_by-cons, sum_by-append}
 use Rattle.std.specs.List.{filter, slice_range}
 use Rattle.sq_arena.specs.Entries.{value_of}
 use Rattle.sq_graph.specs.declared.item.Item.{Item}
-use Rattle.sq_graph.specs.declared.item.Item.TheVariants.{Op, Hi, Lo, Out}
+use Rattle.sq_graph.specs.declared.item.Item.TheVariants.{Hi, Out}
 use Rattle.sq_graph.specs.declared.item.Term.{Term}
 use Rattle.sq_graph.specs.declared.item.Term.TheVariants.{Fall, Jump, Branch, Call, PartJump, Indirect, Stop}
 use Rattle.sq_graph.specs.Graph.{Block, Procedure, Graph}
 use Rattle.sq_graph.specs.Blocks.{named, HasBlock, HasProcedure, block_of, items_of, body_of, term_of, block_items, block_term, procedure_body}
-use Rattle.sq_graph.specs.Operations.{with_blocks, with_term, replaced, replaced_items, inlined, called_at, called_body, call_of, outlined, inserted_after, redirected_calls, without_procedure}
-use Rattle.sq_graph.specs.Renames.{retargeted_item, recalled_item, swapped, lowered, retargeted_items, retargeted_term, retargeted_block, retargeted_procedure, recalled_items, recalled_block, recalled_procedure}
+use Rattle.sq_graph.specs.Operations.{with_term, replaced, replaced_items, inlined, called_at, called_body, call_of, outlined, inserted_after, redirected_calls, without_procedure}
+use Rattle.sq_graph.specs.Renames.{retargeted_item, recalled_item, swapped, lowered, retargeted_term, retargeted_block, retargeted_procedure, recalled_block, recalled_procedure}
 use Rattle.sq_graph.specs.Words.{term_words, block_words, procedure_words, words_of}
 use Rattle.sq_graph.proofs.Located.{IsAt, located}
 use Rattle.sq_graph.proofs.SplitRules.{words_of_blocks-changed}
@@ -23,7 +23,7 @@ use Rattle.sq_patch.specs.Restrictions.{procedures_held, number_held, restricted
 use Rattle.sq_patch.specs.Operations.{hastened}
 use Rattle.sq_patch.specs.Savings.{SaveWords}
 use Rattle.sq_patch.proofs.Inverting.{invert_saves}
-use Rattle.sq_patch.proofs.Merging.{merge_saves}
+use Rattle.sq_patch.proofs.Merging.{can_merge, merge_saves}
 use Rattle.sq_patch.specs.Calls.{call_end, called_there}
 use Rattle.sq_patch.specs.LoneJumps.{IsPassable, without_jump}
 use Rattle.sq_patch.proofs.Falling.{found_at}
@@ -232,7 +232,7 @@ saved = record {
   invert = λ g block cond a b over behind to rules jumped. invert_saves g block cond a b over behind to rules jumped;
   hasten = hasten_saves;
   drop = drop_saves;
-  merge = λ g dropped at kept term rules can e. merge_saves g dropped at kept rules can term e;
+  merge = λ g dropped at kept term rules can e. merge_saves g dropped at kept rules (can_merge g dropped at kept can) term e;
   call = call_saves;
   inline = inline_saves;
   outline = outline_saves;

@@ -60,7 +60,7 @@ from_sources P (x ∷ rs) (y ∷ qs) q a e =
     (or_split (y == q) (is_among qs q) p.1)
 
 -- a term without sources reads nothing
-no_sources : (q : ℕ) → is_among_but_x0 [] q ≡ true → ⊥
+pub no_sources : (q : ℕ) → is_among_but_x0 [] q ≡ true → ⊥
 no_sources q e = let p = and_parts (not (q == 0)) (is_among [] q) e in let f : false ≡ true = p.1 in cc
 
 near_nil : {C : Change} {q : ℕ} {ys : List Line} → IsNear C q ys → ys ≡ [] → ⊥

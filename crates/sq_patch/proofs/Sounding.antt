@@ -1,12 +1,11 @@
 -- A graph is sound in which a block was split, a Jump became Fall, an upper half went, a jump became a Call, or a body
 -- stands in place of its call, where the graph before it is.
-use Rattle.std.proofs.Common.{◌≡◌, ℕ, zero, suc, ◌<◌, ◌≤◌, ◌+◌, Bool, true, false, ◌==◌, if◌then◌else◌, inl, inr, List, [], ◌∷◌, ◌++◌, Option, Some, None, IsSome, map, take, drop, length, slice_get, refl, sym, ap, ◌∙◌, subst, arith}
+use Rattle.std.proofs.Common.{◌≡◌, ℕ, zero, suc, ◌<◌, ◌≤◌, ◌+◌, Bool, true, false, ◌==◌, inl, inr, List, [], ◌∷◌, ◌++◌, Option, Some, None, IsSome, map, take, drop, length, slice_get, refl, sym, ap, ◌∙◌, subst, arith}
 use Rattle.std.proofs.lemmas.List.Elements.{Contains-append_cases}
 use Rattle.std.specs.List.{Contains, flat_map}
 use Rattle.sq_arena.specs.Entries.{value_of}
 use Rattle.sq_graph.specs.declared.item.Item.{Item}
 use Rattle.sq_graph.specs.declared.item.Item.TheVariants.{Op, Hi, Lo, Out}
-use Rattle.sq_graph.specs.declared.item.Term.{Term}
 use Rattle.sq_graph.specs.declared.item.Term.TheVariants.{Fall, Jump, PartJump}
 use Rattle.sq_graph.specs.Graph.{Block, Procedure, Graph}
 use Rattle.sq_graph.specs.Blocks.{named, HasBlock, block_of, block_items, items_of, block_term, term_of, next_of, procedure_body}
@@ -31,23 +30,14 @@ use Rattle.sq_patch.proofs.Dropping.{live, live_carrier, unwritten}
 use Rattle.sq_patch.proofs.Bypassing.{slot_known}
 use Rattle.sq_patch.proofs.Dying.{body_rest, items_rest, term_dies}
 use Rattle.sq_patch.proofs.Carrying.{same_some, slot_same, AreOf, ItemGoes, carry_items, carry_term, Backs, items_die}
-use Rattle.sq_patch.proofs.Layouts.{Turn, carries_lines}
+use Rattle.sq_patch.proofs.Layouts.{Turn, carries_lines, choose}
 use Rattle.sq_patch.proofs.Restricting.{own, block_target, procedure_target, slot_targets, target_from, flat_from}
-use Rattle.sq_patch.proofs.Standing.{stands_at, distinct_at, block_at}
-use Rattle.sq_patch.proofs.Placing.{C as placing, block_stays, block_goes, all_stay, items_stay, bodies_stay, placed_sound}
+use Rattle.sq_patch.proofs.Standing.{stands_at, distinct_at, block_at, there_by_term, there_by_item}
+use Rattle.sq_patch.proofs.Placing.{C as placing, block_stays, block_goes, all_stay, items_stay, bodies_stay, placed_sound, placed_live}
 use Rattle.sq_patch.proofs.Ending.{all_of, one_slot, term_turn}
-use Rattle.sq_patch.proofs.Replacing.{own_items, C as replacing, place, out, behind, replaced_sound}
-use Rattle.sq_patch.proofs.Calls.{items_dead, behind_items, is_other}
+use Rattle.sq_patch.proofs.Replacing.{behind_items, own_items, C as replacing, place, out, behind, replaced_sound}
+use Rattle.sq_patch.proofs.Calls.{items_dead, is_other}
 use Rattle.sq_patch.proofs.Used.{contains_first, contains_later, flat_contains, from_slice, from_all, slice_there, item_called, block_item}
-
--- a block of which the term or an item is known is there
-there_by_term : (o : Option Block) (t : Term) → block_term o ≡ Some t → IsSome o
-there_by_term None t e = absurd (cc)
-there_by_term (Some b) t e = refl
-
-there_by_item : (o : Option Block) (at : ℕ) (item : Item) → slice_get (block_items o) at ≡ Some item → IsSome o
-there_by_item None at item e = absurd (cc)
-there_by_item (Some b) at item e = refl
 
 module _ (g : Graph) (block n : ℕ) (rules : IsGraph g) (jumps : term_of g block ≡ Some (Jump n)) (slot : next_of g block ≡ Some n) where
   abbrev at : IsAt g.blocks block
@@ -111,6 +101,14 @@ module _ (g : Graph) (block link part to : ℕ) (rules : IsGraph g) (jumps : ter
       (term_turn every all_matter (Unit {0}) g hh rules (λ m c. tt) refl refl (λ m c. tt) hat.block [] hat.back (hastened link to) (stands_at g rules hat.front hat.block hat.back hwhole) hended (λ m k. refl)
       (λ m l c. (m, (refl, (tt, slot_targets g hat.front hat.block hat.back hwhole (ap links jump_is ∙ as_linked link l) m c)))))
       hat.front hwhole (with_blocks-at (λ b. record b { term = hastened link to } ∷ []) g.blocks block hat) refl (every_carrier g) (λ xs r l. tt) tt sound
+
+  -- what is live at a name is so before
+  pub hasten_live : (r n : ℕ) → IsLive hh r (block_lines hh n) → IsLive g r (block_lines g n)
+  hasten_live r n live =
+      placed_live every all_matter (Unit {0}) g hh rules (λ m c. tt) refl refl (λ m c. tt) (hat.block ∷ []) (record hat.block { term = hastened link to } ∷ []) hat.back refl
+      (term_turn every all_matter (Unit {0}) g hh rules (λ m c. tt) refl refl (λ m c. tt) hat.block [] hat.back (hastened link to) (stands_at g rules hat.front hat.block hat.back hwhole) hended (λ m k. refl)
+      (λ m l c. (m, (refl, (tt, slot_targets g hat.front hat.block hat.back hwhole (ap links jump_is ∙ as_linked link l) m c)))))
+      hat.front hwhole (with_blocks-at (λ b. record b { term = hastened link to } ∷ []) g.blocks block hat) refl (every_carrier g) (λ xs r l. tt) tt r n tt live
 
 -- one item, and that it is there
 one_item : (items : List Item) (at : ℕ) (item : Item) → slice_get items at ≡ Some item → take 1 (drop at items) ≡ item ∷ []
@@ -330,10 +328,6 @@ module _ (g : Graph) (new block at : ℕ) (rules : IsGraph g) (fresh : IsNew g n
 
     in_two : AreOf SC own (ItemGoes SC own) two
     in_two item c = each item (drop_in x.items at item c)
-
-    choose : (c : Bool) (xs ys us vs : List Line) → Alike SC false None xs us → Alike SC false None ys vs → Alike SC false None (if c then xs else ys) (if c then us else vs)
-    choose true xs ys us vs p q = p
-    choose false xs ys us vs p q = q
 
     lower_in : (items : List Item) (m : ℕ) → ((item : Item) → Contains items item → Contains x.items item) → Contains (flat_map lower_names items) m → Contains (code_targets g) m
     lower_in items m inside c = let o = flat_from lower_names items m c in block_target g x m in_it (flat_contains lower_names x.items o.0 m (inside o.0 o.1.0) o.1.1)

@@ -5,6 +5,9 @@ use Rattle.std.specs.List.{All, Contains, flat_map}
 use Rattle.sq_arena.specs.Entries.{value_of, HasDistinctKeys}
 use Rattle.sq_graph.specs.declared.item.Item.{Item}
 use Rattle.sq_graph.specs.declared.item.Item.TheVariants.{Op, Hi, Lo, Out}
+use Rattle.sq_graph.specs.declared.item.Term.{Term}
+use Rattle.std.proofs.Common.{Option, None, IsSome}
+use Rattle.sq_graph.specs.Blocks.{block_items, block_term}
 use Rattle.sq_graph.specs.Graph.{Block, Procedure, Graph}
 use Rattle.sq_graph.specs.Blocks.{named, HasProcedure}
 use Rattle.sq_graph.specs.Uses.{uses}
@@ -23,7 +26,7 @@ use Rattle.sq_patch.proofs.Restricting.{own, flat_from, from_map_of, block_targe
 use Rattle.sq_patch.proofs.Used.{contains_first, flat_contains, from_slice, slice_there, item_called, block_item, body_calls_none}
 
 -- under their own numbers the procedures that are called are the same
-own_calls : (items : List Item) → recalled_items own items ≡ items
+pub own_calls : (items : List Item) → recalled_items own items ≡ items
 own_calls [] = refl
 own_calls (Op insn ∷ items) = ap (λ is. Op insn ∷ is) (own_calls items)
 own_calls (Hi rd to ∷ items) = ap (λ is. Hi rd to ∷ is) (own_calls items)
@@ -35,6 +38,15 @@ own_called_block b = ap (λ (is : List Item). record b { items = is }) (own_call
 
 pub own_called_procedure : (p : Procedure) → recalled_procedure own p ≡ p
 own_called_procedure p = ap (λ (is : List Item). record p { body = is }) (own_calls p.body)
+
+-- a block of which the term or an item is known is there
+pub there_by_term : (o : Option Block) (t : Term) → block_term o ≡ Some t → IsSome o
+there_by_term None t e = absurd (cc)
+there_by_term (Some b) t e = refl
+
+pub there_by_item : (o : Option Block) (at : ℕ) (item : Item) → slice_get (block_items o) at ≡ Some item → IsSome o
+there_by_item None at item e = absurd (cc)
+there_by_item (Some b) at item e = refl
 
 -- a block of a graph, by its place
 module _ (g : Graph) (rules : IsGraph g) where

@@ -1,5 +1,5 @@
 -- Operations on graphs that keep runs.
-use Rattle.std.specs.Prelude.{◌≡◌, ℕ, zero, suc, ◌+◌, [], Some, slice_get}
+use Rattle.std.specs.Prelude.{◌≡◌, ℕ, zero, suc, ◌+◌, ◌⊎◌, ◌≤◌, length, [], Some, slice_get}
 use Rattle.std.specs.List.{slice_range}
 use Rattle.sq_graph.specs.declared.item.Item.TheVariants.{Hi, Out}
 use Rattle.sq_graph.specs.declared.item.Term.{Term}
@@ -10,7 +10,7 @@ use Rattle.sq_graph.specs.Rules.{IsGraph}
 use Rattle.sq_graph.specs.Operations.{IsNew, split_at, replaced, inlined, outlined, with_term}
 use Rattle.sq_graph.specs.Renames.{renamed}
 use Rattle.sq_graph.specs.Canonical.{canonical_of}
-use Rattle.sq_graph.specs.Lines.{place_lines}
+use Rattle.sq_graph.specs.Lines.{block_lines, place_lines}
 use Rattle.sq_graph.specs.Walks.{IsLive}
 use Rattle.sq_graph.specs.Soundness.{IsSoundBody, IsSound}
 use Rattle.sq_follow.specs.Follows.{Follows}
@@ -75,3 +75,26 @@ OutlineFollows = (g : Graph) (block at length link : ℕ) → IsGraph g → Foll
 abbrev pub OutlineIsSound : Type 0
 OutlineIsSound =
     (g : Graph) (block at length link : ℕ) → IsGraph g → IsSoundBody (record { link = link; body = slice_range (items_of g block) at (at + length) }) → IsSound g → IsSound (outlined g block at length link)
+
+-- What is dead at a place of a block stays dead there.
+abbrev pub OutlineKeepsDead : Type 0
+OutlineKeepsDead =
+    (g : Graph) (block at size link : ℕ) → IsGraph g → (other place r : ℕ) → HasBlock g other → place ≤ length (items_of g other) → ¬ IsLive g r (place_lines g other place) → ¬ IsLive (outlined g block at size link) r (place_lines (outlined g block at size link) other place)
+
+-- The last item of a block is the upper half by which it jumps, whose register is the link or dead at the target.
+pub record IsShortable (g : Graph) (block at link part to : ℕ) : Type 0 where
+  pub half : slice_get (items_of g block) at ≡ Some (Hi part to)
+  pub last : at + 1 ≡ length (items_of g block)
+  pub jump : term_of g block ≡ Some (PartJump link part to)
+  pub dead : (part ≡ link) ⊎ (¬ IsLive g part (block_lines g to))
+
+-- It goes, and the jump becomes one of a single word.
+abbrev pub shortened : Graph → ℕ → ℕ → ℕ → ℕ → Graph
+shortened g block at link to = with_term (replaced g block at 1 []) block (hastened link to)
+
+-- A graph in which it went follows it, and is sound where it is.
+abbrev pub ShortenFollows : Type 0
+ShortenFollows = (g : Graph) (block at link part to : ℕ) → IsGraph g → IsShortable g block at link part to → Follows g (shortened g block at link to)
+
+abbrev pub ShortenIsSound : Type 0
+ShortenIsSound = (g : Graph) (block at link part to : ℕ) → IsGraph g → IsShortable g block at link part to → IsSound g → IsSound (shortened g block at link to)

@@ -10,8 +10,8 @@
 ghost use Rattle.sq_patch.specs.LiveAgreement.{StepsAgree, PlacesMakeTargets};
 ghost use Rattle.sq_patch.specs.Restrictions.{RestrictFollows, RestrictIsSound, ReachedAreClosed};
 ghost use Rattle.sq_patch.specs.LoneJumps.{JumpGoesFollows, JumpGoesIsSound, InvertFollows, InvertIsSound, ExchangeFollows, ExchangeIsSound};
-ghost use Rattle.sq_patch.specs.Operations.{SplitFollows, SplitIsSound, FallFollows, FallIsSound, DropFollows, DropIsSound, HastenFollows, HastenIsSound, InlineFollows, InlineIsSound, CanonicalFollows, CanonicalIsSound, RenameFollows, OutlineFollows, OutlineIsSound};
-ghost use Rattle.sq_patch.specs.Calls.{CallFollows, CallIsSound, MatchFollows, MatchIsSound};
+ghost use Rattle.sq_patch.specs.Operations.{SplitFollows, SplitIsSound, FallFollows, FallIsSound, DropFollows, DropIsSound, HastenFollows, HastenIsSound, InlineFollows, InlineIsSound, CanonicalFollows, CanonicalIsSound, RenameFollows, OutlineFollows, OutlineIsSound, OutlineKeepsDead, ShortenFollows, ShortenIsSound};
+ghost use Rattle.sq_patch.specs.Calls.{CallFollows, CallIsSound, CallKeepsDead, MatchFollows, MatchIsSound, MatchKeepsDead};
 ghost use Rattle.sq_patch.specs.Merges.{MergeFollows, MergeIsSound};
 ghost use Rattle.sq_patch.specs.Recalls.{RecallFollows, RecallIsSound, UncalledGoesFollows, UncalledGoesIsSound};
 ghost use Rattle.sq_patch.specs.Savings.{SaveWords};
@@ -72,6 +72,17 @@ pub fn rename_keeps_runs()
 /// A graph with items of one of its blocks as the body of one more procedure follows it.
 pub fn outline_keeps_runs()
     ensures { OutlineFollows }
+{}
+
+/// A graph in which a jump by an upper half became a Call or a Jump, and the upper half went, follows it, where its
+/// register is the link or dead at the target.
+pub fn shorten_keeps_runs()
+    ensures { ShortenFollows }
+{}
+
+/// A graph in which a jump by an upper half became a shorter one without it is sound where the graph is.
+pub fn shorten_keeps_soundness()
+    ensures { ShortenIsSound }
 {}
 
 /// A graph with the blocks of a closed set alone, and the procedures that these call, follows it.
@@ -223,4 +234,19 @@ pub fn outline_keeps_soundness()
 /// How many words each of these operations saves.
 pub fn operations_save_words()
     ensures { SaveWords }
+{}
+
+/// Registers that are dead stay dead where items become a call, in other blocks and ahead of the items.
+pub fn call_keeps_dead()
+    ensures { CallKeepsDead }
+{}
+
+/// Registers that are dead stay dead where items that match a procedure's body become a call of it.
+pub fn match_keeps_dead()
+    ensures { MatchKeepsDead }
+{}
+
+/// Registers that are dead at a place of a block stay dead there with one more procedure.
+pub fn outline_keeps_dead()
+    ensures { OutlineKeepsDead }
 {}
