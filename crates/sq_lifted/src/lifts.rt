@@ -1,6 +1,6 @@
 //! The graph of a file.
 
-ghost use Rattle.std.specs.Prelude.{◌≡◌, ◌<◌, ◌^◌, length, IfOk};
+ghost use Rattle.std.specs.Prelude.{◌≡◌, ◌⊎◌, ◌<◌, ◌^◌, length, IfOk, Err};
 ghost use Rattle.std.specs.List.{AllByRecursion};
 ghost use Rattle.sq_program.specs.Programs.{Program as FileProgram};
 ghost use Rattle.sq_program.specs.Lifted.{lifted};
@@ -8,12 +8,14 @@ ghost use Rattle.sq_program.specs.Alike.{AreAlike};
 ghost use Rattle.sq_program.specs.FilePrograms.{IsProgramOf};
 ghost use Rattle.sq_lift.specs.Flags.{is_flagged};
 ghost use Rattle.sq_lift.specs.Refused.{IsReadNoted};
+ghost use Rattle.sq_lifted.specs.LiftedFiles.{IsLiftedFile, IsRefusedFile};
 
+use crate::live_links::first_live;
 use sq_cut::parts_of;
 use sq_elf::Elf;
 use sq_graph::Graph;
-use sq_lift::NotedProgram;
-use sq_num::Memory;
+use sq_lift::{NotedProgram, read_noted};
+use sq_num::{Denied, Memory, Refusal};
 use sq_reloc::Relocs;
 use std::alloc::Global;
 
@@ -25,7 +27,7 @@ fn bytes_fit(bytes: &[u8])
 }
 
 /// The graph of a file that its text doesn't refuse, nor its note but for what is asked of the graph.
-pub fn early_graph(
+fn early_graph(
     alloc: Global,
     elf: &Elf<'_>,
     relocs: &Relocs<'_>,
@@ -44,4 +46,22 @@ pub fn early_graph(
     let parts = parts_of(alloc, text, reached, elf.entry(), code_words, &noted.notes)?;
     let graph = Graph::from_parts(alloc, &parts.parts())?;
     Ok(graph)
+}
+
+/// The graph of the file, or its refusal: by its text, or by the first entry of its note that is not as it is to be.
+pub fn lift(alloc: Global, elf: &Elf<'_>, relocs: &Relocs<'_>) -> Result<Graph, Denied>
+    requires { relocs.now ≡ elf.now }
+    ensures lifted { IfOk result (λ graph. IsLiftedFile elf.now graph.graph) }
+    ensures refused { (refusal : Refusal) → result ≡ Err (Denied.Refused refusal) → IsRefusedFile elf.now refusal }
+    ensures exact { (refusal : Refusal) → IsRefusedFile elf.now refusal → (result ≡ Err (Denied.Refused refusal)) ⊎ (result ≡ Err Denied.Memory) }
+{
+    // Their contracts have that nothing before text refuses the file.
+    bytes_fit(elf.bytes());
+    let _code_words = relocs.code_words();
+    let noted = read_noted(alloc, elf, relocs)?;
+    let graph = early_graph(alloc, elf, relocs, &noted)?;
+    match first_live(alloc, &graph, &noted.notes, &noted.program.reached)? {
+        Some(number) => Err(Denied::Refused(Refusal::BadNote { entry: number + 1 })),
+        None => Ok(graph),
+    }
 }

@@ -1,0 +1,18 @@
+-- What `lift` gives for a file.
+use Rattle.std.specs.Prelude.{ℕ, Bool, List}
+use Rattle.sq_num.specs.declared.refusal.Refusal.{Refusal}
+use Rattle.sq_graph.specs.Graph.{Graph}
+use Rattle.sq_program.specs.Programs.{Program}
+use Rattle.sq_program.specs.FilePrograms.{IsLiftRefusal, IsLiftedFrom}
+
+-- the file is accepted, and g is its lifted graph, but for the names of blocks
+pub record IsLiftedFile (bytes : List ℕ) (g : Graph) : Type 0 where
+  pub is : ℕ → Bool
+  pub program : Program
+  pub lifted : IsLiftedFrom bytes is program g
+
+-- the file is refused by its text or its note
+pub record IsRefusedFile (bytes : List ℕ) (refusal : Refusal) : Type 0 where
+  pub is : ℕ → Bool
+  pub program : Program
+  pub refuses : IsLiftRefusal bytes is program refusal
