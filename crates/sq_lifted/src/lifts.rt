@@ -5,16 +5,17 @@ ghost use Rattle.std.specs.List.{AllByRecursion};
 ghost use Rattle.sq_program.specs.Programs.{Program as FileProgram};
 ghost use Rattle.sq_program.specs.Lifted.{lifted};
 ghost use Rattle.sq_program.specs.Alike.{AreAlike};
-ghost use Rattle.sq_program.specs.FilePrograms.{IsProgramOf};
+ghost use Rattle.sq_graph.specs.Room.{Covers};
+ghost use Rattle.sq_program.specs.FilePrograms.{text_of, IsProgramOf};
 ghost use Rattle.sq_lift.specs.Flags.{is_flagged};
 ghost use Rattle.sq_lift.specs.Refused.{IsReadNoted};
-ghost use Rattle.sq_lifted.specs.LiftedFiles.{IsLiftedFile, IsRefusedFile};
+ghost use Rattle.sq_lifted.specs.LiftedFiles.{IsLiftedFile, IsRefusedFile, room_for};
 
 use crate::live_links::first_live;
 use sq_cut::parts_of;
 use sq_elf::Elf;
-use sq_graph::Graph;
-use sq_lift::{NotedProgram, read_noted};
+use sq_graph::{Graph, Room};
+use sq_lift::{NotedProgram, Text, read_noted};
 use sq_num::{Denied, Memory, Refusal};
 use sq_reloc::Relocs;
 use std::alloc::Global;
@@ -48,10 +49,23 @@ fn early_graph(
     Ok(graph)
 }
 
-/// The graph of the file, or its refusal: by its text, or by the first entry of its note that is not as it is to be.
+/// Room for as many blocks, items and procedures as text has words.
+fn text_room(text: &Text) -> Room
+    ensures { result ≡ room_for text.now }
+{
+    let count = text.words().len() as u32;
+    Room {
+        blocks: count,
+        items: count,
+        procedures: count,
+    }
+}
+
+/// The graph of the file, with room for as much again as its text has words, or its refusal: by its text, or by the first entry of its note that is not as it is to be.
 pub fn lift(alloc: Global, elf: &Elf<'_>, relocs: &Relocs<'_>) -> Result<Graph, Denied>
     requires { relocs.now ≡ elf.now }
     ensures lifted { IfOk result (λ graph. IsLiftedFile elf.now graph.graph) }
+    ensures spare { IfOk result (λ graph. Covers graph.spare (room_for (text_of elf.now))) }
     ensures refused { (refusal : Refusal) → result ≡ Err (Denied.Refused refusal) → IsRefusedFile elf.now refusal }
     ensures exact { (refusal : Refusal) → IsRefusedFile elf.now refusal → (result ≡ Err (Denied.Refused refusal)) ⊎ (result ≡ Err Denied.Memory) }
 {
@@ -59,9 +73,12 @@ pub fn lift(alloc: Global, elf: &Elf<'_>, relocs: &Relocs<'_>) -> Result<Graph, 
     bytes_fit(elf.bytes());
     let _code_words = relocs.code_words();
     let noted = read_noted(alloc, elf, relocs)?;
-    let graph = early_graph(alloc, elf, relocs, &noted)?;
+    let mut graph = early_graph(alloc, elf, relocs, &noted)?;
     match first_live(alloc, &graph, &noted.notes, &noted.program.reached)? {
         Some(number) => Err(Denied::Refused(Refusal::BadNote { entry: number + 1 })),
-        None => Ok(graph),
+        None => {
+            graph.reserve(text_room(&noted.program.text))?;
+            Ok(graph)
+        }
     }
 }
