@@ -11,3 +11,5 @@ pub mod Named
 pub mod EarlyGraphs
 pub mod RenamedLives
 pub mod Dying
+pub mod Alive
+pub mod LiftedFiles

@@ -6,13 +6,13 @@
 //! rewriting asks of the graph that it begins with.
 #![tactic(auto)]
 
-mod lift;
+mod lifts;
 mod live_links;
 
 ghost use Rattle.sq_lifted.specs.Lifted.{LiftedIsGood};
 ghost use Rattle.sq_lifted.specs.Files.{FilesAreLinked, FileWorldsFit, LiftedFilesAreGood, LiftedFilesKeepRuns, LiftedFilesFollow, FilesAreLaidOut};
 
-pub use lift::early_graph;
+pub use lifts::lift;
 
 /// The graph of a program that is not refused keeps the rules of a graph, is canonical, sound and in
 /// reach, and has no more words than the program's text.

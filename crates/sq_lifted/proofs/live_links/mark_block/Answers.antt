@@ -33,7 +33,7 @@ loop-place-preserved c =
     let place = c.loop-place.place in
     let item = c.item-item.result in
     let there : slice_get (items_of c.args.g.now.graph c.args.block) c.loop-place.place ≡ Some c.item-item.result =
-        ap (λ items. slice_get items c.loop-place.place) (sym c.items-item-items.ensures) ∙ slice_get-get_or c.items-item-items.result.now c.loop-place.place c.item-item.result c.loop-place-test.true ∙ ap Some (sym c.item-item.is)
+    ap (λ items. slice_get items c.loop-place.place) (sym c.items-item-items.ensures) ∙ slice_get-get_or c.items-item-items.result.now c.loop-place.place c.item-item.result c.loop-place-test.true ∙ ap Some (sym c.item-item.is)
     in
     marks_same (λ q. ItemsDie g block place q × ItemDies g block place item q) (ItemsDie g block (place + 1)) c.args.flags.now.items c.mark_item.new.flags.items
     (marks_then (ItemsDie g block place) (ItemDies g block place item) c.args.flags.now.items c.loop-place.flags.items c.mark_item.new.flags.items c.loop-place.invariant c.mark_item.ensures)
