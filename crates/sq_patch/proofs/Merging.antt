@@ -73,6 +73,7 @@ joint_terms g dropped kept e t u i j =
     block_of_term : (o : Option Block) (t : Term) → block_term o ≡ Some t → (b : Block) × ((o ≡ Some b) × (b.term ≡ t))
     block_of_term None t i = absurd (cc)
     block_of_term (Some b) t i = (b, (refl, same_some b.term t i))
+
     resolved_of : (o : Option Block) (next : Option ℕ) (b : Block) (t : Term) → o ≡ Some b → b.term ≡ t → block_resolved g o next ≡ Some (resolved_term g t next)
     resolved_of o next b t i k = ap (λ w. block_resolved g w next) i ∙ ap (λ w. Some (resolved_term g w next)) k
 

@@ -141,6 +141,7 @@ module _ (g : Graph) (new dropped at kept from : ℕ) (rules : IsGraph g) (fresh
     where
       fresh_other : n ≢ new
       fresh_other i = none_jumps (block_of g n) m (ap (block_of g) i ∙ fresh) e
+
       not_kept : n ≢ kept
       not_kept i =
           let o = jumps_from (block_of g n) m e in
