@@ -37,7 +37,7 @@ use Rattle.sq_patch.proofs.Relating.{items_stay, same_names, placed_follows, pla
 use Rattle.sq_patch.proofs.Ending.{all_of}
 use Rattle.sq_patch.proofs.Replacing.{own_items}
 use Rattle.sq_patch.proofs.Inverting.{placed_by}
-use Rattle.sq_patch.proofs.Leading.{slot_lines, first_slot, leads, keys_same, others_same, next_same, Hops, stop, hop, hops}
+use Rattle.sq_patch.proofs.Leading.{slot_lines, first_slot, leads, keys_same, others_same, next_same, Hops, stop, hop}
 use Rattle.sq_patch.proofs.Meeting.{EndsMeet, meet_weaker, Resolve, resolved_meet, Joint, joint_itself, joint_resolved, MayGo, MayHold, C as meeting, meet}
 use Rattle.sq_patch.proofs.Used.{contains_first, flat_contains}
 
@@ -73,6 +73,7 @@ joint_terms g dropped kept e t u i j =
     block_of_term : (o : Option Block) (t : Term) → block_term o ≡ Some t → (b : Block) × ((o ≡ Some b) × (b.term ≡ t))
     block_of_term None t i = absurd (cc)
     block_of_term (Some b) t i = (b, (refl, same_some b.term t i))
+
     resolved_of : (o : Option Block) (next : Option ℕ) (b : Block) (t : Term) → o ≡ Some b → b.term ≡ t → block_resolved g o next ≡ Some (resolved_term g t next)
     resolved_of o next b t i k = ap (λ w. block_resolved g w next) i ∙ ap (λ w. Some (resolved_term g w next)) k
 
