@@ -18,6 +18,9 @@ use Rattle.sq_graph.specs.Resolve.{lone_jump}
 use Rattle.sq_graph.specs.Lines.{Name, End, line_of, body_lines, lines_of, behind_name, term_lines, block_lines}
 use Rattle.sq_graph.specs.Walks.{lower_names, link_names, code_targets}
 use Rattle.sq_graph.specs.Soundness.{LinksDieIn, IsSound}
+use Rattle.sq_graph.specs.Words.{term_words, block_words, words_of}
+use Rattle.std.proofs.lemmas.List.Sums.{sum_by-cons, sum_by-append}
+use Rattle.std.proofs.Common.{arith, sum_by}
 use Rattle.sq_graph.proofs.Located.{IsAt, located}
 use Rattle.sq_graph.proofs.Kept.{absent_behind}
 use Rattle.sq_follow.specs.Follows.{Follows}
@@ -202,3 +205,25 @@ module _ (g : Graph) (block : ℕ) (cond : Cond) (a b over away to : ℕ) (rules
 
   pub exchange_sound : IsSound g → IsSound h
   exchange_sound sound = placed_sound Other all_matter (Unit {0}) g h rules known refl refl holds (x ∷ n ∷ []) (y ∷ m ∷ []) back refl turn front two after refl (every_carrier g) (λ xs r l. tt) tt sound
+
+  branch_word : term_words x.term ≡ 1
+  branch_word = ap term_words branch
+
+  jump_word : term_words n.term ≡ 1
+  jump_word = ap term_words lone.1
+
+  pub exchange_saves : words_of h ≡ words_of g
+  exchange_saves =
+      omega (
+        arith,
+        ap (λ bs. sum_by block_words bs) after,
+        sum_by-append block_words front (y ∷ m ∷ back),
+        sum_by-cons block_words y (m ∷ back),
+        sum_by-cons block_words m back,
+        ap (λ bs. sum_by block_words bs) two,
+        sum_by-append block_words front (x ∷ n ∷ back),
+        sum_by-cons block_words x (n ∷ back),
+        sum_by-cons block_words n back,
+        branch_word,
+        jump_word,
+      )

@@ -1,5 +1,5 @@
 -- Terms that lead to the same, where names that lead to the same are given, go on alike.
-use Rattle.std.proofs.Common.{◌≡◌, ℕ, ℤ, Bool, true, false, List, [], ◌∷◌, Option, Some, None, refl, sym, ap, ◌∙◌, subst}
+use Rattle.std.proofs.Common.{◌≡◌, ℕ, ℤ, Bool, true, false, Option, Some, None, refl, sym, ap, ◌∙◌, subst}
 use Rattle.std.specs.Option.{option_map}
 use Rattle.std.specs.List.{Contains}
 use Rattle.sq_isa.specs.declared.instructions.Cond.{Cond}
@@ -7,7 +7,7 @@ use Rattle.sq_graph.specs.declared.item.Term.{Term}
 use Rattle.sq_graph.specs.declared.item.Term.TheVariants.{Fall, Jump, Branch, Call, PartJump, Indirect, Stop}
 use Rattle.sq_graph.specs.Graph.{Graph}
 use Rattle.sq_graph.specs.Terms.{links}
-use Rattle.sq_graph.specs.Lines.{Line, End, term_lines, slot_name}
+use Rattle.sq_graph.specs.Lines.{term_lines, slot_name}
 use Rattle.sq_graph.specs.Resolve.{ResolvedTerm, resolved, resolved_term, next_if, jump_to}
 use Rattle.sq_graph.specs.Walks.{code_targets}
 use Rattle.sq_patch.specs.Changes.{Change, Alike, SameSlot, ends, promised, name_before, name_after, jump_before, jump_after, both_end}

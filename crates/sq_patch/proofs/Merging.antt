@@ -37,7 +37,7 @@ use Rattle.sq_patch.proofs.Relating.{items_stay, same_names, placed_follows, pla
 use Rattle.sq_patch.proofs.Ending.{all_of}
 use Rattle.sq_patch.proofs.Replacing.{own_items}
 use Rattle.sq_patch.proofs.Inverting.{placed_by}
-use Rattle.sq_patch.proofs.Leading.{slot_lines, first_slot, leads, keys_same, others_same, next_same, Hops, stop, hop, hops}
+use Rattle.sq_patch.proofs.Leading.{slot_lines, first_slot, leads, keys_same, others_same, next_same, Hops, stop, hop}
 use Rattle.sq_patch.proofs.Meeting.{EndsMeet, meet_weaker, Resolve, resolved_meet, Joint, joint_itself, joint_resolved, MayGo, MayHold, C as meeting, meet}
 use Rattle.sq_patch.proofs.Used.{contains_first, flat_contains}
 

@@ -23,6 +23,8 @@ use Rattle.sq_patch.specs.Restrictions.{procedures_held, number_held, restricted
 use Rattle.sq_patch.specs.Operations.{hastened}
 use Rattle.sq_patch.specs.Savings.{SaveWords}
 use Rattle.sq_patch.proofs.Inverting.{invert_saves}
+use Rattle.sq_patch.proofs.Exchanging.{exchange_saves}
+use Rattle.sq_patch.proofs.Tailing.{tail_saves}
 use Rattle.sq_patch.proofs.Merging.{can_merge, merge_saves}
 use Rattle.sq_patch.specs.Calls.{call_end, called_there}
 use Rattle.sq_patch.specs.LoneJumps.{IsPassable, without_jump}
@@ -230,9 +232,11 @@ saved = record {
   fall = fall_saves;
   jump_goes = jump_goes_saves;
   invert = λ g block cond a b over behind to rules jumped. invert_saves g block cond a b over behind to rules jumped;
+  exchange = λ g block cond a b over away to rules over_jump. exchange_saves g block cond a b over away to rules over_jump;
   hasten = hasten_saves;
   drop = drop_saves;
   merge = λ g dropped at kept term rules can e. merge_saves g dropped at kept rules (can_merge g dropped at kept can) term e;
+  tail = λ g new dropped at kept from term rules fresh have e. tail_saves g new dropped at kept from rules fresh have term e;
   call = call_saves;
   inline = inline_saves;
   outline = outline_saves;

@@ -1,6 +1,6 @@
 -- A graph with the tails of two blocks merged follows it: the one is split, and the end of the other merged with what
 -- was split off.
-use Rattle.std.proofs.Common.{◌≡◌, ◌≢◌, ℕ, zero, suc, ◌≤◌, Bool, true, false, ◌==◌, if◌then◌else◌, inl, inr, List, [], ◌∷◌, ◌++◌, Option, Some, None, IsSome, take, drop, length, refl, sym, ap, ◌∙◌, subst, arith}
+use Rattle.std.proofs.Common.{◌≡◌, ◌≢◌, ℕ, ◌≤◌, false, ◌==◌, if◌then◌else◌, inl, inr, List, [], ◌∷◌, ◌++◌, Option, Some, None, IsSome, take, drop, length, refl, sym, ap, ◌∙◌, subst, arith}
 use Rattle.std.proofs.lemmas.Bool.{cases_Bool, ne_eqb}
 use Rattle.std.proofs.lemmas.List.{drop_all}
 use Rattle.sq_arena.specs.Entries.{value_of, first_key, next_key, behind as entries_behind}
@@ -8,17 +8,19 @@ use Rattle.sq_graph.specs.declared.item.Item.{Item}
 use Rattle.sq_graph.specs.declared.item.Term.{Term}
 use Rattle.sq_graph.specs.declared.item.Term.TheVariants.{Fall}
 use Rattle.sq_graph.specs.Graph.{Block, Graph}
-use Rattle.sq_graph.specs.Blocks.{named, HasBlock, block_of, block_items, items_of, block_term, term_of, next_of}
+use Rattle.sq_graph.specs.Blocks.{named, block_of, block_items, items_of, block_term, term_of, next_of}
 use Rattle.sq_graph.specs.Rules.{IsGraph}
 use Rattle.sq_graph.specs.Operations.{IsNew, halves, split_at}
 use Rattle.sq_graph.specs.Resolve.{lone_jump, jump_of, jump_from}
 use Rattle.sq_graph.specs.Soundness.{IsSound}
 use Rattle.sq_graph.proofs.Located.{IsAt, located}
 use Rattle.sq_graph.proofs.Changes.{with_blocks-at}
-use Rattle.sq_graph.proofs.SplitRules.{split_rules}
+use Rattle.sq_graph.proofs.SplitRules.{split_rules, words_of-split}
+use Rattle.sq_graph.specs.Words.{term_words, words_of}
+use Rattle.std.proofs.Common.{◌+◌}
 use Rattle.sq_follow.specs.Follows.{Follows}
 use Rattle.sq_follow.proofs.Following.{graph_follows_through}
-use Rattle.sq_patch.specs.Merges.{HaveTail, merged, tailed}
+use Rattle.sq_patch.specs.Merges.{HaveTail, tailed}
 use Rattle.sq_patch.proofs.Changing.{ahead}
 use Rattle.sq_patch.proofs.Falling.{absent_from, next_at}
 use Rattle.sq_patch.proofs.Splitting.{split_follows}
@@ -28,7 +30,7 @@ use Rattle.sq_patch.proofs.Standing.{distinct_at, block_at}
 use Rattle.sq_patch.proofs.Passing.{lone_block, jumps_from}
 use Rattle.sq_patch.proofs.Leading.{others_same, Hops, stop, hop}
 use Rattle.sq_patch.proofs.Meeting.{EndsMeet, meet_weaker, Joint}
-use Rattle.sq_patch.proofs.Merging.{CanMerge, joint_terms, with_items, merge_follows, merge_sound}
+use Rattle.sq_patch.proofs.Merging.{CanMerge, joint_terms, with_items, merge_follows, merge_sound, merge_saves}
 use Rattle.sq_patch.proofs.Used.{not_new}
 
 -- a block of another name is passed by
@@ -161,7 +163,7 @@ module _ (g : Graph) (new dropped at kept from : ℕ) (rules : IsGraph g) (fresh
       let kept_term : term_of g kept ≡ Some u = ap block_term found ∙ sym (ap block_term new_block) ∙ j in
       subst (λ o. EndsMeet (Joint s) t u o (next_of s new)) (sym (other_next dropped dropped_kept dropped_new))
       (subst (λ o. EndsMeet (Joint s) t u (next_of g dropped) o) (sym new_next)
-      (meet_weaker (Joint g) (Joint s) joint_stays (joint_terms g dropped kept tail.terms t u was kept_term)))
+      (meet_weaker (Joint g) (Joint s) joint_stays (joint_terms g dropped kept tail.ends t u was kept_term)))
 
   new_items : items_of s new ≡ drop from (items_of g kept)
   new_items = ap block_items new_block ∙ ap (drop from) (sym kept_items)
@@ -179,3 +181,12 @@ module _ (g : Graph) (new dropped at kept from : ℕ) (rules : IsGraph g) (fresh
 
   pub tail_sound : IsSound g → IsSound (tailed g new dropped at kept from)
   tail_sound sound = merge_sound s dropped at new s_rules can (split_sound g new kept from rules fresh sound)
+
+  pub tail_saves : (term : Term) → term_of g dropped ≡ Some term → words_of (tailed g new dropped at kept from) + (length (drop from (items_of g kept)) + term_words term) ≡ words_of g + 1
+  tail_saves term e =
+      omega (
+        arith,
+        merge_saves s dropped at new s_rules can term (ap block_term (other_block dropped dropped_kept dropped_new) ∙ e),
+        words_of-split g new kept from (subst IsSome (sym kept_there.1) refl),
+        ap (λ (is : List Item). length is) new_items,
+      )

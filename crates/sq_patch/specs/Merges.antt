@@ -32,7 +32,7 @@ pub record HaveTail (g : Graph) (dropped at kept from : ℕ) : Type 0 where
   pub other : kept ≢ dropped
   pub items : drop at (items_of g dropped) ≡ drop from (items_of g kept)
   pub some : drop from (items_of g kept) ≢ []
-  pub terms : resolved_term_of g dropped ≡ resolved_term_of g kept
+  pub ends : resolved_term_of g dropped ≡ resolved_term_of g kept
 
 -- Those of the one become a block of their own, and a Jump to it stands in place of those of the other.
 abbrev pub tailed : Graph → ℕ → ℕ → ℕ → ℕ → ℕ → Graph

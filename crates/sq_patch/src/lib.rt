@@ -12,7 +12,7 @@ ghost use Rattle.sq_patch.specs.Restrictions.{RestrictFollows, RestrictIsSound, 
 ghost use Rattle.sq_patch.specs.LoneJumps.{JumpGoesFollows, JumpGoesIsSound, InvertFollows, InvertIsSound, ExchangeFollows, ExchangeIsSound};
 ghost use Rattle.sq_patch.specs.Operations.{SplitFollows, SplitIsSound, FallFollows, FallIsSound, DropFollows, DropIsSound, HastenFollows, HastenIsSound, InlineFollows, InlineIsSound, CanonicalFollows, CanonicalIsSound, RenameFollows, OutlineFollows, OutlineIsSound, OutlineKeepsDead, ShortenFollows, ShortenIsSound};
 ghost use Rattle.sq_patch.specs.Calls.{CallFollows, CallIsSound, CallKeepsDead, MatchFollows, MatchIsSound, MatchKeepsDead};
-ghost use Rattle.sq_patch.specs.Merges.{MergeFollows, MergeIsSound};
+ghost use Rattle.sq_patch.specs.Merges.{MergeFollows, MergeIsSound, TailFollows, TailIsSound};
 ghost use Rattle.sq_patch.specs.Recalls.{RecallFollows, RecallIsSound, UncalledGoesFollows, UncalledGoesIsSound};
 ghost use Rattle.sq_patch.specs.Savings.{SaveWords};
 ghost use Rattle.sq_patch.specs.Inserts.{InsertFollows, InsertIsSound, ReorderFollows, ReorderIsSound};
@@ -173,6 +173,16 @@ pub fn merge_keeps_runs()
 /// A graph in which the end of a block became a Jump to an equal block is sound where the graph is.
 pub fn merge_keeps_soundness()
     ensures { MergeIsSound }
+{}
+
+/// A graph in which equal tails of two blocks became one follows it: the one is split, and the other jumps there.
+pub fn tail_keeps_runs()
+    ensures { TailFollows }
+{}
+
+/// A graph in which equal tails of two blocks became one is sound where the graph is.
+pub fn tail_keeps_soundness()
+    ensures { TailIsSound }
 {}
 
 /// A graph in which a procedure is called in place of an equal one follows it.
