@@ -1,4 +1,4 @@
-use Rattle.std.proofs.Common.{◌≡◌, ℕ, ◌+◌, ◌<◌, ◌≤◌, Bool, false, length, get_or, refl, subst, ap, sym, ◌∙◌, arith}
+use Rattle.std.proofs.Common.{◌≡◌, ◌+◌, false, length, get_or, refl, subst, ap, ◌∙◌, arith}
 use Rattle.std.specs.Prelude.{replicate, slice_index}
 use Rattle.sq_graph.specs.Parts.{names_of}
 use Rattle.sq_lifted.specs.LiveLinks.{BlockDies, BlocksDie, Marks}
@@ -16,7 +16,7 @@ loop-name-preserved c =
     let index = c.loop-name.name-index in
     let all : c.deref-name-items.result.now ≡ names_of c.args.g.now.graph = c.deref-name-items.ensures.value ∙ c.in_ok-names.ensures in
     let one : Marks (BlockDies c.args.g.now.graph (slice_index (names_of c.args.g.now.graph) c.loop-name.name-index)) c.loop-name.flags.items c.mark_block.new.flags.items =
-        subst (λ ns. Marks (BlockDies c.args.g.now.graph (get_or ns c.loop-name.name-index 0)) c.loop-name.flags.items c.mark_block.new.flags.items) all c.mark_block.ensures
+    subst (λ ns. Marks (BlockDies c.args.g.now.graph (get_or ns c.loop-name.name-index 0)) c.loop-name.flags.items c.mark_block.new.flags.items) all c.mark_block.ensures
     in
     marks_same (λ q. BlocksDie g names index q × BlockDies g (slice_index names index) q) (BlocksDie g names (index + 1)) c.in_ok-flags.flags.items c.mark_block.new.flags.items
     (marks_then (BlocksDie g names index) (BlockDies g (slice_index names index)) c.in_ok-flags.flags.items c.loop-name.flags.items c.mark_block.new.flags.items c.loop-name.invariant one)
@@ -31,7 +31,7 @@ returns c =
     let below = c.loop-name.auto.name-index-end in
     let end : c.loop-name.name-index ≡ length (names_of c.args.g.now.graph) = (let same : c.loop-name.name-index ≡ length c.deref-name-items.result.now = omega (arith, above, below) in same ∙ ap length all) in
     let marks : Marks (BlocksDie c.args.g.now.graph (names_of c.args.g.now.graph) (length (names_of c.args.g.now.graph))) c.in_ok-flags.flags.items c.loop-name.flags.items =
-        subst (λ index. Marks (BlocksDie c.args.g.now.graph (names_of c.args.g.now.graph) index) c.in_ok-flags.flags.items c.loop-name.flags.items) end c.loop-name.invariant
+    subst (λ index. Marks (BlocksDie c.args.g.now.graph (names_of c.args.g.now.graph) index) c.in_ok-flags.flags.items c.loop-name.flags.items) end c.loop-name.invariant
     in
     links_are g c.entry-entry.ensures.rules c.in_ok-flags.flags.items c.loop-name.flags.items
     (c.in_ok-flags.ensures.items_if_clones_equal (λ y same. same) ∙ ap (λ n. replicate n false) c.procedures.ensures)
