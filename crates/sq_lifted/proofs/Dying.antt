@@ -1,25 +1,25 @@
 -- Links that are dead behind calls, block by block.
-use Rattle.std.proofs.Common.{◌≡◌, ◌⊎◌, inl, inr, ℕ, zero, suc, ◌+◌, ◌<◌, ◌≤◌, Bool, true, false, not, ◌==◌, nat_eq, List, [], ◌∷◌, ◌++◌, length, map, drop, get_or, Option, Some, None, IsSome, IsTrue, slice_get, if◌then◌else◌, refl, sym, ap, ◌∙◌, subst, arith}
-use Rattle.std.specs.Prelude.{slice_set, slice_index, replicate, ◌↔◌}
-use Rattle.std.specs.List.{AllByRecursion, IsDistinct, Contains, flat_map}
+use Rattle.std.proofs.Common.{◌≡◌, ◌⊎◌, inl, inr, ℕ, zero, suc, ◌+◌, ◌<◌, ◌≤◌, Bool, true, false, ◌==◌, nat_eq, List, [], ◌∷◌, ◌++◌, length, map, drop, get_or, Some, slice_get, if◌then◌else◌, refl, sym, ap, ◌∙◌, subst, arith}
+use Rattle.std.specs.Prelude.{slice_set, slice_index, replicate}
+use Rattle.std.specs.List.{AllByRecursion, Contains, flat_map}
 use Rattle.std.proofs.lemmas.List.{length-append}
 use Rattle.std.proofs.lemmas.List.Elements.{Contains-append_left, Contains-append_right}
-use Rattle.std.proofs.lemmas.Bool.{cases_Bool, cases_eq, eqb-true, eqb-false, eq-eqb}
+use Rattle.std.proofs.lemmas.Bool.{cases_eq, eq-eqb}
 use Rattle.std.proofs.lemmas.Map.Keys.{IsDistinct-head, IsDistinct-tail}
 use Rattle.sq_arena.specs.Entries.{HasDistinctKeys, keys, value_of}
 use Rattle.sq_graph.specs.declared.item.Item.{Item}
 use Rattle.sq_graph.specs.declared.item.Item.TheVariants.{Op, Hi, Lo, Out}
 use Rattle.sq_graph.specs.declared.item.Term.{Term}
 use Rattle.sq_graph.specs.declared.item.Term.TheVariants.{Fall, Jump, Branch, Call, PartJump, Indirect, Stop}
-use Rattle.sq_graph.specs.Graph.{Block, Procedure, Graph}
+use Rattle.sq_graph.specs.Graph.{Block, Graph}
 use Rattle.sq_graph.specs.Blocks.{named, HasBlock, block_items, items_of, link_of, items_of_blocks, items_of_bodies, all_items}
 use Rattle.sq_graph.specs.Uses.{item_calls, calls}
 use Rattle.sq_graph.specs.Parts.{names_of}
 use Rattle.sq_graph.specs.Rules.{IsGraph}
-use Rattle.sq_graph.specs.Lines.{Line, Name, Do, Enter, Return, End, line_of, term_lines, body_lines, lines_of, behind_name, block_lines, place_lines}
+use Rattle.sq_graph.specs.Lines.{Line, line_of, term_lines, body_lines, lines_of, behind_name, place_lines}
 use Rattle.sq_graph.specs.Walks.{IsLive}
 use Rattle.sq_program.specs.FilePrograms.{LinkDies}
-use Rattle.sq_lifted.specs.LiveLinks.{IsLinkDead, ItemDies, ItemsDie, BlockDies, BlocksDie, Marks, AreLiveLinks}
+use Rattle.sq_lifted.specs.LiveLinks.{ItemDies, ItemsDie, BlockDies, BlocksDie, Marks, AreLiveLinks}
 
 -- FLAGS
 

@@ -1,7 +1,7 @@
 -- The graph of a file that neither its text nor its note refuses, but for what is asked of the graph.
-use Rattle.std.proofs.Common.{◌≡◌, ℕ, zero, suc, ◌+◌, ◌*◌, ◌^◌, ◌<◌, ◌≤◌, Bool, true, false, List, [], ◌∷◌, ◌++◌, length, map, get_or, Option, Some, None, Fits, w8, refl, sym, ap, ◌∙◌, subst, arith, if◌then◌else◌}
+use Rattle.std.proofs.Common.{◌≡◌, ℕ, suc, ◌+◌, ◌*◌, ◌^◌, ◌<◌, ◌≤◌, Bool, true, false, List, [], ◌∷◌, length, map, get_or, Option, None, Fits, w8, refl, sym, ap, ◌∙◌, subst, arith, if◌then◌else◌}
 use Rattle.std.specs.Prelude.{sum_by}
-use Rattle.std.specs.List.{AllByRecursion, flat_map}
+use Rattle.std.specs.List.{AllByRecursion}
 use Rattle.std.specs.Option.{unwrap_or}
 use Rattle.std.proofs.lemmas.List.{length-map, length-append}
 use Rattle.std.proofs.lemmas.List.Sums.{sum_by-cons}
@@ -10,20 +10,18 @@ use Rattle.sq_elf.specs.Refusing.{file_refusal_of}
 use Rattle.sq_reloc.specs.Refusing.{reloc_refusal_of}
 use Rattle.sq_reloc.specs.declared.mark.CodeWord.{CodeWord}
 use Rattle.sq_reloc.specs.CodeWords.{AreCodeWords}
-use Rattle.sq_graph.specs.declared.item.Item.{Item}
 use Rattle.sq_graph.specs.Graph.{Block, Procedure, Graph}
-use Rattle.sq_graph.specs.Blocks.{items_of_blocks, items_of_bodies, all_items}
+use Rattle.sq_graph.specs.Blocks.{items_of_blocks, items_of_bodies}
 use Rattle.sq_graph.specs.Parts.{names_of, IsNamed}
 use Rattle.sq_graph.specs.Rules.{IsGraph}
 use Rattle.sq_graph.specs.Renames.{retargeted_item, retargeted_items, retargeted_procedure, renamed_block, renamed}
 use Rattle.sq_graph.specs.declared.parts.Room.{Room}
 use Rattle.sq_graph.specs.Room.{IsSmall, Covers, count_of, sum_of}
-use Rattle.sq_graph.specs.Words.{block_words, procedure_words, words_of, term_words}
+use Rattle.sq_graph.specs.Words.{block_words, procedure_words, words_of}
 use Rattle.sq_program.specs.Programs.{Word, Text, Note, Program}
-use Rattle.sq_program.specs.Readings.{Reading, reading_of}
 use Rattle.sq_program.specs.Notes.{used_notes}
 use Rattle.sq_program.specs.NoteSections.{notes_of}
-use Rattle.sq_program.specs.Lifted.{Form, ItemForm, TermForm, form_of, Rest, with_form, with_reading, begun_if, is_kept, is_leader, cut, lifted}
+use Rattle.sq_program.specs.Lifted.{is_kept, is_leader, cut, lifted}
 use Rattle.sq_graph.specs.Alike.{AreAlike}
 use Rattle.sq_program.specs.FilePrograms.{text_of, early_refusal, IsProgramOf, IsReadAs}
 use Rattle.sq_lift.specs.Flags.{Flags, is_flagged}

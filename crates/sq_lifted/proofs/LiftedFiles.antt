@@ -1,5 +1,5 @@
 -- The lifted graph of a file, or its refusal.
-use Rattle.std.proofs.Common.{◌≡◌, ◌⊎◌, inl, inr, ℕ, suc, ◌+◌, ◌<◌, Bool, List, length, Option, Some, None, slice_get, refl, sym, ap, ◌∙◌, subst, arith}
+use Rattle.std.proofs.Common.{◌≡◌, ◌⊎◌, inl, inr, ℕ, ◌+◌, ◌<◌, Bool, List, length, Option, Some, None, refl, sym, ap, ◌∙◌, subst}
 use Rattle.sq_num.specs.declared.refusal.Refusal.{Refusal}
 use Rattle.sq_num.specs.declared.refusal.Refusal.TheVariants.{BadNote}
 use Rattle.sq_num.specs.declared.refusal.Denied.{Denied}
@@ -15,7 +15,7 @@ use Rattle.sq_program.specs.Reached.{Decides}
 use Rattle.sq_program.specs.Notes.{used_notes}
 use Rattle.sq_program.specs.Lifted.{lifted}
 use Rattle.sq_graph.specs.Alike.{AreAlike}
-use Rattle.sq_program.specs.FilePrograms.{text_of, early_refusal, IsProgramOf, IsReadAs, IsFirstAlive, IsLiftRefusal, IsLiftedFrom}
+use Rattle.sq_program.specs.FilePrograms.{text_of, early_refusal, IsProgramOf, IsReadAs, IsFirstAlive, IsLiftRefusal}
 use Rattle.sq_program.specs.FilePrograms.IsLiftRefusal.{early, alive}
 use Rattle.sq_lift.specs.Flags.{Flags, is_flagged}
 use Rattle.sq_lift.specs.Refused.{IsEarlyRefusal}

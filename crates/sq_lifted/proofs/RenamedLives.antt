@@ -1,5 +1,5 @@
 -- Other names of blocks change no live register.
-use Rattle.std.proofs.Common.{◌≡◌, ◌⊎◌, inl, inr, ℕ, zero, suc, ◌+◌, ◌<◌, pos, Bool, true, false, ◌==◌, List, [], ◌∷◌, ◌++◌, length, map, Option, Some, None, IsSome, slice_get, if◌then◌else◌, refl, sym, ap, ◌∙◌, subst, arith}
+use Rattle.std.proofs.Common.{◌≡◌, ◌⊎◌, inl, inr, ℕ, zero, suc, ◌<◌, Bool, true, false, ◌==◌, List, [], ◌∷◌, ◌++◌, map, Option, Some, None, IsSome, slice_get, if◌then◌else◌, refl, sym, ap, ◌∙◌, subst, arith}
 use Rattle.std.specs.List.{AllByRecursion, Contains, All, flat_map}
 use Rattle.std.specs.Option.{option_map}
 use Rattle.std.proofs.lemmas.Bool.{cases_Bool, eqb-true, eqb-false, eq-eqb, ne_eqb}
@@ -7,7 +7,6 @@ use Rattle.std.proofs.lemmas.List.{map-append}
 use Rattle.std.proofs.lemmas.List.Concat.{flat_map-append}
 use Rattle.std.proofs.lemmas.List.Elements.{Contains-append_left, Contains-append_right, Contains-append_cases}
 use Rattle.std.proofs.lemmas.Option.{slice_get-map}
-use Rattle.sq_isa.specs.declared.instructions.Insn.{Insn}
 use Rattle.sq_isa.specs.Registers.{is_among_but_x0}
 use Rattle.sq_arena.specs.Entries.{value_of}
 use Rattle.sq_graph.specs.declared.item.Item.{Item}
@@ -20,9 +19,9 @@ use Rattle.sq_graph.specs.Blocks.{named, HasBlock, items_of_blocks, items_of_bod
 use Rattle.sq_graph.specs.Terms.{links}
 use Rattle.sq_graph.specs.Uses.{term_uses, item_uses, items_uses, terms_uses, code_word_uses, uses}
 use Rattle.sq_graph.specs.Rules.{IsGraph}
-use Rattle.sq_graph.specs.Renames.{retargeted_item, retargeted_items, retargeted_term, retargeted_words, retargeted_procedure, renamed_block, renamed}
+use Rattle.sq_graph.specs.Renames.{retargeted_items, retargeted_term, retargeted_words, retargeted_procedure, renamed_block, renamed}
 use Rattle.sq_graph.specs.Lines.{AddressHalf, Plain, Upper, Lower, Line, Name, Do, Enter, Return, End, line_of, term_lines, lines_of, inside, has_name, behind_name, block_lines}
-use Rattle.sq_graph.specs.Walks.{word_name, lower_names, link_names, first_name, code_targets, term_sources, term_link, is_register, is_link_of, line_reads, line_writes, TermGoes, Goes, IsLive, read_here, live_behind}
+use Rattle.sq_graph.specs.Walks.{word_name, lower_names, link_names, first_name, code_targets, term_sources, term_link, is_register, is_link_of, line_reads, line_writes, Goes, IsLive, read_here, live_behind}
 use Rattle.sq_graph.specs.Alike.{IsOneToOne}
 use Rattle.sq_program.specs.FilePrograms.{LinkDies}
 

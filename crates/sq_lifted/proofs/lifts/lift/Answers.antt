@@ -1,10 +1,10 @@
-use Rattle.std.proofs.Common.{◌≡◌, ◌⊎◌, inl, inr, ℕ, ◌+◌, ◌<◌, Some, length, Err, refl, sym, ap, ◌∙◌, subst, arith}
+use Rattle.std.proofs.Common.{◌≡◌, inl, inr, ◌+◌, length, Err, refl, sym, ap, ◌∙◌, subst, arith}
 use Rattle.std.proofs.lemmas.Result.{err_from_is_err_and}
 use Rattle.sq_num.specs.declared.refusal.Refusal.TheVariants.{BadNote}
 use Rattle.sq_num.specs.declared.refusal.Denied.TheVariants.{Refused}
 use Rattle.sq_elf.specs.Headers.{entry_of}
 use Rattle.sq_graph.specs.Room.{IsSmall, Covers, count_of, sum_of}
-use Rattle.sq_lifted.specs.LiftedFiles.{IsLiftedFile, IsRefusedFile, room_for}
+use Rattle.sq_lifted.specs.LiftedFiles.{IsLiftedFile, IsRefusedFile}
 use Rattle.sq_lifted.proofs.EarlyGraphs.{found_noted}
 use Rattle.sq_lifted.proofs.LiftedFiles.{refused_early, room_fits, room_covers, early_answer, procedures_are, is_lifted, in_notes, is_refused, one_refusal, no_refusal}
 use Rattle.sq_lifted.proofs.lifts.lift.Goals as goal

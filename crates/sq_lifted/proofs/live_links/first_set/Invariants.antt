@@ -1,4 +1,3 @@
-use Rattle.std.proofs.Common.{drop}
 use Rattle.sq_lift.specs.Flags.{is_flagged}
 use Rattle.sq_lifted.specs.LiveLinks.{IsBehind}
 use Rattle.sq_lifted.proofs.live_links.first_set.Given as goal

@@ -1,4 +1,4 @@
-use Rattle.std.proofs.Common.{◌≡◌, ℕ, ◌+◌, ◌<◌, ◌≤◌, Bool, false, length, get_or, refl, subst, ap, sym, ◌∙◌, arith}
+use Rattle.std.proofs.Common.{◌≡◌, ◌+◌, false, length, get_or, refl, subst, ap, ◌∙◌, arith}
 use Rattle.std.specs.Prelude.{replicate, slice_index}
 use Rattle.sq_graph.specs.Parts.{names_of}
 use Rattle.sq_lifted.specs.LiveLinks.{BlockDies, BlocksDie, Marks}

@@ -1,7 +1,6 @@
-use Rattle.std.proofs.Common.{◌≡◌, ◌+◌, ◌<◌, ◌≤◌, length, get_or, Some, slice_get, ap, sym, ◌∙◌, arith}
+use Rattle.std.proofs.Common.{◌≡◌, ◌+◌, length, Some, slice_get, ap, sym, ◌∙◌, arith}
 use Rattle.std.proofs.lemmas.Option.{slice_get-get_or}
-use Rattle.sq_graph.specs.declared.item.Item.{Item}
-use Rattle.sq_graph.specs.Blocks.{items_of, all_items}
+use Rattle.sq_graph.specs.Blocks.{items_of}
 use Rattle.sq_lifted.specs.LiveLinks.{ItemDies, ItemsDie}
 use Rattle.sq_lifted.proofs.Dying.{items_few, marks_then, marks_same, items_more, items_fewer}
 use Rattle.sq_lifted.proofs.live_links.mark_block.Goals as goal

@@ -1,4 +1,4 @@
-use Rattle.std.proofs.Common.{◌≡◌, ◌+◌, ◌<◌, ◌≤◌, length, false, true, arith}
+use Rattle.std.proofs.Common.{arith}
 use Rattle.sq_graph.specs.Blocks.{items_of}
 use Rattle.sq_lifted.specs.LiveLinks.{ItemDies}
 use Rattle.sq_lifted.proofs.Dying.{in_list, out_there, marks_none, marks_one, dead_item, live_item, other_item}
