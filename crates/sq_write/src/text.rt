@@ -114,7 +114,6 @@ fn push_jump(
 }
 
 /// Appends the word of a Stop.
-#[tactic(auto, using(crate::proofs::Texts::stop_word))]
 fn push_stop(out: &mut TextBytes, word: u32) -> Result<(), Memory>
     ensures { OnOk result (Appends (plain_point (stop_insn word)) out.old out.new) }
 {
