@@ -7,6 +7,7 @@ pub mod Counting
 pub mod Files
 pub mod FileWorlds
 pub mod FileLayouts
+pub mod FileBytes
 pub mod Named
 pub mod EarlyGraphs
 pub mod RenamedLives
