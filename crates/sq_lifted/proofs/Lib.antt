@@ -8,6 +8,7 @@ pub mod Files
 pub mod FileWorlds
 pub mod FileLayouts
 pub mod FileBytes
+pub mod FileRegions
 pub mod Named
 pub mod EarlyGraphs
 pub mod RenamedLives
