@@ -40,7 +40,7 @@ use Rattle.sq_lifted.specs.Files.{IsLinkedProgram, FilesAreLinked}
 abbrev AreBytes : List ℕ → Type 0
 AreBytes bytes = AllByRecursion (λ b. b < 256) bytes
 
-dropped : (n : ℕ) (bytes : List ℕ) → AreBytes bytes → AreBytes (drop n bytes)
+pub dropped : (n : ℕ) (bytes : List ℕ) → AreBytes bytes → AreBytes (drop n bytes)
 dropped zero bytes h = h
 dropped (suc n) [] h = tt
 dropped (suc n) (b ∷ bytes) h = dropped n bytes h.1

@@ -9,6 +9,7 @@ pub mod FileWorlds
 pub mod FileLayouts
 pub mod FileBytes
 pub mod FileRegions
+pub mod PlainCells
 pub mod Named
 pub mod EarlyGraphs
 pub mod RenamedLives
