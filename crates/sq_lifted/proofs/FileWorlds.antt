@@ -138,7 +138,7 @@ module _ (bytes : List ℕ) (is : ℕ → Bool) (p : Program) (read : IsReadAs b
       let ends = neither (nat_lt segment.memsz segment.filesz || nat_lt (2 ^ 32) (segment.address + segment.memsz)) (nat_lt (2 ^ 32) (segment.load_address + segment.filesz)) shaped in
       not_less segment.memsz segment.filesz (neither (nat_lt segment.memsz segment.filesz) (nat_lt (2 ^ 32) (segment.address + segment.memsz)) ends.0).0
 
-  has_text : has_memory bytes number ≡ true
+  pub has_text : has_memory bytes number ≡ true
   has_text =
       let a = facts.inside.low in
       let b = facts.inside.some in
@@ -147,10 +147,10 @@ module _ (bytes : List ℕ) (is : ℕ → Bool) (p : Program) (read : IsReadAs b
       let some : 0 < segment.memsz = omega arith in
       and_from (is_load bytes number) (nat_lt 0 segment.memsz) facts.load (lt_is 0 segment.memsz some)
 
-  -- a word of text is in a piece that may be executed
-  executable : (start : Start) (x : ℕ) (w : Word) → word_at (text_of bytes) x ≡ Some w → is_executable (layout_of (world_of bytes p) start) x ≡ true
+  -- a byte of text is in a piece that may be executed
+  pub text_executable : (start : Start) (x : ℕ) → (text_range bytes).lo ≤ x → x < (text_range bytes).hi → is_executable (layout_of (world_of bytes p) start) x ≡ true
   unfolding is_executable
-  executable start x w e =
+  text_executable start x least most =
       some_segment (is_in_with PF_X x) (segment_pieces bytes p.code_words) bytes (phnum_of bytes) number facts.within has_text
       (or_left (is_in x own && not (bit_and segment.flags PF_X == 0)) _ (and_from (is_in x own) (not (bit_and segment.flags PF_X == 0)) inside (not_zero (bit_and segment.flags PF_X) flagged)))
     where
@@ -159,16 +159,20 @@ module _ (bytes : List ℕ) (is : ℕ → Bool) (p : Program) (read : IsReadAs b
 
       inside : is_in x own ≡ true
       inside =
-          let s = stood x (text_of bytes).lo w (text_of bytes).words e in
-          let a = s.least in
-          let b = s.most in
-          let top = ends_at bytes is p read in
           let c = facts.inside.low in
           let d = facts.inside.high in
           let f = whole in
           let low : segment.address ≤ x = omega arith in
           let high : x < segment.address + segment.memsz = omega arith in
           and_from (nat_le segment.address x) (nat_lt x (segment.address + segment.memsz)) (le_is segment.address x low) (lt_is x (segment.address + segment.memsz) high)
+
+  executable : (start : Start) (x : ℕ) (w : Word) → word_at (text_of bytes) x ≡ Some w → is_executable (layout_of (world_of bytes p) start) x ≡ true
+  executable start x w e =
+      let s = stood x (text_of bytes).lo w (text_of bytes).words e in
+      let a = s.least in
+      let b = s.most in
+      let top = ends_at bytes is p read in
+      text_executable start x a (omega (arith, b, top))
 
   world_fits : (start : Start) → IsWorldOf (world_of bytes p) start p
   world_fits start = record { lo = refl; hi = refl; executable = λ x e. go x e (word_at p.text x) refl }

@@ -10,6 +10,7 @@ pub mod FileLayouts
 pub mod FileBytes
 pub mod FileRegions
 pub mod PlainCells
+pub mod PlainStarts
 pub mod Named
 pub mod EarlyGraphs
 pub mod RenamedLives
