@@ -24,7 +24,7 @@ front_byte [] ys i h = absurd (let f : i < 0 = h in omega arith)
 front_byte (x ∷ xs) ys zero h = refl
 front_byte (x ∷ xs) ys (suc i) h = front_byte xs ys i (let f : suc i < suc (length xs) = h in omega arith)
 
-taken_byte : (n : ℕ) (xs : List ℕ) (i : ℕ) → i < n → slice_get (take n xs) i ≡ slice_get xs i
+pub taken_byte : (n : ℕ) (xs : List ℕ) (i : ℕ) → i < n → slice_get (take n xs) i ≡ slice_get xs i
 taken_byte zero xs i h = absurd (omega (arith, h))
 taken_byte (suc n) [] i h = refl
 taken_byte (suc n) (x ∷ xs) zero h = refl

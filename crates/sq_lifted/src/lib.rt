@@ -10,7 +10,7 @@ mod lifts;
 mod live_links;
 
 ghost use Rattle.sq_lifted.specs.Lifted.{LiftedIsGood};
-ghost use Rattle.sq_lifted.specs.Files.{FilesAreLinked, FileWorldsFit, LiftedFilesAreGood, LiftedFilesKeepRuns, LiftedFilesFollow, FilesAreLaidOut};
+ghost use Rattle.sq_lifted.specs.Files.{FilesAreLinked, FileWorldsFit, LiftedFilesAreGood, LiftedFilesKeepRuns, LiftedFilesFollow, FilesAreLaidOut, FilesStartPlain, FilesShowPlain};
 
 pub use lifts::lift;
 
@@ -53,4 +53,16 @@ pub fn lifted_files_follow()
 /// permissions, and the same RAM.
 pub fn files_are_laid_out()
     ensures { FilesAreLaidOut }
+{}
+
+/// The plain machine of a file starts as its monitored run does: with the same pc, registers and input, with the
+/// file's words in text, and with the bytes that the cells of its world erase to in memory.
+pub fn files_start_plain()
+    ensures { FilesStartPlain }
+{}
+
+/// Where the monitored run of a file that is not refused is unbroken, the run of its graph over the file's world is
+/// unbroken too, and shows what the file's plain machine shows.
+pub fn files_show_plain()
+    ensures { FilesShowPlain }
 {}
