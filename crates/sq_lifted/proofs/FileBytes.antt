@@ -1,7 +1,7 @@
 -- The bytes of a segment, and of a word in it, as they stand in the file.
-use Rattle.std.proofs.Common.{◌≡◌, ℕ, zero, suc, ◌+◌, ◌-◌, ◌*◌, ◌^◌, ◌≤◌, ◌<◌, nat_le, nat_lt, Bool, true, false, ◌&&◌, ◌||◌, List, [], ◌∷◌, ◌++◌, length, take, drop, replicate, Some, None, slice_get, if◌then◌else◌, refl, sym, ap, ◌∙◌, subst, arith}
+use Rattle.std.proofs.Common.{◌≡◌, ℕ, zero, suc, ◌+◌, ◌-◌, ◌^◌, ◌≤◌, ◌<◌, nat_lt, true, false, ◌||◌, List, [], ◌∷◌, ◌++◌, length, take, drop, replicate, Some, None, slice_get, refl, ap, ◌∙◌, arith}
 use Rattle.std.specs.List.{AllByRecursion}
-use Rattle.std.proofs.lemmas.List.{take_all, length-take-le, length-drop, length-append, length-replicate}
+use Rattle.std.proofs.lemmas.List.{length-take-le, length-drop, length-append, length-replicate}
 use Rattle.std.proofs.lemmas.Bool.Decides.{nat_tests}
 use Rattle.byteorder.specs.Endian.{little_number, little_bytes}
 use Rattle.sq_isa.specs.Accesses.{bytes_number}
@@ -10,7 +10,7 @@ use Rattle.sq_elf.specs.Fields.{u32_field}
 use Rattle.sq_elf.specs.Headers.{phnum_of, is_load, segment_of}
 use Rattle.sq_elf.specs.Ranges.{leaves, bytes_at}
 use Rattle.sq_elf.specs.Segments.{is_misshapen, is_bad_segment}
-use Rattle.sq_elf.specs.Memory.{MemoryPiece, file_bytes_of}
+use Rattle.sq_elf.specs.Memory.{file_bytes_of}
 use Rattle.sq_elf.specs.Refusing.{program_table, section_table, file_bytes, bad_segment, segment_kind, segment_overlap, file_refusal_of}
 use Rattle.sq_elf.proofs.Accepted.{tables_accepted, segments_accepted}
 use Rattle.sq_elf.proofs.Passing.{row_passes, behind_row}

@@ -10,13 +10,12 @@ use Rattle.sq_system.specs.declared.piece.Piece.{Piece}
 use Rattle.sq_system.specs.World.{PF_X, is_in, is_in_with, is_executable}
 use Rattle.sq_elf.specs.declared.segment.Segment.{Segment}
 use Rattle.sq_elf.specs.Headers.{phnum_of, shnum_of, is_load, section_of, segment_of}
-use Rattle.sq_elf.specs.Segments.{is_misshapen, is_bad_segment}
 use Rattle.sq_elf.specs.Text.{text_of as text_range, is_executable_at, first_executable, text_segment_of, holds, holds_at, splits}
 use Rattle.sq_elf.specs.Memory.{has_memory, segments_before}
-use Rattle.sq_elf.specs.Refusing.{without_text, bad_text_section, text_split, text_moved, text_too_large, bad_segment, segment_kind, segment_overlap}
-use Rattle.sq_elf.proofs.Accepted.{single_passes, text_accepted, segments_accepted}
+use Rattle.sq_elf.specs.Refusing.{without_text, bad_text_section, text_split, text_moved, text_too_large}
+use Rattle.sq_elf.proofs.Accepted.{single_passes, text_accepted}
 use Rattle.sq_elf.proofs.Passing.{row_passes, behind_row, IsFirst, found_from}
-use Rattle.sq_elf.proofs.TextFacts.{both_true, neither, second_false, TextFacts, text_facts}
+use Rattle.sq_elf.proofs.TextFacts.{both_true, TextFacts, text_facts}
 use Rattle.sq_follow.specs.Worlds.{StartPiece, piece_of, layout_of}
 use Rattle.sq_program.specs.Programs.{Word, Note, Program, word_at}
 use Rattle.sq_program.specs.FilePrograms.{text_of, note_refusal, early_refusal, IsReadAs, IsAccepted}
@@ -33,6 +32,7 @@ use Rattle.sq_program.specs.Lifted.{lifted}
 use Rattle.sq_lifting.proofs.Whole.{lifting_keeps}
 use Rattle.sq_lifted.specs.Files.{FileWorldsFit, LiftedFilesKeepRuns, LiftedFilesAreGood, LiftedFilesFollow}
 use Rattle.sq_lifted.proofs.Files.{le_is, lt_is, ends_at, files_linked}
+use Rattle.sq_lifted.proofs.FileBytes.{whole as segment_whole}
 use Rattle.sq_lifted.proofs.Counting.{lifted_good}
 
 -- some of these, or of those
@@ -98,9 +98,6 @@ some_there : (o : Option ℕ) → not (is_some o) ≡ false → (k : ℕ) × (o 
 some_there None e = absurd (cc)
 some_there (Some k) e = (k, refl)
 
-not_less : (a b : ℕ) → nat_lt a b ≡ false → b ≤ a
-not_less a b e = grind (arith, nat_tests)
-
 not_zero : (n : ℕ) → nat_eq n 1 ≡ true → not (n == 0) ≡ true
 not_zero n e = let one : n ≡ 1 = eqb-true n 1 e in rw one refl
 
@@ -132,11 +129,7 @@ module _ (bytes : List ℕ) (is : ℕ → Bool) (p : Program) (read : IsReadAs b
           (behind_row (without_text bytes) (bad_text_section bytes ∷ text_split bytes ∷ text_moved bytes ∷ text_too_large bytes ∷ []) (text_accepted bytes read.file)))
 
   whole : segment.filesz ≤ segment.memsz
-  whole =
-      let good : is_bad_segment bytes number ≡ false = row_passes (bad_segment bytes) (segment_kind bytes ∷ segment_overlap bytes ∷ []) (segments_accepted bytes read.file) number facts.within in
-      let shaped = second_false (is_load bytes number) (is_misshapen segment) good facts.load in
-      let ends = neither (nat_lt segment.memsz segment.filesz || nat_lt (2 ^ 32) (segment.address + segment.memsz)) (nat_lt (2 ^ 32) (segment.load_address + segment.filesz)) shaped in
-      not_less segment.memsz segment.filesz (neither (nat_lt segment.memsz segment.filesz) (nat_lt (2 ^ 32) (segment.address + segment.memsz)) ends.0).0
+  whole = segment_whole bytes read.file number facts.within facts.load
 
   pub has_text : has_memory bytes number ≡ true
   has_text =

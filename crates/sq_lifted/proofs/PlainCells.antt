@@ -1,8 +1,8 @@
 -- The cells of a file's world, and the bytes of its plain machine.
-use Rattle.std.proofs.Common.{◌≡◌, ◌≢◌, ℕ, zero, suc, ◌+◌, ◌-◌, ◌%◌, ◌≤◌, ◌<◌, nat_eq, nat_le, nat_lt, Bool, true, false, not, ◌==◌, ◌&&◌, ◌||◌, List, [], ◌∷◌, ◌++◌, length, map, take, drop, replicate, Option, Some, None, is_some, slice_get, get_or, if◌then◌else◌, refl, sym, ap, ◌∙◌, subst, arith}
+use Rattle.std.proofs.Common.{◌≡◌, ◌≢◌, ℕ, zero, suc, ◌+◌, ◌-◌, ◌%◌, ◌≤◌, ◌<◌, nat_eq, nat_le, Bool, true, false, not, ◌==◌, ◌&&◌, List, [], ◌∷◌, ◌++◌, length, map, take, drop, replicate, Option, Some, None, slice_get, if◌then◌else◌, refl, sym, ap, ◌∙◌, subst, arith}
 use Rattle.std.specs.Option.{option_map}
 use Rattle.std.specs.List.{Contains, AllByRecursion, find}
-use Rattle.std.proofs.lemmas.Bool.{eqb-true, eqb-false, and_from}
+use Rattle.std.proofs.lemmas.Bool.{eqb-true, eqb-false}
 use Rattle.std.proofs.lemmas.Bool.Decides.{nat_tests}
 use Rattle.std.proofs.lemmas.List.{take_all, length-drop}
 use Rattle.std.proofs.lemmas.Option.{slice_get-map, slice_get_within}
@@ -19,12 +19,11 @@ use Rattle.sq_elf.proofs.TextFacts.{both_true}
 use Rattle.sq_reloc.specs.declared.entry.Entry.{Entry}
 use Rattle.sq_reloc.specs.declared.mark.CodeWord.{CodeWord}
 use Rattle.sq_reloc.specs.Entries.{no_entry, target_of as entry_target, entries_of}
-use Rattle.sq_reloc.specs.Outside.{is_outside, is_code_entry, code_target, is_stale, is_stale_by, is_beaten, word_start}
+use Rattle.sq_reloc.specs.Outside.{is_code_entry, code_target, is_stale, word_start}
 use Rattle.sq_reloc.specs.CodeWords.{listed_at, IsCodeWord}
 use Rattle.sq_reloc.proofs.CodeWordFacts.{is_code_word}
 use Rattle.sq_reloc.proofs.Found.{IsFoundAt, found_at}
-use Rattle.sq_follow.specs.Values.{Cell, Byte, Frag, Stale, Code}
-use Rattle.sq_follow.specs.Worlds.{StartByte, Given, OfWord, StaleByte, word_cell, start_cell}
+use Rattle.sq_follow.specs.Worlds.{Given, StaleByte, word_cell, start_cell}
 use Rattle.sq_erasure.specs.Erasure.{IsErasedCell}
 use Rattle.sq_live.proofs.Nodes.{get_contains}
 use Rattle.sq_program.specs.Programs.{Program, target_of}
@@ -33,7 +32,7 @@ use Rattle.sq_program.specs.FilePrograms.{IsReadAs}
 use Rattle.sq_program.specs.FileRuns.{code_word_number, byte_of_word, stale_or, start_byte, start_bytes}
 use Rattle.sq_lifting.specs.Watching.{own_names}
 use Rattle.sq_lifted.proofs.Files.{dropped, files_linked}
-use Rattle.sq_lifted.proofs.FileBytes.{filled, filled_length, dropped_byte, word_bytes, field_is, in_file, bytes_length, filled_byte, whole}
+use Rattle.sq_lifted.proofs.FileBytes.{filled, filled_length, dropped_byte, word_bytes, field_is, in_file, filled_byte, whole}
 use Rattle.sq_lifted.proofs.FileRegions.{IsAt, alone}
 
 -- BYTES AT THE START
@@ -202,7 +201,7 @@ module _ (bytes : List ℕ) (is : ℕ → Bool) (p : Program) (fit : AllByRecurs
             let full = filled_length size stored fewer in
             cell_erased size i b (omega (arith, small, full, most)) e
 
--- BYTES OF TEXT
+  -- BYTES OF TEXT
 
   -- no code word begins in text, and no byte of it is stale
   module _ (x : ℕ) (inside : range_has (text_range bytes) x ≡ true) (begins : range_has (text_range bytes) (word_start x) ≡ true) where

@@ -4,10 +4,9 @@ use Rattle.std.specs.Option.{unwrap_or, option_map}
 use Rattle.std.specs.List.{AllByRecursion, flat_map}
 use Rattle.std.proofs.lemmas.Bool.{and_from}
 use Rattle.std.proofs.lemmas.Bool.Decides.{nat_tests}
-use Rattle.std.proofs.lemmas.List.{map-append, append-nil, take_all, length-take-le, length-drop, length-map}
+use Rattle.std.proofs.lemmas.List.{map-append, take_all, length-take-le, length-drop, length-map}
 use Rattle.std.proofs.lemmas.List.Concat.{flat_map-append}
 use Rattle.std.proofs.lemmas.Option.{slice_get-map, slice_get-get_or}
-use Rattle.byteorder.specs.Endian.{little_number}
 use Rattle.sq_isa.specs.Accesses.{bytes_number}
 use Rattle.sq_num.specs.Refusals.{first_from}
 use Rattle.sq_memory.specs.Cells.{Agree, AgreeOn, cells_from}
@@ -18,7 +17,7 @@ use Rattle.sq_system.specs.World.{is_executable, is_range, are_all}
 use Rattle.sq_elf.specs.declared.segment.Segment.{Segment}
 use Rattle.sq_elf.specs.Headers.{phnum_of, is_load, segment_of}
 use Rattle.sq_elf.specs.Segments.{copy_size}
-use Rattle.sq_elf.specs.Memory.{MemoryPiece, has_memory, own_piece, copy_piece, file_bytes_of, segments_before, image_before, segment_pieces as image_pieces}
+use Rattle.sq_elf.specs.Memory.{has_memory, own_piece, copy_piece, file_bytes_of, segments_before, image_before, segment_pieces as image_pieces}
 use Rattle.sq_elf.specs.Text.{text_of as text_range, is_in_text as range_has, text_segment_of}
 use Rattle.sq_elf.specs.Reading.{has_word, word_in, word_of}
 use Rattle.sq_elf.proofs.Passing.{IsFirst, found_from}
@@ -33,9 +32,9 @@ use Rattle.sq_patch.specs.LiveAgreement.{everywhere}
 use Rattle.sq_erasure.specs.Erasure.{IsErasedCell}
 use Rattle.sq_run.specs.FileRuns.{start_piece as plain_start, file_world, file_state, file_trace}
 use Rattle.sq_program.specs.Programs.{Word, Program, word_at, is_in_text, end_of, target_of}
-use Rattle.sq_program.specs.FilePrograms.{file_word, text_of, IsReadAs}
+use Rattle.sq_program.specs.FilePrograms.{text_of, IsReadAs}
 use Rattle.sq_program.specs.FileRuns.{start_piece, start_byte, start_bytes, segment_pieces, world_of}
-use Rattle.sq_lifting.specs.Watching.{own_names, IsLaidOut, IsPlainStart}
+use Rattle.sq_lifting.specs.Watching.{own_names, IsPlainStart}
 use Rattle.sq_lifting.proofs.TextWords.{stood}
 use Rattle.sq_lifting.proofs.Watched.{watching_erases}
 use Rattle.sq_lifted.specs.Files.{FilesStartPlain, FilesShowPlain}
@@ -354,9 +353,10 @@ module _ (bytes : List ℕ) (is : ℕ → Bool) (p : Program) (fit : AllByRecurs
       let most : x + 4 ≤ hi = let m = s.most in omega (arith, m, top) in
       let small : x + 4 ≤ 2 ^ 32 = let h = facts.high in omega (arith, h, most) in
       let t = is_text_word_of bytes is p read x w e in
-      let aligned : (x % 4 == 0) ≡ true = rw t.1 refl in
-      (and_from (nat_le (x + 4) (2 ^ 32)) (are_all (is_executable (file_world bytes start)) x 4) (le_is (x + 4) (2 ^ 32) small) (all_are 4 (λ i less. runs (x + i) (omega (arith, least)) (omega (arith, less, most)))),
-      rw aligned (text_number x w e))
+      let aligned : (x % 4 == 0) ≡ true = rw t.1 refl in (
+        and_from (nat_le (x + 4) (2 ^ 32)) (are_all (is_executable (file_world bytes start)) x 4) (le_is (x + 4) (2 ^ 32) small) (all_are 4 (λ i less. runs (x + i) (omega (arith, least)) (omega (arith, less, most)))),
+        rw aligned (text_number x w e),
+      )
     where
       runs : (y : ℕ) → lo ≤ y → y < hi → is_executable (file_world bytes start) y ≡ true
       runs y least most = (laid_out bytes p start).executable y ∙ text_executable bytes is p read start y least most

@@ -1,9 +1,9 @@
 //! What holds of each file that is not refused, and of the graph that is read off it.
 //!
 //! To the layers above it promises of such a file that its program is linked, as the laws of lifting ask; that the
-//! run of its graph over its world shows what its monitored run shows, while that is unbroken; and that the graph
-//! keeps the rules of a graph, is canonical, sound and in reach, and has no more words than the file's text: what
-//! rewriting asks of the graph that it begins with.
+//! run of its graph over its world shows what its monitored run shows, and what its plain machine shows, while the
+//! monitored run is unbroken; and that the graph keeps the rules of a graph, is canonical, sound and in reach, and has
+//! no more words than the file's text: what rewriting asks of the graph that it begins with.
 #![tactic(auto)]
 
 mod lifts;
