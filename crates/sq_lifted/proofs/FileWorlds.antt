@@ -1,22 +1,20 @@
 -- The world of a file: each word of text stands in a piece that is executable.
-use Rattle.std.proofs.Common.{◌≡◌, ◌≢◌, ◌⊎◌, inl, inr, ℕ, zero, suc, ◌+◌, ◌^◌, ◌≤◌, ◌<◌, nat_eq, nat_le, nat_lt, Bool, true, false, not, ◌==◌, ◌&&◌, ◌||◌, List, [], ◌∷◌, ◌++◌, map, Option, Some, None, is_some, if◌then◌else◌, refl, sym, subst, arith, bit_and}
+use Rattle.std.proofs.Common.{◌≡◌, ◌≢◌, ◌⊎◌, inl, inr, ℕ, zero, suc, ◌+◌, ◌≤◌, ◌<◌, nat_eq, nat_le, nat_lt, Bool, true, false, not, ◌==◌, ◌&&◌, ◌||◌, List, [], ◌∷◌, ◌++◌, map, Option, Some, None, is_some, if◌then◌else◌, refl, sym, subst, arith, bit_and}
 use Rattle.std.specs.Option.{option_map}
 use Rattle.std.specs.List.{list_any, flat_map}
 use Rattle.std.proofs.lemmas.Bool.{and_from, or_left, eqb-true, eqb-false}
-use Rattle.std.proofs.lemmas.Bool.Decides.{nat_tests}
 use Rattle.sq_num.specs.declared.refusal.Refusal.TheVariants.{BadNote}
 use Rattle.sq_system.specs.Starts.{Start}
 use Rattle.sq_system.specs.declared.piece.Piece.{Piece}
 use Rattle.sq_system.specs.World.{PF_X, is_in, is_in_with, is_executable}
 use Rattle.sq_elf.specs.declared.segment.Segment.{Segment}
 use Rattle.sq_elf.specs.Headers.{phnum_of, shnum_of, is_load, section_of, segment_of}
-use Rattle.sq_elf.specs.Segments.{is_misshapen, is_bad_segment}
 use Rattle.sq_elf.specs.Text.{text_of as text_range, is_executable_at, first_executable, text_segment_of, holds, holds_at, splits}
 use Rattle.sq_elf.specs.Memory.{has_memory, segments_before}
-use Rattle.sq_elf.specs.Refusing.{without_text, bad_text_section, text_split, text_moved, text_too_large, bad_segment, segment_kind, segment_overlap}
-use Rattle.sq_elf.proofs.Accepted.{single_passes, text_accepted, segments_accepted}
+use Rattle.sq_elf.specs.Refusing.{without_text, bad_text_section, text_split, text_moved, text_too_large}
+use Rattle.sq_elf.proofs.Accepted.{single_passes, text_accepted}
 use Rattle.sq_elf.proofs.Passing.{row_passes, behind_row, IsFirst, found_from}
-use Rattle.sq_elf.proofs.TextFacts.{both_true, neither, second_false, TextFacts, text_facts}
+use Rattle.sq_elf.proofs.TextFacts.{both_true, TextFacts, text_facts}
 use Rattle.sq_follow.specs.Worlds.{StartPiece, piece_of, layout_of}
 use Rattle.sq_program.specs.Programs.{Word, Note, Program, word_at}
 use Rattle.sq_program.specs.FilePrograms.{text_of, note_refusal, early_refusal, IsReadAs, IsAccepted}
@@ -33,6 +31,7 @@ use Rattle.sq_program.specs.Lifted.{lifted}
 use Rattle.sq_lifting.proofs.Whole.{lifting_keeps}
 use Rattle.sq_lifted.specs.Files.{FileWorldsFit, LiftedFilesKeepRuns, LiftedFilesAreGood, LiftedFilesFollow}
 use Rattle.sq_lifted.proofs.Files.{le_is, lt_is, ends_at, files_linked}
+use Rattle.sq_lifted.proofs.FileBytes.{whole as segment_whole}
 use Rattle.sq_lifted.proofs.Counting.{lifted_good}
 
 -- some of these, or of those
@@ -98,9 +97,6 @@ some_there : (o : Option ℕ) → not (is_some o) ≡ false → (k : ℕ) × (o 
 some_there None e = absurd (cc)
 some_there (Some k) e = (k, refl)
 
-not_less : (a b : ℕ) → nat_lt a b ≡ false → b ≤ a
-not_less a b e = grind (arith, nat_tests)
-
 not_zero : (n : ℕ) → nat_eq n 1 ≡ true → not (n == 0) ≡ true
 not_zero n e = let one : n ≡ 1 = eqb-true n 1 e in rw one refl
 
@@ -132,13 +128,9 @@ module _ (bytes : List ℕ) (is : ℕ → Bool) (p : Program) (read : IsReadAs b
           (behind_row (without_text bytes) (bad_text_section bytes ∷ text_split bytes ∷ text_moved bytes ∷ text_too_large bytes ∷ []) (text_accepted bytes read.file)))
 
   whole : segment.filesz ≤ segment.memsz
-  whole =
-      let good : is_bad_segment bytes number ≡ false = row_passes (bad_segment bytes) (segment_kind bytes ∷ segment_overlap bytes ∷ []) (segments_accepted bytes read.file) number facts.within in
-      let shaped = second_false (is_load bytes number) (is_misshapen segment) good facts.load in
-      let ends = neither (nat_lt segment.memsz segment.filesz || nat_lt (2 ^ 32) (segment.address + segment.memsz)) (nat_lt (2 ^ 32) (segment.load_address + segment.filesz)) shaped in
-      not_less segment.memsz segment.filesz (neither (nat_lt segment.memsz segment.filesz) (nat_lt (2 ^ 32) (segment.address + segment.memsz)) ends.0).0
+  whole = segment_whole bytes read.file number facts.within facts.load
 
-  has_text : has_memory bytes number ≡ true
+  pub has_text : has_memory bytes number ≡ true
   has_text =
       let a = facts.inside.low in
       let b = facts.inside.some in
@@ -147,10 +139,10 @@ module _ (bytes : List ℕ) (is : ℕ → Bool) (p : Program) (read : IsReadAs b
       let some : 0 < segment.memsz = omega arith in
       and_from (is_load bytes number) (nat_lt 0 segment.memsz) facts.load (lt_is 0 segment.memsz some)
 
-  -- a word of text is in a piece that may be executed
-  executable : (start : Start) (x : ℕ) (w : Word) → word_at (text_of bytes) x ≡ Some w → is_executable (layout_of (world_of bytes p) start) x ≡ true
+  -- a byte of text is in a piece that may be executed
+  pub text_executable : (start : Start) (x : ℕ) → (text_range bytes).lo ≤ x → x < (text_range bytes).hi → is_executable (layout_of (world_of bytes p) start) x ≡ true
   unfolding is_executable
-  executable start x w e =
+  text_executable start x least most =
       some_segment (is_in_with PF_X x) (segment_pieces bytes p.code_words) bytes (phnum_of bytes) number facts.within has_text
       (or_left (is_in x own && not (bit_and segment.flags PF_X == 0)) _ (and_from (is_in x own) (not (bit_and segment.flags PF_X == 0)) inside (not_zero (bit_and segment.flags PF_X) flagged)))
     where
@@ -159,16 +151,20 @@ module _ (bytes : List ℕ) (is : ℕ → Bool) (p : Program) (read : IsReadAs b
 
       inside : is_in x own ≡ true
       inside =
-          let s = stood x (text_of bytes).lo w (text_of bytes).words e in
-          let a = s.least in
-          let b = s.most in
-          let top = ends_at bytes is p read in
           let c = facts.inside.low in
           let d = facts.inside.high in
           let f = whole in
           let low : segment.address ≤ x = omega arith in
           let high : x < segment.address + segment.memsz = omega arith in
           and_from (nat_le segment.address x) (nat_lt x (segment.address + segment.memsz)) (le_is segment.address x low) (lt_is x (segment.address + segment.memsz) high)
+
+  executable : (start : Start) (x : ℕ) (w : Word) → word_at (text_of bytes) x ≡ Some w → is_executable (layout_of (world_of bytes p) start) x ≡ true
+  executable start x w e =
+      let s = stood x (text_of bytes).lo w (text_of bytes).words e in
+      let a = s.least in
+      let b = s.most in
+      let top = ends_at bytes is p read in
+      text_executable start x a (omega (arith, b, top))
 
   world_fits : (start : Start) → IsWorldOf (world_of bytes p) start p
   world_fits start = record { lo = refl; hi = refl; executable = λ x e. go x e (word_at p.text x) refl }

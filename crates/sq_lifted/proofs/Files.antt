@@ -40,7 +40,7 @@ use Rattle.sq_lifted.specs.Files.{IsLinkedProgram, FilesAreLinked}
 abbrev AreBytes : List ℕ → Type 0
 AreBytes bytes = AllByRecursion (λ b. b < 256) bytes
 
-dropped : (n : ℕ) (bytes : List ℕ) → AreBytes bytes → AreBytes (drop n bytes)
+pub dropped : (n : ℕ) (bytes : List ℕ) → AreBytes bytes → AreBytes (drop n bytes)
 dropped zero bytes h = h
 dropped (suc n) [] h = tt
 dropped (suc n) (b ∷ bytes) h = dropped n bytes h.1
@@ -134,7 +134,7 @@ mark_fits bytes x = by (touching bytes x)
 -- TEXT
 
 -- a word of the words from an address on is that of the file
-words_are : (bytes : List ℕ) (x at n : ℕ) (w : Word) → word_from x at (words_from bytes at n) ≡ Some w → w ≡ file_word bytes x
+pub words_are : (bytes : List ℕ) (x at n : ℕ) (w : Word) → word_from x at (words_from bytes at n) ≡ Some w → w ≡ file_word bytes x
 words_are bytes x at zero w e = absurd (cc)
 words_are bytes x at (suc n) w e = go (x == at) refl e (words_are bytes x (at + 4) n w)
   where
@@ -194,7 +194,7 @@ module _ (bytes : List ℕ) (is : ℕ → Bool) (p : Program) (read : IsReadAs b
       in_text_word (text_of bytes) x facts.inside.low_word (subst (λ e. (nat_le lo x && nat_lt x e) ≡ true) (sym ends_at) a.0) whole
 
   -- and back
-  is_text_word_of : (x : ℕ) (w : Word) → word_at (text_of bytes) x ≡ Some w → (is_text_word (text_range bytes) x ≡ true) × (x % 4 ≡ 0) × (x < 2 ^ 32)
+  pub is_text_word_of : (x : ℕ) (w : Word) → word_at (text_of bytes) x ≡ Some w → (is_text_word (text_range bytes) x ≡ true) × (x % 4 ≡ 0) × (x < 2 ^ 32)
   is_text_word_of x w e =
       let s = stood x lo w (words_from bytes lo ((hi - lo) / 4)) e in
       let n = how_many bytes lo ((hi - lo) / 4) in

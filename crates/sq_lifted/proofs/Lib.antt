@@ -7,6 +7,10 @@ pub mod Counting
 pub mod Files
 pub mod FileWorlds
 pub mod FileLayouts
+pub mod FileBytes
+pub mod FileRegions
+pub mod PlainCells
+pub mod PlainStarts
 pub mod Named
 pub mod EarlyGraphs
 pub mod RenamedLives

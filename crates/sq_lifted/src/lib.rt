@@ -3,8 +3,9 @@
 //! To the layers above it promises that `lift` makes the lifted graph of a file, but for the names of blocks, or
 //! refuses the file by its text or its note exactly as defined. Of a file that is not refused it promises that its
 //! program is linked, as the laws of lifting ask; that the run of its graph over its world shows what its monitored
-//! run shows, while that is unbroken; and that the graph keeps the rules of a graph, is canonical, sound and in
-//! reach, and has no more words than the file's text: what rewriting asks of the graph that it begins with.
+//! run shows, and what its plain machine shows, while the monitored run is unbroken; and that the graph keeps the
+//! rules of a graph, is canonical, sound and in reach, and has no more words than the file's text: what rewriting asks
+//! of the graph that it begins with.
 #![tactic(auto)]
 
 mod lifts;
@@ -13,7 +14,7 @@ mod live_links;
 mod tests;
 
 ghost use Rattle.sq_lifted.specs.Lifted.{LiftedIsGood};
-ghost use Rattle.sq_lifted.specs.Files.{FilesAreLinked, FileWorldsFit, LiftedFilesAreGood, LiftedFilesKeepRuns, LiftedFilesFollow, FilesAreLaidOut};
+ghost use Rattle.sq_lifted.specs.Files.{FilesAreLinked, FileWorldsFit, LiftedFilesAreGood, LiftedFilesKeepRuns, LiftedFilesFollow, FilesAreLaidOut, FilesStartPlain, FilesShowPlain};
 
 pub use lifts::lift;
 
@@ -56,4 +57,16 @@ pub fn lifted_files_follow()
 /// permissions, and the same RAM.
 pub fn files_are_laid_out()
     ensures { FilesAreLaidOut }
+{}
+
+/// The plain machine of a file starts as its monitored run does: with the same pc, registers and input, with the
+/// file's words in text, and with the bytes that the cells of its world erase to in memory.
+pub fn files_start_plain()
+    ensures { FilesStartPlain }
+{}
+
+/// Where the monitored run of a file that is not refused is unbroken, the run of its graph over the file's world is
+/// unbroken too, and shows what the file's plain machine shows.
+pub fn files_show_plain()
+    ensures { FilesShowPlain }
 {}
