@@ -1,5 +1,5 @@
--- A graph in which a Jump to the next slot became Fall follows it.
-use Rattle.std.proofs.Common.{◌≡◌, ℕ, Bool, true, false, ◌==◌, List, [], ◌∷◌, ◌++◌, Option, Some, None, eq-eqb, map, if◌then◌else◌, refl, sym, ap, ◌∙◌, subst}
+-- Blocks by their places in a graph, and a Jump to the next slot.
+use Rattle.std.proofs.Common.{◌≡◌, ℕ, Bool, true, false, ◌==◌, List, [], ◌∷◌, ◌++◌, Option, Some, None, eq-eqb, if◌then◌else◌, refl, sym, ap, ◌∙◌, subst}
 use Rattle.std.specs.List.{Contains}
 use Rattle.sq_arena.specs.Entries.{value_of, HasDistinctKeys, behind, first_key}
 use Rattle.sq_arena.proofs.EntriesLaws.{absent_ahead, behind-append}
@@ -8,15 +8,14 @@ use Rattle.sq_graph.specs.Graph.{Block, Graph}
 use Rattle.sq_graph.specs.Blocks.{named, block_term, term_of, next_of, HasBlock}
 use Rattle.sq_graph.specs.Rules.{IsGraph}
 use Rattle.sq_graph.specs.Operations.{with_term}
-use Rattle.sq_graph.specs.Lines.{End, Line, line_of, term_lines, body_lines, lines_of, behind_name, block_lines}
-use Rattle.sq_follow.specs.Follows.{Follows}
+use Rattle.sq_graph.specs.Lines.{body_lines, lines_of, behind_name, block_lines}
 use Rattle.sq_patch.specs.LiveAgreement.{MakeTargets}
-use Rattle.sq_patch.specs.Changes.{Change, Alike, name_after, jump_before}
+use Rattle.sq_patch.specs.Changes.{Change, Alike, name_after}
 use Rattle.sq_patch.proofs.LiveTargets.{lines_make}
-use Rattle.sq_patch.proofs.Keeping.{staying, every_carrier, all_matter}
-use Rattle.sq_patch.proofs.Staying.{items_unnamed, body_unnamed, AreBlocks, items_keep, items_in, body_keep, same_lines, behind_made}
-use Rattle.sq_patch.proofs.Changing.{IsTurned, Turns, turned_follows, ahead, in_tail, tail_made}
-use Rattle.sq_patch.proofs.Used.{contains_first, contains_later}
+use Rattle.sq_patch.proofs.Keeping.{staying, all_matter}
+use Rattle.sq_patch.proofs.Staying.{body_unnamed, AreBlocks, body_keep, same_lines, behind_made}
+use Rattle.sq_patch.proofs.Changing.{ahead, in_tail, tail_made}
+use Rattle.sq_patch.proofs.Used.{contains_later}
 
 -- names ahead of a block
 pub named_split : (front : List Block) (x : Block) (bs : List Block) → named (front ++ (x ∷ bs)) ≡ named front ++ (x.name, x) ∷ named bs
@@ -49,21 +48,12 @@ name_at (y ∷ front) x bs e =
 abbrev pub every : ℕ → Type 0
 every n = Unit {0}
 
-abbrev falling : Block → List Block
-falling b = record b { term = Fall } ∷ []
-
-abbrev bare : Block → List Line → List Line
-bare b rest = map line_of b.items ++ rest
-
 module _ (g : Graph) (block n : ℕ) (rules : IsGraph g) (jumps : term_of g block ≡ Some (Jump n)) (slot : next_of g block ≡ Some n) where
   known : (m : ℕ) → HasBlock g m → every m
   known m b = tt
 
   abbrev h : Graph
   h = with_term g block Fall
-
-  turned : IsTurned every g block falling bare
-  turned = record { head = λ b bs. refl; through = λ m b bs k. items_unnamed m b.items (lines_of bs) }
 
   -- the block ends in the Jump, and the next slot is the one to which it goes
   pub term_is : (front : List Block) (x : Block) (bs : List Block) → front ++ (x ∷ bs) ≡ g.blocks → x.name ≡ block → x.term ≡ Jump n
@@ -94,14 +84,3 @@ module _ (g : Graph) (block n : ℕ) (rules : IsGraph g) (jumps : term_of g bloc
       let kept : Alike C f None (body_lines b (lines_of bs)) (body_lines b (lines_of bs)) =
       body_keep every all_matter (Unit {0}) g known rules h refl b bs bs here m refl (same_lines every all_matter (Unit {0}) g known rules h refl bs (λ y c. here y (contains_later b y bs c)) (behind_made every all_matter (Unit {0}) g known rules h refl b bs m)) in
       subst (λ lines. Alike C f None lines (lines_of (b ∷ bs))) (sym at) (name_after kept)
-
-  falls_alike : Turns every all_matter (Unit {0}) g known (every_carrier g) rules block falling bare turned
-  falls_alike f front x bs e i =
-      let here : AreBlocks every all_matter (Unit {0}) g known rules h refl (x ∷ bs) = λ y c. subst (λ blocks. Contains blocks y) e (in_tail front (x ∷ bs) y c) in
-      let m : MakeTargets g (lines_of (x ∷ bs)) = tail_made g front (x ∷ bs) (subst (λ blocks. MakeTargets g (lines_of blocks)) (sym e) (lines_make g)) in
-      let jump : Alike C f None (End (Jump n) ∷ lines_of bs) (lines_of bs) = jump_before (slot_goes front x bs e (next_is front x bs e i)) in
-      let ended : Alike C f None (term_lines x.term (lines_of bs)) (lines_of bs) = subst (λ t. Alike C f None (term_lines t (lines_of bs)) (lines_of bs)) (sym (term_is front x bs e i)) jump in
-      items_keep every all_matter (Unit {0}) g known rules h refl x.items (term_lines x.term (lines_of bs)) (lines_of bs) (items_in every all_matter (Unit {0}) g known rules h refl x bs (here x (contains_first x bs)) m) ended
-
-  pub fall_follows : Follows g h
-  fall_follows = turned_follows every all_matter (Unit {0}) g known (every_carrier g) rules block falling bare turned falls_alike

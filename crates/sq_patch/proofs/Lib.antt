@@ -33,7 +33,7 @@ mod Replacing
 mod Calls
 mod Matching
 mod MatchedCalls
-mod Sounding
+mod OneBlock
 mod Leading
 mod Meeting
 mod Merging

@@ -29,7 +29,7 @@ use Rattle.sq_patch.proofs.Carrying.{same_some, SlotGoes, BlockGoes, carry_body,
 use Rattle.sq_patch.proofs.Restricting.{own, flat_from, block_target, procedure_target, slot_target, target_from, links_goes_on, falls_goes_on}
 use Rattle.sq_patch.proofs.Standing.{stands_at, distinct_at, block_at}
 use Rattle.sq_patch.proofs.Placing.{C as placing, block_stays, block_goes as block_was}
-use Rattle.sq_patch.proofs.Sounding.{die_in}
+use Rattle.sq_patch.proofs.OneBlock.{die_in}
 use Rattle.sq_patch.proofs.Leading.{slot_lines, slot_lines_name, first_slot, leads}
 use Rattle.sq_patch.proofs.Used.{contains_first, from_slice, from_all}
 

@@ -1,21 +1,12 @@
--- A graph with one block split follows it.
-use Rattle.std.proofs.Common.{◌≡◌, ◌≢◌, ℕ, zero, suc, ◌<◌, Bool, true, false, ◌==◌, List, [], ◌∷◌, ◌++◌, None, map, take, drop, if◌then◌else◌, refl, sym, ap, ◌∙◌, subst, arith}
-use Rattle.std.proofs.lemmas.Bool.Decides.{nat_tests}
+-- Items in two parts, and a block's lines in two halves.
+use Rattle.std.proofs.Common.{◌≡◌, ◌≢◌, ℕ, zero, suc, ◌<◌, Bool, true, false, ◌==◌, List, [], ◌∷◌, ◌++◌, map, take, drop, if◌then◌else◌, refl, sym, ap, ◌∙◌, arith}
+use Rattle.std.proofs.lemmas.Bool.{ne_eqb}
 use Rattle.std.specs.List.{Contains}
 use Rattle.sq_graph.specs.declared.item.Item.{Item}
-use Rattle.sq_graph.specs.Graph.{Block, Graph}
-use Rattle.sq_graph.specs.Blocks.{HasBlock}
-use Rattle.sq_graph.specs.Rules.{IsGraph}
-use Rattle.sq_graph.specs.Operations.{IsNew, halves, split_at}
-use Rattle.sq_graph.specs.Lines.{Line, Name, line_of, term_lines, lines_of, behind_name}
-use Rattle.sq_follow.specs.Follows.{Follows}
-use Rattle.sq_patch.specs.LiveAgreement.{MakeTargets}
-use Rattle.sq_patch.specs.Changes.{Change, Alike, name_after}
-use Rattle.sq_patch.proofs.LiveTargets.{lines_make}
-use Rattle.sq_patch.proofs.Keeping.{staying, every_carrier, all_matter}
-use Rattle.sq_patch.proofs.Staying.{items_unnamed, term_unnamed, AreBlocks, items_keep, term_keep, items_made, items_in, same_lines, slot_in, behind_made}
-use Rattle.sq_patch.proofs.Changing.{IsTurned, Turns, turned_follows, in_tail, tail_made}
-use Rattle.sq_patch.proofs.Used.{contains_first, contains_later, not_new}
+use Rattle.sq_graph.specs.Graph.{Block}
+use Rattle.sq_graph.specs.Lines.{Line, Name, line_of, term_lines, behind_name}
+use Rattle.sq_patch.proofs.Staying.{items_unnamed, term_unnamed}
+use Rattle.sq_patch.proofs.Used.{contains_later}
 
 -- the lines of items in two parts
 pub map_parts : (items : List Item) (at : ℕ) (rest : List Line) → map line_of items ++ rest ≡ map line_of (take at items) ++ (map line_of (drop at items) ++ rest)
@@ -39,49 +30,12 @@ skip_name : (t : Bool) (rest : List Line) (n : ℕ) → t ≡ false → (if t th
 skip_name true rest n e = absurd (cc)
 skip_name false rest n e = refl
 
-module _ (g : Graph) (new block at : ℕ) (rules : IsGraph g) (fresh : IsNew g new) where
-  -- every name but the new one
-  abbrev pub Old : ℕ → Type 0
-  Old n = n ≢ new
+-- a block's lines in two halves; but for the new one, names lead past them
+abbrev pub halved : ℕ → ℕ → Block → List Line → List Line
+halved new at b rest = map line_of (take at b.items) ++ (Name new ∷ (map line_of (drop at b.items) ++ term_lines b.term rest))
 
-  pub old : (n : ℕ) → HasBlock g n → Old n
-  old n b = not_new g new n fresh b
-
-  -- the block's lines in two halves
-  abbrev pub halved : Block → List Line → List Line
-  halved b rest = map line_of (take at b.items) ++ (Name new ∷ (map line_of (drop at b.items) ++ term_lines b.term rest))
-
-  passed : (n : ℕ) → n ≢ new → (new == n) ≡ false
-  passed n e = grind (arith, nat_tests)
-
-  pub turned : IsTurned Old g block (halves new at) halved
-  turned = record {
-    head = λ b bs. refl;
-    through = λ n b bs e.
-        items_unnamed n (take at b.items) (Name new ∷ (map line_of (drop at b.items) ++ term_lines b.term (lines_of bs)))
-        ∙ skip_name (new == n) (map line_of (drop at b.items) ++ term_lines b.term (lines_of bs)) n (passed n e)
-        ∙ (items_unnamed n (drop at b.items) (term_lines b.term (lines_of bs)) ∙ term_unnamed n b.term (lines_of bs));
-  }
-
-  abbrev h : Graph
-  h = split_at g new block at
-
-  pub halves_keep : Turns Old all_matter (Unit {0}) g old (every_carrier g) rules block (halves new at) halved turned
-  halves_keep f front b bs e i =
-      let here : AreBlocks Old all_matter (Unit {0}) g old rules h refl (b ∷ bs) = λ x d. subst (λ blocks. Contains blocks x) e (in_tail front (b ∷ bs) x d) in
-      let m : MakeTargets g (lines_of (b ∷ bs)) = tail_made g front (b ∷ bs) (subst (λ blocks. MakeTargets g (lines_of blocks)) (sym e) (lines_make g)) in
-      let u : AreBlocks Old all_matter (Unit {0}) g old rules h refl bs = λ x d. here x (contains_later b x bs d) in
-      let c = here b (contains_first b bs) in
-      let all = items_in Old all_matter (Unit {0}) g old rules h refl b bs c m in
-      let rest : List Line = term_lines b.term (lines_of bs) in
-      let C : Change = staying Old all_matter (Unit {0}) g h in
-      let behind : Alike C f None rest rest =
-      term_keep Old all_matter (Unit {0}) g old rules h refl b (lines_of bs) (lines_of bs) c (slot_in Old all_matter (Unit {0}) g old rules h refl bs u) (items_made Old all_matter (Unit {0}) g old rules h refl b.items rest m).1 refl (same_lines Old all_matter (Unit {0}) g old rules h refl bs u (behind_made Old all_matter (Unit {0}) g old rules h refl b bs m)) in
-      let second : Alike C f None (map line_of (drop at b.items) ++ rest) (map line_of (drop at b.items) ++ rest) =
-      items_keep Old all_matter (Unit {0}) g old rules h refl (drop at b.items) rest rest (λ item d. all item (drop_in b.items at item d)) behind in
-      let first : Alike C f None (map line_of (take at b.items) ++ (map line_of (drop at b.items) ++ rest)) (halved b (lines_of bs)) =
-      items_keep Old all_matter (Unit {0}) g old rules h refl (take at b.items) (map line_of (drop at b.items) ++ rest) (Name new ∷ (map line_of (drop at b.items) ++ rest)) (λ item d. all item (take_in b.items at item d)) (name_after second) in
-      subst (λ lines. Alike C f None lines (halved b (lines_of bs))) (sym (map_parts b.items at rest)) first
-
-  pub split_follows : Follows g h
-  split_follows = turned_follows Old all_matter (Unit {0}) g old (every_carrier g) rules block (halves new at) halved turned halves_keep
+pub halves_through : (new at n : ℕ) (b : Block) (rest : List Line) → n ≢ new → behind_name n (halved new at b rest) ≡ behind_name n rest
+halves_through new at n b rest e =
+    items_unnamed n (take at b.items) (Name new ∷ (map line_of (drop at b.items) ++ term_lines b.term rest))
+    ∙ skip_name (new == n) (map line_of (drop at b.items) ++ term_lines b.term rest) n (ne_eqb new n (λ i. e (sym i)))
+    ∙ (items_unnamed n (drop at b.items) (term_lines b.term rest) ∙ term_unnamed n b.term rest)
