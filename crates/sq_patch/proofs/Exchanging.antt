@@ -29,7 +29,7 @@ use Rattle.sq_patch.specs.LoneJumps.{IsOverJump, exchanged}
 use Rattle.sq_patch.proofs.Keeping.{all_matter, every_carrier}
 use Rattle.sq_patch.proofs.Staying.{body_unnamed}
 use Rattle.sq_patch.proofs.Changing.{ahead}
-use Rattle.sq_patch.proofs.Falling.{absent_from, next_at, named_split}
+use Rattle.sq_patch.proofs.Places.{absent_from, next_at, named_split}
 use Rattle.sq_patch.proofs.Carrying.{same_some, AreOf, ItemGoes, carry_items, Backs, items_die}
 use Rattle.sq_patch.proofs.Layouts.{passed, Turn, choose}
 use Rattle.sq_patch.proofs.Restricting.{own, block_target, target_from}

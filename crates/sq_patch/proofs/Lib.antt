@@ -12,11 +12,9 @@ mod Keeping
 mod Used
 mod Staying
 mod Changing
-mod Splitting
-mod Falling
-mod Dropping
-mod Hastening
-mod Inlining
+mod Parts
+mod Places
+mod Dead
 mod Moving
 mod Dying
 mod Carrying

@@ -3,7 +3,7 @@
 use Rattle.std.proofs.Common.{◌≢◌, ◌≡◌, ℕ, zero, suc, ◌<◌, ◌≤◌, ◌+◌, Bool, true, false, ◌==◌, inl, inr, List, [], ◌∷◌, ◌++◌, Option, Some, None, IsSome, map, take, drop, length, slice_get, refl, sym, ap, ◌∙◌, subst, arith}
 use Rattle.std.proofs.lemmas.List.Elements.{Contains-append_cases}
 use Rattle.std.specs.List.{Contains, flat_map}
-use Rattle.sq_arena.specs.Entries.{value_of}
+use Rattle.sq_arena.specs.Entries.{value_of, first_key, behind as entries_behind}
 use Rattle.sq_graph.specs.declared.item.Item.{Item}
 use Rattle.sq_graph.specs.declared.item.Item.TheVariants.{Op, Hi, Lo, Out}
 use Rattle.sq_graph.specs.declared.item.Term.TheVariants.{Fall, Jump, PartJump}
@@ -22,20 +22,21 @@ use Rattle.sq_follow.specs.Follows.{Follows}
 use Rattle.sq_follow.proofs.Following.{graph_follows_itself}
 use Rattle.sq_patch.specs.Changes.{Change, Alike, name_before, name_after, jump_before, enter_before, return_before, dead_before}
 use Rattle.sq_patch.specs.Operations.{hastened}
+use Rattle.sq_patch.specs.Changes.{SameSlot, both_jumped, both_hastened}
+use Rattle.sq_graph.specs.Lines.{slot_name}
 use Rattle.sq_patch.proofs.Keeping.{NoMode, no_stands, all_matter, every_carrier}
 use Rattle.sq_patch.proofs.Staying.{body_unnamed}
 use Rattle.sq_patch.proofs.Changing.{ahead}
-use Rattle.sq_patch.proofs.Falling.{every, other_name, absent_from, name_at, term_is, next_is, slot_goes}
-use Rattle.sq_patch.proofs.Hastening.{meets}
-use Rattle.sq_patch.proofs.Splitting.{halved, halves_through, map_parts, take_in, drop_in}
-use Rattle.sq_patch.proofs.Dropping.{live, live_carrier, unwritten}
+use Rattle.sq_patch.proofs.Places.{every, other_name, absent_from, name_at, next_at}
+use Rattle.sq_patch.proofs.Parts.{halved, halves_through, map_parts, take_in, drop_in}
+use Rattle.sq_patch.proofs.Dead.{live, live_carrier, unwritten}
 use Rattle.sq_patch.proofs.Bypassing.{slot_known}
 use Rattle.sq_patch.proofs.Dying.{body_rest, items_rest, term_dies}
 use Rattle.sq_patch.proofs.Carrying.{same_some, slot_same, AreOf, ItemGoes, carry_items, carry_term, Backs, items_die}
 use Rattle.sq_patch.proofs.Layouts.{Turn, carries_lines, choose}
 use Rattle.sq_patch.proofs.Restricting.{own, block_target, procedure_target, slot_targets, target_from, flat_from}
 use Rattle.sq_patch.proofs.Standing.{stands_at, distinct_at, block_at, there_by_term, there_by_item}
-use Rattle.sq_patch.proofs.Placing.{C as placing, block_stays, block_goes, all_stay, items_stay, bodies_stay, placed_follows, placed_sound, placed_live}
+use Rattle.sq_patch.proofs.Placing.{C as placing, block_stays, block_goes, all_stay, items_stay, bodies_stay, placed_follows, placed_sound, placed_live, body_itself}
 use Rattle.sq_patch.proofs.Ending.{all_of, one_slot, term_turn}
 use Rattle.sq_patch.proofs.Replacing.{behind_items, own_items, C as replacing, place, out, behind, replaced_sound, replaced_follows}
 use Rattle.sq_patch.proofs.Calls.{items_dead, is_other}
@@ -54,10 +55,26 @@ module _ (g : Graph) (block n : ℕ) (rules : IsGraph g) (jumps : term_of g bloc
   abbrev C : Change
   C = placing every all_matter (Unit {0}) g h rules (λ m c. tt) refl refl
 
+  -- the block ends in the Jump, and the next slot is the one to which it goes
+  falls_from : at.block.term ≡ Jump n
+  falls_from = same_some at.block.term (Jump n) (sym (ap block_term (subst (λ k. value_of (named g.blocks) k ≡ Some at.block) at.has_name (block_at g rules at.front at.block at.back whole))) ∙ jumps)
+
+  slot_first : first_key (named at.back) ≡ Some n
+  slot_first =
+      sym (ap first_key (subst (λ k. entries_behind (named g.blocks) k ≡ named at.back) at.has_name (subst (λ blocks. entries_behind (named blocks) at.block.name ≡ named at.back) whole (next_at at.front at.block at.back (absent_from at.front at.block at.back (distinct_at g rules at.front at.block at.back whole))))))
+      ∙ slot
+
+  slot_goes : (b : Bool) (bs : List Block) → at.back ≡ bs → first_key (named bs) ≡ Some n → Alike C b None (block_lines g n) (lines_of bs)
+  slot_goes b [] i e = absurd (cc)
+  slot_goes b (w ∷ bs) i e =
+      let there : (at.front ++ at.block ∷ []) ++ (w ∷ bs) ≡ g.blocks = ahead at.front at.block (w ∷ bs) ∙ ap (λ cs. at.front ++ (at.block ∷ cs)) (sym i) ∙ whole in
+      let leads : block_lines g w.name ≡ body_lines w (lines_of bs) =
+      subst (λ blocks. behind_name w.name (lines_of blocks) ≡ body_lines w (lines_of bs)) there (name_at (at.front ++ at.block ∷ []) w bs (absent_from (at.front ++ at.block ∷ []) w bs (distinct_at g rules (at.front ++ at.block ∷ []) w bs there))) in
+      subst (λ k. Alike C b None (block_lines g k) (lines_of (w ∷ bs))) (same_some w.name n e)
+      (subst (λ xs. Alike C b None xs (lines_of (w ∷ bs))) (sym leads) (name_after (body_itself every all_matter (Unit {0}) g h rules (λ m c. tt) refl refl (λ m c. tt) b (at.front ++ at.block ∷ []) w bs there)))
+
   ended : (b : Bool) → Alike C b None (term_lines at.block.term (lines_of at.back)) (lines_of at.back)
-  ended b =
-      subst (λ t. Alike C b None (term_lines t (lines_of at.back)) (lines_of at.back)) (sym (term_is g block n rules jumps slot at.front at.block at.back whole at.has_name))
-      (jump_before (slot_goes g block n rules jumps slot at.front at.block at.back whole (next_is g block n rules jumps slot at.front at.block at.back whole at.has_name)))
+  ended b = subst (λ t. Alike C b None (term_lines t (lines_of at.back)) (lines_of at.back)) (sym falls_from) (jump_before (slot_goes b at.back refl slot_first))
 
   turn : Turn C own every true true (at.block ∷ []) (record at.block { term = Fall } ∷ []) at.back at.back
   turn = term_turn every all_matter (Unit {0}) g h rules (λ m c. tt) refl refl (λ m c. tt) at.block [] at.back Fall (stands_at g rules at.front at.block at.back whole) ended (λ m k. refl) (λ m l c. absurd (cc))
@@ -89,6 +106,10 @@ module _ (g : Graph) (block link part to : ℕ) (rules : IsGraph g) (jumps : ter
   jump_is : hat.block.term ≡ PartJump link part to
   jump_is = same_some hat.block.term (PartJump link part to) (sym (ap block_term (subst (λ k. value_of (named g.blocks) k ≡ Some hat.block) hat.has_name (block_at g rules hat.front hat.block hat.back hwhole))) ∙ jumps)
 
+  meets : {f : Bool} (l : ℕ) (xs ys : List Line) → (links (PartJump l part to) ≡ true → SameSlot HC.MayHold (slot_name xs) (slot_name ys)) → Alike HC f None (End (PartJump l part to) ∷ xs) (End (hastened l to) ∷ ys)
+  meets zero xs ys s = both_jumped part to to (refl, tt)
+  meets (suc l) xs ys s = both_hastened (suc l) part to to (refl, tt) s
+
   one_line : (l : ℕ) (rest : List Line) → term_lines (hastened l to) rest ≡ End (hastened l to) ∷ rest
   one_line zero rest = refl
   one_line (suc l) rest = refl
@@ -99,7 +120,7 @@ module _ (g : Graph) (block link part to : ℕ) (rules : IsGraph g) (jumps : ter
       let go = block_goes every all_matter (Unit {0}) g hh rules (λ m c. tt) refl refl (λ m c. tt) hat.front hat.block hat.back hat.back hwhole refl in
       subst (λ t. Alike HC b None (term_lines t rest) (term_lines (hastened link to) rest)) (sym jump_is)
       (subst (λ lines. Alike HC b None (End (PartJump link part to) ∷ rest) lines) (sym (one_line link rest))
-      (meets g block link part to rules jumps link rest rest (λ l. slot_same HC own _ _ (go.slot (ap links jump_is ∙ l)))))
+      (meets link rest rest (λ l. slot_same HC own _ _ (go.slot (ap links jump_is ∙ l)))))
 
   as_linked : (l : ℕ) → links (hastened l to) ≡ true → links (PartJump l part to) ≡ true
   as_linked zero e = absurd (cc)

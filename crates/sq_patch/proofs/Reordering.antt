@@ -22,7 +22,7 @@ use Rattle.sq_patch.proofs.Patch.{change_follows}
 use Rattle.sq_patch.proofs.Shrink.{shrinks}
 use Rattle.sq_patch.proofs.Keeping.{all_matter, every_carrier}
 use Rattle.sq_patch.proofs.Changing.{ahead, same_map}
-use Rattle.sq_patch.proofs.Falling.{absent_from, found_at, next_at, name_at}
+use Rattle.sq_patch.proofs.Places.{absent_from, found_at, next_at, name_at}
 use Rattle.sq_patch.proofs.Bypassing.{slot_known}
 use Rattle.sq_patch.proofs.Dying.{term_dies}
 use Rattle.sq_patch.proofs.Carrying.{same_some, SlotGoes, BlockGoes, carry_body, carry_term, carried_block, Backs, items_die}

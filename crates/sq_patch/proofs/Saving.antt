@@ -28,7 +28,7 @@ use Rattle.sq_patch.proofs.Tailing.{tail_saves}
 use Rattle.sq_patch.proofs.Merging.{can_merge, merge_saves}
 use Rattle.sq_patch.specs.Calls.{call_end, called_there}
 use Rattle.sq_patch.specs.LoneJumps.{IsPassable, without_jump}
-use Rattle.sq_patch.proofs.Falling.{found_at}
+use Rattle.sq_patch.proofs.Places.{found_at}
 use Rattle.sq_patch.proofs.Carrying.{same_some}
 use Rattle.sq_patch.proofs.Passing.{lone_block, jumps_from}
 use Rattle.sq_patch.proofs.OneBlock.{item_within}

@@ -25,7 +25,7 @@ use Rattle.sq_follow.specs.Follows.{Follows}
 use Rattle.sq_follow.proofs.Following.{graph_follows_through}
 use Rattle.sq_patch.specs.Operations.{hastened, IsShortable, shortened}
 use Rattle.sq_patch.proofs.Shrink.{no_sources}
-use Rattle.sq_patch.proofs.Falling.{absent_from, found_at, next_at, name_at}
+use Rattle.sq_patch.proofs.Places.{absent_from, found_at, next_at, name_at}
 use Rattle.sq_patch.proofs.Carrying.{same_some}
 use Rattle.sq_patch.proofs.Replacing.{behind_items}
 use Rattle.sq_patch.proofs.Standing.{stands_at, distinct_at, block_at, there_by_term}

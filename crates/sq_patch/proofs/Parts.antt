@@ -1,4 +1,4 @@
--- Items in two parts, and a block's lines in two halves.
+-- Items in parts, and a block's lines in two halves.
 use Rattle.std.proofs.Common.{◌≡◌, ◌≢◌, ℕ, zero, suc, ◌<◌, Bool, true, false, ◌==◌, List, [], ◌∷◌, ◌++◌, map, take, drop, if◌then◌else◌, refl, sym, ap, ◌∙◌, arith}
 use Rattle.std.proofs.lemmas.Bool.{ne_eqb}
 use Rattle.std.specs.List.{Contains}
@@ -39,3 +39,13 @@ halves_through new at n b rest e =
     items_unnamed n (take at b.items) (Name new ∷ (map line_of (drop at b.items) ++ term_lines b.term rest))
     ∙ skip_name (new == n) (map line_of (drop at b.items) ++ term_lines b.term rest) n (ne_eqb new n (λ i. e (sym i)))
     ∙ (items_unnamed n (drop at b.items) (term_lines b.term rest) ∙ term_unnamed n b.term rest)
+
+-- the lines of two lists of items, and of three
+two_lists : (by ys : List Item) (rest : List Line) → map line_of (by ++ ys) ++ rest ≡ map line_of by ++ (map line_of ys ++ rest)
+two_lists [] ys rest = refl
+two_lists (x ∷ by) ys rest = ap (λ lines. line_of x ∷ lines) (two_lists by ys rest)
+
+-- the lines of items with others in the place of one
+pub with_others : (xs by ys : List Item) (rest : List Line) → map line_of (xs ++ (by ++ ys)) ++ rest ≡ map line_of xs ++ (map line_of by ++ (map line_of ys ++ rest))
+with_others (x ∷ xs) by ys rest = ap (λ lines. line_of x ∷ lines) (with_others xs by ys rest)
+with_others [] by ys rest = two_lists by ys rest
