@@ -4,7 +4,7 @@ use Rattle.std.specs.List.{Contains}
 use Rattle.sq_graph.specs.Graph.{Block, Graph}
 use Rattle.sq_graph.specs.Lines.{lines_of}
 use Rattle.sq_patch.specs.LiveAgreement.{MakeTargets}
-use Rattle.sq_patch.proofs.Staying.{made_behind}
+use Rattle.sq_patch.proofs.Lines.{made_behind}
 use Rattle.sq_patch.proofs.Used.{contains_later}
 
 -- a split of the list, with the first of the rest one further

@@ -20,7 +20,7 @@ use Rattle.sq_graph.proofs.OperationRules.{inserted_after_rules}
 use Rattle.sq_follow.specs.Follows.{Follows}
 use Rattle.sq_patch.specs.Changes.{Change, Alike, name_before, name_after, jump_after}
 use Rattle.sq_patch.proofs.Keeping.{NoMode, no_stands, all_matter, every_carrier}
-use Rattle.sq_patch.proofs.Staying.{body_unnamed}
+use Rattle.sq_patch.proofs.Lines.{body_unnamed}
 use Rattle.sq_patch.proofs.Changing.{ahead}
 use Rattle.sq_patch.proofs.Places.{absent_from, next_at, name_at}
 use Rattle.sq_patch.proofs.Bypassing.{slot_known}

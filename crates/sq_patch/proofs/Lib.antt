@@ -10,7 +10,7 @@ mod Patch
 mod Shrink
 mod Keeping
 mod Used
-mod Staying
+mod Lines
 mod Changing
 mod Parts
 mod Places

@@ -24,7 +24,7 @@ use Rattle.sq_follow.specs.Follows.{Follows}
 use Rattle.sq_patch.specs.Changes.{Change, Alike, name_before, name_after, jump_before, jump_after}
 use Rattle.sq_patch.specs.Merges.{IsMergeable, merged}
 use Rattle.sq_patch.proofs.Keeping.{NoMode, no_stands, all_matter, every_carrier}
-use Rattle.sq_patch.proofs.Staying.{body_unnamed}
+use Rattle.sq_patch.proofs.Lines.{body_unnamed}
 use Rattle.sq_patch.proofs.Parts.{take_in, drop_in, map_parts}
 use Rattle.sq_patch.proofs.Places.{every, absent_from, next_at}
 use Rattle.sq_patch.proofs.Changing.{ahead}

@@ -25,7 +25,7 @@ use Rattle.sq_patch.specs.Operations.{hastened}
 use Rattle.sq_patch.specs.Changes.{SameSlot, both_jumped, both_hastened}
 use Rattle.sq_graph.specs.Lines.{slot_name}
 use Rattle.sq_patch.proofs.Keeping.{NoMode, no_stands, all_matter, every_carrier}
-use Rattle.sq_patch.proofs.Staying.{body_unnamed}
+use Rattle.sq_patch.proofs.Lines.{body_unnamed}
 use Rattle.sq_patch.proofs.Changing.{ahead}
 use Rattle.sq_patch.proofs.Places.{every, other_name, absent_from, name_at, next_at}
 use Rattle.sq_patch.proofs.Parts.{halved, halves_through, map_parts, take_in, drop_in}

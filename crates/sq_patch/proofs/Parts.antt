@@ -5,7 +5,7 @@ use Rattle.std.specs.List.{Contains}
 use Rattle.sq_graph.specs.declared.item.Item.{Item}
 use Rattle.sq_graph.specs.Graph.{Block}
 use Rattle.sq_graph.specs.Lines.{Line, Name, line_of, term_lines, behind_name}
-use Rattle.sq_patch.proofs.Staying.{items_unnamed, term_unnamed}
+use Rattle.sq_patch.proofs.Lines.{items_unnamed, term_unnamed}
 use Rattle.sq_patch.proofs.Used.{contains_later}
 
 -- the lines of items in two parts

@@ -1,21 +1,11 @@
 -- Blocks by their places in a graph.
-use Rattle.std.proofs.Common.{◌≡◌, ℕ, Bool, true, false, ◌==◌, List, [], ◌∷◌, ◌++◌, Option, Some, None, eq-eqb, if◌then◌else◌, refl, sym, ap, ◌∙◌, subst}
-use Rattle.std.specs.List.{Contains}
-use Rattle.sq_arena.specs.Entries.{value_of, HasDistinctKeys, behind, first_key}
+use Rattle.std.proofs.Common.{◌≡◌, ℕ, Bool, true, false, ◌==◌, List, [], ◌∷◌, ◌++◌, Option, Some, None, eq-eqb, if◌then◌else◌, refl, ap, ◌∙◌, subst}
+use Rattle.sq_arena.specs.Entries.{value_of, HasDistinctKeys, behind}
 use Rattle.sq_arena.proofs.EntriesLaws.{absent_ahead, behind-append}
-use Rattle.sq_graph.specs.declared.item.Term.TheVariants.{Fall, Jump}
-use Rattle.sq_graph.specs.Graph.{Block, Graph}
-use Rattle.sq_graph.specs.Blocks.{named, block_term, term_of, next_of, HasBlock}
-use Rattle.sq_graph.specs.Rules.{IsGraph}
-use Rattle.sq_graph.specs.Operations.{with_term}
-use Rattle.sq_graph.specs.Lines.{body_lines, lines_of, behind_name, block_lines}
-use Rattle.sq_patch.specs.LiveAgreement.{MakeTargets}
-use Rattle.sq_patch.specs.Changes.{Change, Alike, name_after}
-use Rattle.sq_patch.proofs.LiveTargets.{lines_make}
-use Rattle.sq_patch.proofs.Keeping.{staying, all_matter}
-use Rattle.sq_patch.proofs.Staying.{body_unnamed, AreBlocks, body_keep, same_lines, behind_made}
-use Rattle.sq_patch.proofs.Changing.{ahead, in_tail, tail_made}
-use Rattle.sq_patch.proofs.Used.{contains_later}
+use Rattle.sq_graph.specs.Graph.{Block}
+use Rattle.sq_graph.specs.Blocks.{named}
+use Rattle.sq_graph.specs.Lines.{body_lines, lines_of, behind_name}
+use Rattle.sq_patch.proofs.Lines.{body_unnamed}
 
 -- names ahead of a block
 pub named_split : (front : List Block) (x : Block) (bs : List Block) → named (front ++ (x ∷ bs)) ≡ named front ++ (x.name, x) ∷ named bs

@@ -33,7 +33,7 @@ use Rattle.sq_graph.proofs.Located.{IsAt, located}
 use Rattle.sq_graph.proofs.Changes.{with_blocks-at}
 use Rattle.sq_follow.specs.Follows.{Follows}
 use Rattle.sq_patch.specs.Changes.{Change, Alike, IsCarrier, name_before, name_after}
-use Rattle.sq_patch.proofs.Staying.{body_unnamed}
+use Rattle.sq_patch.proofs.Lines.{body_unnamed}
 use Rattle.sq_patch.proofs.Changing.{ahead}
 use Rattle.sq_patch.proofs.Places.{every}
 use Rattle.sq_patch.proofs.Parts.{with_others}
