@@ -1,7 +1,7 @@
 -- The graph of a file that neither its text nor its note refuses, but for what is asked of the graph.
-use Rattle.std.proofs.Common.{◌≡◌, ℕ, zero, suc, ◌+◌, ◌*◌, ◌^◌, ◌<◌, ◌≤◌, Bool, true, false, List, [], ◌∷◌, ◌++◌, length, map, get_or, Option, Some, None, Fits, w8, refl, sym, ap, ◌∙◌, subst, arith, if◌then◌else◌}
+use Rattle.std.proofs.Common.{◌≡◌, ℕ, suc, ◌+◌, ◌*◌, ◌^◌, ◌<◌, ◌≤◌, Bool, true, false, List, [], ◌∷◌, length, map, get_or, Option, None, Fits, w8, refl, sym, ap, ◌∙◌, subst, arith, if◌then◌else◌}
 use Rattle.std.specs.Prelude.{sum_by}
-use Rattle.std.specs.List.{AllByRecursion, flat_map}
+use Rattle.std.specs.List.{AllByRecursion}
 use Rattle.std.specs.Option.{unwrap_or}
 use Rattle.std.proofs.lemmas.List.{length-map, length-append}
 use Rattle.std.proofs.lemmas.List.Sums.{sum_by-cons}
@@ -10,19 +10,18 @@ use Rattle.sq_elf.specs.Refusing.{file_refusal_of}
 use Rattle.sq_reloc.specs.Refusing.{reloc_refusal_of}
 use Rattle.sq_reloc.specs.declared.mark.CodeWord.{CodeWord}
 use Rattle.sq_reloc.specs.CodeWords.{AreCodeWords}
-use Rattle.sq_graph.specs.declared.item.Item.{Item}
 use Rattle.sq_graph.specs.Graph.{Block, Procedure, Graph}
-use Rattle.sq_graph.specs.Blocks.{items_of_blocks, items_of_bodies, all_items}
+use Rattle.sq_graph.specs.Blocks.{items_of_blocks, items_of_bodies}
 use Rattle.sq_graph.specs.Parts.{names_of, IsNamed}
 use Rattle.sq_graph.specs.Rules.{IsGraph}
 use Rattle.sq_graph.specs.Renames.{retargeted_item, retargeted_items, retargeted_procedure, renamed_block, renamed}
-use Rattle.sq_graph.specs.Room.{IsSmall, count_of}
-use Rattle.sq_graph.specs.Words.{block_words, procedure_words, words_of, term_words}
+use Rattle.sq_graph.specs.declared.parts.Room.{Room}
+use Rattle.sq_graph.specs.Room.{IsSmall, Covers, count_of, sum_of}
+use Rattle.sq_graph.specs.Words.{block_words, procedure_words, words_of}
 use Rattle.sq_program.specs.Programs.{Word, Text, Note, Program}
-use Rattle.sq_program.specs.Readings.{Reading, reading_of}
 use Rattle.sq_program.specs.Notes.{used_notes}
 use Rattle.sq_program.specs.NoteSections.{notes_of}
-use Rattle.sq_program.specs.Lifted.{Form, ItemForm, TermForm, form_of, Rest, with_form, with_reading, begun_if, is_kept, is_leader, cut, lifted}
+use Rattle.sq_program.specs.Lifted.{is_kept, is_leader, cut, lifted}
 use Rattle.sq_graph.specs.Alike.{AreAlike}
 use Rattle.sq_program.specs.FilePrograms.{text_of, early_refusal, IsProgramOf, IsReadAs}
 use Rattle.sq_lift.specs.Flags.{Flags, is_flagged}
@@ -33,6 +32,7 @@ use Rattle.sq_cut.proofs.Numbering.{AreNumbered, starts_numbered}
 use Rattle.sq_cut.proofs.Cutting.{names_are}
 use Rattle.sq_lifting.specs.Lifting.{IsReadable}
 use Rattle.sq_lifted.specs.Files.{IsLinkedProgram}
+use Rattle.sq_lifted.specs.LiftedFiles.{room_for}
 use Rattle.sq_lifted.proofs.Graphs.{is_graph}
 use Rattle.sq_lifted.proofs.Counting.{words_fit}
 use Rattle.sq_lifted.proofs.Files.{files_linked}
@@ -82,18 +82,32 @@ module _ (f : ℕ → ℕ) where
       ∙ (λ i. length-map p.body (retargeted_item f) i + bodies_long ps i)
       ∙ sym (length-append p.body (items_of_bodies ps))
 
-  few_enough : (g : Graph) (n : ℕ) → length g.blocks ≤ n → words_of g ≤ n → 4 * n ≤ 2 ^ 20 → IsSmall (count_of (renamed f g))
-  few_enough g n blocks words short =
+  few_enough : (g : Graph) (t : Text) → length g.blocks ≤ length t.words → words_of g ≤ length t.words → Covers (room_for t) (count_of (renamed f g))
+  few_enough g t blocks words =
       let a = items_count g.blocks in
       let b = bodies_count g.procedures in
       let all = length-append (items_of_blocks (map (renamed_block f) g.blocks)) (items_of_bodies (map (retargeted_procedure f) g.procedures)) in
       let c = blocks_long g.blocks in
       let d = bodies_long g.procedures in
       record {
-        blocks = omega (arith, length-map g.blocks (renamed_block f), blocks, short);
-        items = omega (arith, all, a, b, c, d, words, short);
-        procedures = omega (arith, length-map g.procedures (retargeted_procedure f), b, words, short);
+        blocks = omega (arith, length-map g.blocks (renamed_block f), blocks);
+        items = omega (arith, all, a, b, c, d, words);
+        procedures = omega (arith, length-map g.procedures (retargeted_procedure f), b, words);
       }
+
+small_count : (t : Text) (count : Room) → 4 * length t.words ≤ 2 ^ 20 → Covers (room_for t) count → IsSmall count
+small_count t count short few = record {
+  blocks = let h = few.blocks in omega (arith, h, short);
+  items = let h = few.items in omega (arith, h, short);
+  procedures = let h = few.procedures in omega (arith, h, short);
+}
+
+small_sum : (t : Text) (count : Room) → 4 * length t.words ≤ 2 ^ 20 → Covers (room_for t) count → IsSmall (sum_of count (room_for t))
+small_sum t count short few = record {
+  blocks = let h = few.blocks in omega (arith, h, short);
+  items = let h = few.items in omega (arith, h, short);
+  procedures = let h = few.procedures in omega (arith, h, short);
+}
 
 -- ITS PARTS
 
@@ -118,10 +132,18 @@ module _ (bytes : List ℕ) (is : ℕ → Bool) (p : Program) (fit : AllByRecurs
   pub part_rules : IsGraph (renamed (position_in (names_of g)) g)
   part_rules = numbered_rules (position_in (names_of g)) g rules numbered
 
-  pub part_count : IsSmall (count_of (renamed (position_in (names_of g)) g))
-  part_count =
+  few : (f : ℕ → ℕ) → Covers (room_for p.text) (count_of (renamed f g))
+  few f =
       let ns = used_notes is p.notes in
-      few_enough (position_in (names_of g)) g (length p.text.words) (blocks_count (is_kept is ns) (is_leader is ns p) ns p.text p.text.lo p.text.words) (words_fit p is linked.linked read.reached readable) linked.short.short
+      few_enough f g p.text (blocks_count (is_kept is ns) (is_leader is ns p) ns p.text p.text.lo p.text.words) (words_fit p is linked.linked read.reached readable)
+
+  pub part_count : IsSmall (count_of (renamed (position_in (names_of g)) g))
+  part_count = small_count p.text (count_of (renamed (position_in (names_of g)) g)) linked.short.short (few (position_in (names_of g)))
+
+  pub room_left : (made : Graph) → AreAlike g made → IsSmall (sum_of (count_of made) (room_for p.text))
+  room_left made alike =
+      subst (λ (g : Graph). IsSmall (sum_of (count_of g) (room_for p.text))) (sym alike.is)
+      (small_sum p.text (count_of (renamed alike.name g)) linked.short.short (few alike.name))
 
 -- THE PROGRAM AS THE CODE NAMES ITS PARTS
 

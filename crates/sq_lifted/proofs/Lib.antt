@@ -9,3 +9,7 @@ pub mod FileWorlds
 pub mod FileLayouts
 pub mod Named
 pub mod EarlyGraphs
+pub mod RenamedLives
+pub mod Dying
+pub mod Alive
+pub mod LiftedFiles

@@ -1,2 +1,4 @@
 pub mod Lifted
 pub mod Files
+pub mod LiveLinks
+pub mod LiftedFiles

@@ -1,17 +1,21 @@
-//! What holds of each file that is not refused, and of the graph that is read off it.
+//! The graph that is read off a file, and what holds of each file that is not refused.
 //!
-//! To the layers above it promises of such a file that its program is linked, as the laws of lifting ask; that the
-//! run of its graph over its world shows what its monitored run shows, while that is unbroken; and that the graph
-//! keeps the rules of a graph, is canonical, sound and in reach, and has no more words than the file's text: what
-//! rewriting asks of the graph that it begins with.
+//! To the layers above it promises that `lift` makes the lifted graph of a file, but for the names of blocks, or
+//! refuses the file by its text or its note exactly as defined. Of a file that is not refused it promises that its
+//! program is linked, as the laws of lifting ask; that the run of its graph over its world shows what its monitored
+//! run shows, while that is unbroken; and that the graph keeps the rules of a graph, is canonical, sound and in
+//! reach, and has no more words than the file's text: what rewriting asks of the graph that it begins with.
 #![tactic(auto)]
 
-mod lift;
-
-pub use lift::early_graph;
+mod lifts;
+mod live_links;
+#[cfg(test)]
+mod tests;
 
 ghost use Rattle.sq_lifted.specs.Lifted.{LiftedIsGood};
 ghost use Rattle.sq_lifted.specs.Files.{FilesAreLinked, FileWorldsFit, LiftedFilesAreGood, LiftedFilesKeepRuns, LiftedFilesFollow, FilesAreLaidOut};
+
+pub use lifts::lift;
 
 /// The graph of a program that is not refused keeps the rules of a graph, is canonical, sound and in
 /// reach, and has no more words than the program's text.

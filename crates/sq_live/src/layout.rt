@@ -14,8 +14,8 @@ use sq_num::Memory;
 use std::alloc::Global;
 use std::collections::HashMap;
 
-/// The names of the blocks.
-pub(crate) fn block_names(alloc: Global, g: &Graph) -> Result<Vec<u32>, Memory>
+/// The names of the blocks, in layout order.
+pub fn block_names(alloc: Global, g: &Graph) -> Result<Vec<u32>, Memory>
     requires { IsGraph g.now.graph }
     ensures { IfOk result (λ names. names.items ≡ names_of g.now.graph) }
 {

@@ -10,4 +10,5 @@ mod search;
 #[cfg(test)]
 mod tests;
 
+pub use layout::block_names;
 pub use liveness::{Liveness, live};

@@ -1,6 +1,5 @@
 -- The parts of a written file, and how large they are.
-use Rattle.std.proofs.Common.{◌≡◌, ℕ, suc, ◌+◌, ◌*◌, ◌-◌, ◌≤◌, ◌<◌, ◌^◌, Bool, true, false, min, ◌⊎◌, inl, inr, List, [], ◌∷◌, ◌++◌, map, filter, take, drop, length, sum_by, Option, Some, None, refl, sym, ap, ◌∙◌, subst, arith, length-append, length-drop}
-use Rattle.std.specs.Option.{unwrap_or}
+use Rattle.std.proofs.Common.{◌≡◌, ℕ, suc, ◌+◌, ◌*◌, ◌-◌, ◌≤◌, true, false, min, ◌⊎◌, inl, inr, List, [], ◌∷◌, map, filter, take, drop, length, sum_by, Option, refl, ap, ◌∙◌, arith, length-append, length-drop}
 use Rattle.std.proofs.lemmas.Bool.{cases_Bool}
 use Rattle.std.proofs.lemmas.List.{length-take}
 use Rattle.std.proofs.lemmas.List.Sums.{sum_by-cons}
@@ -10,11 +9,11 @@ use Rattle.sq_elf.specs.Text.{text_of}
 use Rattle.sq_elf.specs.Memory.{file_bytes_of, segments_of}
 use Rattle.sq_graph.specs.Graph.{Graph}
 use Rattle.sq_graph.specs.Words.{words_of}
-use Rattle.sq_write.specs.Output.{words, Piece, piece_bytes, text_piece, relocation_table}
+use Rattle.sq_write.specs.Output.{words, Piece, piece_bytes, relocation_table}
 use Rattle.sq_write.specs.Points.{new_address, point_word, text_points}
-use Rattle.sq_write.specs.Pieces.{by_address, set_word_at, with_words, part_of, part_before, part_behind, is_some_piece, pieces_before, pieces_behind}
+use Rattle.sq_write.specs.Pieces.{by_address, set_word_at, with_words, part_before, part_behind, is_some_piece, pieces_before, pieces_behind}
 use Rattle.sq_write.specs.Written.{entries_of, note_of, written_output}
-use Rattle.sq_write.specs.Laid.{FileParts, IsFew, parts_of, pieces_in, contents_from}
+use Rattle.sq_write.specs.Laid.{FileParts, IsFew, parts_of}
 use Rattle.sq_write.proofs.Lengths.{text_bytes, few_entries, few_noted}
 use Rattle.sq_write.proofs.PieceWalks.{count_split, size_split}
 

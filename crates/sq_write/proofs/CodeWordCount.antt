@@ -1,11 +1,11 @@
 -- Code words stand in the file bytes of segments, each in four bytes of its own, so they are few.
-use Rattle.std.proofs.Common.{◌≡◌, ℕ, zero, suc, ◌+◌, ◌*◌, ◌%◌, ◌<◌, ◌≤◌, Bool, true, false, not, ◌⊎◌, inl, inr, ⊎_elim, nat_le, nat_lt, List, [], ◌∷◌, ◌++◌, map, filter, length, sum_by, get_or, Option, Some, None, IsSome, refl, sym, ap, ◌∙◌, subst, arith}
-use Rattle.std.specs.List.{All, AllByRecursion, Contains}
+use Rattle.std.proofs.Common.{◌≡◌, ℕ, zero, suc, ◌+◌, ◌*◌, ◌%◌, ◌<◌, ◌≤◌, Bool, true, false, not, ◌⊎◌, inl, inr, ⊎_elim, nat_le, nat_lt, List, [], ◌∷◌, ◌++◌, map, filter, length, sum_by, get_or, Option, Some, None, IsSome, refl, subst, arith}
+use Rattle.std.specs.List.{All, AllByRecursion}
 use Rattle.std.specs.List.Sorted.{IsStrictlyIncreasing}
 use Rattle.std.specs.Option.{option_map}
 use Rattle.std.proofs.lemmas.Bool.{cases_Bool, cases_lt, leb-true, lt-ltb}
 use Rattle.std.proofs.lemmas.List.{length-map}
-use Rattle.std.proofs.lemmas.List.Elements.{All-head, All-tail, All-contains, Contains-push, Contains-append_left}
+use Rattle.std.proofs.lemmas.List.Elements.{All-head, All-tail}
 use Rattle.std.proofs.lemmas.List.Filters.{length-filter_both}
 use Rattle.std.proofs.lemmas.List.Sums.{sum_by-cons}
 use Rattle.sq_num.specs.Refusals.{first_from}
@@ -13,9 +13,9 @@ use Rattle.sq_elf.specs.declared.segment.Segment.{Segment}
 use Rattle.sq_elf.specs.Headers.{phnum_of, is_load, segment_of}
 use Rattle.sq_elf.specs.Ranges.{lies_in}
 use Rattle.sq_elf.specs.Reading.{has_word, word_in, word_of}
-use Rattle.sq_elf.specs.Memory.{has_memory, segments_before, segments_of, AreSegments}
+use Rattle.sq_elf.specs.Memory.{has_memory, segments_before, segments_of}
 use Rattle.sq_elf.specs.Refusing.{file_refusal_of}
-use Rattle.sq_elf.proofs.Passing.{IsFirst, found_from}
+use Rattle.sq_elf.proofs.Passing.{found_from}
 use Rattle.sq_elf.proofs.TextFacts.{both_true}
 use Rattle.sq_reloc.specs.Outside.{code_word_at}
 use Rattle.sq_reloc.specs.CodeWords.{IsCodeWord}

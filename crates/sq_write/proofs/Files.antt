@@ -1,5 +1,5 @@
 -- The output file from its parts.
-use Rattle.std.proofs.Common.{◌≡◌, ℕ, ◌+◌, ◌*◌, List, [], ◌∷◌, ◌++◌, length, replicate, refl, sym, ap, ◌∙◌, subst, append_assoc, append-nil, arith, length-append}
+use Rattle.std.proofs.Common.{◌≡◌, ℕ, ◌+◌, ◌*◌, List, [], ◌∷◌, ◌++◌, length, replicate, refl, sym, ap, ◌∙◌, append_assoc, append-nil, arith, length-append}
 use Rattle.std.proofs.lemmas.List.{length-replicate}
 use Rattle.sq_write.specs.declared.layout.Layout.{Layout}
 use Rattle.sq_write.specs.Output.{Piece, Output, output_file, file_header, piece_headers, piece_header, piece_bytes, pieces_at, gap, layout, offsets, end_of, section_table, sections_of, contents_at, contents_of, pieces_of}

@@ -1,7 +1,7 @@
 -- Each word of a graph's text fits where it stands, where the graph is in reach and its words are those of at most one
 -- mebibyte.
-use Rattle.std.proofs.Common.{◌≡◌, ℕ, zero, suc, ℤ, pos, ◌-ℤ◌, ◌+◌, ◌*◌, ◌<◌, ◌≤◌, ◌==◌, true, false, ◌⊎◌, inl, inr, List, [], ◌∷◌, length, sum_by, Option, Some, None, IsSome, option_map, slice_get, refl, sym, ap, ◌∙◌, subst, arith}
-use Rattle.std.specs.List.{All, AllByRecursion}
+use Rattle.std.proofs.Common.{◌≡◌, ℕ, zero, suc, pos, ◌-ℤ◌, ◌+◌, ◌*◌, ◌<◌, ◌≤◌, ◌==◌, true, false, ◌⊎◌, inl, inr, List, [], ◌∷◌, length, sum_by, Some, IsSome, option_map, slice_get, refl, ap, ◌∙◌, arith}
+use Rattle.std.specs.List.{All}
 use Rattle.std.specs.Option.{unwrap_or}
 use Rattle.std.proofs.lemmas.Bool.{cases_Bool}
 use Rattle.std.proofs.lemmas.Int.{ints}
@@ -17,7 +17,7 @@ use Rattle.sq_graph.specs.declared.item.Term.{Term}
 use Rattle.sq_graph.specs.declared.item.Term.TheVariants.{Fall, Jump, Branch, Call, PartJump, Indirect, Stop}
 use Rattle.sq_graph.specs.Graph.{Block, Procedure, Graph}
 use Rattle.sq_graph.specs.Blocks.{named, HasBlock, HasProcedure}
-use Rattle.sq_graph.specs.Rules.{IsGraph, IsOperation, ItemFits, TermFits, last_goes_on}
+use Rattle.sq_graph.specs.Rules.{IsGraph, IsOperation, TermFits, last_goes_on}
 use Rattle.sq_graph.specs.Uses.{term_uses}
 use Rattle.sq_graph.specs.Words.{term_words, block_words, procedure_words, words_of}
 use Rattle.sq_graph.specs.Places.{address_in, block_address, procedure_addresses, Reaches, TermReaches, BranchesReach, IsInReach}

@@ -7,6 +7,7 @@ pub mod Laying
 pub mod Lengths
 pub mod PieceWalks
 pub mod Reading
+pub mod Renaming
 pub mod SegmentFacts
 pub mod Segments
 pub mod Splitting

@@ -1,7 +1,6 @@
 -- Sizes of an accepted file's segments.
-use Rattle.std.proofs.Common.{◌≡◌, ℕ, zero, suc, ◌+◌, ◌<◌, ◌≤◌, ◌^◌, Bool, true, false, nat_eq, nat_lt, ◌||◌, ◌⊎◌, inl, inr, List, [], ◌∷◌, ◌++◌, length, sum_by, None, refl, sym, ap, ◌∙◌, subst, arith, length-append}
+use Rattle.std.proofs.Common.{◌≡◌, ℕ, zero, suc, ◌+◌, ◌<◌, ◌≤◌, ◌^◌, true, false, nat_lt, ◌||◌, ◌⊎◌, inl, inr, List, [], ◌∷◌, length, sum_by, None, refl, arith, length-append}
 use Rattle.std.specs.List.{All}
-use Rattle.std.specs.List.Sorted.{IsPermutation}
 use Rattle.std.proofs.lemmas.Bool.{cases_Bool, ltb-false}
 use Rattle.std.proofs.lemmas.List.Elements.{All-nil, All-push}
 use Rattle.std.proofs.lemmas.List.Sorted.{All-permutation, sum_by-IsPermutation, length_permutation}
@@ -9,9 +8,9 @@ use Rattle.std.proofs.lemmas.List.Sums.{sum_by_push}
 use Rattle.sq_elf.specs.declared.segment.Segment.{Segment}
 use Rattle.sq_elf.specs.Fields.{u16_field}
 use Rattle.sq_elf.specs.Headers.{phnum_of, is_load, segment_of}
-use Rattle.sq_elf.specs.Segments.{is_misshapen, is_bad_segment}
+use Rattle.sq_elf.specs.Segments.{is_misshapen}
 use Rattle.sq_elf.specs.Text.{text_of}
-use Rattle.sq_elf.specs.Sizes.{total, loaded_at, loaded_of}
+use Rattle.sq_elf.specs.Sizes.{total, loaded_at}
 use Rattle.sq_elf.specs.Memory.{has_memory, segments_before, segments_of, AreSegments}
 use Rattle.sq_elf.specs.Refusing.{file_too_long, not_elf, short_header, header_field, flags, is_refused_field, bad_segment, segment_kind, segment_overlap, without_text, bad_text_section, text_split, text_moved, text_too_large, text_size, file_refusal_of}
 use Rattle.sq_elf.proofs.Accepted.{header_accepted, segments_accepted, text_accepted, few_loaded}

@@ -1,16 +1,16 @@
 -- The segments of an accepted file, by address: there is one such list.
-use Rattle.std.proofs.Common.{◌≡◌, ℕ, zero, suc, ◌+◌, ◌<◌, ◌≤◌, ◌^◌, Bool, true, false, nat_eq, nat_lt, nat_le, ◌⊎◌, inl, inr, ⊎_elim, if◌then◌else◌, List, [], ◌∷◌, ◌++◌, length, sum_by, None, refl, sym, ap, ◌∙◌, subst, arith, length-append}
-use Rattle.std.specs.List.{All, AllByRecursion, Contains}
+use Rattle.std.proofs.Common.{◌≡◌, ℕ, zero, suc, ◌+◌, ◌<◌, ◌≤◌, true, false, nat_eq, nat_lt, nat_le, ◌⊎◌, inl, inr, ⊎_elim, if◌then◌else◌, List, [], ◌∷◌, ◌++◌, sum_by, None, refl, sym, ap, ◌∙◌, subst, arith}
+use Rattle.std.specs.List.{AllByRecursion, Contains}
 use Rattle.std.specs.List.Sorted.{IsPermutation, IsNonDecreasingBy}
 use Rattle.std.proofs.lemmas.Bool.{cases_Bool, lt-ltb, ltb-true, leb-true, eqb-true, eq-eqb}
 use Rattle.std.proofs.lemmas.Bool.Decides.{nat_tests}
-use Rattle.std.proofs.lemmas.List.Elements.{All-from_recursion, recursion_from_All, All-contains, All-push, Contains-append_cases, Contains-append_left, Contains-append_right}
-use Rattle.std.proofs.lemmas.List.Sorted.{IsPermutation-refl, IsPermutation-sym, IsPermutation-cons, IsPermutation-trans, IsPermutation-middle, All-permutation, Contains-permutation, sum_by-IsPermutation, length_permutation}
+use Rattle.std.proofs.lemmas.List.Elements.{All-from_recursion, recursion_from_All, All-contains, Contains-append_cases, Contains-append_right}
+use Rattle.std.proofs.lemmas.List.Sorted.{IsPermutation-refl, IsPermutation-sym, IsPermutation-cons, IsPermutation-trans, IsPermutation-middle, Contains-permutation, sum_by-IsPermutation}
 use Rattle.std.proofs.lemmas.List.Sums.{sum_by-cons, sum_by_push}
 use Rattle.sq_elf.specs.declared.segment.Segment.{Segment}
 use Rattle.sq_elf.specs.Headers.{phnum_of, is_load, segment_of}
 use Rattle.sq_elf.specs.Ranges.{meets}
-use Rattle.sq_elf.specs.Memory.{has_memory, segments_before, segments_of, AreSegments, MemoryPiece, own_piece, segment_pieces, image_before, image_of, pieces_meet, AreApart}
+use Rattle.sq_elf.specs.Memory.{has_memory, segments_before, segments_of, AreSegments, MemoryPiece, own_piece, segment_pieces, image_before, pieces_meet, AreApart}
 use Rattle.sq_elf.specs.Refusing.{file_refusal_of}
 use Rattle.sq_elf.proofs.Apart.{pieces_are_apart}
 use Rattle.sq_elf.proofs.TextFacts.{both_true}

@@ -1,16 +1,16 @@
 -- The loops that append the words of blocks and of procedures.
-use Rattle.std.proofs.Common.{◌≡◌, ℕ, zero, suc, ◌+◌, ◌*◌, ◌<◌, ◌≤◌, ◌^◌, ◌==◌, true, false, List, [], ◌∷◌, ◌++◌, length, drop, add-one, sum_by, Option, Some, None, IsSome, slice_get, refl, sym, ap, ◌∙◌, subst, append_assoc, append-nil, arith}
+use Rattle.std.proofs.Common.{◌≡◌, ℕ, zero, suc, ◌+◌, ◌*◌, ◌<◌, ◌≤◌, ◌^◌, ◌==◌, true, false, List, [], ◌∷◌, ◌++◌, length, drop, add-one, sum_by, Option, Some, None, IsSome, slice_get, refl, sym, ap, ◌∙◌, append_assoc, append-nil, arith}
 use Rattle.std.specs.Option.{unwrap_or}
 use Rattle.std.proofs.lemmas.Bool.{eq-eqb}
 use Rattle.std.proofs.lemmas.List.Sums.{sum_by-cons}
-use Rattle.sq_arena.specs.Entries.{value_of, next_key, first_key}
+use Rattle.sq_arena.specs.Entries.{value_of}
 use Rattle.sq_graph.specs.declared.item.Item.{Item}
-use Rattle.sq_graph.specs.Graph.{Block, Procedure, Graph}
+use Rattle.sq_graph.specs.Graph.{Block, Graph}
 use Rattle.sq_graph.specs.Blocks.{named, first_of, next_of}
 use Rattle.sq_graph.specs.Cursor.{IsPlace}
 use Rattle.sq_graph.specs.Rules.{last_goes_on}
 use Rattle.sq_graph.specs.Words.{block_words, procedure_words}
-use Rattle.sq_graph.specs.Places.{address_in, procedure_addresses, procedure_address}
+use Rattle.sq_graph.specs.Places.{address_in, procedure_addresses}
 use Rattle.sq_layout.proofs.Counts.{stops_in_a_word, word_is_left, ProcedureHere}
 use Rattle.sq_layout.proofs.Walks.{blocks_from, starts, Here, fresh}
 use Rattle.sq_write.specs.Output.{words}

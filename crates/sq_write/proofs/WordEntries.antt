@@ -1,5 +1,5 @@
 -- The loops that append the entries of code words.
-use Rattle.std.proofs.Common.{◌≡◌, ℕ, ◌+◌, ◌<◌, ◌≤◌, ◌⊎◌, inl, inr, subst, get_or, add-one, drop-cons, nat_lt, nat_le, arith, Bool, true, false, List, [], ◌∷◌, ◌++◌, map, filter, length, drop, refl, sym, ap, ◌∙◌, append_assoc}
+use Rattle.std.proofs.Common.{◌≡◌, ℕ, ◌+◌, ◌<◌, ◌≤◌, ◌⊎◌, inl, inr, subst, get_or, add-one, drop-cons, nat_lt, nat_le, arith, Bool, true, false, List, [], ◌∷◌, ◌++◌, map, filter, length, drop, sym, ap, ◌∙◌, append_assoc}
 use Rattle.std.proofs.lemmas.Bool.Decides.{nat_tests}
 use Rattle.sq_graph.specs.declared.parts.CodeRef.{CodeRef}
 use Rattle.sq_write.specs.Output.{Relocation, relocation_table}

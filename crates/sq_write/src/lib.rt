@@ -9,6 +9,7 @@ mod code_words;
 mod entries;
 mod fields;
 mod file_parts;
+mod laws;
 mod layout;
 mod note;
 mod output;
@@ -21,6 +22,7 @@ mod text;
 mod text_bytes;
 mod writing;
 
+pub use laws::names_do_not_matter;
 pub use plain::{read_plain, word_at, write_plain};
 pub use writing::write_elf;
 

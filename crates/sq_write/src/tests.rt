@@ -1,3 +1,5 @@
+mod graphs;
+
 use super::*;
 use std::test::Fail;
 

@@ -1,4 +1,4 @@
-use Rattle.std.proofs.Common.{◌≡◌, ℕ, List, inl, inr, get_or, ap, ◌∙◌, nat_le}
+use Rattle.std.proofs.Common.{ℕ, List, inl, inr, get_or, ap, ◌∙◌, nat_le}
 use Rattle.sq_graph.specs.declared.parts.CodeRef.{CodeRef}
 use Rattle.sq_write.specs.Written.{word_entry}
 use Rattle.sq_write.proofs.WordEntries.{step, is_at_most, is_not_at_most}

@@ -1,4 +1,4 @@
-use Rattle.std.proofs.Common.{◌≡◌, ◌∙◌, ◌++◌, [], ap, sym, map, filter, nat_lt, nat_le}
+use Rattle.std.proofs.Common.{◌∙◌, ◌++◌, ap, sym, map, filter, nat_lt, nat_le}
 use Rattle.std.specs.List.{flat_map}
 use Rattle.sq_write.specs.Output.{relocation_table}
 use Rattle.sq_write.specs.Points.{Point, text_points}

@@ -2,7 +2,7 @@ use Rattle.std.proofs.Common.{◌≡◌, ◌∙◌, ◌∷◌, [], ◌++◌, Som
 use Rattle.sq_graph.specs.Blocks.{procedure_link}
 use Rattle.sq_layout.proofs.Counts.{procedure_here}
 use Rattle.sq_write.specs.Output.{words}
-use Rattle.sq_write.proofs.TextWalks.{first_noted, start_here, procedure_fits, next_noted, last_noted}
+use Rattle.sq_write.proofs.TextWalks.{first_noted, start_here, next_noted, last_noted}
 use Rattle.sq_write.proofs.note.push_note_entries.Goals as goal
 
 pub loop-procedure-init : goal.loop-procedure-init

@@ -1,4 +1,4 @@
-use Rattle.std.proofs.Common.{◌≡◌, ap, length, arith}
+use Rattle.std.proofs.Common.{ap, length, arith}
 use Rattle.sq_write.specs.Output.{piece_bytes}
 use Rattle.sq_write.specs.Laid.{seen}
 use Rattle.sq_write.proofs.PieceWalks.{small_parts, text_from_is, contents_from_is}

@@ -1,4 +1,4 @@
-use Rattle.std.proofs.Common.{◌≡◌, ◌∙◌, ◌+◌, ◌++◌, ap, sym, length, append_assoc, arith}
+use Rattle.std.proofs.Common.{◌≡◌, ◌∙◌, ◌+◌, ◌++◌, ap, sym, length, arith}
 use Rattle.sq_write.specs.Output.{piece_bytes, piece_header, piece_headers, pieces_at}
 use Rattle.sq_write.specs.Laid.{seen, pieces_in, text_from}
 use Rattle.sq_write.proofs.Files.{two}

@@ -1,4 +1,4 @@
-use Rattle.std.proofs.Common.{◌≡◌, ℕ, ◌∙◌, ◌∷◌, [], ◌++◌, ap, length, arith}
+use Rattle.std.proofs.Common.{◌∙◌, ◌∷◌, [], ◌++◌, ap, length, arith}
 use Rattle.sq_write.specs.Output.{words, note_kind}
 use Rattle.sq_write.specs.Laid.{seen, section_headers}
 use Rattle.sq_write.proofs.Files.{two}

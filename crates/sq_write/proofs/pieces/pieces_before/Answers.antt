@@ -1,4 +1,4 @@
-use Rattle.std.proofs.Common.{◌≡◌, ◌∙◌, ap, map, filter, nat_eq, length, take, arith}
+use Rattle.std.proofs.Common.{◌∙◌, ap, map, filter, nat_eq, arith}
 use Rattle.std.specs.HashMap.{get}
 use Rattle.std.proofs.lemmas.List.{take_all}
 use Rattle.sq_write.specs.Pieces.{is_some_piece, part_before}

@@ -1,5 +1,5 @@
-use Rattle.std.proofs.Common.{◌≡◌, ◌∙◌, Some, ap, sym, length, drop, arith}
-use Rattle.sq_graph.specs.Blocks.{procedure_body, procedure_link}
+use Rattle.std.proofs.Common.{◌≡◌, ◌∙◌, Some, ap, sym, length, arith}
+use Rattle.sq_graph.specs.Blocks.{procedure_link}
 use Rattle.sq_layout.proofs.Counts.{procedure_here}
 use Rattle.sq_write.proofs.TextWalks.{first_procedure, start_here, body_stands, procedure_fits, next_procedure, last_procedure}
 use Rattle.sq_write.proofs.text.push_procedures.Goals as goal

@@ -1,7 +1,5 @@
-use Rattle.std.proofs.Common.{◌≡◌, ◌≤◌, ◌<◌, ◌^◌, ◌∙◌, ap, sym, subst, length, sum_by, nat_eq, arith}
+use Rattle.std.proofs.Common.{◌≤◌, ◌∙◌, ap, sym, subst, length, nat_eq, arith}
 use Rattle.std.specs.HashMap.{get}
-use Rattle.sq_elf.specs.Text.{text_of}
-use Rattle.sq_elf.specs.Memory.{segments_of}
 use Rattle.sq_graph.specs.Words.{words_of}
 use Rattle.sq_write.specs.Points.{new_address}
 use Rattle.sq_write.specs.Laid.{IsFew, IsFile}

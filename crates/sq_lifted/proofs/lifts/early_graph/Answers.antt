@@ -1,7 +1,7 @@
 use Rattle.std.proofs.Common.{◌∙◌}
 use Rattle.sq_graph.specs.Parts.{graph_of_parts}
 use Rattle.sq_lifted.proofs.EarlyGraphs.{found_noted, seen_rules, seen_count, seen_alike}
-use Rattle.sq_lifted.proofs.lift.early_graph.Goals as goal
+use Rattle.sq_lifted.proofs.lifts.early_graph.Goals as goal
 
 pub from_parts-requires-clause-rules : goal.from_parts-requires-clause-rules
 from_parts-requires-clause-rules c =
