@@ -30,7 +30,7 @@ use Rattle.sq_follow.specs.Follows.{Follows}
 use Rattle.sq_patch.specs.LiveAgreement.{MakeTargets}
 use Rattle.sq_patch.specs.Changes.{Change, Alike, ends, name_before, name_after}
 use Rattle.sq_patch.proofs.LiveTargets.{lines_make}
-use Rattle.sq_patch.proofs.Falling.{absent_from, found_at, name_at, named_split}
+use Rattle.sq_patch.proofs.Places.{absent_from, found_at, name_at, named_split}
 use Rattle.sq_patch.proofs.Changing.{ahead, in_tail, tail_made}
 use Rattle.sq_patch.proofs.Moving.{M, SlotMoves, move_body, moved_follows, procedure_moved}
 use Rattle.sq_patch.proofs.Dying.{Backs, backs, links-moved, body_rest, body_dies, moved_sound}

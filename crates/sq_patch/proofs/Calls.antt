@@ -20,9 +20,9 @@ use Rattle.sq_follow.specs.Follows.{Follows}
 use Rattle.sq_patch.specs.Changes.{Change, Alike, enter_after, return_after}
 use Rattle.sq_patch.specs.Calls.{IsCallable, called_there}
 use Rattle.sq_patch.proofs.Patch.{later as among_later}
-use Rattle.sq_patch.proofs.Falling.{every, absent_from, name_at}
+use Rattle.sq_patch.proofs.Places.{every, absent_from, name_at}
 use Rattle.sq_patch.proofs.Keeping.{NoMode, no_stands}
-use Rattle.sq_patch.proofs.Dropping.{live, live_carrier}
+use Rattle.sq_patch.proofs.Dead.{live, live_carrier}
 use Rattle.sq_patch.proofs.Carrying.{same_some, carry_items, Backs}
 use Rattle.sq_patch.proofs.Restricting.{own}
 use Rattle.sq_patch.proofs.Standing.{distinct_at, block_at}

@@ -12,7 +12,7 @@ use Rattle.sq_graph.specs.Lines.{Line, line_of, term_lines, body_lines, lines_of
 use Rattle.sq_graph.specs.Walks.{lower_names, link_names, first_name, code_targets}
 use Rattle.sq_graph.specs.Soundness.{LinksDieIn}
 use Rattle.sq_patch.specs.Changes.{Change, Alike, name_before, name_after}
-use Rattle.sq_patch.proofs.Staying.{body_unnamed}
+use Rattle.sq_patch.proofs.Lines.{body_unnamed}
 use Rattle.sq_patch.proofs.Dying.{term_dies}
 use Rattle.sq_patch.proofs.Carrying.{AreOf, ItemGoes, carried_items, carry_items, items_die}
 use Rattle.sq_patch.proofs.Layouts.{IsHeld, Turn, choose}

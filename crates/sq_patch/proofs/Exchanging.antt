@@ -27,9 +27,9 @@ use Rattle.sq_follow.specs.Follows.{Follows}
 use Rattle.sq_patch.specs.Changes.{Change, Alike, name_before, name_after, jump_before, jump_after, promised, both_turned}
 use Rattle.sq_patch.specs.LoneJumps.{IsOverJump, exchanged}
 use Rattle.sq_patch.proofs.Keeping.{all_matter, every_carrier}
-use Rattle.sq_patch.proofs.Staying.{body_unnamed}
+use Rattle.sq_patch.proofs.Lines.{body_unnamed}
 use Rattle.sq_patch.proofs.Changing.{ahead}
-use Rattle.sq_patch.proofs.Falling.{absent_from, next_at, named_split}
+use Rattle.sq_patch.proofs.Places.{absent_from, next_at, named_split}
 use Rattle.sq_patch.proofs.Carrying.{same_some, AreOf, ItemGoes, carry_items, Backs, items_die}
 use Rattle.sq_patch.proofs.Layouts.{passed, Turn, choose}
 use Rattle.sq_patch.proofs.Restricting.{own, block_target, target_from}

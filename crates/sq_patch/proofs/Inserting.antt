@@ -20,9 +20,9 @@ use Rattle.sq_graph.proofs.OperationRules.{inserted_after_rules}
 use Rattle.sq_follow.specs.Follows.{Follows}
 use Rattle.sq_patch.specs.Changes.{Change, Alike, name_before, name_after, jump_after}
 use Rattle.sq_patch.proofs.Keeping.{NoMode, no_stands, all_matter, every_carrier}
-use Rattle.sq_patch.proofs.Staying.{body_unnamed}
+use Rattle.sq_patch.proofs.Lines.{body_unnamed}
 use Rattle.sq_patch.proofs.Changing.{ahead}
-use Rattle.sq_patch.proofs.Falling.{absent_from, next_at, name_at}
+use Rattle.sq_patch.proofs.Places.{absent_from, next_at, name_at}
 use Rattle.sq_patch.proofs.Bypassing.{slot_known}
 use Rattle.sq_patch.proofs.Dying.{term_dies}
 use Rattle.sq_patch.proofs.Carrying.{same_some, BlockGoes, carry_body, carry_term, carried_block, Backs, items_die}

@@ -31,7 +31,7 @@ use Rattle.sq_patch.specs.Changes.{Change, Alike, name_before, name_after, jump_
 use Rattle.sq_patch.specs.LoneJumps.{IsJumpedOver, inverted_over}
 use Rattle.sq_patch.proofs.Keeping.{all_matter, every_carrier}
 use Rattle.sq_patch.proofs.Changing.{ahead}
-use Rattle.sq_patch.proofs.Falling.{absent_from, next_at, name_at, named_split, other_name}
+use Rattle.sq_patch.proofs.Places.{absent_from, next_at, name_at, named_split, other_name}
 use Rattle.sq_patch.proofs.Carrying.{same_some, carry_body}
 use Rattle.sq_patch.proofs.Layouts.{passed, Turn, carries_lines, none_in}
 use Rattle.sq_patch.proofs.Restricting.{own, target_from}

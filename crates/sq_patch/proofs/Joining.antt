@@ -30,7 +30,7 @@ use Rattle.sq_follow.proofs.Following.{graph_follows_through}
 use Rattle.sq_patch.specs.LiveAgreement.{MakeTargets}
 use Rattle.sq_patch.specs.Changes.{Change, Alike, ends, name_before, name_after}
 use Rattle.sq_patch.proofs.LiveTargets.{lines_make}
-use Rattle.sq_patch.proofs.Staying.{body_unnamed}
+use Rattle.sq_patch.proofs.Lines.{body_unnamed}
 use Rattle.sq_patch.proofs.Changing.{ahead, in_tail, tail_made}
 use Rattle.sq_patch.proofs.Moving.{M, SlotMoves, move_front, move_body, moved_follows, procedure_moved}
 use Rattle.sq_patch.proofs.Bypassing.{fall_lines, bypassed_sound, bypassed_follows}

@@ -13,7 +13,7 @@ use Rattle.sq_graph.specs.Walks.{IsLive, lower_names, link_names, first_name, wo
 use Rattle.sq_graph.specs.Soundness.{IsSoundBody, LinksDieIn, IsSound}
 use Rattle.sq_patch.specs.Changes.{Change, falls, Alike, ends, name_before, name_after, IsSteady}
 use Rattle.sq_patch.proofs.Shrink.{shrinks}
-use Rattle.sq_patch.proofs.Staying.{body_unnamed}
+use Rattle.sq_patch.proofs.Lines.{body_unnamed}
 use Rattle.sq_patch.proofs.Dying.{links-moved, body_rest, term_dies}
 use Rattle.sq_patch.proofs.Carrying.{carried_items, carried_block, AreOf, ItemGoes, later_items, BlockGoes, SlotGoes, carry_term, carry_body, Backs, items_die}
 use Rattle.sq_patch.proofs.Used.{contains_first}

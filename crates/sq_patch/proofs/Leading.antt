@@ -7,7 +7,7 @@ use Rattle.sq_graph.specs.Blocks.{named}
 use Rattle.sq_graph.specs.Resolve.{jump_from, is_on_cycle, resolved_within, resolved}
 use Rattle.sq_graph.specs.Lines.{Line, Name, body_lines, lines_of, behind_name, slot_name}
 use Rattle.sq_graph.proofs.Located.{located}
-use Rattle.sq_patch.proofs.Falling.{absent_from, found_at, next_at, name_at}
+use Rattle.sq_patch.proofs.Places.{absent_from, found_at, next_at, name_at}
 use Rattle.sq_patch.proofs.Changing.{ahead}
 use Rattle.sq_patch.proofs.Carrying.{same_some}
 

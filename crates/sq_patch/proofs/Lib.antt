@@ -10,39 +10,37 @@ mod Patch
 mod Shrink
 mod Keeping
 mod Used
-mod Staying
+mod Lines
 mod Changing
-mod Splitting
-mod Falling
-mod Dropping
-mod Hastening
-mod Inlining
+mod Parts
+mod Places
+mod Dead
 mod Moving
 mod Dying
 mod Carrying
 mod Layouts
-mod Restricting
+pub mod Restricting
 mod Standing
-mod Passing
+pub mod Passing
 mod Relating
 mod Placing
 mod Ending
-mod Inverting
-mod Exchanging
+pub mod Inverting
+pub mod Exchanging
 mod Replacing
-mod Calls
+pub mod Calls
 mod Matching
-mod MatchedCalls
-mod Sounding
+pub mod MatchedCalls
+pub mod OneBlock
 mod Leading
 mod Meeting
-mod Merging
-mod Tailing
-mod Recalling
-mod Inserting
-mod Reordering
-mod Saving
-mod Shortening
+pub mod Merging
+pub mod Tailing
+pub mod Recalling
+pub mod Inserting
+pub mod Reordering
+pub mod Saving
+pub mod Shortening
 mod Bypassing
-mod Joining
+pub mod Joining
 pub mod Renaming

@@ -17,9 +17,9 @@ use Rattle.sq_follow.specs.Follows.{Follows}
 use Rattle.sq_patch.specs.Changes.{Change, Alike, enter_after, return_after, shift}
 use Rattle.sq_patch.specs.Matches.{registers_of, IsPair, Match, PairsDie}
 use Rattle.sq_patch.specs.Calls.{IsMatching, call_items, called_there}
-use Rattle.sq_patch.proofs.Falling.{every, absent_from, name_at}
-use Rattle.sq_patch.proofs.Dropping.{live, live_carrier}
-use Rattle.sq_patch.proofs.Splitting.{take_in, drop_in}
+use Rattle.sq_patch.proofs.Places.{every, absent_from, name_at}
+use Rattle.sq_patch.proofs.Dead.{live, live_carrier}
+use Rattle.sq_patch.proofs.Parts.{take_in, drop_in}
 use Rattle.sq_patch.proofs.Carrying.{same_some, AreOf, ItemGoes, Backs}
 use Rattle.sq_patch.proofs.Restricting.{own}
 use Rattle.sq_patch.proofs.Standing.{stands_at, distinct_at, block_at}

@@ -24,9 +24,9 @@ use Rattle.sq_follow.specs.Follows.{Follows}
 use Rattle.sq_patch.specs.Changes.{Change, Alike, name_before, name_after, jump_before, jump_after}
 use Rattle.sq_patch.specs.Merges.{IsMergeable, merged}
 use Rattle.sq_patch.proofs.Keeping.{NoMode, no_stands, all_matter, every_carrier}
-use Rattle.sq_patch.proofs.Staying.{body_unnamed}
-use Rattle.sq_patch.proofs.Splitting.{take_in, drop_in, map_parts}
-use Rattle.sq_patch.proofs.Falling.{every, absent_from, next_at}
+use Rattle.sq_patch.proofs.Lines.{body_unnamed}
+use Rattle.sq_patch.proofs.Parts.{take_in, drop_in, map_parts}
+use Rattle.sq_patch.proofs.Places.{every, absent_from, next_at}
 use Rattle.sq_patch.proofs.Changing.{ahead}
 use Rattle.sq_patch.proofs.Carrying.{same_some, AreOf, ItemGoes, carry_items, carry_some, Backs, items_die}
 use Rattle.sq_patch.proofs.Layouts.{Turn, choose}
@@ -170,13 +170,7 @@ module _ (g : Graph) (dropped at kept : ℕ) (rules : IsGraph g) (can : CanMerge
   next_slot : (n : ℕ) → next_of h n ≡ next_of g n
   next_slot n = ap (λ blocks. next_key (named blocks) n) after ∙ next_same front x y back n refl ∙ ap (λ blocks. next_key (named blocks) n) whole
 
-  -- what stands behind the two blocks' items
-  dropped_lines : block_lines g dropped ≡ body_lines x (slot_lines g.blocks (next_of g dropped))
-  dropped_lines = leads g.blocks dropped x rules_distinct found
-    where
-      rules_distinct : HasDistinctKeys (named g.blocks)
-      rules_distinct = rules.distinct
-
+  -- what stands behind the kept block's name
   kept_lines : block_lines h kept ≡ body_lines k (slot_lines h.blocks (next_of g kept))
   kept_lines = leads h.blocks kept k distinct (other_block kept can.other ∙ kept_block.1) ∙ ap (λ o. body_lines k (slot_lines h.blocks o)) (next_slot kept)
 

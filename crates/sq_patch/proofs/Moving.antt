@@ -16,7 +16,7 @@ use Rattle.sq_graph.specs.declared.item.Term.{Term}
 use Rattle.sq_graph.specs.declared.item.Term.TheVariants.{Fall, Jump, Branch, Call, PartJump, Indirect, Stop}
 use Rattle.sq_graph.specs.declared.parts.CodeRef.{CodeRef}
 use Rattle.sq_graph.specs.Graph.{Block, Procedure, Graph}
-use Rattle.sq_graph.specs.Blocks.{HasBlock, HasProcedure, all_items}
+use Rattle.sq_graph.specs.Blocks.{HasProcedure, all_items}
 use Rattle.sq_graph.specs.Uses.{item_uses, term_uses, items_uses, terms_uses, code_word_uses, uses, item_calls}
 use Rattle.sq_graph.specs.Rules.{IsGraph}
 use Rattle.sq_graph.specs.Terms.{links}
@@ -31,7 +31,7 @@ use Rattle.sq_patch.proofs.LiveSteps.{own_registers, own_sources}
 use Rattle.sq_patch.proofs.LiveTargets.{inside_makes, word_target}
 use Rattle.sq_patch.proofs.Patch.{change_follows}
 use Rattle.sq_patch.proofs.Keeping.{NoMode, no_stands, all_matter, every_carrier}
-use Rattle.sq_patch.proofs.Staying.{ItemMakes, items_made as items_made_in}
+use Rattle.sq_patch.proofs.Lines.{ItemMakes, items_made as items_made_in}
 use Rattle.sq_patch.proofs.Used.{contains_first, contains_later, flat_contains, from_slice, slice_there, item_called, block_item, body_item, body_calls_none}
 
 -- The change in which a name n of K becomes f n: it may be gone to, and where it is a code target it may be held.
@@ -81,18 +81,15 @@ module _ (K : ℕ → Type 0) (f : ℕ → ℕ) (g h : Graph) (rules : IsGraph g
   abbrev pub M : Change
   M = moving K f g h
 
-  pub every_known : (n : ℕ) → HasBlock g n → Unit {0}
-  every_known n has = tt
-
   -- what is asked of an item that makes an address
   abbrev pub Makes : Item → Type 0
-  Makes item = ItemMakes (λ n. Unit {0}) all_matter (Unit {0}) g every_known rules g refl item
+  Makes item = ItemMakes g item
 
   abbrev pub AreOf : (Item → Type 0) → List Item → Type 0
   AreOf Q items = (item : Item) → Contains items item → Q item
 
   items_made : (items : List Item) (rest : List Line) → MakeTargets g (map line_of items ++ rest) → AreOf Makes items × MakeTargets g rest
-  items_made items rest m = items_made_in (λ n. Unit {0}) all_matter (Unit {0}) g every_known rules g refl items rest m
+  items_made items rest m = items_made_in g items rest m
 
   lift : {b : Bool} {xs ys : List Line} → Alike M b None xs ys → Alike M true None xs ys
   lift {b = true} p = p

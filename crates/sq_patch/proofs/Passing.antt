@@ -25,7 +25,7 @@ use Rattle.sq_patch.proofs.LiveTargets.{word_target}
 use Rattle.sq_patch.proofs.Patch.{change_follows}
 use Rattle.sq_patch.proofs.Keeping.{every_carrier}
 use Rattle.sq_patch.proofs.Changing.{ahead}
-use Rattle.sq_patch.proofs.Falling.{every, absent_from, next_at, name_at}
+use Rattle.sq_patch.proofs.Places.{every, absent_from, next_at, name_at}
 use Rattle.sq_patch.proofs.Moving.{moving, other_names, same_addresses}
 use Rattle.sq_patch.proofs.Carrying.{same_some, SlotGoes, BlockGoes, carried_block}
 use Rattle.sq_patch.proofs.Layouts.{Carries, done, stays, turns, gone, carries_behind, carried_sound}

@@ -5,7 +5,7 @@ use Rattle.sq_graph.specs.declared.item.Item.{Item}
 use Rattle.sq_graph.specs.Graph.{Block, Procedure, Graph}
 use Rattle.sq_graph.specs.Uses.{uses}
 use Rattle.sq_graph.specs.Rules.{IsGraph}
-use Rattle.sq_graph.specs.Lines.{Line, lines_of, slot_name, block_lines}
+use Rattle.sq_graph.specs.Lines.{Line, body_lines, lines_of, slot_name, block_lines}
 use Rattle.sq_graph.specs.Walks.{IsLive, code_targets}
 use Rattle.sq_graph.specs.Soundness.{IsSound}
 use Rattle.sq_follow.specs.Follows.{Follows}
@@ -14,7 +14,7 @@ use Rattle.sq_patch.proofs.Keeping.{NoMode, no_stands, staying}
 use Rattle.sq_patch.proofs.Carrying.{ItemGoes, BlockGoes, carried_block}
 use Rattle.sq_patch.proofs.Layouts.{Turn, Carries}
 use Rattle.sq_patch.proofs.Restricting.{own}
-use Rattle.sq_patch.proofs.Relating.{block_stays as block_stays_in, items_stay as items_stay_in, bodies_stay as bodies_stay_in, block_goes as block_goes_in, all_stay as all_stay_in, same_names, placed_follows as placed_follows_in, placed_sound as placed_sound_in, placed_live as placed_live_in}
+use Rattle.sq_patch.proofs.Relating.{block_stays as block_stays_in, items_stay as items_stay_in, bodies_stay as bodies_stay_in, block_goes as block_goes_in, all_stay as all_stay_in, body_itself as body_itself_in, same_names, placed_follows as placed_follows_in, placed_sound as placed_sound_in, placed_live as placed_live_in}
 
 module _ (K : ℕ → Type 0) (X : List Line → ℕ → Type 0) (Z : Type 0) (g h : Graph) (rules : IsGraph g) (known : (n : ℕ) → Contains (uses g) n → K n) (procedures : h.procedures ≡ g.procedures) (words : h.code_words ≡ g.code_words) where
   abbrev pub C : Change
@@ -41,6 +41,9 @@ module _ (K : ℕ → Type 0) (X : List Line → ℕ → Type 0) (Z : Type 0) (g
 
     pub all_stay : (into : Bool) (front bs : List Block) → front ++ bs ≡ g.blocks → Carries C own K into bs bs
     all_stay into front bs e = all_stay_in NoMode no_stands C.MayHold C.MayGo K X Z g h rules procedures words may_hold may_go into front bs e
+
+    pub body_itself : (b : Bool) (front : List Block) (x : Block) (bs : List Block) → front ++ (x ∷ bs) ≡ g.blocks → Alike C b None (body_lines x (lines_of bs)) (body_lines x (lines_of bs))
+    body_itself b front x bs e = body_itself_in NoMode no_stands C.MayHold C.MayGo K X Z g h rules procedures words may_hold may_go b front x bs e
 
     module _ (us vs back : List Block) (first : slot_name (lines_of (vs ++ back)) ≡ slot_name (lines_of (us ++ back))) (turn : Turn C own K true true us vs back back) (front : List Block) (whole : front ++ (us ++ back) ≡ g.blocks) (after : h.blocks ≡ front ++ (vs ++ back)) (entry : h.entry ≡ g.entry) (carrier : IsCarrier g X) where
       values : (n m : ℕ) → C.MayHold n m → Contains (code_targets g) n × C.MayGo n m

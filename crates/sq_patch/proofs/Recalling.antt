@@ -27,12 +27,12 @@ use Rattle.sq_patch.proofs.LiveTargets.{word_target}
 use Rattle.sq_patch.proofs.Patch.{change_follows}
 use Rattle.sq_patch.proofs.Keeping.{staying, all_matter, every_carrier}
 use Rattle.sq_patch.proofs.Changing.{ahead, same_map}
-use Rattle.sq_patch.proofs.Falling.{every}
+use Rattle.sq_patch.proofs.Places.{every}
 use Rattle.sq_patch.proofs.Carrying.{same_some, CallGoes, ItemGoes, SlotGoes, BlockGoes, carry_inside}
 use Rattle.sq_patch.proofs.Layouts.{IsHeld, Carries, done, stays, carries_behind, carried_sound}
 use Rattle.sq_patch.proofs.Restricting.{own, own_block, own_procedure, flat_from, from_map_of, lower_recalled, body_recalled, each_has, block_target, procedure_target, slot_target}
 use Rattle.sq_patch.proofs.Standing.{stands_at, block_at, own_called_block, own_called_procedure}
-use Rattle.sq_patch.proofs.Splitting.{take_in, drop_in}
+use Rattle.sq_patch.proofs.Parts.{take_in, drop_in}
 use Rattle.sq_patch.proofs.Calls.{range_is}
 use Rattle.sq_patch.proofs.Replacing.{behind_items}
 use Rattle.std.proofs.Common.{◌≤◌, length as size_of}
@@ -42,7 +42,7 @@ use Rattle.sq_graph.specs.Lines.{line_of, term_lines, body_lines, behind_name, p
 use Rattle.sq_graph.specs.Walks.{IsLive}
 use Rattle.sq_patch.proofs.Carrying.{carry_body, Backs}
 use Rattle.sq_patch.proofs.Layouts.{carries_lines, carries_back}
-use Rattle.sq_patch.proofs.Falling.{absent_from, name_at}
+use Rattle.sq_patch.proofs.Places.{absent_from, name_at}
 use Rattle.sq_patch.proofs.Standing.{distinct_at, own_calls}
 use Rattle.sq_patch.proofs.Used.{contains_first, contains_later, flat_contains, from_slice, slice_there, from_all, item_called, block_item, body_calls_none}
 

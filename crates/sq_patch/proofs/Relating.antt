@@ -7,7 +7,7 @@ use Rattle.sq_graph.specs.Uses.{uses, code_word_uses, terms_uses, items_uses}
 use Rattle.sq_graph.specs.Blocks.{all_items}
 use Rattle.sq_graph.specs.Rules.{IsGraph}
 use Rattle.sq_graph.specs.Renames.{retargeted_procedure, retargeted_words, recalled_block}
-use Rattle.sq_graph.specs.Lines.{Line, lines_of, slot_name, block_lines}
+use Rattle.sq_graph.specs.Lines.{Line, body_lines, lines_of, slot_name, block_lines}
 use Rattle.sq_graph.specs.Walks.{IsLive, word_name, code_targets}
 use Rattle.sq_graph.specs.Soundness.{IsSound}
 use Rattle.sq_graph.proofs.Bypassing.{retargeted_same}
@@ -16,8 +16,8 @@ use Rattle.sq_patch.specs.Changes.{Change, Alike, guarded, IsSteady, IsCarrier, 
 use Rattle.sq_patch.proofs.LiveTargets.{word_target}
 use Rattle.sq_patch.proofs.Patch.{change_follows}
 use Rattle.sq_patch.proofs.Changing.{ahead, same_map}
-use Rattle.sq_patch.proofs.Carrying.{same_some, SlotGoes, BlockGoes, ItemGoes, carried_block, Backs}
-use Rattle.sq_patch.proofs.Layouts.{Turn, Carries, done, stays, turns, carries_behind, carries_back, carried_sound}
+use Rattle.sq_patch.proofs.Carrying.{same_some, SlotGoes, BlockGoes, ItemGoes, carried_block, Backs, carry_body}
+use Rattle.sq_patch.proofs.Layouts.{Turn, Carries, done, stays, turns, carries_behind, carries_back, carried_sound, carries_lines}
 use Rattle.sq_patch.proofs.Restricting.{own, own_block, slot_target}
 use Rattle.sq_patch.proofs.Standing.{stands_at, own_called_block, items_go, body_goes, term_goes, words_held, bodies_held, procedures_sound}
 use Rattle.sq_patch.proofs.Used.{contains_first, from_slice}
@@ -79,6 +79,12 @@ module _ (Mode : Type 0) (StandsIn : Mode → ℕ → ℕ → Type 0) (MayHold M
     all_stay into front [] e = done
     all_stay into front (x ∷ bs) e =
         stays x x (block_stays x) (block_goes front x bs bs e refl) (all_stay (falls x.term) (front ++ x ∷ []) bs (ahead front x bs ∙ e))
+
+    -- and the lines of one of them
+    pub body_itself : (b : Bool) (front : List Block) (x : Block) (bs : List Block) → front ++ (x ∷ bs) ≡ g.blocks → Alike C b None (body_lines x (lines_of bs)) (body_lines x (lines_of bs))
+    body_itself b front x bs e =
+        subst (λ z. Alike C b None (body_lines x (lines_of bs)) (body_lines z (lines_of bs))) (sym (block_stays x))
+        (carry_body C own x (lines_of bs) (lines_of bs) (block_goes front x bs bs e refl) (λ f. carries_lines C own K b refl (all_stay true (front ++ x ∷ []) bs (ahead front x bs ∙ e))))
 
     module _ (us vs back : List Block) (first : slot_name (lines_of (vs ++ back)) ≡ slot_name (lines_of (us ++ back))) (turn : Turn C own K true true us vs back back) where
       first_stays : (bs : List Block) → slot_name (lines_of (bs ++ (vs ++ back))) ≡ slot_name (lines_of (bs ++ (us ++ back)))

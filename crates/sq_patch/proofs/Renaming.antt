@@ -16,7 +16,7 @@ use Rattle.sq_patch.specs.Changes.{Change, Alike, ends, name_before, name_after}
 use Rattle.sq_patch.specs.Operations.{RenameFollows, OutlineFollows}
 use Rattle.sq_graph.proofs.Bypassing.{retargeted_same}
 use Rattle.sq_patch.proofs.LiveTargets.{lines_make}
-use Rattle.sq_patch.proofs.Staying.{body_unnamed}
+use Rattle.sq_patch.proofs.Lines.{body_unnamed}
 use Rattle.sq_patch.proofs.Changing.{ahead, in_tail, tail_made}
 use Rattle.sq_patch.proofs.Moving.{M, SlotMoves, move_body, moved_follows, procedure_moved}
 use Rattle.sq_patch.proofs.Used.{contains_first, from_all}

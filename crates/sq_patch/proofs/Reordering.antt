@@ -22,14 +22,14 @@ use Rattle.sq_patch.proofs.Patch.{change_follows}
 use Rattle.sq_patch.proofs.Shrink.{shrinks}
 use Rattle.sq_patch.proofs.Keeping.{all_matter, every_carrier}
 use Rattle.sq_patch.proofs.Changing.{ahead, same_map}
-use Rattle.sq_patch.proofs.Falling.{absent_from, found_at, next_at, name_at}
+use Rattle.sq_patch.proofs.Places.{absent_from, found_at, next_at, name_at}
 use Rattle.sq_patch.proofs.Bypassing.{slot_known}
 use Rattle.sq_patch.proofs.Dying.{term_dies}
 use Rattle.sq_patch.proofs.Carrying.{same_some, SlotGoes, BlockGoes, carry_body, carry_term, carried_block, Backs, items_die}
 use Rattle.sq_patch.proofs.Restricting.{own, flat_from, block_target, procedure_target, slot_target, target_from, links_goes_on, falls_goes_on}
 use Rattle.sq_patch.proofs.Standing.{stands_at, distinct_at, block_at}
 use Rattle.sq_patch.proofs.Placing.{C as placing, block_stays, block_goes as block_was}
-use Rattle.sq_patch.proofs.Sounding.{die_in}
+use Rattle.sq_patch.proofs.OneBlock.{die_in}
 use Rattle.sq_patch.proofs.Leading.{slot_lines, slot_lines_name, first_slot, leads}
 use Rattle.sq_patch.proofs.Used.{contains_first, from_slice, from_all}
 

@@ -7,8 +7,8 @@ use Rattle.sq_arena.specs.Entries.{value_of, first_key, next_key, behind as entr
 use Rattle.sq_graph.specs.Blocks.{named, block_of, block_items, items_of, next_of}
 use Rattle.sq_graph.specs.Lines.{slot_name, place_lines}
 use Rattle.sq_patch.specs.Changes.{ends, guarded}
-use Rattle.sq_patch.proofs.Falling.{absent_from, next_at, name_at}
-use Rattle.sq_patch.proofs.Splitting.{take_in, drop_in}
+use Rattle.sq_patch.proofs.Places.{absent_from, next_at, name_at}
+use Rattle.sq_patch.proofs.Parts.{take_in, drop_in}
 use Rattle.sq_patch.proofs.Carrying.{same_some, SlotGoes}
 use Rattle.sq_patch.proofs.Standing.{distinct_at, block_at}
 use Rattle.sq_patch.proofs.Relating.{placed_backs}
@@ -33,10 +33,10 @@ use Rattle.sq_graph.proofs.Located.{IsAt, located}
 use Rattle.sq_graph.proofs.Changes.{with_blocks-at}
 use Rattle.sq_follow.specs.Follows.{Follows}
 use Rattle.sq_patch.specs.Changes.{Change, Alike, IsCarrier, name_before, name_after}
-use Rattle.sq_patch.proofs.Staying.{body_unnamed}
+use Rattle.sq_patch.proofs.Lines.{body_unnamed}
 use Rattle.sq_patch.proofs.Changing.{ahead}
-use Rattle.sq_patch.proofs.Falling.{every}
-use Rattle.sq_patch.proofs.Inlining.{with_others}
+use Rattle.sq_patch.proofs.Places.{every}
+use Rattle.sq_patch.proofs.Parts.{with_others}
 use Rattle.sq_patch.proofs.Dying.{items_rest, term_dies}
 use Rattle.sq_patch.proofs.Carrying.{AreOf, ItemGoes, carry_items, carry_term, Backs, items_die}
 use Rattle.sq_patch.proofs.Layouts.{Turn, carries_lines, choose}

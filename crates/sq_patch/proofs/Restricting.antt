@@ -27,7 +27,7 @@ use Rattle.sq_patch.proofs.LiveTargets.{word_target}
 use Rattle.sq_patch.proofs.Patch.{change_follows}
 use Rattle.sq_patch.proofs.Keeping.{every_carrier}
 use Rattle.sq_patch.proofs.Changing.{ahead, in_tail, same_map}
-use Rattle.sq_patch.proofs.Falling.{absent_from, found_at, other_name}
+use Rattle.sq_patch.proofs.Places.{absent_from, found_at, other_name}
 use Rattle.sq_patch.proofs.Moving.{moving, item_use, word_use}
 use Rattle.sq_patch.proofs.Dying.{lower_use}
 use Rattle.sq_patch.proofs.Carrying.{CallGoes, ItemGoes, SlotGoes, BlockGoes, carried_procedure, carry_inside}
@@ -177,9 +177,6 @@ link_at [] x next bs l = Contains-append_left (if links x.term then next.name �
 link_at (y ∷ front) x next bs l = Contains-append_right (if links y.term then first_name (front ++ (x ∷ next ∷ bs)) else []) (link_names (front ++ (x ∷ next ∷ bs))) next.name (link_at front x next bs l)
 
 -- the code targets of a graph
-pub word_is_target : (g : Graph) (m : ℕ) → Contains (map word_name g.code_words) m → Contains (code_targets g) m
-word_is_target g m c = word_target g m c
-
 pub block_target : (g : Graph) (x : Block) (m : ℕ) → Contains g.blocks x → Contains (flat_map lower_names x.items) m → Contains (code_targets g) m
 block_target g x m c d =
     let ws = map word_name g.code_words in

@@ -28,10 +28,10 @@ use Rattle.sq_patch.proofs.Tailing.{tail_saves}
 use Rattle.sq_patch.proofs.Merging.{can_merge, merge_saves}
 use Rattle.sq_patch.specs.Calls.{call_end, called_there}
 use Rattle.sq_patch.specs.LoneJumps.{IsPassable, without_jump}
-use Rattle.sq_patch.proofs.Falling.{found_at}
+use Rattle.sq_patch.proofs.Places.{found_at}
 use Rattle.sq_patch.proofs.Carrying.{same_some}
 use Rattle.sq_patch.proofs.Passing.{lone_block, jumps_from}
-use Rattle.sq_patch.proofs.Sounding.{item_within}
+use Rattle.sq_patch.proofs.OneBlock.{item_within}
 
 -- other names and numbers take as many words
 term_words-moved : (f : ℕ → ℕ) (t : Term) → term_words (retargeted_term f t) ≡ term_words t

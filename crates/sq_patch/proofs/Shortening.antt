@@ -25,14 +25,12 @@ use Rattle.sq_follow.specs.Follows.{Follows}
 use Rattle.sq_follow.proofs.Following.{graph_follows_through}
 use Rattle.sq_patch.specs.Operations.{hastened, IsShortable, shortened}
 use Rattle.sq_patch.proofs.Shrink.{no_sources}
-use Rattle.sq_patch.proofs.Falling.{absent_from, found_at, next_at, name_at}
-use Rattle.sq_patch.proofs.Hastening.{hasten_follows}
-use Rattle.sq_patch.proofs.Dropping.{drop_follows}
+use Rattle.sq_patch.proofs.Places.{absent_from, found_at, next_at, name_at}
 use Rattle.sq_patch.proofs.Carrying.{same_some}
 use Rattle.sq_patch.proofs.Replacing.{behind_items}
 use Rattle.sq_patch.proofs.Standing.{stands_at, distinct_at, block_at, there_by_term}
 use Rattle.sq_patch.proofs.Matching.{is_itself, zero_register}
-use Rattle.sq_patch.proofs.Sounding.{hasten_live, hasten_sound, drop_sound}
+use Rattle.sq_patch.proofs.OneBlock.{hasten_live, hasten_sound, drop_sound, hasten_follows, drop_follows}
 use Rattle.sq_patch.proofs.Used.{contains_first, term_used}
 
 -- x0 is nowhere live

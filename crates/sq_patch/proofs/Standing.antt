@@ -17,7 +17,7 @@ use Rattle.sq_graph.specs.Walks.{lower_names, word_name, code_targets}
 use Rattle.sq_graph.specs.Soundness.{IsSoundBody, IsSound}
 use Rattle.sq_patch.specs.Changes.{Change}
 use Rattle.sq_patch.proofs.LiveTargets.{word_target}
-use Rattle.sq_patch.proofs.Falling.{absent_from, found_at}
+use Rattle.sq_patch.proofs.Places.{absent_from, found_at}
 use Rattle.sq_patch.proofs.Changing.{in_tail}
 use Rattle.sq_patch.proofs.Moving.{term_use, other_names, procedure_moved}
 use Rattle.sq_patch.proofs.Dying.{lowers-moved, body-moved}

@@ -22,9 +22,8 @@ use Rattle.sq_follow.specs.Follows.{Follows}
 use Rattle.sq_follow.proofs.Following.{graph_follows_through}
 use Rattle.sq_patch.specs.Merges.{HaveTail, tailed}
 use Rattle.sq_patch.proofs.Changing.{ahead}
-use Rattle.sq_patch.proofs.Falling.{absent_from, next_at}
-use Rattle.sq_patch.proofs.Splitting.{split_follows}
-use Rattle.sq_patch.proofs.Sounding.{split_sound}
+use Rattle.sq_patch.proofs.Places.{absent_from, next_at}
+use Rattle.sq_patch.proofs.OneBlock.{split_follows, split_sound}
 use Rattle.sq_patch.proofs.Carrying.{same_some}
 use Rattle.sq_patch.proofs.Standing.{distinct_at, block_at}
 use Rattle.sq_patch.proofs.Passing.{lone_block, jumps_from}

@@ -34,12 +34,6 @@ module _ (g : Graph) (rules : IsGraph g) where
   used : (n : ℕ) → Contains (uses g) n → HasBlock g n
   used n c = from_all (HasBlock g) (uses g) n rules.named_all c
 
-  pub entry_used : HasBlock g g.entry
-  entry_used = used g.entry (contains_first g.entry (code_word_uses g.code_words ++ (terms_uses g.blocks ++ items_uses (all_items g))))
-
-  pub code_word_used : (n : ℕ) → Contains (code_word_uses g.code_words) n → HasBlock g n
-  code_word_used n c = used n (contains_later g.entry n (code_word_uses g.code_words ++ (terms_uses g.blocks ++ items_uses (all_items g))) (Contains-append_left (code_word_uses g.code_words) (terms_uses g.blocks ++ items_uses (all_items g)) n c))
-
   rest_used : (n : ℕ) → Contains (terms_uses g.blocks ++ items_uses (all_items g)) n → HasBlock g n
   rest_used n c = used n (contains_later g.entry n (code_word_uses g.code_words ++ (terms_uses g.blocks ++ items_uses (all_items g))) (Contains-append_right (code_word_uses g.code_words) (terms_uses g.blocks ++ items_uses (all_items g)) n c))
 

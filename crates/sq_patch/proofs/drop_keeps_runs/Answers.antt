@@ -1,4 +1,4 @@
-use Rattle.sq_patch.proofs.Dropping.{drop_follows}
+use Rattle.sq_patch.proofs.OneBlock.{drop_follows}
 use Rattle.sq_patch.proofs.drop_keeps_runs.Goals as goal
 
 pub returns : goal.returns

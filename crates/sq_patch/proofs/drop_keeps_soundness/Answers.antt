@@ -1,4 +1,4 @@
-use Rattle.sq_patch.proofs.Sounding.{drop_sound}
+use Rattle.sq_patch.proofs.OneBlock.{drop_sound}
 use Rattle.sq_patch.proofs.drop_keeps_soundness.Goals as goal
 
 pub returns : goal.returns

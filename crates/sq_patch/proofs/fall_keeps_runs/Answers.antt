@@ -1,4 +1,4 @@
-use Rattle.sq_patch.proofs.Falling.{fall_follows}
+use Rattle.sq_patch.proofs.OneBlock.{fall_follows}
 use Rattle.sq_patch.proofs.fall_keeps_runs.Goals as goal
 
 pub returns : goal.returns

@@ -1,4 +1,4 @@
-use Rattle.sq_patch.proofs.Sounding.{fall_sound}
+use Rattle.sq_patch.proofs.OneBlock.{fall_sound}
 use Rattle.sq_patch.proofs.fall_keeps_soundness.Goals as goal
 
 pub returns : goal.returns

@@ -1,4 +1,4 @@
-use Rattle.sq_patch.proofs.Hastening.{hasten_follows}
+use Rattle.sq_patch.proofs.OneBlock.{hasten_follows}
 use Rattle.sq_patch.proofs.hasten_keeps_runs.Goals as goal
 
 pub returns : goal.returns

@@ -1,4 +1,4 @@
-use Rattle.sq_patch.proofs.Sounding.{hasten_sound}
+use Rattle.sq_patch.proofs.OneBlock.{hasten_sound}
 use Rattle.sq_patch.proofs.hasten_keeps_soundness.Goals as goal
 
 pub returns : goal.returns

@@ -1,4 +1,4 @@
-use Rattle.sq_patch.proofs.Inlining.{inline_follows}
+use Rattle.sq_patch.proofs.OneBlock.{inline_follows}
 use Rattle.sq_patch.proofs.inline_keeps_runs.Goals as goal
 
 pub returns : goal.returns

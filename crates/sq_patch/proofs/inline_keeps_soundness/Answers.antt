@@ -1,4 +1,4 @@
-use Rattle.sq_patch.proofs.Sounding.{inline_sound}
+use Rattle.sq_patch.proofs.OneBlock.{inline_sound}
 use Rattle.sq_patch.proofs.inline_keeps_soundness.Goals as goal
 
 pub returns : goal.returns

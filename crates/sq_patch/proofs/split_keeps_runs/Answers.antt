@@ -1,4 +1,4 @@
-use Rattle.sq_patch.proofs.Splitting.{split_follows}
+use Rattle.sq_patch.proofs.OneBlock.{split_follows}
 use Rattle.sq_patch.proofs.split_keeps_runs.Goals as goal
 
 pub returns : goal.returns

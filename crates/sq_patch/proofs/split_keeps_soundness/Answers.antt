@@ -1,4 +1,4 @@
-use Rattle.sq_patch.proofs.Sounding.{split_sound}
+use Rattle.sq_patch.proofs.OneBlock.{split_sound}
 use Rattle.sq_patch.proofs.split_keeps_soundness.Goals as goal
 
 pub returns : goal.returns

@@ -1,9 +1,9 @@
--- A graph is sound in which a block was split, a Jump became Fall, an upper half went, a jump became a Call, or a body
--- stands in place of its call, where the graph before it is.
-use Rattle.std.proofs.Common.{◌≡◌, ℕ, zero, suc, ◌<◌, ◌≤◌, ◌+◌, Bool, true, false, ◌==◌, inl, inr, List, [], ◌∷◌, ◌++◌, Option, Some, None, IsSome, map, take, drop, length, slice_get, refl, sym, ap, ◌∙◌, subst, arith}
+-- The operations on one block keep runs, and sound graphs sound: a block that is split, a Jump that becomes Fall, an
+-- upper half that goes, a jump that becomes a Call or a Jump, and a body in place of its call.
+use Rattle.std.proofs.Common.{◌≢◌, ◌≡◌, ℕ, zero, suc, ◌<◌, ◌≤◌, ◌+◌, Bool, true, false, ◌==◌, inl, inr, List, [], ◌∷◌, ◌++◌, Option, Some, None, IsSome, map, take, drop, length, slice_get, refl, sym, ap, ◌∙◌, subst, arith}
 use Rattle.std.proofs.lemmas.List.Elements.{Contains-append_cases}
 use Rattle.std.specs.List.{Contains, flat_map}
-use Rattle.sq_arena.specs.Entries.{value_of}
+use Rattle.sq_arena.specs.Entries.{value_of, first_key, behind as entries_behind}
 use Rattle.sq_graph.specs.declared.item.Item.{Item}
 use Rattle.sq_graph.specs.declared.item.Item.TheVariants.{Op, Hi, Lo, Out}
 use Rattle.sq_graph.specs.declared.item.Term.TheVariants.{Fall, Jump, PartJump}
@@ -18,26 +18,29 @@ use Rattle.sq_graph.specs.Walks.{IsLive, read_here, live_behind, lower_names, li
 use Rattle.sq_graph.specs.Soundness.{LinksDieIn, IsSound}
 use Rattle.sq_graph.proofs.Located.{IsAt, located}
 use Rattle.sq_graph.proofs.Changes.{with_blocks-at}
+use Rattle.sq_follow.specs.Follows.{Follows}
+use Rattle.sq_follow.proofs.Following.{graph_follows_itself}
 use Rattle.sq_patch.specs.Changes.{Change, Alike, name_before, name_after, jump_before, enter_before, return_before, dead_before}
 use Rattle.sq_patch.specs.Operations.{hastened}
+use Rattle.sq_patch.specs.Changes.{SameSlot, both_jumped, both_hastened}
+use Rattle.sq_graph.specs.Lines.{slot_name}
 use Rattle.sq_patch.proofs.Keeping.{NoMode, no_stands, all_matter, every_carrier}
-use Rattle.sq_patch.proofs.Staying.{body_unnamed}
+use Rattle.sq_patch.proofs.Lines.{body_unnamed}
 use Rattle.sq_patch.proofs.Changing.{ahead}
-use Rattle.sq_patch.proofs.Falling.{every, other_name, absent_from, name_at, term_is, next_is, slot_goes}
-use Rattle.sq_patch.proofs.Hastening.{meets}
-use Rattle.sq_patch.proofs.Splitting.{Old, old, halved, halves_keep, turned, map_parts, take_in, drop_in}
-use Rattle.sq_patch.proofs.Dropping.{live, live_carrier, unwritten}
+use Rattle.sq_patch.proofs.Places.{every, other_name, absent_from, name_at, next_at}
+use Rattle.sq_patch.proofs.Parts.{halved, halves_through, map_parts, take_in, drop_in}
+use Rattle.sq_patch.proofs.Dead.{live, live_carrier, unwritten}
 use Rattle.sq_patch.proofs.Bypassing.{slot_known}
 use Rattle.sq_patch.proofs.Dying.{body_rest, items_rest, term_dies}
 use Rattle.sq_patch.proofs.Carrying.{same_some, slot_same, AreOf, ItemGoes, carry_items, carry_term, Backs, items_die}
 use Rattle.sq_patch.proofs.Layouts.{Turn, carries_lines, choose}
 use Rattle.sq_patch.proofs.Restricting.{own, block_target, procedure_target, slot_targets, target_from, flat_from}
 use Rattle.sq_patch.proofs.Standing.{stands_at, distinct_at, block_at, there_by_term, there_by_item}
-use Rattle.sq_patch.proofs.Placing.{C as placing, block_stays, block_goes, all_stay, items_stay, bodies_stay, placed_sound, placed_live}
+use Rattle.sq_patch.proofs.Placing.{C as placing, block_stays, block_goes, all_stay, items_stay, bodies_stay, placed_follows, placed_sound, placed_live, body_itself}
 use Rattle.sq_patch.proofs.Ending.{all_of, one_slot, term_turn}
-use Rattle.sq_patch.proofs.Replacing.{behind_items, own_items, C as replacing, place, out, behind, replaced_sound}
+use Rattle.sq_patch.proofs.Replacing.{behind_items, own_items, C as replacing, place, out, behind, replaced_sound, replaced_follows}
 use Rattle.sq_patch.proofs.Calls.{items_dead, is_other}
-use Rattle.sq_patch.proofs.Used.{contains_first, contains_later, flat_contains, from_slice, from_all, slice_there, item_called, block_item}
+use Rattle.sq_patch.proofs.Used.{contains_first, contains_later, flat_contains, from_slice, from_all, slice_there, item_called, block_item, not_new}
 
 module _ (g : Graph) (block n : ℕ) (rules : IsGraph g) (jumps : term_of g block ≡ Some (Jump n)) (slot : next_of g block ≡ Some n) where
   abbrev at : IsAt g.blocks block
@@ -52,16 +55,40 @@ module _ (g : Graph) (block n : ℕ) (rules : IsGraph g) (jumps : term_of g bloc
   abbrev C : Change
   C = placing every all_matter (Unit {0}) g h rules (λ m c. tt) refl refl
 
+  -- the block ends in the Jump, and the next slot is the one to which it goes
+  falls_from : at.block.term ≡ Jump n
+  falls_from = same_some at.block.term (Jump n) (sym (ap block_term (subst (λ k. value_of (named g.blocks) k ≡ Some at.block) at.has_name (block_at g rules at.front at.block at.back whole))) ∙ jumps)
+
+  slot_first : first_key (named at.back) ≡ Some n
+  slot_first =
+      sym (ap first_key (subst (λ k. entries_behind (named g.blocks) k ≡ named at.back) at.has_name (subst (λ blocks. entries_behind (named blocks) at.block.name ≡ named at.back) whole (next_at at.front at.block at.back (absent_from at.front at.block at.back (distinct_at g rules at.front at.block at.back whole))))))
+      ∙ slot
+
+  slot_goes : (b : Bool) (bs : List Block) → at.back ≡ bs → first_key (named bs) ≡ Some n → Alike C b None (block_lines g n) (lines_of bs)
+  slot_goes b [] i e = absurd (cc)
+  slot_goes b (w ∷ bs) i e =
+      let there : (at.front ++ at.block ∷ []) ++ (w ∷ bs) ≡ g.blocks = ahead at.front at.block (w ∷ bs) ∙ ap (λ cs. at.front ++ (at.block ∷ cs)) (sym i) ∙ whole in
+      let leads : block_lines g w.name ≡ body_lines w (lines_of bs) =
+      subst (λ blocks. behind_name w.name (lines_of blocks) ≡ body_lines w (lines_of bs)) there (name_at (at.front ++ at.block ∷ []) w bs (absent_from (at.front ++ at.block ∷ []) w bs (distinct_at g rules (at.front ++ at.block ∷ []) w bs there))) in
+      subst (λ k. Alike C b None (block_lines g k) (lines_of (w ∷ bs))) (same_some w.name n e)
+      (subst (λ xs. Alike C b None xs (lines_of (w ∷ bs))) (sym leads) (name_after (body_itself every all_matter (Unit {0}) g h rules (λ m c. tt) refl refl (λ m c. tt) b (at.front ++ at.block ∷ []) w bs there)))
+
   ended : (b : Bool) → Alike C b None (term_lines at.block.term (lines_of at.back)) (lines_of at.back)
-  ended b =
-      subst (λ t. Alike C b None (term_lines t (lines_of at.back)) (lines_of at.back)) (sym (term_is g block n rules jumps slot at.front at.block at.back whole at.has_name))
-      (jump_before (slot_goes g block n rules jumps slot at.front at.block at.back whole (next_is g block n rules jumps slot at.front at.block at.back whole at.has_name)))
+  ended b = subst (λ t. Alike C b None (term_lines t (lines_of at.back)) (lines_of at.back)) (sym falls_from) (jump_before (slot_goes b at.back refl slot_first))
+
+  turn : Turn C own every true true (at.block ∷ []) (record at.block { term = Fall } ∷ []) at.back at.back
+  turn = term_turn every all_matter (Unit {0}) g h rules (λ m c. tt) refl refl (λ m c. tt) at.block [] at.back Fall (stands_at g rules at.front at.block at.back whole) ended (λ m k. refl) (λ m l c. absurd (cc))
+
+  after : h.blocks ≡ at.front ++ (record at.block { term = Fall } ∷ at.back)
+  after = with_blocks-at (λ b. record b { term = Fall } ∷ []) g.blocks block at
+
+  pub fall_follows : Follows g h
+  fall_follows =
+      placed_follows every all_matter (Unit {0}) g h rules (λ m c. tt) refl refl (λ m c. tt) (at.block ∷ []) (record at.block { term = Fall } ∷ []) at.back refl turn at.front whole after refl (every_carrier g)
 
   pub fall_sound : IsSound g → IsSound h
   fall_sound sound =
-      placed_sound every all_matter (Unit {0}) g h rules (λ m c. tt) refl refl (λ m c. tt) (at.block ∷ []) (record at.block { term = Fall } ∷ []) at.back refl
-      (term_turn every all_matter (Unit {0}) g h rules (λ m c. tt) refl refl (λ m c. tt) at.block [] at.back Fall (stands_at g rules at.front at.block at.back whole) ended (λ m k. refl) (λ m l c. absurd (cc)))
-      at.front whole (with_blocks-at (λ b. record b { term = Fall } ∷ []) g.blocks block at) refl (every_carrier g) (λ xs r l. tt) tt sound
+      placed_sound every all_matter (Unit {0}) g h rules (λ m c. tt) refl refl (λ m c. tt) (at.block ∷ []) (record at.block { term = Fall } ∷ []) at.back refl turn at.front whole after refl (every_carrier g) (λ xs r l. tt) tt sound
 
 module _ (g : Graph) (block link part to : ℕ) (rules : IsGraph g) (jumps : term_of g block ≡ Some (PartJump link part to)) where
   abbrev hat : IsAt g.blocks block
@@ -79,6 +106,10 @@ module _ (g : Graph) (block link part to : ℕ) (rules : IsGraph g) (jumps : ter
   jump_is : hat.block.term ≡ PartJump link part to
   jump_is = same_some hat.block.term (PartJump link part to) (sym (ap block_term (subst (λ k. value_of (named g.blocks) k ≡ Some hat.block) hat.has_name (block_at g rules hat.front hat.block hat.back hwhole))) ∙ jumps)
 
+  meets : {f : Bool} (l : ℕ) (xs ys : List Line) → (links (PartJump l part to) ≡ true → SameSlot HC.MayHold (slot_name xs) (slot_name ys)) → Alike HC f None (End (PartJump l part to) ∷ xs) (End (hastened l to) ∷ ys)
+  meets zero xs ys s = both_jumped part to to (refl, tt)
+  meets (suc l) xs ys s = both_hastened (suc l) part to to (refl, tt) s
+
   one_line : (l : ℕ) (rest : List Line) → term_lines (hastened l to) rest ≡ End (hastened l to) ∷ rest
   one_line zero rest = refl
   one_line (suc l) rest = refl
@@ -89,26 +120,32 @@ module _ (g : Graph) (block link part to : ℕ) (rules : IsGraph g) (jumps : ter
       let go = block_goes every all_matter (Unit {0}) g hh rules (λ m c. tt) refl refl (λ m c. tt) hat.front hat.block hat.back hat.back hwhole refl in
       subst (λ t. Alike HC b None (term_lines t rest) (term_lines (hastened link to) rest)) (sym jump_is)
       (subst (λ lines. Alike HC b None (End (PartJump link part to) ∷ rest) lines) (sym (one_line link rest))
-      (meets g block link part to rules jumps link rest rest (λ l. slot_same HC own _ _ (go.slot (ap links jump_is ∙ l)))))
+      (meets link rest rest (λ l. slot_same HC own _ _ (go.slot (ap links jump_is ∙ l)))))
 
   as_linked : (l : ℕ) → links (hastened l to) ≡ true → links (PartJump l part to) ≡ true
   as_linked zero e = absurd (cc)
   as_linked (suc l) e = e
 
+  abbrev shorter : Block
+  shorter = record hat.block { term = hastened link to }
+
+  hturn : Turn HC own every true true (hat.block ∷ []) (shorter ∷ []) hat.back hat.back
+  hturn =
+      term_turn every all_matter (Unit {0}) g hh rules (λ m c. tt) refl refl (λ m c. tt) hat.block [] hat.back (hastened link to) (stands_at g rules hat.front hat.block hat.back hwhole) hended (λ m k. refl)
+      (λ m l c. (m, (refl, (tt, slot_targets g hat.front hat.block hat.back hwhole (ap links jump_is ∙ as_linked link l) m c))))
+
+  hafter : hh.blocks ≡ hat.front ++ (shorter ∷ hat.back)
+  hafter = with_blocks-at (λ b. record b { term = hastened link to } ∷ []) g.blocks block hat
+
+  pub hasten_follows : Follows g hh
+  hasten_follows = placed_follows every all_matter (Unit {0}) g hh rules (λ m c. tt) refl refl (λ m c. tt) (hat.block ∷ []) (shorter ∷ []) hat.back refl hturn hat.front hwhole hafter refl (every_carrier g)
+
   pub hasten_sound : IsSound g → IsSound hh
-  hasten_sound sound =
-      placed_sound every all_matter (Unit {0}) g hh rules (λ m c. tt) refl refl (λ m c. tt) (hat.block ∷ []) (record hat.block { term = hastened link to } ∷ []) hat.back refl
-      (term_turn every all_matter (Unit {0}) g hh rules (λ m c. tt) refl refl (λ m c. tt) hat.block [] hat.back (hastened link to) (stands_at g rules hat.front hat.block hat.back hwhole) hended (λ m k. refl)
-      (λ m l c. (m, (refl, (tt, slot_targets g hat.front hat.block hat.back hwhole (ap links jump_is ∙ as_linked link l) m c)))))
-      hat.front hwhole (with_blocks-at (λ b. record b { term = hastened link to } ∷ []) g.blocks block hat) refl (every_carrier g) (λ xs r l. tt) tt sound
+  hasten_sound sound = placed_sound every all_matter (Unit {0}) g hh rules (λ m c. tt) refl refl (λ m c. tt) (hat.block ∷ []) (shorter ∷ []) hat.back refl hturn hat.front hwhole hafter refl (every_carrier g) (λ xs r l. tt) tt sound
 
   -- what is live at a name is so before
   pub hasten_live : (r n : ℕ) → IsLive hh r (block_lines hh n) → IsLive g r (block_lines g n)
-  hasten_live r n live =
-      placed_live every all_matter (Unit {0}) g hh rules (λ m c. tt) refl refl (λ m c. tt) (hat.block ∷ []) (record hat.block { term = hastened link to } ∷ []) hat.back refl
-      (term_turn every all_matter (Unit {0}) g hh rules (λ m c. tt) refl refl (λ m c. tt) hat.block [] hat.back (hastened link to) (stands_at g rules hat.front hat.block hat.back hwhole) hended (λ m k. refl)
-      (λ m l c. (m, (refl, (tt, slot_targets g hat.front hat.block hat.back hwhole (ap links jump_is ∙ as_linked link l) m c)))))
-      hat.front hwhole (with_blocks-at (λ b. record b { term = hastened link to } ∷ []) g.blocks block hat) refl (every_carrier g) (λ xs r l. tt) tt r n tt live
+  hasten_live r n lives = placed_live every all_matter (Unit {0}) g hh rules (λ m c. tt) refl refl (λ m c. tt) (hat.block ∷ []) (shorter ∷ []) hat.back refl hturn hat.front hwhole hafter refl (every_carrier g) (λ xs r l. tt) tt r n tt lives
 
 -- one item, and that it is there
 one_item : (items : List Item) (at : ℕ) (item : Item) → slice_get items at ≡ Some item → take 1 (drop at items) ≡ item ∷ []
@@ -167,9 +204,14 @@ module _ (g : Graph) (block at rd to : ℕ) (rules : IsGraph g) (there : slice_g
       subst (λ items. Alike DC b None (map line_of items ++ dlater) dlater) (sym (one_item dspot.block.items at (Hi rd to) hi_there))
       (dead_before refl (λ r l. unwritten g rd r dlater dead_there l) k)
 
+  no_lowers : (m : ℕ) → Contains (flat_map lower_names []) m → Contains (code_targets g) m
+  no_lowers m c = absurd (let l : c.0 < 0 = c.1 in omega arith)
+
+  pub drop_follows : Follows g dh
+  drop_follows = replaced_follows NoMode no_stands (live g) (Unit {0}) g (live_carrier g) rules block at 1 [] drop_there drops no_lowers (λ backs k die die'. die')
+
   pub drop_sound : IsSound g → IsSound dh
-  drop_sound sound =
-      replaced_sound NoMode no_stands (live g) (Unit {0}) g (live_carrier g) rules block at 1 [] drop_there drops (λ m c. absurd (let l : c.0 < 0 = c.1 in omega arith)) (λ backs k die die'. die') (λ xs r l. l) tt sound
+  drop_sound sound = replaced_sound NoMode no_stands (live g) (Unit {0}) g (live_carrier g) rules block at 1 [] drop_there drops no_lowers (λ backs k die die'. die') (λ xs r l. l) tt sound
 
 -- a register that is dead behind a return is dead at it
 return_dead : (g : Graph) (link r : ℕ) (rest : List Line) → ¬ IsLive g r rest → ¬ IsLive g r (Return link ∷ rest)
@@ -261,28 +303,34 @@ module _ (g : Graph) (block at q : ℕ) (rules : IsGraph g) (there : slice_get (
   body_dies (Lo rd rs to ∷ items) lines none die = body_dies items lines (λ item c. none item (contains_later (Lo rd rs to) item items c)) die
   body_dies (Out r ∷ items) lines none die = absurd (let e : r ∷ [] ≡ [] = none (Out r) (contains_first (Out r) items) in cc)
 
+  by_lowers : (m : ℕ) → Contains (flat_map lower_names by) m → Contains (code_targets g) m
+  by_lowers m c = procedure_target g p m here (subst (λ items. Contains (flat_map lower_names items) m) by_is c)
+
+  by_dies : Backs IC own → Alike IC true None ilater ilater → LinksDieIn g (map line_of ibefore ++ ilater) → LinksDieIn ih ilater → LinksDieIn ih (map line_of by ++ ilater)
+  by_dies backs k die die' = subst (λ (items : List Item). LinksDieIn ih (map line_of items ++ ilater)) (sym by_is) (body_dies p.body ilater calls_none die')
+
+  pub inline_follows : Follows g ih
+  inline_follows = replaced_follows NoMode no_stands (live g) (IsSound g) g (live_carrier g) rules block at 1 by inline_there inlines by_lowers by_dies
+
   pub inline_sound : IsSound g → IsSound ih
-  inline_sound sound =
-      replaced_sound NoMode no_stands (live g) (IsSound g) g (live_carrier g) rules block at 1 by inline_there inlines
-      (λ m c. procedure_target g p m here (subst (λ items. Contains (flat_map lower_names items) m) by_is c))
-      (λ backs k die die'. subst (λ (items : List Item). LinksDieIn ih (map line_of items ++ ilater)) (sym by_is) (body_dies p.body ilater calls_none die'))
-      (λ xs r l. l) sound sound
+  inline_sound sound = replaced_sound NoMode no_stands (live g) (IsSound g) g (live_carrier g) rules block at 1 by inline_there inlines by_lowers by_dies (λ xs r l. l) sound sound
 
 module _ (g : Graph) (new block at : ℕ) (rules : IsGraph g) (fresh : IsNew g new) where
   abbrev sh : Graph
   sh = split_at g new block at
 
+  -- every name but the new one
   abbrev N : ℕ → Type 0
-  N = Old g new block at rules fresh
+  N n = n ≢ new
 
   used_old : (n : ℕ) → Contains (uses g) n → N n
-  used_old n c = old g new block at rules fresh n (from_all (HasBlock g) (uses g) n rules.named_all c)
+  used_old n c = not_new g new n fresh (from_all (HasBlock g) (uses g) n rules.named_all c)
 
   target_old : (n : ℕ) → Contains (code_targets g) n → N n
   target_old n c =
       elim (target_from g n c) [
         | inl named ↦ used_old n named
-        | inr slot ↦ old g new block at rules fresh n (slot_known g rules g.blocks n slot)
+        | inr slot ↦ not_new g new n fresh (slot_known g rules g.blocks n slot)
       ]
 
   abbrev SC : Change
@@ -307,18 +355,15 @@ module _ (g : Graph) (new block at : ℕ) (rules : IsGraph g) (fresh : IsNew g n
     each : AreOf SC own (ItemGoes SC own) x.items
     each = items_stay N all_matter (Unit {0}) g sh rules used_old refl refl target_old x in_it
 
-    lines : (b : Bool) → Alike SC b None (body_lines x (lines_of back)) (halved g new block at rules fresh x (lines_of back))
-    lines b = halves_keep g new block at rules fresh b front x back e is
-
-    ended_same : Alike SC true None ending ending
-    ended_same =
+    ended_same : (b : Bool) → Alike SC b None ending ending
+    ended_same b =
         let go = block_goes N all_matter (Unit {0}) g sh rules used_old refl refl target_old front x back back e refl in
         let p = carry_term SC own x.term (lines_of back) (lines_of back) go.term go.slot
-        (λ f. carries_lines SC own N true refl (all_stay N all_matter (Unit {0}) g sh rules used_old refl refl target_old true (front ++ x ∷ []) back (ahead front x back ∙ e))) in
-        subst (λ t. Alike SC true None ending (term_lines t (lines_of back))) (ap (λ (w : Block). w.term) (sym (block_stays N all_matter (Unit {0}) g sh rules used_old refl refl target_old x))) p
+        (λ f. carries_lines SC own N b refl (all_stay N all_matter (Unit {0}) g sh rules used_old refl refl target_old true (front ++ x ∷ []) back (ahead front x back ∙ e))) in
+        subst (λ t. Alike SC b None ending (term_lines t (lines_of back))) (ap (λ (w : Block). w.term) (sym (block_stays N all_matter (Unit {0}) g sh rules used_old refl refl target_old x))) p
 
-    keep : (items : List Item) (xs ys : List Line) → AreOf SC own (ItemGoes SC own) items → Alike SC true None xs ys → Alike SC true None (map line_of items ++ xs) (map line_of items ++ ys)
-    keep items xs ys f p = subst (λ is. Alike SC true None (map line_of items ++ xs) (map line_of is ++ ys)) (own_items items) (carry_items SC own items xs ys f p)
+    keep : (b : Bool) (items : List Item) (xs ys : List Line) → AreOf SC own (ItemGoes SC own) items → Alike SC b None xs ys → Alike SC b None (map line_of items ++ xs) (map line_of items ++ ys)
+    keep b items xs ys f p = subst (λ is. Alike SC b None (map line_of items ++ xs) (map line_of is ++ ys)) (own_items items) (carry_items SC own items xs ys f p)
 
     own_die : (items : List Item) (xs ys : List Line) → Backs SC own → AreOf SC own (ItemGoes SC own) items → Alike SC true None xs ys → LinksDieIn g (map line_of items ++ xs) → LinksDieIn sh ys → LinksDieIn sh (map line_of items ++ ys)
     own_die items xs ys backs f p die die' = subst (λ (is : List Item). LinksDieIn sh (map line_of is ++ ys)) (own_items items) (items_die SC own backs items xs ys f p die die')
@@ -328,6 +373,15 @@ module _ (g : Graph) (new block at : ℕ) (rules : IsGraph g) (fresh : IsNew g n
 
     in_two : AreOf SC own (ItemGoes SC own) two
     in_two item c = each item (drop_in x.items at item c)
+
+    -- the second half behind the new name, and both
+    second : (b : Bool) → Alike SC b None (map line_of two ++ ending) (Name new ∷ (map line_of two ++ ending))
+    second b = name_after (keep b two ending ending in_two (ended_same b))
+
+    lines : (b : Bool) → Alike SC b None (body_lines x (lines_of back)) (halved new at x (lines_of back))
+    lines b =
+        subst (λ xs. Alike SC b None xs (halved new at x (lines_of back))) (sym (map_parts x.items at ending))
+        (keep b one (map line_of two ++ ending) (Name new ∷ (map line_of two ++ ending)) in_one (second b))
 
     lower_in : (items : List Item) (m : ℕ) → ((item : Item) → Contains items item → Contains x.items item) → Contains (flat_map lower_names items) m → Contains (code_targets g) m
     lower_in items m inside c = let o = flat_from lower_names items m c in block_target g x m in_it (flat_contains lower_names x.items o.0 m (inside o.0 o.1.0) o.1.1)
@@ -342,22 +396,26 @@ module _ (g : Graph) (new block at : ℕ) (rules : IsGraph g) (fresh : IsNew g n
     parts_die : Backs SC own → LinksDieIn g (body_lines x (lines_of back)) → LinksDieIn sh (lines_of back) → LinksDieIn sh (map line_of one ++ (Name new ∷ (map line_of two ++ ending)))
     parts_die backs die die' =
         let in_both : LinksDieIn g (map line_of one ++ (map line_of two ++ ending)) = subst (λ lines. LinksDieIn g lines) (map_parts x.items at ending) die in
-        let two_dies = own_die two ending ending backs in_two ended_same (items_rest g one (map line_of two ++ ending) in_both) (term_dies sh x.term (lines_of back) die') in
-        own_die one (map line_of two ++ ending) (Name new ∷ (map line_of two ++ ending)) backs in_one (name_after (keep two ending ending in_two ended_same)) in_both two_dies
+        let two_dies = own_die two ending ending backs in_two (ended_same true) (items_rest g one (map line_of two ++ ending) in_both) (term_dies sh x.term (lines_of back) die') in
+        own_die one (map line_of two ++ ending) (Name new ∷ (map line_of two ++ ending)) backs in_one (second true) in_both two_dies
 
     split_turn : Turn SC own N true true (x ∷ []) parts back back
     split_turn = record {
       lines = λ b i p. name_before (name_after (lines b));
       behind = λ m k p q.
-          choose (x.name == m) (body_lines x (lines_of back)) (behind_name m (body_lines x (lines_of back))) (halved g new block at rules fresh x (lines_of back)) (behind_name m (halved g new block at rules fresh x (lines_of back))) (lines false)
-          (subst (λ xs. Alike SC false None xs (behind_name m (halved g new block at rules fresh x (lines_of back)))) (sym (body_unnamed m x (lines_of back)))
-          (subst (λ ys. Alike SC false None (behind_name m (lines_of back)) ys) (sym ((turned g new block at rules fresh).through m x back k)) q));
+          choose (x.name == m) (body_lines x (lines_of back)) (behind_name m (body_lines x (lines_of back))) (halved new at x (lines_of back)) (behind_name m (halved new at x (lines_of back))) (lines false)
+          (subst (λ xs. Alike SC false None xs (behind_name m (halved new at x (lines_of back)))) (sym (body_unnamed m x (lines_of back)))
+          (subst (λ ys. Alike SC false None (behind_name m (lines_of back)) ys) (sym (halves_through new at m x (lines_of back) k)) q));
       lowers = λ m c. let d = held_in m c in (m, (refl, (target_old m d, d)));
       slots = λ m c. one_slot (links x.term) m (first_name back) (link_names back) c (λ l d. let t = slot_targets g front x back e l m d in (m, (refl, (target_old m t, t))));
       dies = λ backs p die die'. parts_die backs die die';
     }
 
-    pub split_at_sound : sh.blocks ≡ front ++ (parts ++ back) → IsSound g → IsSound sh
+    split_at_follows : sh.blocks ≡ front ++ (parts ++ back) → Follows g sh
+    split_at_follows after =
+        placed_follows N all_matter (Unit {0}) g sh rules used_old refl refl target_old (x ∷ []) parts back refl split_turn front e after refl (every_carrier g)
+
+    split_at_sound : sh.blocks ≡ front ++ (parts ++ back) → IsSound g → IsSound sh
     split_at_sound after sound =
         placed_sound N all_matter (Unit {0}) g sh rules used_old refl refl target_old (x ∷ []) parts back refl split_turn front e after refl (every_carrier g) (λ xs r l. tt) tt sound
 
@@ -366,12 +424,21 @@ no_block : (f : Block → List Block) (bs : List Block) (name : ℕ) → value_o
 no_block f [] name e = refl
 no_block f (b ∷ bs) name e = let o = other_name (b.name == name) b (value_of (named bs) name) e in rw o.0 (ap (λ cs. b ∷ cs) (no_block f bs name o.1))
 
-split_by : (g : Graph) (new block at : ℕ) → IsGraph g → IsNew g new → (o : Option Block) → value_of (named g.blocks) block ≡ o → IsSound g → IsSound (split_at g new block at)
-split_by g new block at rules fresh None e sound =
-    subst (λ bs. IsSound (record g { blocks = bs })) (sym (no_block (halves new at) g.blocks block e)) sound
-split_by g new block at rules fresh (Some b) e sound =
+split_by : (g : Graph) (new block at : ℕ) → IsGraph g → IsNew g new → (o : Option Block) → value_of (named g.blocks) block ≡ o → Follows g (split_at g new block at) × (IsSound g → IsSound (split_at g new block at))
+split_by g new block at rules fresh None e =
+    let same : g.blocks ≡ with_blocks (halves new at) g.blocks block = sym (no_block (halves new at) g.blocks block e) in (
+      subst (λ bs. Follows g (record g { blocks = bs })) same (graph_follows_itself g),
+      λ sound. subst (λ bs. IsSound (record g { blocks = bs })) same sound,
+    )
+split_by g new block at rules fresh (Some b) e =
     let spot : IsAt g.blocks block = located g.blocks block (subst IsSome (sym e) refl) in
-    split_at_sound g new block at rules fresh spot.block spot.front spot.back (sym spot.whole) spot.has_name (with_blocks-at (halves new at) g.blocks block spot) sound
+    let after = with_blocks-at (halves new at) g.blocks block spot in (
+      split_at_follows g new block at rules fresh spot.block spot.front spot.back (sym spot.whole) spot.has_name after,
+      λ sound. split_at_sound g new block at rules fresh spot.block spot.front spot.back (sym spot.whole) spot.has_name after sound,
+    )
+
+pub split_follows : (g : Graph) (new block at : ℕ) → IsGraph g → IsNew g new → Follows g (split_at g new block at)
+split_follows g new block at rules fresh = (split_by g new block at rules fresh (value_of (named g.blocks) block) refl).0
 
 pub split_sound : (g : Graph) (new block at : ℕ) → IsGraph g → IsNew g new → IsSound g → IsSound (split_at g new block at)
-split_sound g new block at rules fresh sound = split_by g new block at rules fresh (value_of (named g.blocks) block) refl sound
+split_sound g new block at rules fresh sound = (split_by g new block at rules fresh (value_of (named g.blocks) block) refl).1 sound
