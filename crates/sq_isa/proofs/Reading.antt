@@ -123,21 +123,21 @@ module _ (w : ℕ) (i : Insn) where
 
   operation_codes_is : (op : RegOp) → operation_of w ≡ Some op → (funct3 w ≡ (operation_codes op).1) × (funct7 w ≡ (operation_codes op).0)
   operation_codes_is op h =
-      let Row : ℕ → ℕ → RegOp → Type 0 = λ upper code o. (code ≡ (operation_codes o).1) × (upper ≡ (operation_codes o).0) in
-      let found : Type 0 = Row (funct7 w) (funct3 w) op in
+      let Coded : ℕ → ℕ → RegOp → Type 0 = λ upper code o. (code ≡ (operation_codes o).1) × (upper ≡ (operation_codes o).0) in
+      let found : Type 0 = Coded (funct7 w) (funct3 w) op in
       by_test (funct7 w == 0b0000000) (coded_by operations (funct3 w))
       (cond (funct7 w == 0b0100000) (coded_by alternate_operations (funct3 w)) (cond (funct7 w == 0b0000001) (coded_by multiplications (funct3 w)) None)) op found
-      (λ t f. subst (λ k. Row k (funct3 w) op) (sym (eqb-true (funct7 w) 0 t))
-      (by_row (Row 0) operations (funct3 w) op
+      (λ t f. subst (λ k. Coded k (funct3 w) op) (sym (eqb-true (funct7 w) 0 t))
+      (by_row (Coded 0) operations (funct3 w) op
       ((refl, refl), ((refl, refl), ((refl, refl), ((refl, refl), ((refl, refl), ((refl, refl), ((refl, refl), ((refl, refl), tt)))))))) f))
       (λ _ g.
       by_test (funct7 w == 0b0100000) (coded_by alternate_operations (funct3 w)) (cond (funct7 w == 0b0000001) (coded_by multiplications (funct3 w)) None) op found
-      (λ t f. subst (λ k. Row k (funct3 w) op) (sym (eqb-true (funct7 w) 32 t))
-      (by_row (Row 32) alternate_operations (funct3 w) op ((refl, refl), ((refl, refl), tt)) f))
+      (λ t f. subst (λ k. Coded k (funct3 w) op) (sym (eqb-true (funct7 w) 32 t))
+      (by_row (Coded 32) alternate_operations (funct3 w) op ((refl, refl), ((refl, refl), tt)) f))
       (λ _ k.
       by_test (funct7 w == 0b0000001) (coded_by multiplications (funct3 w)) None op found
-      (λ t f. subst (λ k. Row k (funct3 w) op) (sym (eqb-true (funct7 w) 1 t))
-      (by_row (Row 1) multiplications (funct3 w) op
+      (λ t f. subst (λ k. Coded k (funct3 w) op) (sym (eqb-true (funct7 w) 1 t))
+      (by_row (Coded 1) multiplications (funct3 w) op
       ((refl, refl), ((refl, refl), ((refl, refl), ((refl, refl), ((refl, refl), ((refl, refl), ((refl, refl), ((refl, refl), tt)))))))) f))
       (λ _ f. none_is_none found op f)
       k)
