@@ -11,3 +11,8 @@ pub mod Gathered
 pub mod Entered
 pub mod NoteBodies
 pub mod NoteRefusals
+pub mod Raising
+pub mod Numbering
+pub mod Cutting
+pub mod Assembling
+pub mod CutBodies

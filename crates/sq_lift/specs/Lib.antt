@@ -5,3 +5,6 @@ pub mod Refused
 pub mod Read
 pub mod NoteReading
 pub mod Entrances
+pub mod Raised
+pub mod Forms
+pub mod Cuts

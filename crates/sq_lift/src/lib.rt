@@ -2,9 +2,12 @@
 //!
 //! To the layers above it promises that the text of a file is read as the definitions of programs say, that
 //! the reached words are exactly those to which the entry and the code words lead, and that a file is
-//! refused by its text exactly where one of them has a fault.
+//! refused by its text exactly where one of them has a fault. The parts that it cuts a program into are those of
+//! the graph that the definitions of programs read off, but for the names of blocks: a block's address has become its
+//! position.
 #![tactic(auto)]
 
+mod cut;
 mod entrances;
 mod faults;
 mod leads;
@@ -17,6 +20,7 @@ mod search;
 mod text;
 mod word_set;
 
+pub use cut::parts::{GraphParts, parts_of};
 pub use faults::text_fault;
 pub use notes::{Note, notes_of};
 pub use procedures::bad_note;

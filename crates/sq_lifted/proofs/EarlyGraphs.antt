@@ -27,9 +27,9 @@ use Rattle.sq_program.specs.FilePrograms.{text_of, early_refusal, IsProgramOf, I
 use Rattle.sq_lift.specs.Flags.{Flags, is_flagged}
 use Rattle.sq_lift.specs.Refused.{IsReadNoted}
 use Rattle.sq_lift.proofs.FilePrograms.{program_with, is_program, one_program}
-use Rattle.sq_cut.specs.Cuts.{position_in, starts}
-use Rattle.sq_cut.proofs.Numbering.{AreNumbered, starts_numbered}
-use Rattle.sq_cut.proofs.Cutting.{names_are}
+use Rattle.sq_lift.specs.Cuts.{position_in, starts}
+use Rattle.sq_lift.proofs.Numbering.{AreNumbered, starts_numbered}
+use Rattle.sq_lift.proofs.Cutting.{names_are}
 use Rattle.sq_lifting.specs.Lifting.{IsReadable}
 use Rattle.sq_lifted.specs.Files.{IsLinkedProgram}
 use Rattle.sq_lifted.specs.LiftedFiles.{room_for}

@@ -19,8 +19,8 @@ use Rattle.sq_graph.specs.Rules.{IsGraph}
 use Rattle.sq_graph.specs.Renames.{retargeted_item, retargeted_items, retargeted_term, retargeted_words, retargeted_procedure, renamed_block, renamed}
 use Rattle.sq_graph.proofs.RetargetRules.{other_rules}
 use Rattle.sq_graph.specs.Alike.{IsOneToOne, AreAlike}
-use Rattle.sq_cut.specs.Cuts.{number_in, position_in}
-use Rattle.sq_cut.proofs.Numbering.{AreNumbered}
+use Rattle.sq_lift.specs.Cuts.{number_in, position_in}
+use Rattle.sq_lift.proofs.Numbering.{AreNumbered}
 
 -- POSITIONS
 

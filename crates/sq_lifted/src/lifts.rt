@@ -12,10 +12,9 @@ ghost use Rattle.sq_lift.specs.Refused.{IsReadNoted};
 ghost use Rattle.sq_lifted.specs.LiftedFiles.{IsLiftedFile, IsRefusedFile, room_for};
 
 use crate::live_links::first_live;
-use sq_cut::parts_of;
 use sq_elf::Elf;
 use sq_graph::{Graph, Room};
-use sq_lift::{NotedProgram, Text, read_noted};
+use sq_lift::{NotedProgram, Text, parts_of, read_noted};
 use sq_num::{Denied, Memory, Refusal};
 use sq_reloc::Relocs;
 use std::alloc::Global;

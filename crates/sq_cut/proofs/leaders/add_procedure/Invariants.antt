@@ -1,6 +1,0 @@
-use Rattle.std.proofs.Common.{◌-◌}
-use Rattle.sq_cut.proofs.Raising.{Completes}
-use Rattle.sq_cut.proofs.leaders.add_procedure.Given as goal
-
-abbrev pub invariant-loop-index : goal.invariant-loop-index
-invariant-loop-index l = Completes l.fn.set l.set l.note l.at (l.note.length - l._index)

@@ -1,7 +1,0 @@
-use Rattle.std.proofs.Common.{◌≡◌, ℕ, drop, nat_eq}
-use Rattle.std.specs.HashMap.{get}
-use Rattle.sq_cut.specs.Cuts.{note_number_in}
-use Rattle.sq_cut.proofs.procedures.numbers.Given as goal
-
-abbrev pub invariant-loop-k : goal.invariant-loop-k
-invariant-loop-k l = (x : ℕ) → get nat_eq l.numbers x ≡ note_number_in (drop l.k l.notes) l.k x

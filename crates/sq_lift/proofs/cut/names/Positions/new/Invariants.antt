@@ -1,0 +1,7 @@
+use Rattle.std.proofs.Common.{◌≡◌, ℕ, drop, nat_eq}
+use Rattle.std.specs.HashMap.{get}
+use Rattle.sq_lift.specs.Cuts.{number_in}
+use Rattle.sq_lift.proofs.cut.names.Positions.new.Given as goal
+
+abbrev pub invariant-loop-k : goal.invariant-loop-k
+invariant-loop-k l = (x : ℕ) → get nat_eq l.numbers x ≡ number_in (drop l.k l.starts) l.k x

@@ -1,0 +1,67 @@
+//! Items and terms that words are read as.
+
+ghost use Rattle.std.specs.Prelude.{◌≡◌, option_to_list};
+ghost use Rattle.sq_lift.specs.Read.{seen};
+ghost use Rattle.sq_graph.specs.Terms.{goes_on};
+ghost use Rattle.sq_graph.specs.Uses.{item_uses, term_uses};
+ghost use Rattle.sq_program.specs.Lifted.{form_of};
+ghost use Rattle.sq_lift.specs.Forms.{shaped};
+
+use crate::cut::procedures::Procedures;
+use sq_graph::{Item, Term};
+use crate::Reading;
+
+/// An item, or a term. Names are addresses.
+#[derive(Clone, Copy, Debug)]
+pub(crate) enum Form {
+    Item(Item),
+    Term(Term),
+}
+
+/// What a reading is: a `jal` with a link is an Out where its target is noted, else a Call.
+pub(crate) fn form_of(procedures: &Procedures, reading: Reading) -> Form
+    ensures { shaped result ≡ form_of procedures.now (seen reading) }
+{
+    match reading {
+        Reading::Item(item) => Form::Item(item),
+        Reading::Term(term) => Form::Term(term),
+        Reading::Links { link, to } => match procedures.number(to) {
+            Some(procedure) => Form::Item(Item::Out { procedure }),
+            None => Form::Term(Term::Call { link, to }),
+        },
+    }
+}
+
+/// The block whose address an item holds a half of.
+pub(crate) fn item_target(item: &Item) -> Option<u32>
+    ensures { option_to_list result ≡ item_uses item.now }
+{
+    match *item {
+        Item::Hi { to, .. } | Item::Lo { to, .. } => Some(to),
+        Item::Op(_) | Item::Out { .. } => None,
+    }
+}
+
+/// The block that a term names.
+pub(crate) fn term_target(term: &Term) -> Option<u32>
+    ensures { option_to_list result ≡ term_uses term.now }
+{
+    match *term {
+        Term::Jump { to }
+        | Term::Branch { to, .. }
+        | Term::Call { to, .. }
+        | Term::PartJump { to, .. } => Some(to),
+        Term::Fall | Term::Indirect { .. } | Term::Stop { .. } => None,
+    }
+}
+
+/// Whether a term goes on to its next slot: at once, or when what it calls returns.
+pub(crate) fn goes_on(term: &Term) -> bool
+    ensures { result ≡ goes_on term.now }
+{
+    match *term {
+        Term::Fall | Term::Branch { .. } | Term::Call { .. } => true,
+        Term::PartJump { link, .. } | Term::Indirect { link, .. } => link.number() != 0,
+        Term::Jump { .. } | Term::Stop { .. } => false,
+    }
+}
