@@ -52,7 +52,7 @@ same_parts bytes g lo entry set before behind text spelled entries note start is
 
 -- Sizes
 
-length_set : (set : ℕ → Option ℕ) (x : ℕ) (bs : List ℕ) → length (with_words set x bs) ≡ length bs
+pub length_set : (set : ℕ → Option ℕ) (x : ℕ) (bs : List ℕ) → length (with_words set x bs) ≡ length bs
 length_set set x [] = refl
 length_set set x (b ∷ bs) = ap suc (length_set set (x + 1) bs)
 
