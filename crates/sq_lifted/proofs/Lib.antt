@@ -17,3 +17,7 @@ pub mod RenamedLives
 pub mod Dying
 pub mod Alive
 pub mod LiftedFiles
+pub mod FilePieces
+pub mod SameFiles
+pub mod Accepting
+pub mod GoodGraphs
