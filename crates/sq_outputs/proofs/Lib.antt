@@ -1,0 +1,16 @@
+pub mod Parts
+pub mod Laid
+pub mod Standing
+pub mod Headers
+pub mod Lists
+pub mod Segments
+pub mod Sections
+pub mod Pairs
+pub mod Apart
+pub mod Sound
+pub mod Cut
+pub mod Ordered
+pub mod Sizes
+pub mod Texts
+pub mod Writing
+pub mod Accepting
