@@ -105,7 +105,7 @@ stop_fits : (word : ℕ) → OffsetFits (stop_insn word)
 stop_fits word = elim (cases_Bool (word == 0x00100073)) [ inl same ↦ rw same tt | inr apart ↦ rw apart tt ]
 
 module _ (g : Graph) (lo : ℕ) (rules : IsGraph g) (few : words_of g ≤ 262144) where
-  new_spot : (n : ℕ) → HasBlock g n → (a : ℕ) × (block_address g 0 n ≡ Some a) × (new_address g lo n ≡ lo + a) × Spot (words_of g) a
+  pub new_spot : (n : ℕ) → HasBlock g n → (a : ℕ) × (block_address g 0 n ≡ Some a) × (new_address g lo n ≡ lo + a) × Spot (words_of g) a
   new_spot n there =
       let found = block_spot g.blocks 0 0 n refl rules.ends there in
       let shift : block_address g lo n ≡ option_map (λ a. lo + a) (block_address g 0 n) = shifted lo g.blocks 0 lo n (omega arith) in
