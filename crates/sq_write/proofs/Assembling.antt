@@ -52,11 +52,11 @@ same_parts bytes g lo entry set before behind text spelled entries note start is
 
 -- Sizes
 
-length_set : (set : ℕ → Option ℕ) (x : ℕ) (bs : List ℕ) → length (with_words set x bs) ≡ length bs
+pub length_set : (set : ℕ → Option ℕ) (x : ℕ) (bs : List ℕ) → length (with_words set x bs) ≡ length bs
 length_set set x [] = refl
 length_set set x (b ∷ bs) = ap suc (length_set set (x + 1) bs)
 
-stored_bytes : (bytes : List ℕ) (s : Segment) → length (file_bytes_of bytes s) ≤ s.filesz
+pub stored_bytes : (bytes : List ℕ) (s : Segment) → length (file_bytes_of bytes s) ≤ s.filesz
 unfolding bytes_at
 stored_bytes bytes s = by_test (cases_Bool (leaves bytes s.offset s.filesz))
   where

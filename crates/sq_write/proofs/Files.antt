@@ -32,7 +32,7 @@ laid_out old mid aligned new parts part contents gaps last =
     ∙ ap (λ k. old ++ (layout (length old) parts ++ (replicate (gap k) 0 ++ part))) e
     ∙ ap (λ xs. old ++ xs) (sym (layout_push (length old) parts part))
 
-length_headers : (offset : ℕ) (pieces : List Piece) → length (piece_headers offset pieces) ≡ 32 * length pieces
+pub length_headers : (offset : ℕ) (pieces : List Piece) → length (piece_headers offset pieces) ≡ 32 * length pieces
 length_headers offset [] = refl
 length_headers offset (p ∷ pieces) =
     omega (arith, length-append (piece_header offset p) (piece_headers (offset + length p.bytes) pieces), length_headers (offset + length p.bytes) pieces)
