@@ -5,3 +5,11 @@ pub mod Headers
 pub mod Lists
 pub mod Segments
 pub mod Sections
+pub mod Pairs
+pub mod Apart
+pub mod Sound
+pub mod Cut
+pub mod Ordered
+pub mod Sizes
+pub mod Texts
+pub mod Writing

@@ -9,7 +9,8 @@ use Rattle.sq_elf.specs.Memory.{segments_of, file_bytes_of, MemoryPiece, image_o
 use Rattle.sq_elf.specs.Reading.{contents_of as section_contents}
 use Rattle.sq_elf.specs.Refusing.{identification}
 use Rattle.sq_elf.specs.Sizes.{loaded_of}
-use Rattle.sq_write.specs.Output.{words, Piece, Output, pieces_of, pieces_at, piece_bytes, loaded_size, contents_at, contents_of, offsets, end_of, Section, sections_of, output_file}
+use Rattle.sq_elf.specs.Text.{text_of}
+use Rattle.sq_write.specs.Output.{words, Piece, Output, pieces_of, pieces_at, piece_bytes, loaded_size, text_size, contents_at, contents_of, offsets, end_of, Section, sections_of, output_file}
 use Rattle.sq_outputs.specs.Fitting.{IsFitting}
 
 -- the file header of an output: its entry, a program header for each piece behind 52 bytes, and seven section headers
@@ -112,3 +113,7 @@ SectionsAreRead =
     (o : Output) → IsFitting o → (k : ℕ) (s : Section) (part : List ℕ) → slice_get (output_sections o) k ≡ Some s
     → slice_get (section_parts o) k ≡ Some part
     → (section_of (output_file o) k ≡ seen s) × (section_contents (output_file o) k ≡ Some part)
+
+-- The text of an output file is that of its text piece.
+abbrev pub TextIsRead : Type 0
+TextIsRead = (o : Output) → IsFitting o → text_of (output_file o) ≡ record { lo = o.start; hi = o.start + text_size o }

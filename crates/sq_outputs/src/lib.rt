@@ -1,10 +1,12 @@
 //! Files that are written, as the reader of files finds them.
 //!
 //! To the layers above it promises what is read in an output file whose numbers fit its fields: its header, a segment
-//! for each piece with the piece's bytes, and seven sections with theirs.
+//! for each piece with the piece's bytes, seven sections with theirs, and its text. Of the file of a graph it promises
+//! that its numbers fit, what its text, its entry and its size are, and where its pieces stand.
 #![tactic(auto)]
 
-ghost use Rattle.sq_outputs.specs.Reading.{HeadersAreRead, ProgramHeadersAreRead, SegmentsAreRead, SectionsAreRead};
+ghost use Rattle.sq_outputs.specs.Reading.{HeadersAreRead, ProgramHeadersAreRead, SegmentsAreRead, SectionsAreRead, TextIsRead};
+ghost use Rattle.sq_outputs.specs.Writing.{WrittenFits, WrittenSizes, PiecesArePlaced};
 
 /// The file header of an output file is read as that of the output, and the section headers end the file.
 pub fn headers_are_read()
@@ -24,4 +26,25 @@ pub fn segments_are_read()
 /// Each section of an output file is read as it was written, with its bytes.
 pub fn sections_are_read()
     ensures { SectionsAreRead }
+{}
+
+/// The text of an output file is that of its text piece.
+pub fn text_is_read()
+    ensures { TextIsRead }
+{}
+
+/// The output of a graph fits the fields of the file.
+pub fn written_fits()
+    ensures { WrittenFits }
+{}
+
+/// The file of a graph has text where the other had it, of the graph's words, and runs from the entry block's address.
+/// Its loaded bytes are those of the other, with the graph's words in place of text.
+pub fn written_sizes()
+    ensures { WrittenSizes }
+{}
+
+/// The pieces around the text of a written file are parts of the other file's segments; they ascend, and no two meet.
+pub fn pieces_are_placed()
+    ensures { PiecesArePlaced }
 {}

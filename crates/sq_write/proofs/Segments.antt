@@ -18,7 +18,7 @@ use Rattle.sq_write.specs.Pieces.{insert_segment, by_address}
 
 -- Lists of segments that ascend by address
 
-abbrev IsSorted : List Segment → Type 0
+abbrev pub IsSorted : List Segment → Type 0
 IsSorted [] = Unit {0}
 IsSorted (s ∷ ss) = AllByRecursion (λ t. s.address ≤ t.address) ss × IsSorted ss
 
@@ -156,7 +156,7 @@ insert_sorted s (t ∷ ts) sorted = by_test (insert_sorted s ts sorted.1) (cases
         rw e ((low, at_least_all s.address t.address ts low sorted.0), sorted)
     by_test more (inr e) = rw e (insert_above t.address s ts (above_first e) sorted.0, more)
 
-by_address_sorted : (ss : List Segment) → IsSorted (by_address ss)
+pub by_address_sorted : (ss : List Segment) → IsSorted (by_address ss)
 by_address_sorted [] = tt
 by_address_sorted (s ∷ ss) = insert_sorted s (by_address ss) (by_address_sorted ss)
 
