@@ -1,8 +1,8 @@
 -- The cells of a file's world erase to the bytes that are written, where code words hold the new addresses.
-use Rattle.std.proofs.Common.{◌≡◌, ◌≢◌, ◌⊎◌, inl, inr, ℕ, zero, suc, ◌+◌, ◌-◌, ◌*◌, ◌%◌, ◌^◌, ◌<◌, ◌≤◌, nat_eq, nat_le, nat_lt, max, Bool, true, false, ◌==◌, ◌&&◌, ◌||◌, List, [], ◌∷◌, ◌++◌, length, map, replicate, Option, Some, None, slice_get, slice_index, if◌then◌else◌, refl, sym, ap, ◌∙◌, subst, arith}
+use Rattle.std.proofs.Common.{◌≡◌, ◌≢◌, inl, inr, ℕ, zero, suc, ◌+◌, ◌%◌, ◌^◌, ◌<◌, ◌≤◌, nat_eq, nat_le, nat_lt, max, Bool, true, false, ◌==◌, ◌&&◌, ◌||◌, List, [], ◌∷◌, ◌++◌, length, map, Option, Some, None, slice_get, slice_index, if◌then◌else◌, refl, sym, ap, ◌∙◌, subst, arith}
 use Rattle.std.specs.Option.{option_map}
 use Rattle.std.specs.List.{All, AllByRecursion, find, flat_map}
-use Rattle.std.proofs.lemmas.Bool.{eqb-true, eqb-false, cases_lt, cases_eq}
+use Rattle.std.proofs.lemmas.Bool.{cases_lt, cases_eq}
 use Rattle.std.proofs.lemmas.Bool.Decides.{nat_tests}
 use Rattle.std.proofs.lemmas.List.{map-append}
 use Rattle.std.proofs.lemmas.List.Elements.{All-head, All-tail}
@@ -13,12 +13,13 @@ use Rattle.sq_elf.specs.declared.segment.Segment.{Segment}
 use Rattle.sq_elf.specs.Headers.{phnum_of, is_load, segment_of}
 use Rattle.sq_elf.specs.Segments.{copy_size, is_misshapen, is_bad_segment}
 use Rattle.sq_elf.specs.Memory.{MemoryPiece, has_memory, file_bytes_of, segments_of, own_piece, copy_piece, image_of, segment_pieces as image_pieces}
+use Rattle.sq_elf.specs.Memory as pieces
 use Rattle.sq_elf.specs.Reading.{has_word, word_in, word_of}
-use Rattle.sq_elf.specs.Refusing.{bad_segment, segment_kind, segment_overlap, file_refusal_of}
+use Rattle.sq_elf.specs.Refusing.{bad_segment, segment_kind, segment_overlap}
 use Rattle.sq_elf.specs.Text.{text_of as text_range, text_segment_of}
 use Rattle.sq_elf.proofs.Accepted.{segments_accepted}
 use Rattle.sq_elf.proofs.Apart.{pieces_are_apart}
-use Rattle.sq_elf.proofs.Passing.{IsFirst, found_from, row_passes, behind_row}
+use Rattle.sq_elf.proofs.Passing.{IsFirst, found_from, row_passes}
 use Rattle.sq_elf.proofs.TextFacts.{both_true, neither, second_false, TextFacts, text_facts}
 use Rattle.sq_reloc.specs.declared.mark.CodeWord.{CodeWord}
 use Rattle.sq_reloc.specs.Outside.{is_stale, word_start}
@@ -30,7 +31,7 @@ use Rattle.sq_graph.specs.Blocks.{HasBlock, HasProcedure}
 use Rattle.sq_graph.specs.Walks.{word_name}
 use Rattle.sq_graph.proofs.RulesByBlock.{by_block}
 use Rattle.sq_follow.specs.Values.{Cell}
-use Rattle.sq_follow.specs.Worlds.{Given, StaleByte, word_cell, start_cell, piece_region}
+use Rattle.sq_follow.specs.Worlds.{Given, StaleByte, start_cell, piece_region}
 use Rattle.sq_follow.specs.Follows.{word_address}
 use Rattle.sq_erasure.specs.Erasure.{Erasing, IsErasedCell}
 use Rattle.sq_program.specs.Programs.{Program}
@@ -39,7 +40,7 @@ use Rattle.sq_program.specs.FileRuns.{code_word_number, byte_of_word, stale_or, 
 use Rattle.sq_files.proofs.FileBytes.{bytes_length, whole}
 use Rattle.sq_files.proofs.FileRegions.{IsAt, alone, no_copy, loaded}
 use Rattle.sq_files.proofs.FileImages.{image_is, all_segments}
-use Rattle.sq_files.proofs.TextSegment.{has_text, unmoved}
+use Rattle.sq_files.proofs.TextSegment.{unmoved}
 use Rattle.sq_write.specs.Points.{new_address}
 use Rattle.sq_write.specs.Pieces.{set_word_at, set_byte}
 use Rattle.sq_write.proofs.SegmentFacts.{shaped_at}
@@ -351,4 +352,4 @@ module _ (bytes : List ℕ) (is : ℕ → Bool) (p : Program) (g : Graph) (read 
   pub apart : AreApart (flat_map regions (segments_of bytes))
   apart =
       regions_apart (flat_map (image_pieces bytes) (segments_of bytes)) (flat_map regions (segments_of bytes)) (parallel (segments_of bytes) kept)
-      (subst Rattle.sq_elf.specs.Memory.AreApart (image_is bytes) (pieces_are_apart bytes read.file))
+      (subst pieces.AreApart (image_is bytes) (pieces_are_apart bytes read.file))

@@ -1,10 +1,10 @@
 -- The memory of a file and of what is written of it agree around text.
-use Rattle.std.proofs.Common.{◌≡◌, ◌⊎◌, inl, inr, ℕ, ◌+◌, ◌<◌, ◌≤◌, true, List, [], ◌∷◌, ◌++◌, map, filter, Option, Some, None, refl, ap, ◌∙◌}
+use Rattle.std.proofs.Common.{◌≡◌, ◌⊎◌, inl, inr, ℕ, ◌<◌, ◌≤◌, List, [], ◌∷◌, ◌++◌, map, filter, Option, Some, None, refl, ap, ◌∙◌}
 use Rattle.std.specs.List.{AllByRecursion, flat_map}
 use Rattle.std.proofs.lemmas.List.{map-append}
 use Rattle.std.proofs.lemmas.List.Concat.{flat_map-append}
 use Rattle.sq_elf.specs.declared.segment.Segment.{Segment}
-use Rattle.sq_elf.specs.Memory.{MemoryPiece, segments_of}
+use Rattle.sq_elf.specs.Memory.{segments_of}
 use Rattle.sq_elf.specs.Text.{text_of}
 use Rattle.sq_write.specs.Output.{Piece}
 use Rattle.sq_memory.specs.Cells.{Agree}
@@ -12,10 +12,10 @@ use Rattle.sq_memory.specs.Regions.{Region, region_cell, or_else, get}
 use Rattle.sq_files.proofs.FileRegions.{get_append}
 use Rattle.sq_write.specs.Pieces.{by_address, part_before, part_behind, is_some_piece, pieces_before, pieces_behind}
 use Rattle.sq_outputs.specs.Reading.{piece_image}
-use Rattle.sq_writing.proofs.Somewhere.{Somewhere, front_of, back_of, either_of, one_filtered, to_filtered, some_changed, one_mapped, to_mapped, one_flat, to_flat, one_ordered, to_ordered, AreApart, HasCell, one_has, agree_by}
-use Rattle.sq_writing.proofs.Parts.{plain_region, Has, IsKept, segment_regions, before_found, behind_found, written_around, before_alone, behind_alone}
+use Rattle.sq_writing.proofs.Somewhere.{Somewhere, none_of, front_of, back_of, either_of, one_filtered, to_filtered, some_changed, one_mapped, to_mapped, one_flat, to_flat, one_ordered, to_ordered, AreApart, HasCell, one_has, agree_by}
+use Rattle.sq_writing.proofs.Parts.{plain_region, Has, IsKept, segment_regions, before_found, behind_found, written_around, before_alone}
 
-any_all : {X : Type 0} (xs : List X) → AllByRecursion (λ x. Unit {0}) xs
+pub any_all : {X : Type 0} (xs : List X) → AllByRecursion (λ x. Unit {0}) xs
 any_all [] = tt
 any_all (x ∷ xs) = (tt, any_all xs)
 
@@ -102,11 +102,6 @@ module _ {C : Type 0} (R : C → ℕ → Type 0) (cell : ℕ → ℕ → C) (byt
       agree_by R (flat_map regions ss) (map plain_region (flat_map piece_image (pieces_before bytes set ++ text ∷ pieces_behind bytes set))) x apart (λ d h. sound text x d (away d) h) (λ c h. complete text x c out h)
 
   -- IN TEXT
-
-  none_of : {X : Type 0} (P : X → Type 0) (xs : List X) → ((x : X) → P x → ⊥) → Somewhere P xs → ⊥
-  none_of P [] f h = h
-  none_of P (x ∷ xs) f (inl h) = f x h
-  none_of P (x ∷ xs) f (inr h) = none_of P xs f h
 
   none_there : (x : ℕ) (qs : List (Region ℕ)) → ((d : ℕ) → Somewhere (HasCell x d) qs → ⊥) → get qs x ≡ None
   none_there x qs f = go (get qs x) refl

@@ -6,3 +6,5 @@ pub mod Parts
 pub mod Images
 pub mod Permissions
 pub mod FileCells
+pub mod PlainPieces
+pub mod FileStarts

@@ -3,7 +3,7 @@ use Rattle.std.proofs.Common.{◌≡◌, ◌≢◌, ◌⊎◌, inl, inr, ℕ, ze
 use Rattle.std.specs.Option.{option_map}
 use Rattle.std.proofs.lemmas.Bool.{cases_lt, eqb-true, eqb-false}
 use Rattle.std.proofs.lemmas.Bool.Decides.{nat_tests}
-use Rattle.std.proofs.lemmas.List.{length-take, length-drop, length-replicate, take_all}
+use Rattle.std.proofs.lemmas.List.{length-take, length-drop, length-replicate}
 use Rattle.sq_elf.specs.declared.segment.Segment.{Segment}
 use Rattle.sq_elf.specs.Segments.{copy_size}
 use Rattle.sq_elf.specs.Memory.{MemoryPiece, file_bytes_of}
@@ -84,7 +84,7 @@ some_same e = cc
 -- REGIONS
 
 module _ {C : Type 0} where
-  cell_in : (r : Region C) (x : ℕ) (c : C) → region_cell r x ≡ Some c → (r.start ≤ x) × (slice_get r.cells (x - r.start) ≡ Some c)
+  pub cell_in : (r : Region C) (x : ℕ) (c : C) → region_cell r x ≡ Some c → (r.start ≤ x) × (slice_get r.cells (x - r.start) ≡ Some c)
   cell_in r x c e = go (nat_le r.start x) refl e
     where
       go : (b : Bool) → nat_le r.start x ≡ b → (if b then slice_get r.cells (x - r.start) else None) ≡ Some c → (r.start ≤ x) × (slice_get r.cells (x - r.start) ≡ Some c)
@@ -200,12 +200,11 @@ module _ {C : Type 0} (R : C → ℕ → Type 0) (cell : ℕ → ℕ → C) (byt
             let made : ℕ = set_byte (set (word_start (s.address + (skip + j)))) ((s.address + (skip + j)) % 4) b.0 in
             let byte : slice_get (take size (drop skip bs)) j ≡ Some b.0 = taken_get size (drop skip bs) j (omega (arith, i, few)) ∙ dropped_get skip bs j ∙ b.1 in
             let word : slice_get (ws skip size) j ≡ Some made =
-                set_get set (s.address + skip) (take size (drop skip bs)) j ∙ ap (option_map (λ b. set_byte (set (word_start ((s.address + skip) + j))) (((s.address + skip) + j) % 4) b)) byte
-                ∙ ap (λ y. Some (set_byte (set (word_start y)) (y % 4) b.0)) place in
+            set_get set (s.address + skip) (take size (drop skip bs)) j ∙ ap (option_map (λ b. set_byte (set (word_start ((s.address + skip) + j))) (((s.address + skip) + j) % 4) b)) byte
+            ∙ ap (λ y. Some (set_byte (set (word_start y)) (y % 4) b.0)) place in
             let here : slice_get (take len (ws skip size) ++ replicate (len - length (ws skip size)) 0) j ≡ Some made =
-                front_get (take len (ws skip size)) (replicate (len - length (ws skip size)) 0) j (omega (arith, k, l, i, front, few)) ∙ taken_get len (ws skip size) j i ∙ word in
-            let same : made ≡ d = some_same (sym here ∙ e) in
-            (
+            front_get (take len (ws skip size)) (replicate (len - length (ws skip size)) 0) j (omega (arith, k, l, i, front, few)) ∙ taken_get len (ws skip size) j i ∙ word in
+            let same : made ≡ d = some_same (sym here ∙ e) in (
               cell (s.address + (skip + j)) b.0,
               tagged_get cell s.address (filled n bs) (skip + j) ∙ ap (option_map (cell (s.address + (skip + j)))) (front_get bs (replicate (n - length bs) 0) (skip + j) (omega (arith, stored, front)) ∙ b.1),
               subst (R (cell (s.address + (skip + j)) b.0)) same (kept.byte (skip + j) b.0 b.1),
@@ -218,10 +217,9 @@ module _ {C : Type 0} (R : C → ℕ → Type 0) (cell : ℕ → ℕ → C) (byt
             let i = inside in
             let k = taken in
             let here : slice_get (take len (ws skip size) ++ replicate (len - length (ws skip size)) 0) j ≡ Some 0 =
-                back_get (take len (ws skip size)) (replicate (len - length (ws skip size)) 0) j (omega (arith, k, l, back))
-                ∙ replicate_get (len - length (ws skip size)) (j - length (take len (ws skip size))) (omega (arith, k, l, i, back)) in
-            let same : 0 ≡ d = some_same (sym here ∙ e) in
-            (
+            back_get (take len (ws skip size)) (replicate (len - length (ws skip size)) 0) j (omega (arith, k, l, back))
+            ∙ replicate_get (len - length (ws skip size)) (j - length (take len (ws skip size))) (omega (arith, k, l, i, back)) in
+            let same : 0 ≡ d = some_same (sym here ∙ e) in (
               cell (s.address + (skip + j)) 0,
               tagged_get cell s.address (filled n bs) (skip + j) ∙ ap (option_map (cell (s.address + (skip + j)))) (filled_zero n bs (skip + j) (omega (arith, stored, back)) (omega (arith, i, room))),
               subst (R (cell (s.address + (skip + j)) 0)) same (kept.nought (skip + j) back (omega (arith, i, room, most))),
@@ -360,7 +358,7 @@ module _ {C : Type 0} (R : C → ℕ → Type 0) (cell : ℕ → ℕ → C) (byt
             let start : (s.load_address + 0) % 2 ^ 32 ≡ s.load_address = omega (arith, loads, low, high) in
             let taken = length-take (length (ws 0 s.memsz)) (ws 0 s.memsz) in
             let size_is : length (take (length (ws 0 s.memsz)) (ws 0 s.memsz) ++ replicate (length (ws 0 s.memsz) - length (ws 0 s.memsz)) 0) ≡ s.filesz =
-                omega (arith, taken, long, length-append (take (length (ws 0 s.memsz)) (ws 0 s.memsz)) (replicate (length (ws 0 s.memsz) - length (ws 0 s.memsz)) 0), length-replicate {A = ℕ} (length (ws 0 s.memsz) - length (ws 0 s.memsz)) 0) in
+            omega (arith, taken, long, length-append (take (length (ws 0 s.memsz)) (ws 0 s.memsz)) (replicate (length (ws 0 s.memsz) - length (ws 0 s.memsz)) 0), length-replicate {A = ℕ} (length (ws 0 s.memsz) - length (ws 0 s.memsz)) 0) in
             let region : Region ℕ = plain_region (record { address = (s.load_address + 0) % 2 ^ 32; bytes = ws 0 s.memsz; length = length (ws 0 s.memsz); flags = 4 }) in
             let there = there_get (take (length (ws 0 s.memsz)) (ws 0 s.memsz) ++ replicate (length (ws 0 s.memsz) - length (ws 0 s.memsz)) 0) (x - (s.load_address + 0) % 2 ^ 32) (omega (arith, low, high, size_is, start)) in
             let other : nat_eq ((s.load_address + 0) % 2 ^ 32) (s.address + 0) ≡ false = ne_is ((s.load_address + 0) % 2 ^ 32) (s.address + 0) (let differs = ne_of s.load_address s.address apart in λ e. differs (omega (arith, start, e))) in

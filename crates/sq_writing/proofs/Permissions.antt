@@ -1,10 +1,10 @@
 -- The permissions of a file's memory and of what is written of it are the same around text, but for PF_X.
-use Rattle.std.proofs.Common.{◌≡◌, ◌≢◌, ◌⊎◌, inl, inr, ℕ, ◌+◌, ◌-◌, ◌%◌, ◌^◌, ◌<◌, ◌≤◌, min, nat_eq, nat_lt, Bool, true, false, List, [], ◌∷◌, ◌++◌, length, map, filter, Option, if◌then◌else◌, refl, sym, ap, ◌∙◌, subst, arith}
+use Rattle.std.proofs.Common.{◌≡◌, ◌≢◌, ◌⊎◌, inl, inr, ℕ, ◌+◌, ◌-◌, ◌%◌, ◌^◌, ◌<◌, ◌≤◌, min, nat_eq, nat_lt, Bool, true, false, List, [], ◌∷◌, ◌++◌, length, map, filter, Option, if◌then◌else◌, refl, sym, ◌∙◌, subst, arith}
 use Rattle.std.specs.List.{AllByRecursion, flat_map}
 use Rattle.std.proofs.lemmas.Bool.Decides.{nat_tests}
 use Rattle.sq_elf.specs.declared.segment.Segment.{Segment}
 use Rattle.sq_elf.specs.Segments.{copy_size}
-use Rattle.sq_elf.specs.Memory.{MemoryPiece, own_piece, copy_piece, segment_pieces, segments_of}
+use Rattle.sq_elf.specs.Memory.{MemoryPiece, copy_piece, segment_pieces, segments_of}
 use Rattle.sq_elf.specs.Text.{text_of}
 use Rattle.sq_write.specs.Output.{Piece}
 use Rattle.sq_write.specs.Pieces.{by_address, without_x, part_of, part_before, part_behind, is_some_piece, pieces_before, pieces_behind}

@@ -3,7 +3,8 @@ use Rattle.std.proofs.Common.{◌≡◌, ◌⊎◌, inl, inr, ℕ, ◌+◌, ◌-
 use Rattle.std.proofs.lemmas.Bool.{and_parts, eqb-true, cases_lt}
 use Rattle.std.proofs.lemmas.Bool.Decides.{nat_tests}
 use Rattle.byteorder.specs.Endian.{little_bytes}
-use Rattle.sq_isa.specs.Words.{wrapped, unsigned}
+use Rattle.sq_isa.specs.Words.{wrapped, unsigned, upper_word}
+use Rattle.sq_isa.specs.Values.{value_of, value_imm_of}
 use Rattle.sq_isa.specs.Accesses.{store_width, is_aligned, is_reserved}
 use Rattle.sq_isa.specs.Atomics.{atomic_value_of}
 use Rattle.sq_isa.specs.declared.instructions.Insn.{Insn}
@@ -305,13 +306,13 @@ module _ (E : Erasing) (s : Setting) (w : Layout) where
 
   -- instructions without a half of an address
   pub plain_keeps : (insn : Insn) (v : Operands) (a : Store) (b : State) → ((i : ℕ) → IsErased E (v i) (b.registers (source insn i))) → Keeps b (row_of s Plain insn v a) (plain.row_of w b insn)
-  plain_keeps (Lui rd upper) v a b h = finish_keeps rd (Rattle.sq_isa.specs.Words.upper_word upper) b
+  plain_keeps (Lui rd upper) v a b h = finish_keeps rd (upper_word upper) b
   plain_keeps (Load kind rd rs offset) v a b h = surely (row_of s Plain (Load kind rd rs offset) v a) (KeepsText s b (plain.load_row kind rd rs offset b)) (load_keeps s w (wrapped (b.registers rs + unsigned offset)) rd b (plain.loaded kind b.memory (wrapped (b.registers rs + unsigned offset))))
   plain_keeps (StoreInsn kind rs src offset) v a b h =
       number_keeps (v 0) (b.registers rs) b (λ x. store_at s kind (v 1) (wrapped (x + unsigned offset)) a) (λ y. if plain.may_store w (wrapped (y + unsigned offset)) (store_width kind) then Went None (advance (with_bytes (wrapped (y + unsigned offset)) (little_bytes (store_width kind) (b.registers src)) b)) else Ended (StoreFault (wrapped (y + unsigned offset)))) (h 0)
       (λ x. store_keeps s w kind (v 1) (b.registers src) (wrapped (x + unsigned offset)) a b)
-  plain_keeps (OpImm op rd rs imm) v a b h = surely (row_of s Plain (OpImm op rd rs imm) v a) (KeepsText s b (plain.op_imm_row op rd rs imm b)) (finish_keeps rd (Rattle.sq_isa.specs.Values.value_imm_of op (b.registers rs) imm) b)
-  plain_keeps (Op op rd x y) v a b h = surely (row_of s Plain (Op op rd x y) v a) (KeepsText s b (plain.op_row op rd x y b)) (finish_keeps rd (Rattle.sq_isa.specs.Values.value_of op (b.registers x) (b.registers y)) b)
+  plain_keeps (OpImm op rd rs imm) v a b h = surely (row_of s Plain (OpImm op rd rs imm) v a) (KeepsText s b (plain.op_imm_row op rd rs imm b)) (finish_keeps rd (value_imm_of op (b.registers rs) imm) b)
+  plain_keeps (Op op rd x y) v a b h = surely (row_of s Plain (Op op rd x y) v a) (KeepsText s b (plain.op_row op rd x y b)) (finish_keeps rd (value_of op (b.registers x) (b.registers y)) b)
   plain_keeps (Fence word) v a b h = advance_keeps b
   plain_keeps Ecall v a b h = call_keeps (v 0) (v 1) (v 2) (v 3) a b (h 0) (h 1) (h 2) (h 3)
   plain_keeps (Atomic op order rd rs src) v a b h = atomic_keeps op rd rs src (v 0) (v 1) a b (h 0)

@@ -1,5 +1,5 @@
 -- What some element of a list has, and the cells of regions by this.
-use Rattle.std.proofs.Common.{◌≡◌, ◌⊎◌, inl, inr, ℕ, zero, suc, ◌+◌, ◌-◌, ◌<◌, ◌≤◌, nat_le, nat_lt, Bool, true, false, not, ◌&&◌, ◌||◌, List, [], ◌∷◌, ◌++◌, length, map, filter, Option, Some, None, IsSome, if◌then◌else◌, slice_get, refl, sym, ap, ◌∙◌, subst, arith}
+use Rattle.std.proofs.Common.{◌≡◌, ◌⊎◌, inl, inr, ℕ, ◌+◌, ◌-◌, ◌<◌, ◌≤◌, nat_le, nat_lt, Bool, true, false, ◌||◌, List, [], ◌∷◌, ◌++◌, length, map, filter, Option, Some, None, IsSome, if◌then◌else◌, slice_get, refl, sym, ◌∙◌, arith}
 use Rattle.std.specs.List.{AllByRecursion, flat_map, list_any}
 use Rattle.std.proofs.lemmas.Bool.Decides.{nat_tests}
 use Rattle.std.proofs.lemmas.Option.{slice_get_past}
@@ -52,6 +52,11 @@ module _ {X : Type 0} (P : X → Type 0) where
       go true e (inr h) rec = inr (rec h)
       go false e (inl h) rec = absurd (let f : true ≡ false = sym h.0 ∙ e in cc)
       go false e (inr h) rec = rec h
+
+pub none_of : {X : Type 0} (P : X → Type 0) (xs : List X) → ((x : X) → P x → ⊥) → Somewhere P xs → ⊥
+none_of P [] f h = h
+none_of P (x ∷ xs) f (inl h) = f x h
+none_of P (x ∷ xs) f (inr h) = none_of P xs f h
 
 -- another property of the same elements, under what holds of all of them
 pub some_changed : {X : Type 0} (All P Q : X → Type 0) (xs : List X) → AllByRecursion All xs → ((x : X) → All x → P x → Q x) → Somewhere P xs → Somewhere Q xs

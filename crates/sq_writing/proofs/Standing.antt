@@ -28,7 +28,7 @@ use Rattle.sq_graph.proofs.RulesByBlock.{ItemStands as ItemKeeps, BlockStands as
 use Rattle.sq_layout.proofs.Walks.{fresh}
 use Rattle.sq_write.proofs.Lengths.{length_items, length_term, length_blocks}
 use Rattle.sq_write.specs.Points.{Point, new_address, new_start, call_link, offset_to, item_insn, items_points, stop_insn, plain_point, term_points, block_points, blocks_points, procedure_points, procedures_points, procedures_at, text_points}
-use Rattle.sq_write.specs.Standing.{ItemsStand, TermStands, BlocksStand, ProceduresStand, TextStands}
+use Rattle.sq_write.specs.Standing.{ItemStands, ItemsStand, TermStands, BlocksStand, ProceduresStand, TextStands}
 use Rattle.sq_writing.specs.Writable.{HasItemRegisters, HasTermRegisters, HasBlockRegisters, HasProcedureRegisters, HasRegisters}
 
 -- WHERE LINES STAND
@@ -289,7 +289,7 @@ module _ (g : Graph) (lo : ℕ) (registers : HasRegisters g) where
   items_fit (item ∷ items) at h all =
       (one item h.0 (All-head {X = Item} HasItemRegisters item items all), items_fit items (at + 4) h.1 (All-tail {X = Item} HasItemRegisters item items all))
     where
-      one : (item : Item) → Rattle.sq_write.specs.Standing.ItemStands g lo at item → HasItemRegisters item → FieldsFit (item_insn g lo at item)
+      one : (item : Item) → ItemStands g lo at item → HasItemRegisters item → FieldsFit (item_insn g lo at item)
       one (Op insn) s r = s.0.1
       one (Hi rd to) s r = (r, high_small (new_address g lo to))
       one (Lo rd rs to) s r = (r.0, r.1, low_small (new_address g lo to))
