@@ -1,5 +1,5 @@
 -- The world of a file: each word of text stands in a piece that is executable.
-use Rattle.std.proofs.Common.{◌≡◌, ◌≢◌, ◌⊎◌, inl, inr, ℕ, zero, suc, ◌+◌, ◌≤◌, ◌<◌, nat_eq, nat_le, nat_lt, Bool, true, false, not, ◌==◌, ◌&&◌, ◌||◌, List, [], ◌∷◌, ◌++◌, map, Option, Some, None, is_some, if◌then◌else◌, refl, sym, subst, arith, bit_and}
+use Rattle.std.proofs.Common.{◌≡◌, ◌≢◌, ◌⊎◌, inl, inr, ℕ, zero, suc, ◌+◌, ◌≤◌, ◌<◌, nat_eq, nat_le, nat_lt, Bool, true, false, not, ◌==◌, ◌&&◌, ◌||◌, List, [], ◌∷◌, ◌++◌, map, Option, Some, None, if◌then◌else◌, refl, sym, subst, arith, bit_and}
 use Rattle.std.specs.Option.{option_map}
 use Rattle.std.specs.List.{list_any, flat_map}
 use Rattle.std.proofs.lemmas.Bool.{and_from, or_left, eqb-true, eqb-false}
@@ -8,13 +8,10 @@ use Rattle.sq_system.specs.Starts.{Start}
 use Rattle.sq_system.specs.declared.piece.Piece.{Piece}
 use Rattle.sq_system.specs.World.{PF_X, is_in, is_in_with, is_executable}
 use Rattle.sq_elf.specs.declared.segment.Segment.{Segment}
-use Rattle.sq_elf.specs.Headers.{phnum_of, shnum_of, is_load, section_of, segment_of}
-use Rattle.sq_elf.specs.Text.{text_of as text_range, is_executable_at, first_executable, text_segment_of, holds, holds_at, splits}
+use Rattle.sq_elf.specs.Headers.{phnum_of, segment_of}
+use Rattle.sq_elf.specs.Text.{text_of as text_range, text_segment_of}
 use Rattle.sq_elf.specs.Memory.{has_memory, segments_before}
-use Rattle.sq_elf.specs.Refusing.{without_text, bad_text_section, text_split, text_moved, text_too_large}
-use Rattle.sq_elf.proofs.Accepted.{single_passes, text_accepted}
-use Rattle.sq_elf.proofs.Passing.{row_passes, behind_row, IsFirst, found_from}
-use Rattle.sq_elf.proofs.TextFacts.{both_true, TextFacts, text_facts}
+use Rattle.sq_elf.proofs.TextFacts.{TextFacts, text_facts}
 use Rattle.sq_follow.specs.Worlds.{StartPiece, piece_of, layout_of}
 use Rattle.sq_program.specs.Programs.{Word, Note, Program, word_at}
 use Rattle.sq_program.specs.FilePrograms.{text_of, note_refusal, early_refusal, IsReadAs, IsAccepted}
@@ -30,8 +27,9 @@ use Rattle.sq_patch.proofs.Renaming.{rename_follows}
 use Rattle.sq_program.specs.Lifted.{lifted}
 use Rattle.sq_lifting.proofs.Whole.{lifting_keeps}
 use Rattle.sq_lifted.specs.Files.{FileWorldsFit, LiftedFilesKeepRuns, LiftedFilesAreGood, LiftedFilesFollow}
-use Rattle.sq_lifted.proofs.Files.{le_is, lt_is, ends_at, files_linked}
-use Rattle.sq_lifted.proofs.FileBytes.{whole as segment_whole}
+use Rattle.sq_lifted.proofs.Files.{ends_at, files_linked}
+use Rattle.sq_files.proofs.FileBytes.{le_is, lt_is}
+use Rattle.sq_files.proofs.TextSegment.{flagged, text_whole, has_text}
 use Rattle.sq_lifted.proofs.Counting.{lifted_good}
 
 -- some of these, or of those
@@ -88,15 +86,6 @@ module _ (test : Piece → Bool) (f : Segment → List StartPiece) (bytes : List
       go false true e q rec = absurd (let same : k ≡ count = eqb-true k count q in let no_way : has_memory bytes k ≡ false = subst (λ j. has_memory bytes j ≡ false) (sym same) e in cc (has, no_way))
       go false false e q rec = let apart : k ≢ count = eqb-false k count q in rec (omega (arith, lt, apart)) has h
 
-if_true : (b h c : Bool) → (if b then not h else c) ≡ false → b ≡ true → h ≡ true
-if_true true true c e f = refl
-if_true true false c e f = absurd (cc)
-if_true false h c e f = absurd (cc)
-
-some_there : (o : Option ℕ) → not (is_some o) ≡ false → (k : ℕ) × (o ≡ Some k)
-some_there None e = absurd (cc)
-some_there (Some k) e = (k, refl)
-
 not_zero : (n : ℕ) → nat_eq n 1 ≡ true → not (n == 0) ≡ true
 not_zero n e = let one : n ≡ 1 = eqb-true n 1 e in rw one refl
 
@@ -110,41 +99,12 @@ module _ (bytes : List ℕ) (is : ℕ → Bool) (p : Program) (read : IsReadAs b
   abbrev segment : Segment
   segment = segment_of bytes number
 
-  -- the text segment may be executed
-  flagged : nat_eq (bit_and segment.flags 1) 1 ≡ true
-  flagged =
-      let first = some_there (first_executable bytes) (single_passes _ _ (bad_text_section bytes ∷ text_split bytes ∷ text_moved bytes ∷ text_too_large bytes ∷ []) (text_accepted bytes read.file)) in
-      let found : IsFirst (is_executable_at bytes) 0 (shnum_of bytes) first.0 = found_from (is_executable_at bytes) 0 (shnum_of bytes) first.0 first.1 in
-      let high = found.high in
-      let below : first.0 < shnum_of bytes = omega arith in
-      let held = if_true (is_executable_at bytes first.0) (holds_at bytes (section_of bytes first.0) number) _ (unsplit first.0 below) found.here in
-      let loaded = both_true (is_load bytes number) (holds segment (section_of bytes first.0)) held in
-      (both_true (nat_eq (bit_and segment.flags 1) 1) _ loaded.1).0
-    where
-      unsplit : (k : ℕ) → k < shnum_of bytes → splits bytes (text_range bytes) number k ≡ false
-      unsplit =
-          row_passes (text_split bytes) (text_moved bytes ∷ text_too_large bytes ∷ [])
-          (behind_row (bad_text_section bytes) (text_split bytes ∷ text_moved bytes ∷ text_too_large bytes ∷ [])
-          (behind_row (without_text bytes) (bad_text_section bytes ∷ text_split bytes ∷ text_moved bytes ∷ text_too_large bytes ∷ []) (text_accepted bytes read.file)))
-
-  whole : segment.filesz ≤ segment.memsz
-  whole = segment_whole bytes read.file number facts.within facts.load
-
-  pub has_text : has_memory bytes number ≡ true
-  has_text =
-      let a = facts.inside.low in
-      let b = facts.inside.some in
-      let c = facts.inside.high in
-      let d = whole in
-      let some : 0 < segment.memsz = omega arith in
-      and_from (is_load bytes number) (nat_lt 0 segment.memsz) facts.load (lt_is 0 segment.memsz some)
-
   -- a byte of text is in a piece that may be executed
   pub text_executable : (start : Start) (x : ℕ) → (text_range bytes).lo ≤ x → x < (text_range bytes).hi → is_executable (layout_of (world_of bytes p) start) x ≡ true
   unfolding is_executable
   text_executable start x least most =
-      some_segment (is_in_with PF_X x) (segment_pieces bytes p.code_words) bytes (phnum_of bytes) number facts.within has_text
-      (or_left (is_in x own && not (bit_and segment.flags PF_X == 0)) _ (and_from (is_in x own) (not (bit_and segment.flags PF_X == 0)) inside (not_zero (bit_and segment.flags PF_X) flagged)))
+      some_segment (is_in_with PF_X x) (segment_pieces bytes p.code_words) bytes (phnum_of bytes) number facts.within (has_text bytes read.file)
+      (or_left (is_in x own && not (bit_and segment.flags PF_X == 0)) _ (and_from (is_in x own) (not (bit_and segment.flags PF_X == 0)) inside (not_zero (bit_and segment.flags PF_X) (flagged bytes read.file))))
     where
       own : Piece
       own = record { extent = record { address = segment.address; length = segment.memsz }; flags = segment.flags }
@@ -153,7 +113,7 @@ module _ (bytes : List ℕ) (is : ℕ → Bool) (p : Program) (read : IsReadAs b
       inside =
           let c = facts.inside.low in
           let d = facts.inside.high in
-          let f = whole in
+          let f = text_whole bytes read.file in
           let low : segment.address ≤ x = omega arith in
           let high : x < segment.address + segment.memsz = omega arith in
           and_from (nat_le segment.address x) (nat_lt x (segment.address + segment.memsz)) (le_is segment.address x low) (lt_is x (segment.address + segment.memsz) high)

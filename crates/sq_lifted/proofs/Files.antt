@@ -30,6 +30,7 @@ use Rattle.sq_reloc.proofs.MarkFacts.{insn_is_marked}
 use Rattle.sq_reloc.proofs.CodeWordFacts.{is_code_word}
 use Rattle.sq_program.specs.Programs.{Word, Program, word_from, word_at, IsWord, end_of, insn_in, target_of}
 use Rattle.sq_program.specs.FilePrograms.{file_word, words_from, text_of, IsReadAs}
+use Rattle.sq_files.proofs.FileBytes.{le_is, lt_is}
 use Rattle.sq_lifting.specs.Lifting.{MarkFits, IsMarkedText}
 use Rattle.sq_lifting.proofs.TextWords.{same_itself, stood, in_text_word}
 use Rattle.sq_lifted.specs.Lifted.{IsShort}
@@ -161,12 +162,6 @@ listed (w ∷ words) x a (suc i, h, g) =
         go : (b : Bool) → nat_eq v.at at ≡ b → option_map (λ word. word.to) (if b then Some v else find (λ word. nat_eq word.at at) words) ≡ Some x → (listed_at words at ≡ Some x → nat_eq w.at at ≡ false) → nat_eq w.at at ≡ false
         go true q e rec = let less : w.at < v.at = a.0 in grind (arith, nat_tests)
         go false q e rec = rec e
-
-pub le_is : (a b : ℕ) → a ≤ b → nat_le a b ≡ true
-le_is a b h = grind (arith, nat_tests)
-
-pub lt_is : (a b : ℕ) → a < b → nat_lt a b ≡ true
-lt_is a b h = grind (arith, nat_tests)
 
 module _ (bytes : List ℕ) (is : ℕ → Bool) (p : Program) (read : IsReadAs bytes is p) where
   facts : TextFacts bytes read.file

@@ -7,8 +7,6 @@ pub mod Counting
 pub mod Files
 pub mod FileWorlds
 pub mod FileLayouts
-pub mod FileBytes
-pub mod FileRegions
 pub mod PlainCells
 pub mod PlainStarts
 pub mod Named

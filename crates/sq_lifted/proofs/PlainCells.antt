@@ -32,8 +32,8 @@ use Rattle.sq_program.specs.FilePrograms.{IsReadAs}
 use Rattle.sq_program.specs.FileRuns.{code_word_number, byte_of_word, stale_or, start_byte, start_bytes}
 use Rattle.sq_lifting.specs.Watching.{own_names}
 use Rattle.sq_lifted.proofs.Files.{dropped, files_linked}
-use Rattle.sq_lifted.proofs.FileBytes.{filled, filled_length, dropped_byte, word_bytes, field_is, in_file, filled_byte, whole}
-use Rattle.sq_lifted.proofs.FileRegions.{IsAt, alone}
+use Rattle.sq_files.proofs.FileBytes.{filled, filled_length, dropped_byte, word_bytes, field_is, in_file, filled_byte, whole}
+use Rattle.sq_files.proofs.FileRegions.{IsAt, alone}
 
 -- BYTES AT THE START
 

@@ -38,11 +38,12 @@ use Rattle.sq_lifting.specs.Watching.{own_names, IsPlainStart}
 use Rattle.sq_lifting.proofs.TextWords.{stood}
 use Rattle.sq_lifting.proofs.Watched.{watching_erases}
 use Rattle.sq_lifted.specs.Files.{FilesStartPlain, FilesShowPlain}
-use Rattle.sq_lifted.proofs.Files.{le_is, lt_is, ends_at, words_are, is_text_word_of, files_linked}
-use Rattle.sq_lifted.proofs.FileWorlds.{text_executable, has_text, early_readable, files_keep_runs}
+use Rattle.sq_lifted.proofs.Files.{ends_at, words_are, is_text_word_of, files_linked}
+use Rattle.sq_files.proofs.TextSegment.{has_text}
+use Rattle.sq_lifted.proofs.FileWorlds.{text_executable, early_readable, files_keep_runs}
 use Rattle.sq_lifted.proofs.FileLayouts.{laid_out}
-use Rattle.sq_lifted.proofs.FileBytes.{filled, filled_length, taken_byte, dropped_byte, first_number, field_is, in_file, bytes_length, filled_byte, whole}
-use Rattle.sq_lifted.proofs.FileRegions.{get_append, regions_before, before_agree, or_agree, AreSized, loaded, cell_at}
+use Rattle.sq_files.proofs.FileBytes.{le_is, lt_is, filled, filled_length, taken_byte, dropped_byte, first_number, field_is, in_file, bytes_length, filled_byte, whole}
+use Rattle.sq_files.proofs.FileRegions.{get_append, regions_before, before_agree, or_agree, AreSized, loaded, cell_at}
 use Rattle.sq_lifted.proofs.PlainCells.{start_bytes_length, start_cell_get, cells_erased, text_byte}
 
 -- THE TWO MEMORIES AS REGIONS OF SEGMENTS
@@ -253,7 +254,7 @@ module _ (bytes : List ℕ) (is : ℕ → Bool) (p : Program) (fit : AllByRecurs
       found =
           let m = whole bytes read.file number facts.within facts.load in
           subst (λ y. get (regions_before bytes (tagged_own bytes p.code_words) (tagged_copy bytes p.code_words) count) y ≡ Some (Byte b)) place
-          (cell_at bytes read.file (tagged_own bytes p.code_words) (tagged_copy bytes p.code_words) tagged_sized number i facts.within (has_text bytes is p read) (omega (arith, short, m)) (Byte b) cell)
+          (cell_at bytes read.file (tagged_own bytes p.code_words) (tagged_copy bytes p.code_words) tagged_sized number i facts.within (has_text bytes read.file) (omega (arith, short, m)) (Byte b) cell)
 
   -- a file byte of a segment in the plain machine's memory
   module _ (k : ℕ) (within : k < phnum_of bytes) (load : is_load bytes k ≡ true) where

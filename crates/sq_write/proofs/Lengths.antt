@@ -19,11 +19,11 @@ use Rattle.sq_write.specs.Written.{word_entry, entries_of, note_entries, note_fr
 use Rattle.sq_write.proofs.Splitting.{length_words}
 
 module _ (g : Graph) (lo : ℕ) where
-  length_items : (at : ℕ) (items : List Item) → length (items_points g lo at items) ≡ length items
+  pub length_items : (at : ℕ) (items : List Item) → length (items_points g lo at items) ≡ length items
   length_items at [] = refl
   length_items at (item ∷ items) = omega (arith, length_items (at + 4) items)
 
-  length_term : (at : ℕ) (t : Term) → length (term_points g lo at t) ≡ term_words t
+  pub length_term : (at : ℕ) (t : Term) → length (term_points g lo at t) ≡ term_words t
   length_term at Fall = refl
   length_term at (Jump to) = refl
   length_term at (Branch c a b to) = refl
@@ -32,7 +32,7 @@ module _ (g : Graph) (lo : ℕ) where
   length_term at (Indirect link register offset) = refl
   length_term at (Stop word) = refl
 
-  length_blocks : (at : ℕ) (bs : List Block) → length (blocks_points g lo at bs) ≡ sum_by block_words bs
+  pub length_blocks : (at : ℕ) (bs : List Block) → length (blocks_points g lo at bs) ≡ sum_by block_words bs
   length_blocks at [] = refl
   length_blocks at (b ∷ bs) =
       omega (arith, length-append (block_points g lo at b) (blocks_points g lo (at + 4 * block_words b) bs), length-append (items_points g lo at b.items) (term_points g lo (at + 4 * length b.items) b.term), length_items at b.items, length_term (at + 4 * length b.items) b.term, length_blocks (at + 4 * block_words b) bs, sum_by-cons block_words b bs)

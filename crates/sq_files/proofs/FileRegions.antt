@@ -15,7 +15,7 @@ use Rattle.sq_elf.specs.Refusing.{bad_segment, segment_kind, segment_overlap, fi
 use Rattle.sq_elf.proofs.Accepted.{segments_accepted}
 use Rattle.sq_elf.proofs.Passing.{passes_from, row_passes, behind_row}
 use Rattle.sq_elf.proofs.TextFacts.{both_true, neither, second_false}
-use Rattle.sq_lifted.proofs.Files.{lt_is}
+use Rattle.sq_files.proofs.FileBytes.{lt_is}
 
 -- REGIONS
 

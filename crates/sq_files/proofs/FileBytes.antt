@@ -1,5 +1,5 @@
 -- The bytes of a segment, and of a word in it, as they stand in the file.
-use Rattle.std.proofs.Common.{◌≡◌, ℕ, zero, suc, ◌+◌, ◌-◌, ◌^◌, ◌≤◌, ◌<◌, nat_lt, true, false, ◌||◌, List, [], ◌∷◌, ◌++◌, length, take, drop, replicate, Some, None, slice_get, refl, ap, ◌∙◌, arith}
+use Rattle.std.proofs.Common.{◌≡◌, ℕ, zero, suc, ◌+◌, ◌-◌, ◌^◌, ◌≤◌, ◌<◌, nat_le, nat_lt, true, false, ◌||◌, List, [], ◌∷◌, ◌++◌, length, take, drop, replicate, Some, None, slice_get, refl, ap, ◌∙◌, arith}
 use Rattle.std.specs.List.{AllByRecursion}
 use Rattle.std.proofs.lemmas.List.{length-take-le, length-drop, length-append, length-replicate}
 use Rattle.std.proofs.lemmas.Bool.Decides.{nat_tests}
@@ -15,7 +15,14 @@ use Rattle.sq_elf.specs.Refusing.{program_table, section_table, file_bytes, bad_
 use Rattle.sq_elf.proofs.Accepted.{tables_accepted, segments_accepted}
 use Rattle.sq_elf.proofs.Passing.{row_passes, behind_row}
 use Rattle.sq_elf.proofs.TextFacts.{neither, second_false}
-use Rattle.sq_lifted.proofs.Files.{le_is, lt_is}
+
+-- COMPARISONS
+
+pub le_is : (a b : ℕ) → a ≤ b → nat_le a b ≡ true
+le_is a b h = grind (arith, nat_tests)
+
+pub lt_is : (a b : ℕ) → a < b → nat_lt a b ≡ true
+lt_is a b h = grind (arith, nat_tests)
 
 -- LISTS OF BYTES
 

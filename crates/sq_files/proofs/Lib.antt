@@ -1,0 +1,4 @@
+pub mod FileBytes
+pub mod FileRegions
+pub mod FileImages
+pub mod TextSegment
