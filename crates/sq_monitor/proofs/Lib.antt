@@ -1,0 +1,6 @@
+pub mod QuietSteps
+pub mod Placing
+pub mod Scenes
+pub mod Items
+pub mod Outcomes
+pub mod Watching

@@ -1,0 +1,14 @@
+//! The monitor: a file is run on tagged values, up to its end, to a limit or to what a compactor can't follow.
+//!
+//! To the layers above it promises that a step is the monitored step of the file's program
+//! (`monitored_step`), that a step that ends or breaks changes nothing, and that a run of n steps answers
+//! the first break, or how its trace ends, while the log grows by the events of the trace.
+#![tactic(auto)]
+
+mod hart;
+mod jumps;
+mod moved;
+mod scene;
+mod steps;
+
+pub use moved::WatchOutcome;
