@@ -4,3 +4,5 @@ pub mod Scenes
 pub mod Items
 pub mod Outcomes
 pub mod Watching
+pub mod FirstCells
+pub mod FileWorlds

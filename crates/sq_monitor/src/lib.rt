@@ -5,10 +5,14 @@
 //! the first break, or how its trace ends, while the log grows by the events of the trace.
 #![tactic(auto)]
 
+mod cells;
 mod hart;
 mod jumps;
 mod moved;
 mod scene;
+mod segments;
 mod steps;
+mod watch;
 
 pub use moved::WatchOutcome;
+pub use watch::Watch;
