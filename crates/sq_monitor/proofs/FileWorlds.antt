@@ -76,8 +76,8 @@ module _ (bytes : List ℕ) (words : List CodeWord) (are : AreCodeWords bytes wo
   flat_same f g h each [] = refl
   flat_same f g h each (s ∷ segments) = map-append f (g s) (flat_map g segments) ∙ ap₂ (λ xs ys. xs ++ ys) (each s) (flat_same f g h each segments)
 
-  pub regions_are : (segments : List Segment) → map (piece_region names) (flat_map (segment_pieces bytes words) segments) ≡ flat_map (segment_regions bytes) segments
-  regions_are = flat_same (piece_region names) (segment_pieces bytes words) (segment_regions bytes) (λ s. regions_by_test s (nat_lt 0 (copy_size s)))
+  pub regions_are : (segments : List Segment) → map (piece_region names) (flat_map (segment_pieces bytes words) segments) ≡ flat_map (segment_regions bytes bytes) segments
+  regions_are = flat_same (piece_region names) (segment_pieces bytes words) (segment_regions bytes bytes) (λ s. regions_by_test s (nat_lt 0 (copy_size s)))
 
   pub layout_is : (segments : List Segment) → map piece_of (flat_map (segment_pieces bytes words) segments) ≡ flat_map (segment_layout bytes) segments
   layout_is = flat_same piece_of (segment_pieces bytes words) (segment_layout bytes) (λ s. layout_by_test s (nat_lt 0 (copy_size s)))

@@ -6,3 +6,6 @@ pub mod Outcomes
 pub mod Watching
 pub mod FirstCells
 pub mod FileWorlds
+pub mod SegmentFacts
+pub mod Headers
+pub mod FileStarts

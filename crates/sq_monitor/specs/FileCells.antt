@@ -26,18 +26,22 @@ abbrev pub file_cells : List ℕ → ℕ → List ℕ → List Cell
 file_cells bytes x [] = []
 file_cells bytes x (b ∷ rest) = file_cell bytes x b ∷ file_cells bytes (x + 1) rest
 
+abbrev pub region_at : ℕ → List Cell → Region Cell
+region_at address cells = record { start = address; cells = cells }
+
 -- a piece of a segment, whose first byte stands at the virtual address x
 abbrev pub file_region : List ℕ → ℕ → MemoryPiece → Region Cell
-file_region bytes x p = record { start = p.address; cells = file_cells bytes x (p.bytes ++ replicate (p.length - length p.bytes) 0) }
+file_region bytes x p = region_at p.address (file_cells bytes x (p.bytes ++ replicate (p.length - length p.bytes) 0))
 
 abbrev pub file_piece : MemoryPiece → Piece
 file_piece p = record { extent = record { address = p.address; length = p.length }; flags = p.flags }
 
--- a load copy starts with what stands at the virtual addresses
-abbrev pub segment_regions : List ℕ → Segment → List (Region Cell)
-segment_regions bytes s =
-    file_region bytes s.address (own_piece bytes s)
-    ∷ (if nat_lt 0 (copy_size s) then file_region bytes s.address (copy_piece bytes s) ∷ [] else [])
+-- A load copy starts with what stands at the virtual addresses. What relocations say comes from the first bytes, which
+-- are those of the file too.
+abbrev pub segment_regions : List ℕ → List ℕ → Segment → List (Region Cell)
+segment_regions marked bytes s =
+    file_region marked s.address (own_piece bytes s)
+    ∷ (if nat_lt 0 (copy_size s) then file_region marked s.address (copy_piece bytes s) ∷ [] else [])
 
 abbrev pub segment_layout : List ℕ → Segment → List Piece
 segment_layout bytes s =

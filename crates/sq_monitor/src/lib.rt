@@ -6,13 +6,17 @@
 #![tactic(auto)]
 
 mod cells;
+mod fault;
 mod hart;
 mod jumps;
+mod laid;
 mod moved;
 mod scene;
 mod segments;
+mod start;
 mod steps;
 mod watch;
 
+pub use fault::WatchFault;
 pub use moved::WatchOutcome;
 pub use watch::Watch;

@@ -104,7 +104,7 @@ fn bytes_of(alloc: Global, cells: &[Cell]) -> Result<Bytes, Memory>
 }
 
 /// Cells that hold these numbers.
-fn cells_of(alloc: Global, bytes: &[u8]) -> Result<Vec<Cell>, Memory>
+pub fn cells_of(alloc: Global, bytes: &[u8]) -> Result<Vec<Cell>, Memory>
     ensures { IfOk result (λ cells. map cell_of cells.items ≡ map Byte bytes.now) }
 {
     let mut cells = Vec::with_capacity(alloc, bytes.len())?;

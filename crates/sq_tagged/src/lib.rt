@@ -17,6 +17,7 @@ mod store;
 mod values;
 
 pub use arithmetic::{is_taken, is_upper_half};
+pub use calls::cells_of;
 pub use made::Made;
 pub use registers::Registers;
 pub use rows::{AddressHalf, row};
