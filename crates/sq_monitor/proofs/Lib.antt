@@ -9,3 +9,4 @@ pub mod FileWorlds
 pub mod SegmentFacts
 pub mod Headers
 pub mod FileStarts
+pub mod Telling

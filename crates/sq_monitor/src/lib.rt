@@ -15,8 +15,10 @@ mod scene;
 mod segments;
 mod start;
 mod steps;
+mod transcript;
 mod watch;
 
 pub use fault::WatchFault;
 pub use moved::WatchOutcome;
+pub use transcript::{WatchTranscript, outcome_line, watch_file};
 pub use watch::Watch;
