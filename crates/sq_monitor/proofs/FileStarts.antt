@@ -1,11 +1,10 @@
 -- The start of a watched run of a file, by how it is laid out.
-use Rattle.std.proofs.Common.{◌≡◌, ℕ, List, [], ◌∷◌, ◌++◌, map, refl, sym, ap, ap₂, ◌∙◌, subst}
+use Rattle.std.proofs.Common.{◌≡◌, ℕ, List, [], ◌∷◌, ◌++◌, map, refl, sym, ap, ◌∙◌}
 use Rattle.std.specs.List.{flat_map}
 use Rattle.sq_elf.specs.Headers.{entry_of}
 use Rattle.sq_elf.specs.Memory.{segments_of}
 use Rattle.sq_memory.specs.Regions.{get}
-use Rattle.sq_system.specs.Starts.{Start, IsBadStart, stack_pointer}
-use Rattle.sq_system.specs.World.{World}
+use Rattle.sq_system.specs.Starts.{Start, stack_pointer}
 use Rattle.sq_system.specs.declared.piece.Piece.{Piece}
 use Rattle.sq_system.specs.declared.start.Extent.{Extent}
 use Rattle.sq_follow.specs.Worlds.{StartPiece, piece_of, ram_region, extents, extent_of as start_extent}

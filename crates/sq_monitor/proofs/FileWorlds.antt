@@ -1,18 +1,17 @@
 -- The world of a file, as its cells are made.
-use Rattle.std.proofs.Common.{◌≡◌, ℕ, suc, ◌+◌, ◌-◌, ◌%◌, Bool, true, false, nat_eq, nat_lt, cond, if◌then◌else◌, List, [], ◌∷◌, ◌++◌, length, map, replicate, Option, Some, None, refl, sym, ap, ap₂, ◌∙◌}
+use Rattle.std.proofs.Common.{◌≡◌, ℕ, suc, ◌+◌, ◌-◌, ◌%◌, Bool, true, false, nat_eq, nat_lt, cond, if◌then◌else◌, List, [], ◌∷◌, ◌++◌, length, map, replicate, Option, Some, None, refl, ap, ap₂, ◌∙◌}
 use Rattle.std.specs.Option.{option_map}
 use Rattle.std.specs.List.{find, slice_get, flat_map}
 use Rattle.std.proofs.lemmas.List.{map-append}
 use Rattle.sq_elf.specs.declared.segment.Segment.{Segment}
-use Rattle.sq_elf.specs.Memory.{MemoryPiece, own_piece, copy_piece, segments_of}
+use Rattle.sq_elf.specs.Memory.{MemoryPiece, own_piece, copy_piece}
 use Rattle.sq_elf.specs.Segments.{copy_size}
 use Rattle.sq_reloc.specs.declared.mark.CodeWord.{CodeWord}
 use Rattle.sq_reloc.specs.CodeWords.{AreCodeWords, listed_at}
 use Rattle.sq_reloc.specs.Outside.{is_stale, word_start}
 use Rattle.sq_memory.specs.Regions.{Region}
-use Rattle.sq_system.specs.declared.piece.Piece.{Piece}
 use Rattle.sq_follow.specs.Values.{Cell, Byte, Stale}
-use Rattle.sq_follow.specs.Worlds.{StartByte, Given, StaleByte, StartPiece, start_cell, word_cell, piece_of, piece_region}
+use Rattle.sq_follow.specs.Worlds.{StartByte, Given, StaleByte, start_cell, word_cell, piece_of, piece_region}
 use Rattle.sq_program.specs.Programs.{target_of}
 use Rattle.sq_program.specs.FileRuns.{code_word_number, byte_of_word, stale_or, start_byte, start_bytes, start_piece, segment_pieces}
 use Rattle.sq_monitor.specs.FileCells.{part_or, file_cell, file_cells, file_region, file_piece, segment_regions, segment_layout, stale_or as stale_cell}

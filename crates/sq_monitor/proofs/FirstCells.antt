@@ -5,7 +5,6 @@ use Rattle.std.specs.List.{find}
 use Rattle.std.proofs.lemmas.Grind.{take_at_read, common_steps}
 use Rattle.sq_reloc.specs.declared.mark.CodeWord.{CodeWord}
 use Rattle.sq_reloc.specs.CodeWords.{listed_at}
-use Rattle.sq_follow.specs.Values.{Cell}
 use Rattle.sq_monitor.specs.FileCells.{file_cell, file_cells}
 
 abbrev pub no_word : CodeWord

@@ -2,7 +2,7 @@
 use Rattle.std.proofs.Common.{◌≡◌, ℕ, ℤ, ◌⊎◌, inl, inr, refl, sym, subst}
 use Rattle.sq_isa.specs.Uses.{destination_of}
 use Rattle.sq_isa.specs.declared.instructions.Insn.{Insn}
-use Rattle.sq_isa.specs.declared.instructions.Insn.TheVariants.{Lui, Auipc, Jal, Jalr, Branch, Load, Store, OpImm, Op, Fence, Ecall, Ebreak, Unimp, Atomic}
+use Rattle.sq_isa.specs.declared.instructions.Insn.TheVariants.{Lui, Auipc, Load, Store, OpImm, Op, Fence, Ecall, Atomic}
 use Rattle.sq_isa.specs.declared.instructions.LoadKind.{LoadKind}
 use Rattle.sq_isa.specs.declared.instructions.StoreKind.{StoreKind}
 use Rattle.sq_isa.specs.declared.instructions.ImmOp.{ImmOp}

@@ -1,12 +1,11 @@
 -- What is told of a run by its trace.
-use Rattle.std.proofs.Common.{◌≡◌, ℕ, Some, None, refl, sym, ap, ap₂, ◌∙◌, subst}
-use Rattle.sq_runs.specs.Runs.{Status, Running, Halted, Broken, IsNotBroken, trace, state_after, first_break}
+use Rattle.std.proofs.Common.{◌≡◌, ℕ, Some, None, sym, ap, ◌∙◌, subst}
+use Rattle.sq_runs.specs.Runs.{Status, Running, Halted, IsNotBroken, trace, state_after, first_break}
 use Rattle.sq_runs.proofs.Breaks.{unbroken_none}
 use Rattle.sq_system.specs.declared.event.Halt.{Halt}
 use Rattle.sq_follow.specs.declared.kind.Kind.{Kind}
 use Rattle.sq_program.specs.Monitored.{Watched, Watches}
 use Rattle.sq_monitor.specs.Steps.{told, outcome_of, outcome_at}
-use Rattle.sq_monitor.specs.declared.moved.WatchOutcome.{WatchOutcome}
 use Rattle.sq_monitor.specs.declared.moved.WatchOutcome.TheVariants.{Limit, Ended as EndedWith, Break}
 
 module _ (step : Watched → Watches) (n : ℕ) (s : Watched) where

@@ -1,6 +1,5 @@
 -- The setting of a program's text.
-use Rattle.std.proofs.Common.{◌≡◌, ℕ, ◌&&◌, nat_le, nat_lt}
-use Rattle.sq_follow.specs.Settings.{Setting}
+use Rattle.std.proofs.Common.{◌≡◌, ◌&&◌, nat_le, nat_lt}
 use Rattle.sq_program.specs.Programs.{Text, end_of}
 use Rattle.sq_program.specs.Monitored.{setting_of as text_setting}
 use Rattle.sq_tagged.specs.Views.{layout_of, setting_of}

@@ -1,5 +1,5 @@
 -- What a watch at the file's start leaves of its run is told by the file's monitored run.
-use Rattle.std.proofs.Common.{◌≡◌, ℕ, List, [], ◌++◌, codes, sym, ap, ap₂, ◌∙◌}
+use Rattle.std.proofs.Common.{◌≡◌, ℕ, List, [], ◌++◌, codes, ap, ap₂, ◌∙◌}
 use Rattle.sq_runs.specs.Runs.{RunsFor, trace}
 use Rattle.sq_system.specs.Lines.{events_text}
 use Rattle.sq_system.specs.Starts.{Start}

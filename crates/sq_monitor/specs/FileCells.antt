@@ -1,6 +1,5 @@
 -- What stands in memory where a watched run of a file starts.
 use Rattle.std.specs.Prelude.{ℕ, ◌+◌, ◌-◌, ◌%◌, List, [], ◌∷◌, ◌++◌, length, replicate, Option, Some, None, nat_lt, if◌then◌else◌}
-use Rattle.std.specs.List.{flat_map}
 use Rattle.sq_elf.specs.declared.segment.Segment.{Segment}
 use Rattle.sq_elf.specs.Memory.{MemoryPiece, own_piece, copy_piece}
 use Rattle.sq_elf.specs.Segments.{copy_size}

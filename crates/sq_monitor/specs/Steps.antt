@@ -2,7 +2,7 @@
 use Rattle.std.specs.Prelude.{◌≡◌, ℕ, ◌+◌, ◌<◌, List, [], ◌++◌, Option, Some, None, Result, Ok, Err}
 use Rattle.sq_isa.specs.Words.{wrapped}
 use Rattle.sq_isa.specs.Registers.{written}
-use Rattle.sq_runs.specs.Runs.{Next, Went, Ended, Broke, Status, Running, Halted, Broken, trace, state_after, first_break, with_event}
+use Rattle.sq_runs.specs.Runs.{Went, Ended, Broke, Status, Running, Halted, Broken, trace, state_after, first_break, with_event}
 use Rattle.sq_system.specs.declared.event.Event.{Event}
 use Rattle.sq_system.specs.declared.event.Halt.{Halt}
 use Rattle.sq_system.specs.declared.event.Halt.TheVariants.{Exit, Illegal, Breakpoint, Fetch, Load, Store}

@@ -1,5 +1,5 @@
 -- Rows without an event, as rows with a log.
-use Rattle.std.proofs.Common.{◌≡◌, List, [], ◌++◌, None, refl, sym, ap, ◌∙◌}
+use Rattle.std.proofs.Common.{◌≡◌, List, [], ◌++◌, refl, sym, ap, ◌∙◌}
 use Rattle.std.proofs.lemmas.List.{append-nil}
 use Rattle.sq_runs.specs.Runs.{Went, with_event}
 use Rattle.sq_system.specs.declared.event.Event.{Event}

@@ -1,8 +1,8 @@
 -- Registers and memory behind a write, as what they stand for.
-use Rattle.std.proofs.Common.{◌≡◌, ◌≢◌, ℕ, zero, suc, ◌<◌, length, Bool, true, false, List, [], ◌∷◌, map, replicate, nat_eq, not, ◌&&◌, if◌then◌else◌, slice_index_or, slice_set, refl, sym, ap, ◌∙◌, ne_eqb, get_or-set_same, get_or-set_other}
+use Rattle.std.proofs.Common.{◌≡◌, ◌≢◌, ℕ, zero, suc, ◌<◌, length, Bool, true, false, List, map, replicate, nat_eq, not, ◌&&◌, if◌then◌else◌, slice_set, refl, ap, ◌∙◌, ne_eqb, get_or-set_same, get_or-set_other}
 use Rattle.std.proofs.lemmas.Bool.{eqb-true, eqb-false}
 use Rattle.sq_isa.specs.Registers.{written}
-use Rattle.sq_memory.specs.Cells.{Cells, map_cells, with_cells}
+use Rattle.sq_memory.specs.Cells.{map_cells, with_cells}
 use Rattle.sq_memory.specs.Regions.{Region, get, put_all}
 use Rattle.sq_memory.proofs.RangeLaws.{map_cells-with_cells}
 use Rattle.sq_memory.proofs.RegionLaws.{get-put_all}

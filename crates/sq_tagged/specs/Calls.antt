@@ -1,6 +1,5 @@
 -- System calls, as the code finds them.
-use Rattle.std.specs.Prelude.{◌≡◌, ℕ, ◌≤◌, ◌==◌, ◌&&◌, true}
-use Rattle.sq_system.specs.Calls.{effect_of}
+use Rattle.std.specs.Prelude.{◌≡◌, ◌≤◌, ◌==◌, ◌&&◌, true}
 use Rattle.sq_system.specs.declared.call.CallArgs.{CallArgs}
 use Rattle.sq_system.specs.declared.call.Effect.{Effect}
 use Rattle.sq_system.specs.declared.call.Effect.TheVariants.{Exit, Write, Read, Brk, Fail, Ask}

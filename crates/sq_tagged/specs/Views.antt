@@ -1,5 +1,5 @@
 -- The values, the cells, the setting and the store that the Rust types stand for.
-use Rattle.std.specs.Prelude.{ℕ, ◌^◌, Bool, ◌&&◌, nat_le, nat_lt, List, [], ◌∷◌, Option, slice_index_or, drop}
+use Rattle.std.specs.Prelude.{ℕ, ◌^◌, ◌&&◌, nat_le, nat_lt, List, [], ◌∷◌, slice_index_or, drop}
 use Rattle.sq_memory.specs.Cells.{map_cells}
 use Rattle.sq_memory.specs.Regions.{get}
 use Rattle.sq_system.specs.World.{World}

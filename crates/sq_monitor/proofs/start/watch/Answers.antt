@@ -1,4 +1,4 @@
-use Rattle.std.proofs.Common.{◌≡◌, ◌++◌, ◌∷◌, [], rules, sym, ap, ◌∙◌}
+use Rattle.std.proofs.Common.{◌≡◌, rules, sym, ap, ◌∙◌}
 use Rattle.sq_memory.specs.Regions.{get}
 use Rattle.sq_memory.proofs.RegionLaws.{get-map_regions}
 use Rattle.sq_system.specs.Starts.{start_of, stack_pointer}

@@ -1,6 +1,5 @@
 -- the log is empty at first, so it holds the events of the trace
-use Rattle.std.proofs.Common.{◌++◌, codes, rules, ap, ◌∙◌}
-use Rattle.sq_system.specs.Lines.{events_text}
+use Rattle.std.proofs.Common.{rules, ◌∙◌}
 use Rattle.sq_system.specs.Starts.{start_of}
 use Rattle.sq_monitor.specs.Views.{watch_layout, watch_text, watch_state}
 use Rattle.sq_monitor.proofs.Telling.{outcome_is, text_is}

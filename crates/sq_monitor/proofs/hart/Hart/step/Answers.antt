@@ -1,4 +1,4 @@
-use Rattle.std.proofs.Common.{◌≡◌, None, Some, refl, ap, sym, ◌∙◌}
+use Rattle.std.proofs.Common.{refl, ap, sym}
 use Rattle.sq_system.specs.declared.event.Halt.TheVariants.{Fetch}
 use Rattle.sq_program.specs.Monitored.{word_step, setting_of as text_setting}
 use Rattle.sq_tagged.specs.Views.{layout_of}

@@ -1,12 +1,11 @@
 -- what is laid out is what the file's world says
-use Rattle.std.proofs.Common.{◌≡◌, ◌++◌, ◌∷◌, [], map, refl, sym, ap, ◌∙◌, subst}
+use Rattle.std.proofs.Common.{◌≡◌, ◌++◌, ◌∷◌, [], map, sym, ap, ◌∙◌, subst}
 use Rattle.std.specs.List.{flat_map}
 use Rattle.sq_elf.specs.Memory.{segments_of}
 use Rattle.sq_memory.specs.Regions.{map_regions, get}
 use Rattle.sq_memory.specs.Contents.{regions_of}
 use Rattle.sq_system.specs.Starts.{start_of, stack_pointer, IsBadStart}
-use Rattle.sq_follow.specs.Worlds.{extents, ram_region}
-use Rattle.sq_program.specs.FileRuns.{world_of}
+use Rattle.sq_follow.specs.Worlds.{ram_region}
 use Rattle.sq_tagged.specs.Views.{cell_of}
 use Rattle.sq_monitor.specs.FileCells.{segment_regions, segment_layout}
 use Rattle.sq_monitor.specs.Starts.{extent_of, state_at}

@@ -1,4 +1,4 @@
-use Rattle.std.proofs.Common.{[], map, Some, None, ap, ◌∙◌}
+use Rattle.std.proofs.Common.{map, Some, None, ap, ◌∙◌}
 use Rattle.sq_memory.specs.Regions.{get}
 use Rattle.sq_tagged.specs.Views.{store_of, cell_of}
 use Rattle.sq_tagged.proofs.CellLists.{buffer_cells}
