@@ -24,3 +24,6 @@ pub use rows::{AddressHalf, row};
 pub use setting::Setting;
 pub use store::Store;
 pub use values::{Cell, Tag, Value};
+
+#[cfg(test)]
+mod tests;
