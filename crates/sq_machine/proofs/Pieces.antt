@@ -1,11 +1,12 @@
 -- What one comparison of a range with a piece or RAM says of its bytes.
-use Rattle.std.proofs.Common.{◌≡◌, ℕ, zero, suc, ◌+◌, ◌<◌, ◌≤◌, Bool, true, false, ◌==◌, ◌&&◌, ◌||◌, not, bit_and, if◌then◌else◌, List, [], ◌∷◌, Some, is_some, position, refl, ap, ◌∙◌, arith}
+use Rattle.std.proofs.Common.{◌≡◌, ℕ, zero, suc, ◌+◌, ◌<◌, ◌≤◌, Bool, true, false, ◌==◌, ◌&&◌, ◌||◌, not, bit_and, if◌then◌else◌, List, [], ◌∷◌, Some, is_some, position, nat_le, nat_lt, refl, ap, ◌∙◌, arith}
 use Rattle.std.proofs.lemmas.Bool.Decides.{nat_tests}
 use Rattle.std.proofs.lemmas.Iterator.Adapters.{position_from-zero}
 use Rattle.std.specs.List.{list_any, position_from}
 use Rattle.sq_system.specs.declared.piece.Piece.{Piece}
 use Rattle.sq_system.specs.World.{World, PF_X, PF_W, is_in, is_in_with, is_in_ram, is_executable, is_writable, are_all}
-use Rattle.sq_machine.specs.Ranges.{allows_all, meets_ram}
+use Rattle.sq_machine.specs.Ranges.{allows_all, meets_ram, IsBareRam}
+use Rattle.sq_machine.specs.declared.bare_ram.BareRam.{BareRam}
 
 both : (a b : Bool) → a ≡ true → b ≡ true → (a && b) ≡ true
 both true b e f = f
@@ -88,11 +89,26 @@ is_in_none base size y (piece ∷ pieces) from below e =
     none_of_two (meets_ram base size piece) (list_any (meets_ram base size) pieces) (is_in y piece) (list_any (is_in y) pieces)
     (met base size y piece from below) (is_in_none base size y pieces from below) e
 
-pub writable_in_ram : (w : World) (x n : ℕ) → list_any (meets_ram w.base w.size) w.pieces ≡ false → w.base ≤ x → x + n ≤ w.base + w.size → are_all (is_writable w) x n ≡ true
+in_ram : (base size low count x n y : ℕ) → base ≤ low → low + count ≤ base + size → low ≤ x → x + n ≤ low + count → x ≤ y → y < x + n → (nat_le base y && nat_lt y (base + size)) ≡ true
+in_ram base size low count x n y a b c d e f = grind (arith, nat_tests)
+
+pub writable_in_ram : (w : World) (bare : BareRam) (x n : ℕ) → IsBareRam w.pieces w.base w.size bare → bare.base ≤ x → x + n ≤ bare.base + bare.size → are_all (is_writable w) x n ≡ true
 unfolding is_writable
-writable_in_ram w x n e from below = each (is_writable w) x n here
+writable_in_ram w bare x n is from below = each (is_writable w) x n here
   where
     here : (y : ℕ) → x ≤ y → y < x + n → (if list_any (is_in y) w.pieces then list_any (is_in_with PF_W y) w.pieces else is_in_ram w y) ≡ true
     here y after before =
-        let outside : list_any (is_in y) w.pieces ≡ false = is_in_none w.base w.size y w.pieces (omega arith) (omega arith) e in
-        rw outside (grind (arith, nat_tests))
+        let outside : list_any (is_in y) w.pieces ≡ false = is_in_none bare.base bare.size y w.pieces (omega arith) (omega arith) is.outside in
+        rw outside (in_ram w.base w.size bare.base bare.size x n y is.from is.below from below after before)
+
+-- no piece meets nothing
+meets_nothing : (base : ℕ) (piece : Piece) → meets_ram base 0 piece ≡ false
+meets_nothing base piece = grind (arith, nat_tests)
+
+none_meets : (base : ℕ) (pieces : List Piece) → list_any (meets_ram base 0) pieces ≡ false
+none_meets base [] = refl
+none_meets base (piece ∷ pieces) = rw (meets_nothing base piece) (none_meets base pieces)
+
+-- no byte of RAM
+pub no_bare_ram : (pieces : List Piece) (base size : ℕ) → IsBareRam pieces base size (record { base = base; size = 0 })
+no_bare_ram pieces base size = record { from = omega arith; below = omega arith; outside = none_meets base pieces }

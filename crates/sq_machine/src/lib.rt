@@ -6,6 +6,7 @@
 #![tactic(auto)]
 
 mod atomics;
+mod bare_ram;
 mod calls;
 mod hart;
 pub mod laws;

@@ -111,14 +111,12 @@ impl World {
         }
     }
 
-    /// Whether the n bytes from `x` on are in RAM, which is apart from the pieces.
-    #[tactic(auto, using(crate::proofs::Pieces::writable_in_ram), unfolding(crate::specs::Views::world_of))]
+    /// Whether the n bytes from `x` on are in the part of RAM that is known to be bare.
     fn are_in_bare_ram(&self, x: u32, n: u32) -> bool
         ensures { result ≡ true → are_all (is_writable (world_of self.now)) x n ≡ true }
     {
-        self.apart
-            && self.base <= x
-            && u64::from(x) + u64::from(n) <= u64::from(self.base) + u64::from(self.size)
+        self.bare.base <= x
+            && u64::from(x) + u64::from(n) <= u64::from(self.bare.base) + u64::from(self.bare.size)
     }
 
     /// Whether each of the n bytes from `x` on is executable.

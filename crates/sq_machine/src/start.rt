@@ -4,10 +4,10 @@ ghost use Rattle.std.specs.Prelude.{◌≡◌, ◌↔◌, ◌≤◌, map, false,
 ghost use Rattle.std.specs.List.{list_any};
 ghost use Rattle.sq_memory.specs.Contents.{region_of, regions_of};
 ghost use Rattle.sq_system.specs.Starts.{start_of, StartFits, HasRoom, Meets, IsBadStart};
-ghost use Rattle.sq_machine.specs.Ranges.{meets_ram};
 ghost use Rattle.sq_machine.specs.Starts.{seen, piece_of, extent_of, bytes_of, piece_region, regions_at_start, world_at_start, state_at, state_at_start};
 ghost use Rattle.sq_machine.specs.Views.{state_of, world_of, machine_state, machine_world};
 
+use crate::bare_ram::bare_ram;
 use crate::hart::Hart;
 use crate::machine::Machine;
 use crate::world::{LoadedPiece, World};
@@ -108,26 +108,18 @@ fn kept_pieces(alloc: Global, pieces: &[LoadedPiece]) -> Result<Vec<Piece>, Memo
     Ok(kept)
 }
 
-/// Whether one of the `size` bytes from `base` on is in a piece.
-fn meets_ram(pieces: &[Piece], base: u32, size: u32) -> bool
-    ensures { result ≡ list_any (meets_ram base size) pieces.now }
-{
-    let end = u64::from(base) + u64::from(size);
-    pieces.iter().any(|piece| piece.extent.meets(base, end))
-}
-
 /// The pieces and RAM.
 #[tactic(auto, unfolding(crate::specs::Views::world_of))]
 fn world(alloc: Global, pieces: &[LoadedPiece], start: &Start) -> Result<World, Memory>
     ensures { IfOk result (λ world. world_of world ≡ world_at_start (map seen pieces.now) (start_of start.now)) }
 {
     let kept = kept_pieces(alloc, pieces)?;
-    let apart = !meets_ram(&kept, start.base, start.size);
+    let bare = bare_ram(&kept, start.base, start.size);
     Ok(World {
         pieces: kept,
         base: start.base,
         size: start.size,
-        apart,
+        bare,
     })
 }
 

@@ -1,9 +1,8 @@
 //! What a run never changes.
 
-ghost use Rattle.std.specs.Prelude.{◌≡◌, not};
-ghost use Rattle.std.specs.List.{list_any};
-ghost use Rattle.sq_machine.specs.Ranges.{meets_ram};
+ghost use Rattle.sq_machine.specs.Ranges.{IsBareRam};
 
+use crate::bare_ram::BareRam;
 use sq_system::Piece;
 
 /// The pieces of a file, and RAM: `size` bytes from `base` on.
@@ -12,9 +11,9 @@ pub struct World {
     pub pieces: Vec<Piece>,
     pub base: u32,
     pub size: u32,
-    /// Whether no byte of RAM is in a piece.
-    pub apart: bool,
-    ghost is_apart: { apart ≡ not (list_any (meets_ram base size) pieces.items) },
+    /// A part of RAM that no piece meets: a store to it needs no look at the pieces.
+    pub bare: BareRam,
+    ghost is_bare: { IsBareRam pieces.items base size bare },
 }
 
 /// A piece with the bytes that a file has for it, behind which zeros stand.

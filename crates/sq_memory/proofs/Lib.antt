@@ -1,5 +1,5 @@
 pub mod CellLaws
 pub mod RangeLaws
 pub mod RegionLaws
-pub mod Apart
 pub mod Places
+pub mod Near

@@ -4,8 +4,7 @@ use Rattle.std.specs.List.{position_from}
 use Rattle.std.proofs.lemmas.Iterator.Adapters.{position_from-zero}
 use Rattle.std.proofs.lemmas.List.{map-set, length-map}
 use Rattle.std.proofs.lemmas.Option.{slice_get-map, slice_get_read, slice_get_within}
-use Rattle.sq_memory.specs.Regions.{Region, region_cell, or_else, get, region_with, put, AreApart}
-use Rattle.sq_memory.proofs.Apart.{first_place}
+use Rattle.sq_memory.specs.Regions.{Region, region_cell, or_else, get, region_with, put}
 
 none_of : (o : Option ℕ) → ((k : ℕ) → o ≡ Some k → ⊥) → o ≡ None
 none_of None f = refl
@@ -99,10 +98,6 @@ module _ {A C : Type 0} (v : A → Region C) (x : ℕ) where
 
   element : (xs : List A) (k : ℕ) (r : A) → k < length xs → r ≡ get_or xs k r → slice_get (map v xs) k ≡ Some (v r)
   element xs k r l e = slice_get-map v xs k ∙ ap (option_map v) (slice_get_read xs (length xs) k r refl l e)
-
-  -- where no two regions meet, r at place k is the first that has a cell
-  pub again : (xs : List A) (k : ℕ) (r : A) → AreApart (map v xs) → k < length xs → r ≡ get_or xs k r → is_some (region_cell (v r) x) ≡ true → Some k ≡ position (λ s. is_some (region_cell s x)) (map v xs)
-  again xs k r a l e h = sym (first_place (map v xs) x k (v r) a (element xs k r l e) h)
 
   pub within : (xs : List A) (rs : List (Region C)) (k : ℕ) → map v xs ≡ rs → HoldsAt x rs k → k < length xs
   within xs rs k e h =

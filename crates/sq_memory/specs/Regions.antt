@@ -1,5 +1,5 @@
 -- Memory as a list of regions. The first region that has a cell at an address holds it.
-use Rattle.std.specs.Prelude.{◌≡◌, ℕ, ◌+◌, ◌-◌, List, [], ◌∷◌, Option, Some, None, IsSome, is_some, Bool, ◌&&◌, ◌||◌, nat_le, slice_get, slice_set, map, if◌then◌else◌}
+use Rattle.std.specs.Prelude.{ℕ, ◌+◌, ◌-◌, List, [], ◌∷◌, Option, Some, None, is_some, nat_le, slice_get, slice_set, map, if◌then◌else◌}
 use Rattle.sq_memory.specs.Cells.{Cells}
 
 -- cells from an address on, one at each
@@ -19,18 +19,6 @@ or_else (Some c) o = Some c
 abbrev pub get : {C : Type 0} → List (Region C) → Cells C
 get [] x = None
 get (r ∷ rs) x = or_else (region_cell r x) (get rs x)
-
--- No two regions have a cell at one address.
-abbrev pub AreApart : {C : Type 0} → List (Region C) → Type 0
-AreApart [] = Unit {0}
-AreApart (r ∷ rs) = ((x : ℕ) → IsSome (region_cell r x) → get rs x ≡ None) × AreApart rs
-
-abbrev pub both_have : {C : Type 0} → Region C → Region C → ℕ → Bool
-both_have r s x = is_some (region_cell r x) && is_some (region_cell s x)
-
--- Whether both have a cell at one address: then they have one where the later of them starts.
-abbrev pub meet : {C : Type 0} → Region C → Region C → Bool
-meet r s = both_have r s r.start || both_have r s s.start
 
 abbrev pub region_with : {C : Type 0} → Region C → ℕ → C → Region C
 region_with r x c = record { start = r.start; cells = slice_set r.cells (x - r.start) c }

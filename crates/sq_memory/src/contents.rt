@@ -1,9 +1,8 @@
 // Memory that a run reads and writes.
 
-ghost use Rattle.std.specs.Prelude.{◌≡◌, ◌<◌, ◌↔◌, IsTrue, position, is_some};
-ghost use Rattle.std.specs.List.{list_any};
-ghost use Rattle.sq_memory.specs.Regions.{region_cell, meet, AreApart};
-ghost use Rattle.sq_memory.specs.Contents.{region_of, regions_of};
+ghost use Rattle.std.specs.Prelude.{◌≡◌, ℕ, ◌<◌, ◌≤◌, ◌+◌, ◌-◌, ◌^◌, ◌↔◌, IsTrue, Some, None, length, min, position, is_some};
+ghost use Rattle.sq_memory.specs.Regions.{region_cell};
+ghost use Rattle.sq_memory.specs.Contents.{region_of, regions_of, HasAddress, Serves};
 
 use std::alloc::{AllocError, Global};
 use std::marker::Model;
@@ -16,8 +15,8 @@ pub struct Region<C> {
 }
 
 impl<C: Copy> Region<C> {
-    ghost use Rattle.std.specs.Prelude.{◌≡◌, IsSome, is_some};
-    ghost use Rattle.sq_memory.specs.Regions.{region_cell, both_have, meet, region_with};
+    ghost use Rattle.std.specs.Prelude.{◌≡◌, ◌+◌, ◌-◌, ◌^◌, IsSome, is_some, length, min};
+    ghost use Rattle.sq_memory.specs.Regions.{region_cell, region_with};
     ghost use Rattle.sq_memory.specs.Contents.{region_of};
 
     pub fn new(start: u32, cells: Vec<C>) -> Region<C>
@@ -42,17 +41,24 @@ impl<C: Copy> Region<C> {
         self.cell(address).is_some()
     }
 
-    fn both_have(&self, other: &Region<C>, address: u32) -> bool
-        ensures { result ≡ both_have (region_of self.now) (region_of other.now) address }
+    /// The first address behind the cells, or a number above all addresses.
+    fn end(&self) -> usize
+        ensures { result ≡ min (self.now.start + length self.now.cells.items) (2 ^ 64 - 1) }
     {
-        self.has(address) && other.has(address)
+        (self.start as usize).saturating_add(self.cells.len())
     }
 
-    /// Whether both have a cell at one address.
-    fn meets(&self, other: &Region<C>) -> bool
-        ensures { result ≡ meet (region_of self.now) (region_of other.now) }
+    /// Its addresses, as those that the region at a place serves.
+    fn near(&self, place: usize) -> Near
+        ensures place { result.place ≡ place }
+        ensures there { (x : ℕ) → HasAddress result x → IsSome (region_cell (region_of self.now) x) }
+        ensures all { (x : ℕ) → x < 2 ^ 32 → IsSome (region_cell (region_of self.now) x) → HasAddress result x }
     {
-        self.both_have(other, self.start) || self.both_have(other, other.start)
+        Near {
+            low: self.start as usize,
+            high: self.end(),
+            place,
+        }
     }
 
     fn set(&mut self, address: u32, cell: C)
@@ -70,25 +76,64 @@ fn place<C: Copy>(regions: &[Region<C>], address: u32) -> Option<usize>
     regions.iter().position(|region| region.has(address))
 }
 
-fn meets_any<C: Copy>(region: &Region<C>, others: &[Region<C>]) -> bool
-    ensures { result ≡ list_any (λ other. meet (region_of region.now) (region_of other)) others.now }
-{
-    others.iter().any(|other| region.meets(other))
+/// Addresses from `low` up to `high`, and the place of the first region that has a cell there.
+#[derive(Clone, Copy)]
+struct Near {
+    low: usize,
+    high: usize,
+    place: usize,
 }
 
-// Whether no two regions have a cell at one address.
-fn are_apart<C: Copy>(regions: &[Region<C>]) -> bool
-    ensures { IsTrue result ↔ AreApart (regions_of regions.now) }
-{
-    for (i, region) in regions.iter().enumerate() {
-        if meets_any(region, &regions[i + 1..]) {
-            return false;
+impl Near {
+    fn nowhere() -> Near
+        ensures { (x : ℕ) → HasAddress result x → ⊥ }
+    {
+        Near {
+            low: 0,
+            high: 0,
+            place: 0,
         }
     }
-    true
+
+    fn has(&self, address: u32) -> bool
+        ensures { IsTrue result ↔ HasAddress self.now address }
+    {
+        let address = address as usize;
+        self.low <= address && address < self.high
+    }
+
+    // Cut where a region begins or ends, so that it has no cell in what is left.
+    fn beside<C: Copy>(&self, region: &Region<C>, address: u32) -> Near
+        requires inside { HasAddress self.now address }
+        requires absent { region_cell (region_of region.now) address ≡ None }
+        ensures inside { HasAddress result address }
+        ensures place { result.place ≡ self.now.place }
+        ensures cut { (x : ℕ) → HasAddress result x → HasAddress self.now x × (region_cell (region_of region.now) x ≡ None) }
+    {
+        let mut near = *self;
+        if address < region.start {
+            near.high = near.high.min(region.start as usize);
+        } else {
+            near.low = near.low.max(region.end());
+        }
+        near
+    }
 }
 
-// For how many pages of 4 KiB the region that served is remembered: pages whose numbers are equal modulo this share.
+// The addresses round one that the same region serves.
+fn near_at<C: Copy>(regions: &[Region<C>], place: usize, address: u32) -> Near
+    requires { position (λ r. is_some (region_cell (region_of r) address)) regions.now ≡ Some place }
+    ensures inside { HasAddress result address }
+    ensures serves { Serves (regions_of regions.now) result }
+{
+    let mut near = regions[place].near(place);
+    for region in &regions[..place] {
+        near = near.beside(region, address);
+    }
+    near
+}
+
+// For how many pages of 4 KiB it is remembered which region served: pages whose numbers are equal modulo this share.
 const PAGES: usize = 64;
 
 fn page_of(address: u32) -> usize
@@ -101,22 +146,21 @@ fn page_of(address: u32) -> usize
 #[derive(Drop)]
 pub struct Contents<C> {
     regions: Vec<Region<C>>,
-    /// Whether no two regions have a cell at one address.
-    apart: bool,
-    /// The places of the regions that served last, by the page of the address. They only save time.
-    near: [usize; PAGES],
+    /// What served last, by the page of the address. It only saves time.
+    near: [Near; PAGES],
 }
 
 impl<C> Model for Contents<C> {
-    ghost use Rattle.std.specs.Prelude.{List, IsTrue, ◌↔◌};
-    ghost use Rattle.sq_memory.specs.Regions.{Region as Cells, AreApart};
-    ghost use Rattle.sq_memory.specs.Contents.{regions_of};
+    ghost use Rattle.std.specs.Prelude.{List};
+    ghost use Rattle.std.specs.List.{All};
+    ghost use Rattle.sq_memory.specs.Regions.{Region as Cells};
+    ghost use Rattle.sq_memory.specs.Contents.{regions_of, Serves};
 
     ghost Value = { List (Cells C) };
 
     ghost view = { λ m. regions_of m.regions.items };
 
-    ghost invariant = { λ m. IsTrue m.apart ↔ AreApart (regions_of m.regions.items) };
+    ghost invariant = { λ m. All (Serves (regions_of m.regions.items)) m.near };
 }
 
 impl<C: Copy> Contents<C> {
@@ -128,27 +172,24 @@ impl<C: Copy> Contents<C> {
     pub fn new(regions: Vec<Region<C>>) -> Contents<C>
         ensures { result ≡ regions_of regions.items }
     {
-        let apart = are_apart(&regions);
         Contents {
             regions,
-            apart,
-            near: [0; PAGES],
+            near: [Near::nowhere(); PAGES],
         }
     }
 
-    // The first region that has a cell at an address. Where none meet, the one that served this page last is asked
-    // first.
+    // The first region that has a cell at an address. Where one served near it on its page, no other is asked.
     fn place_of(&mut self, address: u32) -> Option<usize>
         ensures value { result ≡ position (λ r. is_some (region_cell r address)) self.old }
         ensures kept { self.new ≡ self.old }
     {
         let page = page_of(address);
-        let near = self.near[page];
-        if self.apart && near < self.regions.len() && self.regions[near].has(address) {
-            return Some(near);
+        let last = self.near[page];
+        if last.has(address) {
+            return Some(last.place);
         }
         let place = place(&self.regions, address)?;
-        self.near[page] = place;
+        self.near[page] = near_at(&self.regions, place, address);
         Some(place)
     }
 
@@ -227,7 +268,7 @@ mod tests {
         Ok(())
     }
 
-    // Two regions that touch stand apart, so the one that served their page last is asked first.
+    // Two regions that touch: each serves up to the other.
     #[test]
     fn the_region_that_served_last_serves_again(rt: HostRuntime) -> Result<(), Fail> {
         let alloc = rt.alloc();
@@ -252,6 +293,21 @@ mod tests {
         let mut memory = Contents::new(vec![in alloc; front, behind]?);
         assert_eq!(rt; memory.get(6), Some(0));
         assert_eq!(rt; memory.get(7), Some(1));
+        Ok(())
+    }
+
+    // The addresses before the front region are remembered apart from those behind it.
+    #[test]
+    fn a_region_serves_on_both_sides_of_an_earlier_one(rt: HostRuntime) -> Result<(), Fail> {
+        let alloc = rt.alloc();
+        let front = Region::new(6, vec![in alloc; 9u8]?);
+        let behind = Region::new(4, vec![in alloc; 1u8, 2, 3, 4, 5]?);
+        let mut memory = Contents::new(vec![in alloc; front, behind]?);
+        assert_eq!(rt; memory.get(4), Some(1));
+        assert_eq!(rt; memory.get(5), Some(2));
+        assert_eq!(rt; memory.get(6), Some(9));
+        assert_eq!(rt; memory.get(7), Some(4));
+        assert_eq!(rt; memory.get(8), Some(5));
         Ok(())
     }
 

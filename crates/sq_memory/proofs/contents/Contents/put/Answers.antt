@@ -1,7 +1,7 @@
 use Rattle.std.proofs.Common.{sym, ◌∙◌, subst}
-use Rattle.sq_memory.specs.Regions.{AreApart}
-use Rattle.sq_memory.specs.Contents.{region_of}
-use Rattle.sq_memory.proofs.Apart.{apart_put}
+use Rattle.std.specs.List.{All}
+use Rattle.sq_memory.specs.Contents.{region_of, Serves}
+use Rattle.sq_memory.proofs.Near.{all_serve_put}
 use Rattle.sq_memory.proofs.Places.{holds_at, holds_none, found_region}
 use Rattle.sq_memory.proofs.contents.Contents.put.Goals as goal
 
@@ -16,10 +16,7 @@ invariant_of-self g c =
     let is = c.self.view_is ∙ c.place_of.ensures.kept in
     let f = found_region region_of c.args.address c.self.inside.regions.items c.args.self.now c.in-Some.place c.index_mut.result.now is h c.index_mut.ensures.value in
     let w = f.2 c.args.cell c.set.new.self c.set.ensures in
-    let a = apart_put c.args.self.now c.args.address c.args.cell in (
-      λ t. subst AreApart (sym w) (a.1 (subst AreApart is (c.self.invariant.0 t))),
-      λ t. c.self.invariant.1 (subst AreApart (sym is) (a.0 (subst AreApart w t))),
-    )
+    subst (λ rs. All (Serves rs) c.self.inside.near) (sym w) (all_serve_put c.args.self.now c.args.address c.args.cell c.self.inside.near (subst (λ rs. All (Serves rs) c.self.inside.near) is c.self.invariant))
 
 pub returns-in-Some : goal.returns-in-Some
 returns-in-Some g c =
