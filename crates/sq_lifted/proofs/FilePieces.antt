@@ -25,8 +25,8 @@ use Rattle.sq_machine.specs.Starts.{extent_of as plain_extent}
 use Rattle.sq_run.specs.FileRuns.{start_piece as plain_piece, pieces_of}
 use Rattle.sq_lifted.specs.Same.{FilesAreWorlds}
 use Rattle.sq_lifted.proofs.Files.{dropped}
-use Rattle.sq_lifted.proofs.FileBytes.{filled, filled_length, bytes_length, whole}
-use Rattle.sq_lifted.proofs.FileRegions.{loaded}
+use Rattle.sq_files.proofs.FileBytes.{filled, filled_length, bytes_length, whole}
+use Rattle.sq_files.proofs.FileRegions.{loaded}
 use Rattle.sq_lifted.proofs.PlainCells.{start_bytes_length, numbered_there}
 
 -- THE BYTES OF A PIECE

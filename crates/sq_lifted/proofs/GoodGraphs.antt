@@ -29,6 +29,7 @@ use Rattle.sq_program.specs.Programs.{Text}
 use Rattle.sq_program.specs.FilePrograms.{text_of as program_text}
 use Rattle.sq_program.specs.Lifted.{code_ref, lifted}
 use Rattle.sq_write.specs.Alike.{FitsAs}
+use Rattle.sq_write.specs.Registers.{HasItemRegisters, HasTermRegisters, HasBlockRegisters, HasProcedureRegisters, HasRegisters}
 use Rattle.sq_write.proofs.AlikeGraphs.{alike_fit}
 use Rattle.sq_lifted.specs.Lifted.{IsGoodGraph}
 use Rattle.sq_lifted.specs.LiftedFiles.{IsLiftedFile, FitsFile}
@@ -193,6 +194,47 @@ sound_kept g h rules alike s =
       links_die = subst (LinksDieIn (renamed f g)) (sym (lines_are f g.blocks)) (links_kept f g rules alike.one_to_one (lines_of g.blocks) (known f g rules alike.one_to_one) s.links_die);
     })
 
+-- REGISTERS
+
+module _ (f : ℕ → ℕ) where
+  item_registers : (item : Item) → HasItemRegisters item → HasItemRegisters (retargeted_item f item)
+  item_registers (Op insn) h = h
+  item_registers (Hi rd to) h = h
+  item_registers (Lo rd rs to) h = h
+  item_registers (Out procedure) h = h
+
+  term_registers : (t : Term) → HasTermRegisters t → HasTermRegisters (retargeted_term f t)
+  term_registers Fall h = h
+  term_registers (Jump to) h = h
+  term_registers (Branch c a b to) h = h
+  term_registers (Call link to) h = h
+  term_registers (PartJump link part to) h = h
+  term_registers (Indirect link at offset) h = h
+  term_registers (Stop word) h = h
+
+  items_registers : (items : List Item) → AllByRecursion HasItemRegisters items → AllByRecursion HasItemRegisters (retargeted_items f items)
+  items_registers [] all = tt
+  items_registers (item ∷ items) all = (item_registers item all.0, items_registers items all.1)
+
+  all_registers : (items : List Item) → All HasItemRegisters items → All HasItemRegisters (retargeted_items f items)
+  all_registers items all = All-from_recursion HasItemRegisters (retargeted_items f items) (items_registers items (recursion_from_All HasItemRegisters items all))
+
+  blocks_registers : (bs : List Block) → AllByRecursion HasBlockRegisters bs → AllByRecursion HasBlockRegisters (map (renamed_block f) bs)
+  blocks_registers [] all = tt
+  blocks_registers (b ∷ bs) all = ((all_registers b.items all.0.0, term_registers b.term all.0.1), blocks_registers bs all.1)
+
+  bodies_registers : (ps : List Procedure) → AllByRecursion HasProcedureRegisters ps → AllByRecursion HasProcedureRegisters (map (retargeted_procedure f) ps)
+  bodies_registers [] all = tt
+  bodies_registers (p ∷ ps) all = ((all_registers p.body all.0.0, all.0.1), bodies_registers ps all.1)
+
+registers_kept : (g h : Graph) → AreAlike g h → HasRegisters g → HasRegisters h
+registers_kept g h alike r =
+    let f = alike.name in
+    subst HasRegisters (sym alike.is) (record {
+      blocks = All-from_recursion HasBlockRegisters (map (renamed_block f) g.blocks) (blocks_registers f g.blocks (recursion_from_All HasBlockRegisters g.blocks r.blocks));
+      procedures = All-from_recursion HasProcedureRegisters (map (retargeted_procedure f) g.procedures) (bodies_registers f g.procedures (recursion_from_All HasProcedureRegisters g.procedures r.procedures));
+    })
+
 -- ALL OF IT
 
 module _ (bytes : List ℕ) (g : Graph) (fit : AllByRecursion (λ b. b < 256) bytes) (l : IsLiftedFile bytes g) where
@@ -220,6 +262,7 @@ module _ (bytes : List ℕ) (g : Graph) (fit : AllByRecursion (λ b. b < 256) by
 
   fits_file : FitsFile bytes g
   fits_file = record {
+    registers = registers_kept (lifted l.is l.program) g l.lifted.alike good.registers;
     canonical = canonical_kept (lifted l.is l.program) g l.lifted.alike good.canonical;
     sound = sound_kept (lifted l.is l.program) g good.graph l.lifted.alike good.sound;
     reach = fits.reach good.reach;

@@ -1,14 +1,15 @@
 -- What is read off a program is a graph.
-use Rattle.std.proofs.Common.{◌≡◌, ◌≢◌, ℕ, zero, suc, ◌+◌, ◌<◌, Bool, true, false, List, [], ◌∷◌, ◌++◌, map, length, Option, Some, None, slice_get, refl, sym, subst, arith}
-use Rattle.std.specs.List.{slice_index, Contains, AllByRecursion, flat_map}
+use Rattle.std.proofs.Common.{◌≡◌, ◌≢◌, ℕ, zero, suc, ◌+◌, ◌<◌, Bool, true, false, List, [], ◌∷◌, ◌++◌, map, length, Option, Some, None, slice_get, if◌then◌else◌, refl, sym, subst, arith}
+use Rattle.std.specs.List.{slice_index, Contains, All, AllByRecursion, flat_map}
 use Rattle.std.specs.List.Sorted.{IsStrictlyIncreasing}
 use Rattle.std.proofs.lemmas.List.Elements.{All-from_recursion}
 use Rattle.std.proofs.lemmas.Bool.{and_parts}
+use Rattle.sq_isa.specs.Ranges.{IsRegister}
 use Rattle.sq_isa.proofs.Encoded.{FieldsFit-insn_of}
 use Rattle.sq_graph.specs.declared.item.Item.{Item}
 use Rattle.sq_graph.specs.declared.item.Item.TheVariants.{Op, Hi, Lo, Out}
 use Rattle.sq_graph.specs.declared.item.Term.{Term}
-use Rattle.sq_graph.specs.Graph.{Graph}
+use Rattle.sq_graph.specs.Graph.{Block, Graph}
 use Rattle.sq_graph.specs.Blocks.{HasBlock, HasProcedure, all_items, items_of_blocks, items_of_bodies}
 use Rattle.sq_graph.specs.Uses.{item_uses, term_uses, items_uses, terms_uses, code_word_uses, item_calls, calls, uses}
 use Rattle.sq_graph.specs.Rules.{ItemFits, TermFits, mentions, ProcedureFits, IsGraph}
@@ -16,11 +17,13 @@ use Rattle.sq_reloc.specs.declared.mark.CodeWord.{CodeWord}
 use Rattle.sq_reloc.specs.CodeWords.{IsAscending}
 use Rattle.sq_graph.specs.Lines.{line_of, lines_of}
 use Rattle.sq_graph.specs.Soundness.{IsFreeOf, IsSoundBody, IsSound}
+use Rattle.sq_write.specs.Registers.{HasItemRegisters, HasTermRegisters, HasBlockRegisters, HasProcedureRegisters, HasRegisters}
 use Rattle.sq_program.specs.Programs.{Text, Note, Program, target_of}
 use Rattle.sq_program.specs.Reached.{Decides}
 use Rattle.sq_program.specs.Readings.{Reading, IsItem, IsTerm, Links, reading_at}
-use Rattle.sq_program.specs.Notes.{has_body, is_item_without}
+use Rattle.sq_program.specs.Notes.{used_notes, has_body, is_item_without}
 use Rattle.sq_program.specs.Lifted.{Form, link_form, form_of, procedure_at, with_item, body_from, procedure_of, code_ref}
+use Rattle.sq_lift.proofs.NoteRefusals.{links_small}
 use Rattle.sq_lifting.specs.Lifting.{IsLinked, IsReadable, NotesDie}
 use Rattle.sq_lifting.proofs.Facts.{one_is, none_in, ReadWord, marked_of}
 use Rattle.sq_lifting.proofs.NoteFacts.{at_number, read_item, IsGoodNote, good_note}
@@ -57,11 +60,13 @@ each_at P (x ∷ xs) f = (f 0 x refl, each_at P xs (λ q y e. f (suc q) y e))
 -- an item that fits, and whose names and procedures are there
 pub record IsItemGood (g : Graph) (item : Item) : Type 0 where
   pub fits : ItemFits item
+  pub registers : HasItemRegisters item
   pub names : (x : ℕ) → Contains (item_uses item) x → HasBlock g x
   pub calls : (q : ℕ) → Contains (item_calls item) q → HasProcedure g q
 
 pub record IsTermGood (g : Graph) (term : Term) : Type 0 where
   pub fits : TermFits term
+  pub registers : HasTermRegisters term
   pub names : (x : ℕ) → Contains (term_uses term) x → HasBlock g x
 
 abbrev IsFormGoodIn : Graph → Form → Type 0
@@ -122,29 +127,31 @@ module _ (p : Program) (is : ℕ → Bool) (linked : IsLinked p) (dec : Decides 
   form_good : (at : ℕ) → keep at ≡ true → (rd : Read at) → IsFormGoodIn g (form_of ns rd.reading)
   form_good at k rd = go rd.reading refl
     where
-      link_good : (link to : ℕ) (o : Option ℕ) → procedure_at ns to ≡ o → link ≢ 0 → ((x : ℕ) → Contains (form_uses (link_form link to o)) x → HasBlock g x) → IsFormGoodIn g (link_form link to o)
-      link_good link to None e n h = record { fits = n; names = h }
-      link_good link to (Some q) e n h = record { fits = tt; names = h; calls = λ c i. called c i }
+      link_good : (link to : ℕ) (o : Option ℕ) → procedure_at ns to ≡ o → link ≢ 0 → IsRegister link → ((x : ℕ) → Contains (form_uses (link_form link to o)) x → HasBlock g x) → IsFormGoodIn g (link_form link to o)
+      link_good link to None e n small h = record { fits = n; registers = small; names = h }
+      link_good link to (Some q) e n small h = record { fits = tt; registers = tt; names = h; calls = λ c i. called c i }
         where
           called : (c : ℕ) → Contains (q ∷ []) c → HasProcedure g c
           called c i = subst (HasProcedure g) (one_is q c i) (procedure_there to q e)
 
       go : (r : Reading) → rd.reading ≡ r → IsFormGoodIn g (form_of ns r)
       go (IsItem item) e = record {
-        fits = subst (ReadingFits at) e (read_fits at rd);
+        fits = (subst (ReadingFits at) e (read_fits at rd)).0;
+        registers = (subst (ReadingFits at) e (read_fits at rd)).1;
         names = subst (λ r. (x : ℕ) → Contains (form_uses (form_of ns r)) x → HasBlock g x) e (names_there at rd k);
         calls = λ q c. none_in q (subst (λ xs. Contains xs q) (read_calls item (item_read p is linked.text dec fine at rd item e)) c);
       }
       go (IsTerm term) e = record {
         fits = (subst (ReadingFits at) e (read_fits at rd)).0;
+        registers = (subst (ReadingFits at) e (read_fits at rd)).2;
         names = subst (λ r. (x : ℕ) → Contains (form_uses (form_of ns r)) x → HasBlock g x) e (names_there at rd k);
       }
       go (Links link to) e =
-          link_good link to (procedure_at ns to) refl (subst (ReadingFits at) e (read_fits at rd))
+          link_good link to (procedure_at ns to) refl (subst (ReadingFits at) e (read_fits at rd)).0 (subst (ReadingFits at) e (read_fits at rd)).1
           (subst (λ r. (x : ℕ) → Contains (form_uses (form_of ns r)) x → HasBlock g x) e (names_there at rd k))
 
   pub blocks_are : EachBlock (IsItemGood g) (IsTermGood g) g.blocks
-  blocks_are = blocks_good p is linked.text dec fine (IsItemGood g) (IsTermGood g) (record { fits = tt; names = λ x c. none_in x c }) form_good
+  blocks_are = blocks_good p is linked.text dec fine (IsItemGood g) (IsTermGood g) (record { fits = tt; registers = tt; names = λ x c. none_in x c }) form_good
 
   -- and of bodies
   abbrev IsBodyItem : Note → Item → Type 0
@@ -156,7 +163,8 @@ module _ (p : Program) (is : ℕ → Bool) (linked : IsLinked p) (dec : Decides 
       each : (at : ℕ) (rd : Read at) → is at ≡ true → (item : Item) → rd.reading ≡ IsItem item → mentions item n.link ≡ false → IsBodyItem n item
       each at rd i item e m = let none = read_calls item (item_read p is linked.text dec fine at rd item e) in (
         record {
-          fits = subst (ReadingFits at) e (read_fits at rd);
+          fits = (subst (ReadingFits at) e (read_fits at rd)).0;
+          registers = (subst (ReadingFits at) e (read_fits at rd)).1;
           names = λ x c. has_block p is linked.text dec fine x (body_name p is linked.text dec fine at rd i item e x c);
           calls = λ q c. none_in q (subst (λ xs. Contains xs q) none c);
         },
@@ -205,6 +213,35 @@ module _ (p : Program) (is : ℕ → Bool) (linked : IsLinked p) (dec : Decides 
     items = All-from_recursion ItemFits (all_items g) (each_weaker (IsItemGood g) ItemFits (λ item h. h.fits) (all_items g) items_are);
     terms = All-from_recursion (λ b. TermFits b.term) g.blocks (each_weaker (IsBlockGood (IsItemGood g) (IsTermGood g)) (λ b. TermFits b.term) (λ b h. h.term.fits) g.blocks blocks_are);
     procedures = All-from_recursion ProcedureFits g.procedures (each_map (procedure_of t) ProcedureFits ns (each_weaker (IsGoodNote is p) (λ n. ProcedureFits (procedure_of t n)) procedure_is ns notes_are));
+  }
+
+  -- REGISTERS
+
+  block_registers : (b : Block) → IsBlockGood (IsItemGood g) (IsTermGood g) b → HasBlockRegisters b
+  block_registers b h = (All-from_recursion HasItemRegisters b.items (each_weaker (IsItemGood g) HasItemRegisters (λ item k. k.registers) b.items h.items), h.term.registers)
+
+  body_registers : (n : Note) → IsGoodNote is p n → All HasItemRegisters (body_from t n.address n.length)
+  body_registers n good = All-from_recursion HasItemRegisters (body_from t n.address n.length) (each_weaker (IsBodyItem n) HasItemRegisters (λ item h. h.0.registers) (body_from t n.address n.length) (body_is n good))
+
+  links_are : AllByRecursion (λ n. n.link < 32) ns
+  links_are = used_small p.notes (links_small is p None 1 p.notes fine.notes)
+    where
+      used_small : (xs : List Note) → AllByRecursion (λ n. n.link < 32) xs → AllByRecursion (λ n. n.link < 32) (used_notes is xs)
+      used_small [] h = tt
+      used_small (x ∷ xs) h = keeps (is x.address) (used_small xs h.1)
+        where
+          keeps : (b : Bool) → AllByRecursion (λ n. n.link < 32) (used_notes is xs) → AllByRecursion (λ n. n.link < 32) (if b then x ∷ used_notes is xs else used_notes is xs)
+          keeps true more = (h.0, more)
+          keeps false more = more
+
+  both_are : (xs : List Note) → AllByRecursion (IsGoodNote is p) xs → AllByRecursion (λ n. n.link < 32) xs → AllByRecursion HasProcedureRegisters (map (procedure_of t) xs)
+  both_are [] a b = tt
+  both_are (n ∷ xs) a b = ((body_registers n a.0, b.0), both_are xs a.1 b.1)
+
+  pub has_registers : HasRegisters g
+  has_registers = record {
+    blocks = All-from_recursion HasBlockRegisters g.blocks (each_weaker (IsBlockGood (IsItemGood g) (IsTermGood g)) HasBlockRegisters block_registers g.blocks blocks_are);
+    procedures = All-from_recursion HasProcedureRegisters g.procedures (both_are ns notes_are links_are);
   }
 
   -- SOUNDNESS

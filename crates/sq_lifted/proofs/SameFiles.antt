@@ -18,7 +18,8 @@ use Rattle.sq_program.specs.FileRuns.{world_of, watched_start, watched_layout}
 use Rattle.sq_run.specs.FileRuns.{file_world, file_state}
 use Rattle.sq_lift.proofs.FilePrograms.{one_program}
 use Rattle.sq_lifting.proofs.Watched.{watching_erases}
-use Rattle.sq_lifted.specs.Same.{IsFileStart, HaveSameRuns, ShowsGraph, ShownGraphsAreSame}
+use Rattle.sq_files.specs.Shows.{IsFileStart, ShowsGraph}
+use Rattle.sq_lifted.specs.Same.{HaveSameRuns, ShownGraphsAreSame}
 use Rattle.sq_lifted.proofs.Files.{files_linked}
 use Rattle.sq_lifted.proofs.FileWorlds.{early_readable, files_keep_runs, files_follow}
 use Rattle.sq_lifted.proofs.PlainStarts.{start_plain}

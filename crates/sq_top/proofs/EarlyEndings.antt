@@ -11,7 +11,8 @@ use Rattle.sq_top.specs.declared.ending.Ending.{Ending}
 use Rattle.sq_top.specs.declared.ending.Ending.TheVariants.{Done, Words, Desk, Refused, Memory, Limit, BadStart}
 use Rattle.sq_top.specs.declared.ending.DeskCall.TheVariants.{Load, Store, Print}
 use Rattle.sq_top.specs.Denials.{denied_ending}
-use Rattle.sq_top.specs.Refusing.{IsRefused}
+use Rattle.sq_program.specs.FilePrograms.{IsRefusalOf}
+use Rattle.sq_program.specs.FilePrograms.IsRefusalOf.{by_file}
 use Rattle.sq_top.specs.Endings.{LeavesUnpacked}
 use Rattle.sq_top.specs.RunEndings.{LeavesUnloaded, LeavesUnrun}
 
@@ -31,15 +32,15 @@ unloaded name Words before after gone = absurd gone
 unloaded name (Desk Load) before after rose = rose
 unloaded name (Desk Store) before after gone = absurd gone
 unloaded name (Desk Print) before after gone = absurd gone
-unloaded name (Refused refusal) before after gone = λ files told. inl (too_long_refused _ (gone.1 files told) ∙ ap Some (sym gone.0))
+unloaded name (Refused refusal) before after gone = λ files told. by_file (too_long_refused _ (gone.1 files told) ∙ ap Some (sym gone.0))
 unloaded name Memory before after gone = gone
 unloaded name Limit before after gone = absurd gone
 unloaded name BadStart before after gone = absurd gone
 
 -- where it is not packed
 pub unpacked : (T : Type 0) (name : List ℕ) (denied : Denied) (before after : Outside) (bytes : List ℕ) → ForFiles before (λ files. bytes ≡ content_of files name) →
-    ((refusal : Cause) → error T Denied denied ≡ Err (DeniedFile refusal) → IsRefused bytes refusal) → LeavesUnpacked name (denied_ending denied) before after
-unpacked T name (DeniedFile refusal) before after bytes told refused = λ files held. subst (λ b. IsRefused b refusal) (told files held) (refused refusal refl)
+    ((refusal : Cause) → error T Denied denied ≡ Err (DeniedFile refusal) → IsRefusalOf bytes refusal) → LeavesUnpacked name (denied_ending denied) before after
+unpacked T name (DeniedFile refusal) before after bytes told refused = λ files held. subst (λ b. IsRefusalOf b refusal) (told files held) (refused refusal refl)
 unpacked T name NoMemory before after bytes told refused = tt
 
 -- where FILE is not loaded

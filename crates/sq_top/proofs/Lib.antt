@@ -2,6 +2,6 @@ pub mod EarlyEndings
 pub mod Later
 pub mod PackedFile
 pub mod Promised
+pub mod Refusals
 pub mod RunPromised
 pub mod StatusesPromised
-pub mod StraightPart

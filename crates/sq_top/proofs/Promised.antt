@@ -1,7 +1,6 @@
 -- How the ending of a call keeps each promise.
 use Rattle.std.proofs.Common.{◌≡◌, ℕ, ◌⊎◌, inl, inr, List, ◌++◌, Option, Some, None, refl, ap, ◌∙◌}
 use Rattle.std.specs.Option.{option_map}
-use Rattle.sq_top.proofs.PackedFile.{good}
 use Rattle.sq_num.specs.declared.packed.Packed.{Packed}
 use Rattle.sq_desk.specs.Outside.{Outside, Files, content_of, with_file}
 use Rattle.sq_top.specs.declared.ending.Ending.{Ending}
@@ -18,9 +17,9 @@ same_sizes first second third fourth = λ i. sizes_text (first i) (second i) (th
 
 -- and its line is that of the headline
 headline : (given : List ℕ) (packed : Packed) → Packs given packed → Headline given packed.bytes (packed_text packed)
-unfolding packed_text good
+unfolding packed_text
 headline given packed packs = record {
-  good = good given packed packs;
+  good = packs.good;
   printed_line = same_sizes packs.text_before packs.text_after packs.loaded_before packs.loaded_after;
 }
 
@@ -29,7 +28,7 @@ in_place : {input output : List ℕ} {packed : Packed} {before after : Outside} 
 in_place {output} {packed} stored files told = stored.stores ∙ ap (option_map (with_file output (Some packed.bytes))) told
 
 holds : {input output : List ℕ} {packed : Packed} {before after : Outside} → StoresPacked input output packed before after → HoldsOutput input output before after
-holds {packed = packed} stored files told = (packed.bytes, good _ packed (stored.packs files told), in_place stored files told)
+holds {packed = packed} stored files told = (packed.bytes, (stored.packs files told).good, in_place stored files told)
 
 module _ (words : List (List ℕ)) (ending : Ending) (before after : Outside) (ends : Ends words ending before after) (input output : List ℕ) (form : form_of words ≡ Some (PackForm input output)) where
   left : LeavesPack input output ending before after

@@ -9,7 +9,7 @@ use Rattle.sq_top.specs.declared.ending.DeskCall.TheVariants.{Load, Store, Print
 use Rattle.sq_top.specs.Statuses.{status_of, complaint_of, IsStatusOf}
 use Rattle.sq_top.specs.Endings.{PacksFile, LeavesPack, Leaves, ComplainsLine}
 use Rattle.sq_top.specs.RunEndings.{RunLeft}
-use Rattle.sq_top.proofs.PackedFile.{not_refused}
+use Rattle.sq_lifted.proofs.Accepting.{not_refused}
 use Rattle.sq_top.specs.Promises.{Ends, ForPack, HasFault, RefusesExactly, PrintsAsSaid}
 
 -- where no faults are counted none rose
@@ -128,7 +128,7 @@ module _ (words : List (List ℕ)) (ending : Ending) (before after : Outside) (e
   exact_promised input output form files told refusal refused = by_case ending (left input output form)
     where
       packs_not : (packed : Packed) → PacksFile input packed before → ⊥
-      packs_not packed packs = not_refused (content_of files input) (packs files told).accepted (packs files told).straight refusal refused
+      packs_not packed packs = not_refused (content_of files input) (packs files told).good.accepted refusal refused
 
       by_case : (e : Ending) → LeavesPack input output e before after → (status_of e ≡ 3) ⊎ ((status_of e ≡ 2) × Rose (Loading input) before after) ⊎ (status_of e ≡ 4)
       by_case Done gone = absurd (packs_not gone.0 gone.1.packs)

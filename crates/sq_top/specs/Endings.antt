@@ -7,7 +7,7 @@ use Rattle.sq_top.specs.declared.ending.Ending.TheVariants.{Done, Words, Desk, R
 use Rattle.sq_top.specs.declared.ending.DeskCall.TheVariants.{Load, Store, Print}
 use Rattle.sq_command.specs.Commands.{Form, PackForm, RunForm}
 use Rattle.sq_top.specs.Packing.{Packs, packed_text}
-use Rattle.sq_top.specs.Refusing.{IsRefused}
+use Rattle.sq_program.specs.FilePrograms.{IsRefusalOf}
 use Rattle.sq_top.specs.RunEndings.{LeavesRun}
 
 -- what the named file holds was packed so
@@ -22,7 +22,7 @@ pub record StoresPacked (input output : List ℕ) (packed : Packed) (before afte
 -- what a load and a packing leave where they give nothing
 abbrev pub LeavesUnpacked : List ℕ → Ending → Outside → Outside → Type 0
 LeavesUnpacked input (Desk Load) before after = Rose (Loading input) before after
-LeavesUnpacked input (Refused refusal) before after = ForFiles before (λ files. IsRefused (content_of files input) refusal)
+LeavesUnpacked input (Refused refusal) before after = ForFiles before (λ files. IsRefusalOf (content_of files input) refusal)
 LeavesUnpacked input Memory before after = ⊤
 LeavesUnpacked input other before after = ⊥
 
@@ -55,7 +55,7 @@ LeavesPack input output (Desk Store) before after =
 LeavesPack input output (Desk Print) before after =
     (packed : Packed) × StoresPacked input output packed before after × Rose Printing before after × PrintsPrefix (packed_text packed) before after
 LeavesPack input output (Refused refusal) before after =
-    ForFiles before (λ files. IsRefused (content_of files input) refusal) × KeepsFiles before after × KeepsPrinted before after
+    ForFiles before (λ files. IsRefusalOf (content_of files input) refusal) × KeepsFiles before after × KeepsPrinted before after
 LeavesPack input output Memory before after =
     (KeepsFiles before after ⊎ ((packed : Packed) × StoresPacked input output packed before after)) × KeepsPrinted before after
 LeavesPack input output Limit before after = ⊥

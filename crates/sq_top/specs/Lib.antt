@@ -2,9 +2,7 @@ pub mod Denials
 pub mod Endings
 pub mod Packing
 pub mod Promises
-pub mod Refusing
 pub mod RunEndings
 pub mod RunPromises
 pub mod Running
 pub mod Statuses
-pub mod Straight

@@ -9,7 +9,7 @@ use Rattle.sq_top.specs.declared.ending.DeskCall.{DeskCall}
 use Rattle.sq_top.specs.declared.ending.DeskCall.TheVariants.{Load, Store, Print}
 use Rattle.sq_command.specs.Commands.{RunRequest, PackForm, RunForm, form_of}
 use Rattle.sq_top.specs.Packing.{GoodOutput, Headline, packed_text}
-use Rattle.sq_top.specs.Refusing.{IsRefused}
+use Rattle.sq_program.specs.FilePrograms.{IsRefusalOf}
 use Rattle.sq_top.specs.Statuses.{call_text, complaint_of}
 use Rattle.sq_top.specs.Endings.{PacksFile, Leaves, ComplainsLine}
 use Rattle.sq_top.specs.Running.{HasRun}
@@ -74,17 +74,17 @@ HasFault input output before after =
 -- status 3 has its cause, its line names it, and nothing else changed
 abbrev pub HasRefusal : List ℕ → Outside → Outside → Type 0
 HasRefusal input before after =
-    KeepsFiles before after × KeepsPrinted before after × (refusal : Refusal) × ForFiles before (λ files. IsRefused (content_of files input) refusal)
+    KeepsFiles before after × KeepsPrinted before after × (refusal : Refusal) × ForFiles before (λ files. IsRefusalOf (content_of files input) refusal)
     × ComplainsLine (Some (refusal_text refusal ++ codes "\n")) before after
 
 -- a refusal gives status 3, unless a load failed or memory ran out first
 abbrev pub RefusesExactly : List ℕ → ℕ → Outside → Outside → Type 0
 RefusesExactly input status before after =
     ForFiles before (λ files.
-    (refusal : Refusal) → IsRefused (content_of files input) refusal → (status ≡ 3) ⊎ ((status ≡ 2) × Rose (Loading input) before after) ⊎ (status ≡ 4))
+    (refusal : Refusal) → IsRefusalOf (content_of files input) refusal → (status ≡ 3) ⊎ ((status ≡ 2) × Rose (Loading input) before after) ⊎ (status ≡ 4))
 
 -- with no fault of a used place and no refusal the status is 0 or 4
 abbrev pub IsComplete : List ℕ → List ℕ → ℕ → Outside → Outside → Type 0
 IsComplete input output status before after =
     ((call : DeskCall) → Rose (place_of call input output) before after → ⊥)
-    → ForFiles before (λ files. ((refusal : Refusal) → IsRefused (content_of files input) refusal → ⊥) → (status ≡ 0) ⊎ (status ≡ 4))
+    → ForFiles before (λ files. ((refusal : Refusal) → IsRefusalOf (content_of files input) refusal → ⊥) → (status ≡ 0) ⊎ (status ≡ 4))

@@ -13,12 +13,13 @@ mod loading;
 mod pack_command;
 mod packing;
 mod run_command;
-mod straight;
 mod top;
 
 pub use packing::pack_bytes;
 pub use top::squeeze;
 
+#[cfg(test)]
+mod pack_tests;
 #[cfg(test)]
 mod run_tests;
 #[cfg(test)]

@@ -1,69 +1,94 @@
 //! From the bytes of a file to those of the packed file.
 
-ghost use Rattle.std.specs.Prelude.{◌≡◌, ◌⊎◌, ◌≤◌, ◌-◌, ◌/◌, IfOk, OnOk};
+ghost use Rattle.std.specs.Prelude.{◌≡◌, ◌⊎◌, ◌+◌, ◌*◌, ◌<◌, ◌≤◌, length, IfOk, OnOk};
+ghost use Rattle.std.specs.List.{AllByRecursion};
 ghost use Rattle.sq_num.specs.declared.refusal.Refusal.{Refusal};
+ghost use Rattle.sq_num.specs.Saved.{words_saved};
+ghost use Rattle.sq_elf.specs.Refusing.{text_size};
+ghost use Rattle.sq_elf.specs.Sizes.{loaded_of};
+ghost use Rattle.sq_elf.specs.Text.{text_of};
+ghost use Rattle.sq_graph.specs.Rules.{IsGraph};
+ghost use Rattle.sq_graph.specs.Words.{words_of};
+ghost use Rattle.sq_program.specs.FilePrograms.{IsRefusalOf};
+ghost use Rattle.sq_write.specs.Written.{written};
+ghost use Rattle.sq_lifted.specs.LiftedFiles.{FitsFile};
 ghost use Rattle.sq_top.specs.Packing.{Packs, GoodOutput, no_savings};
-ghost use Rattle.sq_elf.specs.Refusing.{file_refusal_of};
-ghost use Rattle.sq_top.specs.Refusing.{IsRefused};
 
-use crate::straight::straight_words;
-use sq_elf::read_elf;
-use sq_num::{Bytes, Denied, Packed, Refusal, Savings};
-use sq_write::{read_plain, write_plain};
+use sq_elf::{Elf, read_elf};
+use sq_graph::Graph;
+use sq_layout::{place, words_of};
+use sq_lifted::lift;
+use sq_num::{Bytes, Denied, Memory, Packed, Savings};
+use sq_reloc::{Relocs, read_relocs};
+use sq_write::write_elf;
 use std::alloc::Global;
 
-/// Packs the file of these bytes: of a straight file, the words that a run reaches. It refuses a
-/// file that the file reader refuses, and for now every other that is not straight (0). Any step may
-/// find no memory.
+/// Packs the file of these bytes: reads it as a graph of what is reached, and writes that in the place of its text. Any
+/// step may find no memory.
 pub fn pack_bytes(alloc: Global, bytes: &[u8]) -> Result<Packed, Denied>
     ensures packed { IfOk result (Packs bytes.now) }
     ensures good { IfOk result (λ packed. GoodOutput bytes.now packed.bytes) }
-    ensures refused { (refusal : Refusal) → result ≡ Err (Denied.Refused refusal) → IsRefused bytes.now refusal }
-    ensures exact { (refusal : Refusal) → IsRefused bytes.now refusal → (result ≡ Err (Denied.Refused refusal)) ⊎ (result ≡ Err Denied.Memory) }
+    ensures refused { (refusal : Refusal) → result ≡ Err (Denied.Refused refusal) → IsRefusalOf bytes.now refusal }
+    ensures exact { (refusal : Refusal) → IsRefusalOf bytes.now refusal → (result ≡ Err (Denied.Refused refusal)) ⊎ (result ≡ Err Denied.Memory) }
 {
-    refuse_unreadable(alloc, bytes)?;
-    let Some(text) = read_plain(alloc, bytes)? else {
-        return Err(Denied::Refused(Refusal::NotBuilt));
-    };
-    let Some(words) = straight_words(alloc, text)? else {
-        return Err(Denied::Refused(Refusal::NotBuilt));
-    };
-    let file = write_plain(alloc, words.as_slice())?;
-    Ok(packed_of(file, text.len() as u32, 4 * words.len() as u32))
+    bytes_fit(bytes);
+    let elf = read_elf(alloc, bytes)?;
+    let relocs = read_relocs(alloc, &elf)?;
+    let graph = lift(alloc, &elf, &relocs)?;
+    let file = write_graph(alloc, &elf, &relocs, &graph)?;
+    Ok(packed_of(&elf, &graph, file))
 }
 
-/// Refuses what the file reader refuses.
-fn refuse_unreadable(alloc: Global, bytes: &[u8]) -> Result<(), Denied>
-    ensures accepted { OnOk result (file_refusal_of bytes.now ≡ None) }
-    ensures refused { (refusal : Refusal) → result ≡ Err (Denied.Refused refusal) → file_refusal_of bytes.now ≡ Some refusal }
-    ensures exact { (refusal : Refusal) → file_refusal_of bytes.now ≡ Some refusal → result ≡ Err (Denied.Refused refusal) }
+/// Each number of a slice of bytes is below 256.
+fn bytes_fit(bytes: &[u8])
+    ensures { AllByRecursion (λ b. b < 256) bytes.now }
 {
-    match read_elf(alloc, bytes) {
-        Ok(_) => Ok(()),
-        Err(denied) => Err(denied),
-    }
+    let _count = bytes.len();
 }
 
-/// A packed file with the bytes of text that there were before and after.
-fn packed_of(file: Vec<u8>, before: u32, after: u32) -> Packed
-    requires { after ≤ before }
+/// Writes the graph of the file in the place of its text.
+fn write_graph(
+    alloc: Global,
+    elf: &Elf<'_>,
+    relocs: &Relocs<'_>,
+    graph: &Graph,
+) -> Result<Vec<u8>, Memory>
+    requires same { relocs.now ≡ elf.now }
+    requires fits { FitsFile elf.now graph.now.graph }
+    ensures file { IfOk result (λ file. file.items ≡ written elf.now graph.now.graph) }
+    ensures rules { OnOk result (IsGraph graph.now.graph) }
+{
+    // Its contract has that a graph keeps the rules.
+    let _entry = graph.entry();
+    let places = place(alloc, graph, elf.text().lo)?;
+    write_elf(alloc, elf, relocs, graph, &places)
+}
+
+/// The file of a graph, with the bytes of text and the bytes that are loaded before and after.
+fn packed_of(elf: &Elf<'_>, graph: &Graph, file: Vec<u8>) -> Packed
+    requires words { (text_of elf.now).lo + 4 * words_of graph.now.graph ≤ (text_of elf.now).hi }
+    requires short { (text_of elf.now).hi ≤ (text_of elf.now).lo + 1048576 }
+    requires loads { text_size elf.now ≤ loaded_of elf.now + 4 * words_of graph.now.graph }
     ensures output { result.bytes ≡ file.items }
-    ensures text_before { result.text_before ≡ before }
-    ensures text_after { result.text_after ≡ after }
-    ensures loaded_before { result.loaded_before ≡ before }
-    ensures loaded_after { result.loaded_after ≡ after }
-    ensures unreached { result.unreached ≡ (before - after) / 4 }
-    ensures procedures { result.procedures ≡ 0 }
+    ensures text_before { result.text_before ≡ text_size elf.now }
+    ensures text_after { result.text_after ≡ 4 * words_of graph.now.graph }
+    ensures loaded_before { result.loaded_before ≡ loaded_of elf.now }
+    ensures loaded_after { result.loaded_after + text_size elf.now ≡ loaded_of elf.now + 4 * words_of graph.now.graph }
+    ensures balance { result.text_before ≡ result.text_after + 4 * (result.unreached + words_saved result.savings) }
+    ensures procedures { result.procedures ≡ length graph.now.graph.procedures }
     ensures savings { result.savings ≡ no_savings }
 {
+    let text = elf.text();
+    let before = (text.hi - u64::from(text.lo)) as u32;
+    let after = 4 * words_of(graph);
     Packed {
         bytes: Bytes::from_vec(file),
         text_before: before,
         text_after: after,
-        loaded_before: before,
-        loaded_after: after,
+        loaded_before: elf.loaded(),
+        loaded_after: elf.loaded() - (before - after),
         unreached: (before - after) / 4,
-        procedures: 0,
+        procedures: graph.procedures(),
         savings: Savings::NONE,
     }
 }

@@ -305,18 +305,31 @@ fn failed_print_leaves_the_output(rt: HostRuntime) -> Result<(), Fail> {
 }
 
 #[test]
-fn names_may_be_one_and_files_not_straight(rt: HostRuntime) -> Result<(), Fail> {
+fn names_may_be_one(rt: HostRuntime) -> Result<(), Fail> {
     let alloc = rt.alloc();
     let mut desk = MemoryDesk::new(alloc, &[])?;
     desk.put("a", with_zeros(alloc, 8)?.as_slice())?;
     assert_eq!(rt; run(&rt, &mut desk, "pack a a")?, 0);
     assert!(rt; desk.file("a") == Some(file_of(alloc, &SMALLEST)?.as_slice()));
-    // A plain file with no jump to itself, and one with another word before it.
-    for words in [[0x0000_0073, 0x0000_0073], [0x3052_9073, 0x0000_006f]] {
+    Ok(())
+}
+
+#[test]
+fn text_is_refused_by_its_first_fault(rt: HostRuntime) -> Result<(), Fail> {
+    let alloc = rt.alloc();
+    // Off the end, a word without an instruction, and an upper half without a relocation.
+    for (words, complained) in [
+        ([0x0000_0073, 0x0000_0073], "refused 22 0x00010004\n"),
+        (
+            [0x3052_9073, 0x0000_006f],
+            "refused 20 0x00010000 0x30529073\n",
+        ),
+        ([0x0000_0517, 0x0000_006f], "refused 23 0x00010000\n"),
+    ] {
         let mut desk = MemoryDesk::new(alloc, &[])?;
         desk.put("a", sq_write::write_plain(alloc, &words)?.as_slice())?;
         assert_eq!(rt; run(&rt, &mut desk, "pack a b")?, 3);
-        assert_eq!(rt; desk.complained(), b"refused 0\n".as_slice());
+        assert_eq!(rt; desk.complained(), complained.as_bytes());
     }
     Ok(())
 }

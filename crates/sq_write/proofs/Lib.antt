@@ -16,4 +16,3 @@ pub mod Texts
 pub mod WordEntries
 pub mod Words
 pub mod AlikeGraphs
-pub mod LoadedSizes

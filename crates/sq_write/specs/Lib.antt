@@ -7,4 +7,4 @@ pub mod Written
 pub mod Standing
 pub mod Laid
 pub mod Alike
-pub mod Sizes
+pub mod Registers

@@ -6,7 +6,6 @@ ghost use Rattle.sq_graph.specs.Graph.{Graph};
 ghost use Rattle.sq_graph.specs.Renames.{renamed};
 ghost use Rattle.sq_graph.specs.Rules.{IsGraph};
 ghost use Rattle.sq_write.specs.Alike.{AlikeGraphsFit};
-ghost use Rattle.sq_write.specs.Sizes.{OutputSizes};
 ghost use Rattle.sq_write.specs.Written.{written};
 
 /// The file of a graph doesn't depend on the names of its blocks: where different blocks get different names, the file is
@@ -20,9 +19,4 @@ pub fn names_do_not_matter()
 /// addresses, and is in reach where the other is: what `write_elf` asks of it.
 pub fn alike_graphs_fit()
     ensures { AlikeGraphsFit }
-{}
-
-/// The file of a graph loads what the other file loads, with the words of the graph in place of text.
-pub fn output_sizes()
-    ensures { OutputSizes }
 {}

@@ -62,7 +62,8 @@ use Rattle.sq_outputs.proofs.Segments.{segments_are_read}
 use Rattle.sq_outputs.proofs.Writing.{written_fits}
 use Rattle.sq_writing.specs.Writable.{IsWritable}
 use Rattle.sq_writing.specs.Writing.{new_names, IsOutsideText, HasWords, IsWrittenStart}
-use Rattle.sq_writing.specs.Files.{IsFileStart, ShowsGraph, IsWritableInto, code_word_address, WrittenFilesShowGraphs}
+use Rattle.sq_files.specs.Shows.{IsFileStart, ShowsGraph}
+use Rattle.sq_writing.specs.Files.{IsWritableInto, code_word_address, WrittenFilesShowGraphs}
 use Rattle.sq_writing.proofs.Written.{writing_keeps_runs}
 use Rattle.sq_writing.proofs.Standing.{AllFit, text_fits}
 use Rattle.sq_writing.proofs.Somewhere.{Somewhere, none_of, back_of, either_of, one_filtered, some_changed, one_mapped, to_mapped, one_flat, to_flat, HasCell}

@@ -29,7 +29,7 @@ use Rattle.sq_layout.proofs.Walks.{fresh}
 use Rattle.sq_write.proofs.Lengths.{length_items, length_term, length_blocks}
 use Rattle.sq_write.specs.Points.{Point, new_address, new_start, call_link, offset_to, item_insn, items_points, stop_insn, plain_point, term_points, block_points, blocks_points, procedure_points, procedures_points, procedures_at, text_points}
 use Rattle.sq_write.specs.Standing.{ItemStands, ItemsStand, TermStands, BlocksStand, ProceduresStand, TextStands}
-use Rattle.sq_writing.specs.Writable.{HasItemRegisters, HasTermRegisters, HasBlockRegisters, HasProcedureRegisters, HasRegisters}
+use Rattle.sq_write.specs.Registers.{HasItemRegisters, HasTermRegisters, HasBlockRegisters, HasProcedureRegisters, HasRegisters}
 
 -- WHERE LINES STAND
 

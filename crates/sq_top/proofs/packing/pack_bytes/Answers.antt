@@ -1,53 +1,79 @@
--- nothing of the table, a plain file, and the part of its words
-use Rattle.std.proofs.Common.{◌≡◌, ℕ, ◌+◌, ◌*◌, List, length, Some, None, inr, ap, ◌∙◌, rules, sym, arith}
-use Rattle.sq_top.specs.Straight.{text_words}
-use Rattle.sq_write.specs.Plain.{plain_file, HasText, Spells}
-use Rattle.sq_write.proofs.Splitting.{length_words}
-use Rattle.sq_top.specs.Packing.{text_bytes}
-use Rattle.sq_top.specs.Straight.{straight_part, reached_words}
+-- each refusal is that of its reader, and what is written of the lifted graph is a packing
+use Rattle.std.proofs.Common.{◌≡◌, ◌<◌, ℕ, List, inl, inr, Err, sym, ap, ◌∙◌, subst}
+use Rattle.std.specs.List.{AllByRecursion}
+use Rattle.std.proofs.lemmas.Result.{err_from_is_err_and}
+use Rattle.sq_num.specs.declared.refusal.Denied.TheVariants.{Refused, Memory}
 use Rattle.sq_elf.specs.Refusing.{file_refusal_of}
-use Rattle.sq_top.proofs.PackedFile.{good, not_straight, Reaches, reaches, rest_count, loads_text, not_refused}
+use Rattle.sq_program.specs.FilePrograms.{IsRefusalOf}
+use Rattle.sq_program.specs.FilePrograms.IsRefusalOf.{by_file, by_relocs}
+use Rattle.sq_lifted.proofs.Accepting.{not_refused}
+use Rattle.sq_top.specs.Packing.{Packs}
+use Rattle.sq_top.proofs.PackedFile.{packs, few_bytes, enough_loaded}
+use Rattle.sq_top.proofs.Refusals.{file_exact, relocs_exact, lift_exact, lift_refused}
 use Rattle.sq_top.proofs.packing.pack_bytes.Goals as goal
 
-pub returns-in_default-2-clause-refused : goal.returns-in_default-2-clause-refused
-returns-in_default-2-clause-refused c = λ refusal same.
-    let table : file_refusal_of c.args.bytes.now ≡ None = c.in_ok-refuse_unreadable.ensures.accepted in
-    let has : HasText c.args.bytes.now c.in-Some.text.now = rw c.in-Some.is at c.in_ok-text.ensures.found in
-    let none : (words : List ℕ) → Spells c.in-Some.text.now words → None ≡ straight_part words = λ words spells. rw c.in_default-2.is at (c.in_ok-words.ensures.part words spells) in
-    inr (table, cc, not_straight c.args.bytes.now c.in-Some.text.now has none)
+pub returns-in_err-elf-clause-refused : goal.returns-in_err-elf-clause-refused
+returns-in_err-elf-clause-refused c = λ refusal is.
+    let p = err_from_is_err_and c.from_residual.result c.from_residual.ensures.1 in
+    let same : c.in_err-elf.field-0.0 ≡ Refused refusal = cc (p.1, p.2, is) in
+    by_file (c.in_err-elf.ensures.refused refusal (ap Err same))
+
+pub returns-in_err-elf-clause-exact : goal.returns-in_err-elf-clause-exact
+returns-in_err-elf-clause-exact c = λ refusal refused.
+    let p = err_from_is_err_and c.from_residual.result c.from_residual.ensures.1 in
+    let result : c.from_residual.result ≡ Err c.in_err-elf.field-0.0 = cc (p.1, p.2) in
+    let either = file_exact c.args.bytes.now c.in_err-elf.field-0.0 (λ r same. c.in_err-elf.ensures.refused r (ap Err same)) refusal refused in
+    elim either [ inl same ↦ inl (result ∙ ap Err same) | inr same ↦ inr (result ∙ ap Err same) ]
+
+pub returns-in_err-relocs-clause-refused : goal.returns-in_err-relocs-clause-refused
+returns-in_err-relocs-clause-refused c = λ refusal is.
+    let p = err_from_is_err_and c.from_residual-in_err-relocs.result c.from_residual-in_err-relocs.ensures.1 in
+    let same : c.in_err-relocs.field-0.0 ≡ Refused refusal = cc (p.1, p.2, is) in
+    subst (λ bytes. IsRefusalOf bytes refusal) c.in_ok-elf.ensures.read
+    (by_relocs (ap file_refusal_of c.in_ok-elf.ensures.read ∙ c.in_ok-elf.ensures.accepted) (c.in_err-relocs.ensures.refused refusal (ap Err same)))
+
+pub returns-in_err-relocs-clause-exact : goal.returns-in_err-relocs-clause-exact
+returns-in_err-relocs-clause-exact c = λ refusal refused.
+    let p = err_from_is_err_and c.from_residual-in_err-relocs.result c.from_residual-in_err-relocs.ensures.1 in
+    let result : c.from_residual-in_err-relocs.result ≡ Err c.in_err-relocs.field-0.0 = cc (p.1, p.2) in
+    let given = subst (λ bytes. IsRefusalOf bytes refusal) (sym c.in_ok-elf.ensures.read) refused in
+    let either = relocs_exact c.in_ok-elf.elf c.in_err-relocs.field-0.0 (ap file_refusal_of c.in_ok-elf.ensures.read ∙ c.in_ok-elf.ensures.accepted) (λ r same. c.in_err-relocs.ensures.refused r (ap Err same)) refusal given in
+    elim either [ inl same ↦ inl (result ∙ ap Err same) | inr same ↦ inr (result ∙ ap Err same) ]
+
+pub returns-in_err-graph-clause-refused : goal.returns-in_err-graph-clause-refused
+returns-in_err-graph-clause-refused c = λ refusal is.
+    let p = err_from_is_err_and c.from_residual-in_err-graph.result c.from_residual-in_err-graph.ensures.1 in
+    let same : c.in_err-graph.field-0.0 ≡ Refused refusal = cc (p.1, p.2, is) in
+    subst (λ bytes. IsRefusalOf bytes refusal) c.in_ok-elf.ensures.read
+    (lift_refused c.in_ok-elf.elf refusal (c.in_err-graph.ensures.refused refusal (ap Err same)))
+
+pub returns-in_err-graph-clause-exact : goal.returns-in_err-graph-clause-exact
+returns-in_err-graph-clause-exact c = λ refusal refused.
+    let p = err_from_is_err_and c.from_residual-in_err-graph.result c.from_residual-in_err-graph.ensures.1 in
+    let result : c.from_residual-in_err-graph.result ≡ Err c.in_err-graph.field-0.0 = cc (p.1, p.2) in
+    let given = subst (λ bytes. IsRefusalOf bytes refusal) (sym c.in_ok-elf.ensures.read) refused in
+    let either = lift_exact c.in_ok-elf.elf c.in_err-graph.field-0.0 (ap file_refusal_of c.in_ok-elf.ensures.read ∙ c.in_ok-elf.ensures.accepted) c.in_ok-relocs.ensures.accepted
+    (λ r e. elim (c.in_err-graph.ensures.exact r e) [ inl same ↦ inl (cc) | inr same ↦ inr (cc) ]) refusal given in
+    elim either [ inl same ↦ inl (result ∙ ap Err same) | inr same ↦ inr (result ∙ ap Err same) ]
+
+pub packed_of-requires-clause-short : goal.packed_of-requires-clause-short
+packed_of-requires-clause-short c = few_bytes c.in_ok-elf.elf (ap file_refusal_of c.in_ok-elf.ensures.read ∙ c.in_ok-elf.ensures.accepted)
+
+pub packed_of-requires-clause-loads : goal.packed_of-requires-clause-loads
+packed_of-requires-clause-loads c =
+    enough_loaded c.in_ok-elf.elf c.in_ok-graph.graph.graph (subst (AllByRecursion (λ b. b < 256)) (sym c.in_ok-elf.ensures.read) c.bytes_fit.ensures)
+    c.in_ok-graph.ensures.lifted c.in_ok-graph.ensures.fits c.in_ok-file.ensures.rules
 
 pub returns-clause-packed : goal.returns-clause-packed
 returns-clause-packed c =
-    let table : file_refusal_of c.args.bytes.now ≡ None = c.in_ok-refuse_unreadable.ensures.accepted in
-    let kept : List ℕ = c.in-Some-2.words.items in
-    let has : HasText c.args.bytes.now c.in-Some.text.now = rw c.in-Some.is at c.in_ok-text.ensures.found in
-    let part : (words : List ℕ) → Spells c.in-Some.text.now words → Some kept ≡ straight_part words = λ words spells. rw c.in-Some-2.is at (c.in_ok-words.ensures.part words spells) in
-    let r : Reaches c.args.bytes.now c.in-Some.text.now kept = reaches c.args.bytes.now c.in-Some.text.now kept has part in
-    let counted : c.len.result ≡ length kept = search rules in
-    let after : 4 * c.len.result ≡ text_bytes (reached_words r.straight) = ap (λ n. 4 * n) (counted ∙ ap length r.kept_is) ∙ sym (length_words (reached_words r.straight)) in
-    let rest : text_bytes (text_words r.straight) ≡ text_bytes (reached_words r.straight) + 4 * length r.straight.rest = rest_count r.straight.steps r.straight.rest in
-    let unreached : c.packed_of.result.unreached ≡ length r.straight.rest = c.packed_of.ensures.unreached ∙ rw (r.text_is, after) (omega (arith, rest)) in
-    record {
-      accepted = table;
-      straight = r.straight;
-      output = c.packed_of.ensures.output ∙ c.in_ok-file.ensures ∙ ap plain_file (c.as_slice.ensures.value ∙ r.kept_is);
-      text_before = c.packed_of.ensures.text_before ∙ r.text_is;
-      text_after = c.packed_of.ensures.text_after ∙ after;
-      loaded_before = c.packed_of.ensures.loaded_before ∙ r.text_is ∙ loads_text (text_words r.straight);
-      loaded_after = c.packed_of.ensures.loaded_after ∙ after ∙ loads_text (reached_words r.straight);
-      unreached = unreached;
-      procedures = c.packed_of.ensures.procedures;
-      savings = c.packed_of.ensures.savings;
-      balance = rw (c.packed_of.ensures.text_before ∙ r.text_is, c.packed_of.ensures.text_after ∙ after, unreached, c.packed_of.ensures.savings) (omega (arith, rest));
-    }
+    let P : List ℕ → Type 0 = λ bytes. Packs bytes c.packed_of.result in
+    subst P c.in_ok-elf.ensures.read
+    (packs c.in_ok-elf.elf c.in_ok-graph.graph.graph (subst (AllByRecursion (λ b. b < 256)) (sym c.in_ok-elf.ensures.read) c.bytes_fit.ensures)
+    c.in_ok-graph.ensures.lifted c.in_ok-graph.ensures.fits c.in_ok-file.ensures.rules c.packed_of.result
+    (c.packed_of.ensures.output ∙ c.in_ok-file.ensures.file) c.packed_of.ensures.text_before c.packed_of.ensures.text_after c.packed_of.ensures.loaded_before c.packed_of.ensures.loaded_after c.packed_of.ensures.procedures c.packed_of.ensures.savings c.packed_of.ensures.balance)
 
 pub returns-clause-good : goal.returns-clause-good
-returns-clause-good c = good c.args.bytes.now c.packed_of.result (returns-clause-packed c)
+returns-clause-good c = (returns-clause-packed c).good
 
 pub returns-clause-exact : goal.returns-clause-exact
-returns-clause-exact c = λ refusal refused.
-    let table : file_refusal_of c.args.bytes.now ≡ None = c.in_ok-refuse_unreadable.ensures.accepted in
-    let kept : List ℕ = c.in-Some-2.words.items in
-    let has : HasText c.args.bytes.now c.in-Some.text.now = rw c.in-Some.is at c.in_ok-text.ensures.found in
-    let part : (words : List ℕ) → Spells c.in-Some.text.now words → Some kept ≡ straight_part words = λ words spells. rw c.in-Some-2.is at (c.in_ok-words.ensures.part words spells) in
-    absurd (not_refused c.args.bytes.now table (reaches c.args.bytes.now c.in-Some.text.now kept has part).straight refusal refused)
+returns-clause-exact c = λ refusal refused. absurd (not_refused c.args.bytes.now (returns-clause-packed c).good.accepted refusal refused)
