@@ -15,3 +15,7 @@ pub mod RenamedLives
 pub mod Dying
 pub mod Alive
 pub mod LiftedFiles
+pub mod FilePieces
+pub mod SameFiles
+pub mod Accepting
+pub mod GoodGraphs

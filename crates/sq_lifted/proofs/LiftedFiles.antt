@@ -36,10 +36,10 @@ module _ (bytes : List ℕ) (is too : ℕ → Bool) (p q : Program) (a : IsReadA
   tests : (x : ℕ) → is x ≡ too x
   tests = same_test p is too a.reached (subst (λ p. Decides p too) (sym programs) b.reached)
 
-  early_same : early_refusal bytes is p ≡ early_refusal bytes too q
+  pub early_same : early_refusal bytes is p ≡ early_refusal bytes too q
   early_same = λ i. early_refusal bytes (λ x. tests x i) (programs i)
 
-  first_same : (i : ℕ) → IsFirstAlive is p i → IsFirstAlive too q i
+  pub first_same : (i : ℕ) → IsFirstAlive is p i → IsFirstAlive too q i
   first_same i first = subst (λ is. IsFirstAlive is q i) (λ j x. tests x j) (subst (λ p. IsFirstAlive is p i) programs first)
 
 -- REFUSED BEFORE THERE IS A GRAPH

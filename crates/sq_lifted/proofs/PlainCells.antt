@@ -68,7 +68,7 @@ listed_number (w ∷ words) a number e = go (w.at == a) e (λ n f. listed_number
         later None f g = absurd (cc)
         later (Some n) f g = let same : suc n ≡ number = cc in rec n f ∙ ap (slice_get (w.to ∷ map target_of words)) same
 
-numbered_there : (words : List CodeWord) (a number : ℕ) → code_word_number words a ≡ Some number → number < length (map target_of words)
+pub numbered_there : (words : List CodeWord) (a number : ℕ) → code_word_number words a ≡ Some number → number < length (map target_of words)
 numbered_there [] a number e = absurd (cc)
 numbered_there (w ∷ words) a number e = go (w.at == a) e (λ n f. numbered_there words a n f)
   where

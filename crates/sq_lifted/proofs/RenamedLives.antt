@@ -426,7 +426,7 @@ module _ (f : ℕ → ℕ) where
     tail_is : (line line' : Line) (lines lines' : List Line) → line ∷ lines ≡ line' ∷ lines' → lines ≡ lines'
     tail_is line line' lines lines' e = cc
 
-    lived : {r : ℕ} {named : List Line} → IsLive other r named → (lines : List Line) → named ≡ named_lines lines → Known lines → IsLive g r lines
+    pub lived : {r : ℕ} {named : List Line} → IsLive other r named → (lines : List Line) → named ≡ named_lines lines → Known lines → IsLive g r lines
     lived {r} (read_here {line = first} {rest = behind} e) [] same k = absurd (cc)
     lived {r} (read_here {line = first} {rest = behind} e) (line ∷ lines) same k =
         read_here {line = line} {rest = lines} (sym (reads_are line r) ∙ ap (λ l. line_reads l r) (sym (head_is first (line_named line) behind (named_lines lines) same)) ∙ e)

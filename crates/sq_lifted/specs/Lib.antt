@@ -2,3 +2,4 @@ pub mod Lifted
 pub mod Files
 pub mod LiveLinks
 pub mod LiftedFiles
+pub mod Same

@@ -5,7 +5,8 @@
 //! program is linked, as the laws of lifting ask; that the run of its graph over its world shows what its monitored
 //! run shows, and what its plain machine shows, while the monitored run is unbroken; and that the graph keeps the
 //! rules of a graph, is canonical, sound and in reach, and has no more words than the file's text: what rewriting asks
-//! of the graph that it begins with.
+//! of the graph that it begins with. And it promises that another file does what this one does, where it shows what a
+//! graph shows that follows this one's lifted graph.
 #![tactic(auto)]
 
 mod lifts;
@@ -15,6 +16,8 @@ mod tests;
 
 ghost use Rattle.sq_lifted.specs.Lifted.{LiftedIsGood};
 ghost use Rattle.sq_lifted.specs.Files.{FilesAreLinked, FileWorldsFit, LiftedFilesAreGood, LiftedFilesKeepRuns, LiftedFilesFollow, FilesAreLaidOut, FilesStartPlain, FilesShowPlain};
+ghost use Rattle.sq_lifted.specs.LiftedFiles.{AcceptedIsNotRefused};
+ghost use Rattle.sq_lifted.specs.Same.{ShownGraphsAreSame, FilesAreWorlds};
 
 pub use lifts::lift;
 
@@ -69,4 +72,20 @@ pub fn files_start_plain()
 /// unbroken too, and shows what the file's plain machine shows.
 pub fn files_show_plain()
     ensures { FilesShowPlain }
+{}
+
+/// The world of a file has in each piece its bytes, and no two of its pieces meet: `Follows` speaks of such worlds.
+pub fn files_are_worlds()
+    ensures { FilesAreWorlds }
+{}
+
+/// A file does what another does, where it shows what a graph shows that follows a lifted graph of the other,
+/// whatever its blocks are called.
+pub fn shown_graphs_are_same()
+    ensures { ShownGraphsAreSame }
+{}
+
+/// A file of which nothing is refused has no refusal.
+pub fn accepted_is_not_refused()
+    ensures { AcceptedIsNotRefused }
 {}

@@ -6,6 +6,9 @@ use sq_reloc::read_relocs;
 use std::alloc::Global;
 use std::test::Fail;
 
+mod files;
+mod graphs;
+
 /// Where the text of a built file stands.
 const TEXT: u32 = 0x0001_0000;
 

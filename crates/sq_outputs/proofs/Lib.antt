@@ -13,3 +13,4 @@ pub mod Ordered
 pub mod Sizes
 pub mod Texts
 pub mod Writing
+pub mod Accepting

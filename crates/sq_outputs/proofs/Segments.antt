@@ -92,6 +92,7 @@ is_segment file k p s begins long fits found =
             memsz = omega (arith, fits.size);
             flags = omega (arith, fits.flags);
           });
+      inside = omega (arith, sized, part_ends file s.offset p.bytes found.stored);
       stored = ap (λ found. unwrap_or found []) (part_read file s.offset s.filesz p.bytes sized found.stored);
     }
 
@@ -153,16 +154,16 @@ image_is file p s of stored =
 
 module _ (o : Output) (fits : IsFitting o) where
   -- what is known of program header k
-  record Knows (k : ℕ) : Type 0 where
-    piece : Piece
-    segment : Segment
-    is_piece : slice_get (pieces_of o) k ≡ Some piece
-    is_segment : slice_get (output_segments o) k ≡ Some segment
-    read : IsSegment (output_file o) k piece segment
-    memory : nat_lt 0 (segment_of (output_file o) k).memsz ≡ true
-    made : segment ≡ segment_at segment.offset piece
+  pub record Knows (k : ℕ) : Type 0 where
+    pub piece : Piece
+    pub segment : Segment
+    pub is_piece : slice_get (pieces_of o) k ≡ Some piece
+    pub is_segment : slice_get (output_segments o) k ≡ Some segment
+    pub read : IsSegment (output_file o) k piece segment
+    pub memory : nat_lt 0 (segment_of (output_file o) k).memsz ≡ true
+    pub made : segment ≡ segment_at segment.offset piece
 
-  knows : (k : ℕ) → k < length (pieces_of o) → Knows k
+  pub knows : (k : ℕ) → k < length (pieces_of o) → Knows k
   knows k within =
       let piece = some_at (pieces_of o) k within in
       let segment = some_at (output_segments o) k (omega (arith, length_segments (pieces_at (length (pieces_of o))) (pieces_of o))) in
@@ -208,7 +209,7 @@ module _ (o : Output) (fits : IsFitting o) where
       ∙ ap (λ ms. flat_map piece_image (take k (pieces_of o)) ++ ms) (pieces ∙ sym (append-nil (piece_image here.piece)))
       ∙ sym (ap (flat_map piece_image) (take_one_more (pieces_of o) k here.piece here.is_piece) ∙ flat_map-append piece_image (take k (pieces_of o)) (here.piece ∷ []))
 
-  count_is : phnum_of (output_file o) ≡ length (pieces_of o)
+  pub count_is : phnum_of (output_file o) ≡ length (pieces_of o)
   count_is = (headers_are_read o fits).0.pieces
 
   all_segments : take (length (pieces_of o)) (output_segments o) ≡ output_segments o

@@ -1,5 +1,5 @@
 -- The output of a graph fits the fields of the file; its pieces are placed, and its sizes.
-use Rattle.std.proofs.Common.{◌≡◌, ℕ, zero, suc, ◌+◌, ◌-◌, ◌*◌, ◌^◌, ◌<◌, ◌≤◌, Bool, true, false, nat_le, ◌⊎◌, inl, inr, List, [], ◌∷◌, ◌++◌, map, drop, length, sum_by, Option, if◌then◌else◌, refl, ap, ◌∙◌, arith, length-append}
+use Rattle.std.proofs.Common.{◌≡◌, ◌%◌, ℕ, zero, suc, ◌+◌, ◌-◌, ◌*◌, ◌^◌, ◌<◌, ◌≤◌, Bool, true, false, nat_le, ◌⊎◌, inl, inr, List, [], ◌∷◌, ◌++◌, map, drop, length, sum_by, Option, if◌then◌else◌, refl, ap, ◌∙◌, arith, length-append}
 use Rattle.std.specs.List.{AllByRecursion, Contains}
 use Rattle.std.proofs.lemmas.Bool.{cases_Bool}
 use Rattle.std.proofs.lemmas.List.Elements.{All-contains, All-from_recursion}
@@ -9,7 +9,6 @@ use Rattle.sq_elf.specs.declared.text.Text.{Text}
 use Rattle.sq_elf.specs.Fields.{u32_field}
 use Rattle.sq_elf.specs.Headers.{phnum_of, segment_of}
 use Rattle.sq_elf.specs.Memory.{has_memory, segments_before, segments_of}
-use Rattle.sq_elf.specs.Ranges.{meets}
 use Rattle.sq_elf.specs.Segments.{copy_size}
 use Rattle.sq_elf.specs.Sizes.{loaded_of}
 use Rattle.sq_elf.specs.Text.{text_of}
@@ -20,7 +19,7 @@ use Rattle.sq_graph.specs.Blocks.{HasBlock, HasProcedure}
 use Rattle.sq_graph.specs.Words.{words_of}
 use Rattle.sq_graph.proofs.RulesByBlock.{by_block}
 use Rattle.sq_write.specs.Output.{words, Piece, Output, text_piece, pieces_of, piece_bytes, contents_at, contents_of, relocation_table, loaded_size, output_file}
-use Rattle.sq_write.specs.Pieces.{set_word_at, pieces_before, pieces_behind}
+use Rattle.sq_write.specs.Pieces.{without_x, set_word_at, pieces_before, pieces_behind}
 use Rattle.sq_write.specs.Points.{new_address, point_word, text_points}
 use Rattle.sq_write.specs.Written.{written_output, written}
 use Rattle.sq_write.proofs.CodeWordCount.{few_code_words}
@@ -30,16 +29,18 @@ use Rattle.sq_write.proofs.PieceWalks.{piece_bytes-append}
 use Rattle.sq_write.proofs.SegmentFacts.{few_text}
 use Rattle.sq_outputs.specs.Fitting.{IsFittingPiece, IsFitting}
 use Rattle.sq_outputs.specs.Reading.{copied}
-use Rattle.sq_outputs.specs.Writing.{IsWritable, WrittenFits, HasSizes, WrittenSizes, IsPartOf, IsPartOfFile, ArePlaced, PiecesArePlaced}
+use Rattle.sq_outputs.specs.Writing.{IsLoadable, IsWritable, WrittenFits, HasSizes, WrittenSizes, IsPartOfFile, ArePlaced, PiecesArePlaced}
+use Rattle.sq_outputs.specs.Accepting.{CannotRun, IsAcceptable, WrittenIsAccepted}
+use Rattle.sq_outputs.proofs.Accepting.{outputs_are_accepted}
 use Rattle.sq_outputs.proofs.Apart.{IsWithin, apart_within}
-use Rattle.sq_outputs.proofs.Cut.{copied_here, copy_within, no_range}
+use Rattle.sq_outputs.proofs.Cut.{IsCut, copied_here, copy_within, no_range}
 use Rattle.sq_outputs.proofs.Headers.{headers_are_read}
 use Rattle.sq_outputs.proofs.Laid.{end_at_most}
 use Rattle.sq_outputs.proofs.Ordered.{IsCutBefore, IsCutBehind, all_before, all_behind, all_in_order}
 use Rattle.sq_outputs.proofs.Pairs.{all_append, all_map}
 use Rattle.sq_outputs.proofs.Segments.{segments_are_read}
 use Rattle.sq_outputs.proofs.Sizes.{bytes_around, pieces_around, few_pieces}
-use Rattle.sq_outputs.proofs.Sound.{facts}
+use Rattle.sq_outputs.proofs.Sound.{IsSound, facts}
 use Rattle.sq_outputs.proofs.Standing.{output_stands}
 use Rattle.sq_outputs.proofs.Texts.{text_is_read}
 
@@ -207,28 +208,30 @@ module _ (bytes : List ℕ) (g : Graph) (can : IsWritable bytes g) where
     size = omega (arith, short_file);
   }
 
-  placed : ArePlaced bytes (written_output bytes g)
+  part_loads : (p : Piece) (s : Segment) → IsCut bytes p s → IsSound bytes s → IsLoadable p
+  part_loads p s cut sound =
+      let own : IsWithin p.address p.size s.address s.memsz = record { low = λ some. cut.part.low; high = λ some. cut.part.high } in
+      record {
+        within = omega (arith, cut.part.high, sound.fits);
+        copy_within = cut.loads;
+        alone = apart_within p.address p.size s.address s.memsz p.load_address (copied p) s.load_address (copy_size s) sound.alone own (copy_within p s cut.part);
+      }
+
+  pub placed : ArePlaced bytes (written_output bytes g)
   placed = record {
     before = all_map (IsCutBefore bytes can.accepted (set_word_at g (text_of bytes).lo)) (IsPartOfFile bytes) (λ p cut. (cut.segment, cut.contained, cut.cut.part)) (pieces_before bytes (set_word_at g (text_of bytes).lo)) (all_before bytes can.accepted (set_word_at g (text_of bytes).lo));
     after = all_map (IsCutBehind bytes can.accepted (set_word_at g (text_of bytes).lo)) (IsPartOfFile bytes) (λ p cut. (cut.segment, cut.contained, cut.cut.part)) (pieces_behind bytes (set_word_at g (text_of bytes).lo)) (all_behind bytes can.accepted (set_word_at g (text_of bytes).lo));
     in_order = all_in_order bytes can.accepted (set_word_at g (text_of bytes).lo) (text_piece (written_output bytes g)) refl refl text_ends;
-    within =
-        all_pieces (λ p. p.address + p.size ≤ 2 ^ 32)
-        (λ p cut. omega (arith, cut.cut.part.high, cut.sound.fits)) (omega (arith, text_ends, high)) (λ p cut. omega (arith, cut.cut.part.high, cut.sound.fits));
-    copies_within =
-        all_pieces (λ p. p.load_address + length p.bytes ≤ 2 ^ 32)
-        (λ p cut. cut.cut.loads) (omega (arith, text_ends, high)) (λ p cut. cut.cut.loads);
-    alone =
-        all_pieces (λ p. meets p.address p.size p.load_address (copied p) ≡ false)
-        (λ p cut. alone_part p cut.segment cut.cut.part cut.sound.alone)
-        (no_range (text_of bytes).lo _ (text_of bytes).lo (copied (text_piece (written_output bytes g))) (copied_here (text_piece (written_output bytes g)) refl))
-        (λ p cut. alone_part p cut.segment cut.cut.part cut.sound.alone);
+    loadable =
+        all_pieces IsLoadable
+        (λ p cut. part_loads p cut.segment cut.cut cut.sound)
+        (record {
+          within = omega (arith, text_ends, high);
+          copy_within = omega (arith, text_ends, high);
+          alone = no_range (text_of bytes).lo (length (words (map point_word (text_points g (text_of bytes).lo)))) (text_of bytes).lo (copied (text_piece (written_output bytes g))) (copied_here (text_piece (written_output bytes g)) refl);
+        })
+        (λ p cut. part_loads p cut.segment cut.cut cut.sound);
   }
-    where
-      alone_part : (p : Piece) (s : Segment) → IsPartOf p s → meets s.address s.memsz s.load_address (copy_size s) ≡ false → meets p.address p.size p.load_address (copied p) ≡ false
-      alone_part p s part apart =
-          let own : IsWithin p.address p.size s.address s.memsz = record { low = λ some. part.low; high = λ some. part.high } in
-          apart_within p.address p.size s.address s.memsz p.load_address (copied p) s.load_address (copy_size s) apart own (copy_within p s part)
 
   same_text : ℕ → ℕ → Text
   same_text low high = record { lo = low; hi = high }
@@ -253,3 +256,38 @@ written_sizes = λ bytes g can. sizes bytes g can
 
 pub pieces_are_placed : PiecesArePlaced
 pieces_are_placed = λ bytes g can. placed bytes g can
+
+-- The file is accepted
+
+module _ (bytes : List ℕ) (g : Graph) (can : IsWritable bytes g) where
+  still : (flags : ℕ) → without_x flags % 2 ≡ 0
+  still flags = omega arith
+
+  acceptable : IsAcceptable (written_output bytes g)
+  acceptable =
+      let lo = (text_of bytes).lo in
+      let set = set_word_at g (text_of bytes).lo in
+      let text = facts bytes can.accepted in
+      let entry = entry_place bytes g can in
+      let placed_all = placed bytes g can in
+      record {
+        fits = fitting bytes g can;
+        loadable = placed_all.loadable;
+        in_order = placed_all.in_order;
+        before =
+            all_map (IsCutBefore bytes can.accepted (set_word_at g (text_of bytes).lo)) CannotRun (λ p cut. ap (λ n. n % 2) cut.cut.part.flags ∙ still cut.segment.flags) (pieces_before bytes (set_word_at g (text_of bytes).lo)) (all_before bytes can.accepted (set_word_at g (text_of bytes).lo));
+        after =
+            all_map (IsCutBehind bytes can.accepted (set_word_at g (text_of bytes).lo)) CannotRun (λ p cut. ap (λ n. n % 2) cut.cut.part.flags ∙ still cut.segment.flags) (pieces_behind bytes (set_word_at g (text_of bytes).lo)) (all_behind bytes can.accepted (set_word_at g (text_of bytes).lo));
+        short = short_file bytes g can;
+        pieces = piece_count bytes g can;
+        loaded = omega (arith, loaded_bytes bytes g can, few_loaded bytes can.accepted, can.words);
+        text = omega (arith, text_long bytes g can, can.words, few_text bytes can.accepted);
+        start = text.inside.low_word;
+        entry = omega (arith, entry.is, text.inside.low_word);
+        low = omega (arith, entry.is);
+        high = omega (arith, entry.is, entry.within, text_long bytes g can);
+      }
+
+pub written_is_accepted : WrittenIsAccepted
+unfolding written
+written_is_accepted = λ bytes g can. outputs_are_accepted (written_output bytes g) (acceptable bytes g can)

@@ -1,5 +1,5 @@
 -- What a reader of files finds in an output file.
-use Rattle.std.specs.Prelude.{◌≡◌, ℕ, ◌+◌, true, nat_eq, nat_lt, if◌then◌else◌, List, [], ◌∷◌, length, take, Some}
+use Rattle.std.specs.Prelude.{◌≡◌, ◌≤◌, ℕ, ◌+◌, true, nat_eq, nat_lt, if◌then◌else◌, List, [], ◌∷◌, length, take, Some}
 use Rattle.std.specs.List.{slice_get, flat_map}
 use Rattle.sq_elf.specs.declared.segment.Segment.{Segment}
 use Rattle.sq_elf.specs.declared.section.Section.{Section as ReadSection}
@@ -65,10 +65,11 @@ piece_image p =
     record { address = p.address; bytes = p.bytes; length = p.size; flags = p.flags }
     ∷ (if nat_lt 0 (copied p) then record { address = p.load_address; bytes = p.bytes; length = length p.bytes; flags = 4 } ∷ [] else [])
 
--- Each program header of an output file is that of its piece, with the piece's bytes.
+-- each program header of an output file is that of its piece, with the piece's bytes, which stand in the file
 pub record IsSegment (bytes : List ℕ) (k : ℕ) (p : Piece) (s : Segment) : Type 0 where
   pub load : is_load bytes k ≡ true
   pub is : segment_of bytes k ≡ s
+  pub inside : s.offset + s.filesz ≤ length bytes
   pub stored : file_bytes_of bytes s ≡ p.bytes
 
 abbrev pub ProgramHeadersAreRead : Type 0

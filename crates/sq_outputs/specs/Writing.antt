@@ -73,14 +73,18 @@ abbrev pub AreInOrder : List Piece → Type 0
 AreInOrder [] = Unit {0}
 AreInOrder (p ∷ ps) = AllByRecursion (IsBefore p) ps × AreInOrder ps
 
+-- a piece that ends within 32 bits, as its load copy does, which doesn't meet it
+pub record IsLoadable (p : Piece) : Type 0 where
+  pub within : p.address + p.size ≤ 2 ^ 32
+  pub copy_within : p.load_address + length p.bytes ≤ 2 ^ 32
+  pub alone : meets p.address p.size p.load_address (copied p) ≡ false
+
 -- the pieces of an output around its text are parts of a file's segments, and stand in order
 pub record ArePlaced (bytes : List ℕ) (o : Output) : Type 0 where
   pub before : AllByRecursion (IsPartOfFile bytes) o.before
   pub after : AllByRecursion (IsPartOfFile bytes) o.after
   pub in_order : AreInOrder (pieces_of o)
-  pub within : AllByRecursion (λ p. p.address + p.size ≤ 2 ^ 32) (pieces_of o)
-  pub copies_within : AllByRecursion (λ p. p.load_address + length p.bytes ≤ 2 ^ 32) (pieces_of o)
-  pub alone : AllByRecursion (λ p. meets p.address p.size p.load_address (copied p) ≡ false) (pieces_of o)
+  pub loadable : AllByRecursion IsLoadable (pieces_of o)
 
 -- The pieces around the text of a written file are parts of the other file's segments; they ascend, and no two meet.
 abbrev pub PiecesArePlaced : Type 0

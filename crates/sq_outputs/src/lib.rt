@@ -2,10 +2,12 @@
 //!
 //! To the layers above it promises what is read in an output file whose numbers fit its fields: its header, a segment
 //! for each piece with the piece's bytes, seven sections with theirs, and its text. Of the file of a graph it promises
-//! that its numbers fit, what its text, its entry and its size are, and where its pieces stand.
+//! that its numbers fit, what its text, its entry and its size are, where its pieces stand, and that the reader accepts
+//! it.
 #![tactic(auto)]
 
 ghost use Rattle.sq_outputs.specs.Reading.{HeadersAreRead, ProgramHeadersAreRead, SegmentsAreRead, SectionsAreRead, TextIsRead};
+ghost use Rattle.sq_outputs.specs.Accepting.{OutputsAreAccepted, WrittenIsAccepted};
 ghost use Rattle.sq_outputs.specs.Writing.{WrittenFits, WrittenSizes, PiecesArePlaced};
 
 /// The file header of an output file is read as that of the output, and the section headers end the file.
@@ -47,4 +49,14 @@ pub fn written_sizes()
 /// The pieces around the text of a written file are parts of the other file's segments; they ascend, and no two meet.
 pub fn pieces_are_placed()
     ensures { PiecesArePlaced }
+{}
+
+/// The reader accepts an output file within the limits, with pieces in order of which text alone can be executed.
+pub fn outputs_are_accepted()
+    ensures { OutputsAreAccepted }
+{}
+
+/// The reader accepts the file of a graph.
+pub fn written_is_accepted()
+    ensures { WrittenIsAccepted }
 {}

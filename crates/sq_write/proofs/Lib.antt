@@ -15,3 +15,5 @@ pub mod TextWalks
 pub mod Texts
 pub mod WordEntries
 pub mod Words
+pub mod AlikeGraphs
+pub mod LoadedSizes

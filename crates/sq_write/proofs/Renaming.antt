@@ -41,7 +41,7 @@ output bytes entry set points relocations note = record {
 }
 
 -- each block of a list is under its name
-names_there : (bs : List Block) → AllByRecursion (λ b. IsSome (value_of (named bs) b.name)) bs
+pub names_there : (bs : List Block) → AllByRecursion (λ b. IsSome (value_of (named bs) b.name)) bs
 names_there [] = tt
 names_there (x ∷ rest) = (rw (eq-eqb x.name x.name refl) refl, widen rest (names_there rest))
   where
@@ -62,16 +62,16 @@ module _ (f : ℕ → ℕ) where
   same_term (Indirect link register offset) = refl
   same_term (Stop word) = refl
 
-  same_length : (items : List Item) → length (retargeted_items f items) ≡ length items
+  pub same_length : (items : List Item) → length (retargeted_items f items) ≡ length items
   same_length items = length-map items (retargeted_item f)
 
-  same_block : (b : Block) → block_words (renamed_block f b) ≡ block_words b
+  pub same_block : (b : Block) → block_words (renamed_block f b) ≡ block_words b
   same_block b = omega (arith, same_length b.items, same_term b.term)
 
-  same_procedure : (p : Procedure) → procedure_words (retargeted_procedure f p) ≡ procedure_words p
+  pub same_procedure : (p : Procedure) → procedure_words (retargeted_procedure f p) ≡ procedure_words p
   same_procedure p = omega (arith, same_length p.body)
 
-  same_sum : (bs : List Block) → sum_by block_words (map (renamed_block f) bs) ≡ sum_by block_words bs
+  pub same_sum : (bs : List Block) → sum_by block_words (map (renamed_block f) bs) ≡ sum_by block_words bs
   same_sum [] = refl
   same_sum (b ∷ bs) =
       omega (arith, same_sum bs, same_block b, sum_by-cons block_words b bs, sum_by-cons block_words (renamed_block f b) (map (renamed_block f) bs))
@@ -111,7 +111,7 @@ module _ (f : ℕ → ℕ) where
         differ (inl same) apart = absurd (eqb-false m n apart (one m n has there (eqb-true (f m) (f n) same)))
         differ (inr other) apart = other ∙ sym apart
 
-    same_address : (bs : List Block) (at n : ℕ) → AllByRecursion (λ b. HasBlock g b.name) bs → HasBlock g n → address_in (map (renamed_block f) bs) at (f n) ≡ address_in bs at n
+    pub same_address : (bs : List Block) (at n : ℕ) → AllByRecursion (λ b. HasBlock g b.name) bs → HasBlock g n → address_in (map (renamed_block f) bs) at (f n) ≡ address_in bs at n
     same_address [] at n all there = refl
     same_address (b ∷ bs) at n all there =
         let test = same_test b.name n all.0 there in

@@ -162,19 +162,19 @@ by_address_sorted (s ∷ ss) = insert_sorted s (by_address ss) (by_address_sorte
 
 -- No two segments of an accepted file stand at one address
 
-all_front : (P : MemoryPiece → Type 0) (xs ys : List MemoryPiece) → AllByRecursion P (xs ++ ys) → AllByRecursion P xs
+pub all_front : (P : MemoryPiece → Type 0) (xs ys : List MemoryPiece) → AllByRecursion P (xs ++ ys) → AllByRecursion P xs
 all_front P [] ys all = tt
 all_front P (x ∷ xs) ys all = (all.0, all_front P xs ys all.1)
 
-all_first_behind : (P : MemoryPiece → Type 0) (xs : List MemoryPiece) (y : MemoryPiece) (ys : List MemoryPiece) → AllByRecursion P (xs ++ y ∷ ys) → P y
+pub all_first_behind : (P : MemoryPiece → Type 0) (xs : List MemoryPiece) (y : MemoryPiece) (ys : List MemoryPiece) → AllByRecursion P (xs ++ y ∷ ys) → P y
 all_first_behind P [] y ys all = all.0
 all_first_behind P (x ∷ xs) y ys all = all_first_behind P xs y ys all.1
 
-apart_front : (xs ys : List MemoryPiece) → AreApart (xs ++ ys) → AreApart xs
+pub apart_front : (xs ys : List MemoryPiece) → AreApart (xs ++ ys) → AreApart xs
 apart_front [] ys apart = tt
 apart_front (x ∷ xs) ys apart = (all_front (λ q. pieces_meet x q ≡ false) xs ys apart.0, apart_front xs ys apart.1)
 
-apart_from_next : (xs : List MemoryPiece) (y : MemoryPiece) (ys : List MemoryPiece) → AreApart (xs ++ y ∷ ys) → AllByRecursion (λ p. pieces_meet p y ≡ false) xs
+pub apart_from_next : (xs : List MemoryPiece) (y : MemoryPiece) (ys : List MemoryPiece) → AreApart (xs ++ y ∷ ys) → AllByRecursion (λ p. pieces_meet p y ≡ false) xs
 apart_from_next [] y ys apart = tt
 apart_from_next (x ∷ xs) y ys apart = (all_first_behind (λ q. pieces_meet x q ≡ false) xs y ys apart.0, apart_from_next xs y ys apart.1)
 

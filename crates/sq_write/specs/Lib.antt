@@ -6,3 +6,5 @@ pub mod Pieces
 pub mod Written
 pub mod Standing
 pub mod Laid
+pub mod Alike
+pub mod Sizes

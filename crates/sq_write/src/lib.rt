@@ -22,7 +22,7 @@ mod text;
 mod text_bytes;
 mod writing;
 
-pub use laws::names_do_not_matter;
+pub use laws::{alike_graphs_fit, names_do_not_matter, output_sizes};
 pub use plain::{read_plain, word_at, write_plain};
 pub use writing::write_elf;
 

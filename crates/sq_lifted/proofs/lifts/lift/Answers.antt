@@ -1,4 +1,5 @@
-use Rattle.std.proofs.Common.{◌≡◌, inl, inr, ◌+◌, length, Err, refl, sym, ap, ◌∙◌, subst, arith}
+use Rattle.std.proofs.Common.{◌≡◌, inl, inr, ◌+◌, ◌<◌, length, Err, refl, sym, ap, ◌∙◌, subst, arith}
+use Rattle.std.specs.List.{AllByRecursion}
 use Rattle.std.proofs.lemmas.Result.{err_from_is_err_and}
 use Rattle.sq_num.specs.declared.refusal.Refusal.TheVariants.{BadNote}
 use Rattle.sq_num.specs.declared.refusal.Denied.TheVariants.{Refused}
@@ -7,6 +8,7 @@ use Rattle.sq_graph.specs.Room.{IsSmall, Covers, count_of, sum_of}
 use Rattle.sq_lifted.specs.LiftedFiles.{IsLiftedFile, IsRefusedFile}
 use Rattle.sq_lifted.proofs.EarlyGraphs.{found_noted}
 use Rattle.sq_lifted.proofs.LiftedFiles.{refused_early, room_fits, room_covers, early_answer, procedures_are, is_lifted, in_notes, is_refused, one_refusal, no_refusal}
+use Rattle.sq_lifted.proofs.GoodGraphs.{lifted_fits}
 use Rattle.sq_lifted.proofs.lifts.lift.Goals as goal
 
 pub returns-in_err-noted-clause-refused : goal.returns-in_err-noted-clause-refused
@@ -54,6 +56,9 @@ pub returns-clause-lifted : goal.returns-clause-lifted
 returns-clause-lifted c =
     let found = found_noted c.args.elf.now c.bytes.result.now c.args.relocs.now c.in_ok-noted.noted.program.text c.in_ok-noted.noted.program.reached c.deref.result.now c.in_ok-noted.noted.notes.items c.code_words-code_words.result.now (entry_of c.args.elf.now) c.bytes.ensures.value c.bytes_fit.ensures c.requires c.code_words-code_words.ensures.accepted c.code_words-code_words.ensures.value c.deref.ensures.value c.in_ok-noted.ensures.read c.bytes.ensures.accepted refl in
     subst (IsLiftedFile c.args.elf.now) (sym c.reserve.ensures.graph) (is_lifted c.args.elf.now c.in_ok-noted.noted.program.text c.in_ok-noted.noted.program.reached c.deref.result.now c.code_words-code_words.result.now found c.in_ok-graph.graph.graph c.in_ok-graph.ensures c.in_ok-number.field-0 c.in_ok-number.ensures c.in-None.is)
+
+pub returns-clause-fits : goal.returns-clause-fits
+returns-clause-fits c = lifted_fits c.args.elf.now c.reserve.new.self.graph (subst (AllByRecursion (λ b. b < 256)) c.bytes.ensures.value c.bytes_fit.ensures) (returns-clause-lifted c)
 
 pub returns-clause-spare : goal.returns-clause-spare
 returns-clause-spare c =

@@ -1,0 +1,74 @@
+-- Names that come to a set one after another.
+use Rattle.std.proofs.Common.{◌≡◌, ℕ, ◌+◌, ◌<◌, Bool, true, false, ◌||◌, List, [], ◌∷◌, ◌++◌, length, take, get_or, nat_eq, slice_get, Some, inl, inr, refl, sym, ap, ◌∙◌, subst, arith}
+use Rattle.std.proofs.lemmas.List.{append-nil, take_more}
+use Rattle.std.proofs.lemmas.List.Concat.{flat_map-append}
+use Rattle.std.proofs.lemmas.List.Folds.{list_any-append}
+use Rattle.std.proofs.lemmas.Option.{slice_get_cases}
+use Rattle.std.specs.List.{flat_map}
+use Rattle.sq_graph.specs.Graph.{Block, Procedure, Graph}
+use Rattle.sq_graph.specs.Blocks.{items_of_blocks, items_of_bodies, all_items}
+use Rattle.sq_graph.specs.Uses.{item_uses, items_uses, terms_uses, code_word_uses, uses}
+use Rattle.sq_jumps.specs.Names.{is_listed, Adds}
+
+pub is_listed-append : (xs ys : List ℕ) (n : ℕ) → is_listed (xs ++ ys) n ≡ (is_listed xs n || is_listed ys n)
+is_listed-append xs ys n = list_any-append (nat_eq n) xs ys
+
+or_false : (a : Bool) → a ≡ (a || false)
+or_false true = refl
+or_false false = refl
+
+or_or : (a b c : Bool) → ((a || b) || c) ≡ (a || (b || c))
+or_or true b c = refl
+or_or false b c = refl
+
+pub adds_none : (names : List ℕ) → Adds [] names names
+adds_none names = record { each = λ n. or_false (is_listed names n) }
+
+pub adds_then : (names more s t u : List ℕ) → Adds names s t → Adds more t u → Adds (names ++ more) s u
+adds_then names more s t u first second = record {
+  each = λ n.
+      second.each n ∙ ap (λ b. b || is_listed more n) (first.each n) ∙ or_or (is_listed s n) (is_listed names n) (is_listed more n)
+      ∙ ap (λ b. is_listed s n || b) (sym (is_listed-append names more n));
+}
+
+-- the names of one more element
+pub adds_more : {X : Type 0} (f : X → List ℕ) (xs : List X) (i : ℕ) (x : X) (s t u : List ℕ) → i < length xs → x ≡ get_or xs i x → Adds (flat_map f (take i xs)) s t → Adds (f x) t u → Adds (flat_map f (take (i + 1) xs)) s u
+adds_more {X} f xs i x s t u h is first second =
+    let more : take (i + 1) xs ≡ take i xs ++ x ∷ [] = take_more xs i x h ∙ ap (λ (y : X). take i xs ++ y ∷ []) (sym is) in
+    let names : flat_map f (take (i + 1) xs) ≡ flat_map f (take i xs) ++ f x = ap (flat_map f) more ∙ (flat_map-append f (take i xs) (x ∷ []) ∙ ap (λ ns. flat_map f (take i xs) ++ ns) (append-nil (f x))) in
+    subst (λ ns. Adds ns s u) (sym names) (adds_then (flat_map f (take i xs)) (f x) s t u first second)
+
+-- the same where the list with one more is known
+pub adds_pushed : {X : Type 0} (f : X → List ℕ) (front all : List X) (x : X) (s t u : List ℕ) → all ≡ front ++ x ∷ [] → Adds (flat_map f front) s t → Adds (f x) t u → Adds (flat_map f all) s u
+adds_pushed f front all x s t u more first second =
+    let names : flat_map f all ≡ flat_map f front ++ f x = ap (flat_map f) more ∙ (flat_map-append f front (x ∷ []) ∙ ap (λ ns. flat_map f front ++ ns) (append-nil (f x))) in
+    subst (λ ns. Adds ns s u) (sym names) (adds_then (flat_map f front) (f x) s t u first second)
+
+uses_of_blocks : (bs : List Block) → flat_map (λ b. items_uses b.items) bs ≡ items_uses (items_of_blocks bs)
+uses_of_blocks [] = refl
+uses_of_blocks (b ∷ bs) = ap (λ ns. items_uses b.items ++ ns) (uses_of_blocks bs) ∙ sym (flat_map-append item_uses b.items (items_of_blocks bs))
+
+uses_of_bodies : (ps : List Procedure) → flat_map (λ p. items_uses p.body) ps ≡ items_uses (items_of_bodies ps)
+uses_of_bodies [] = refl
+uses_of_bodies (p ∷ ps) = ap (λ ns. items_uses p.body ++ ns) (uses_of_bodies ps) ∙ sym (flat_map-append item_uses p.body (items_of_bodies ps))
+
+-- the parts of a graph one after another
+pub adds_uses : (g : Graph) (a b c d e f : List ℕ) → Adds (g.entry ∷ []) a b → Adds (code_word_uses g.code_words) b c → Adds (terms_uses g.blocks) c d → Adds (flat_map (λ b. items_uses b.items) g.blocks) d e → Adds (flat_map (λ p. items_uses p.body) g.procedures) e f → Adds (uses g) a f
+adds_uses g a b c d e f entry words terms blocks bodies =
+    let in_blocks : Adds (items_uses (items_of_blocks g.blocks)) d e = subst (λ ns. Adds ns d e) (uses_of_blocks g.blocks) blocks in
+    let in_bodies : Adds (items_uses (items_of_bodies g.procedures)) e f = subst (λ ns. Adds ns e f) (uses_of_bodies g.procedures) bodies in
+    let items : Adds (items_uses (all_items g)) d f =
+    subst (λ ns. Adds ns d f) (sym (flat_map-append item_uses (items_of_blocks g.blocks) (items_of_bodies g.procedures)))
+    (adds_then (items_uses (items_of_blocks g.blocks)) (items_uses (items_of_bodies g.procedures)) d e f in_blocks in_bodies) in
+    adds_then (g.entry ∷ []) (code_word_uses g.code_words ++ (terms_uses g.blocks ++ items_uses (all_items g))) a b f entry
+    (adds_then (code_word_uses g.code_words) (terms_uses g.blocks ++ items_uses (all_items g)) b c f words
+    (adds_then (terms_uses g.blocks) (items_uses (all_items g)) c d f terms items))
+
+-- one more procedure
+pub procedure_more : (ps : List Procedure) (k : ℕ) (p : Procedure) → k < length ps → slice_get ps k ≡ Some p → take (k + 1) ps ≡ take k ps ++ p ∷ []
+procedure_more ps k p within found =
+    let same : get_or ps k p ≡ p = elim ((slice_get_cases ps k).1) [
+      | inl x ↦ let e : Some x.0 ≡ Some p = sym x.2 ∙ found in let same : x.0 ≡ p = cc in subst (λ (y : Procedure). get_or ps k y ≡ y) same x.3
+      | inr past ↦ absurd (omega (arith, past.0))
+    ] in
+    take_more ps k p within ∙ ap (λ (y : Procedure). take k ps ++ y ∷ []) same

@@ -1,0 +1,12 @@
+pub mod Shrinking
+pub mod Shrunk
+pub mod Ruled
+pub mod Totals
+pub mod Addresses
+pub mod Adding
+pub mod Surveying
+pub mod Distances
+pub mod Rewriting
+pub mod RowTests
+pub mod Applying
+pub mod Cutting

@@ -1,0 +1,6 @@
+pub mod Branches
+pub mod Names
+pub mod Surveys
+pub mod Rows
+pub mod Rewrites
+pub mod Candidates

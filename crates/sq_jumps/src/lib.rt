@@ -1,0 +1,13 @@
+//! The pass of the rows on jumps.
+#![tactic(auto)]
+
+mod blocks;
+mod find;
+mod jumps;
+mod names;
+mod rewrites;
+mod rows;
+mod survey;
+mod uses;
+
+pub use jumps::Jumps;

@@ -1,0 +1,56 @@
+//! Sets of names.
+
+use sq_num::Memory;
+use std::alloc::Global;
+use std::collections::HashSet;
+use std::marker::Model;
+
+/// A set of names of blocks.
+#[derive(Drop)]
+pub(crate) struct Names {
+    names: HashSet<u32>,
+}
+
+impl Model for Names {
+    ghost use Rattle.std.specs.Prelude.{ℕ, List};
+
+    ghost Value = { List ℕ };
+
+    ghost view = { λ s. s.names.keys };
+}
+
+impl Names {
+    ghost use Rattle.std.specs.Prelude.{◌≡◌, [], ◌∷◌, option_to_list, OnOk};
+    ghost use Rattle.sq_jumps.specs.Names.{is_listed, Adds};
+
+    pub fn new(alloc: Global) -> Names
+        ensures { result ≡ [] }
+    {
+        Names {
+            names: HashSet::new(alloc),
+        }
+    }
+
+    pub fn insert(&mut self, name: u32) -> Result<(), Memory>
+        ensures { OnOk result (Adds (name ∷ []) self.old self.new) }
+    {
+        self.names.insert(name)?;
+        Ok(())
+    }
+
+    /// The same where there is a name.
+    pub fn insert_some(&mut self, name: Option<u32>) -> Result<(), Memory>
+        ensures { OnOk result (Adds (option_to_list name) self.old self.new) }
+    {
+        match name {
+            Some(name) => self.insert(name),
+            None => Ok(()),
+        }
+    }
+
+    pub fn has(&self, name: u32) -> bool
+        ensures { result ≡ is_listed self.now name }
+    {
+        self.names.contains(&name)
+    }
+}

@@ -1,0 +1,101 @@
+//! Which names a graph uses.
+
+ghost use Rattle.std.specs.Prelude.{◌≡◌, ◌++◌, ◌∷◌, [], map, option_to_list, OnOk, IfOk};
+ghost use Rattle.std.specs.List.{flat_map};
+ghost use Rattle.sq_graph.specs.Blocks.{items_of_bodies};
+ghost use Rattle.sq_graph.specs.Parts.{names_of};
+ghost use Rattle.sq_graph.specs.Rules.{IsGraph};
+ghost use Rattle.sq_graph.specs.Uses.{item_uses, items_uses, term_uses, terms_uses, code_word_uses, uses};
+ghost use Rattle.sq_jumps.specs.Names.{Adds};
+
+use crate::names::Names;
+use sq_graph::{CodeRef, Graph, Item, Term};
+use sq_num::Memory;
+use std::alloc::Global;
+
+/// The block that a term names.
+fn term_target(term: &Term) -> Option<u32>
+    ensures { option_to_list result ≡ term_uses term.now }
+{
+    match *term {
+        Term::Jump { to }
+        | Term::Branch { to, .. }
+        | Term::Call { to, .. }
+        | Term::PartJump { to, .. } => Some(to),
+        Term::Fall | Term::Indirect { .. } | Term::Stop { .. } => None,
+    }
+}
+
+/// The block that an item names.
+fn item_target(item: Item) -> Option<u32>
+    ensures { option_to_list result ≡ item_uses item }
+{
+    match item {
+        Item::Hi { to, .. } | Item::Lo { to, .. } => Some(to),
+        Item::Op(_) | Item::Out { .. } => None,
+    }
+}
+
+fn use_words(used: &mut Names, words: &[CodeRef]) -> Result<(), Memory>
+    ensures { OnOk result (Adds (code_word_uses words.now) used.old used.new) }
+{
+    for word in words {
+        used.insert(word.block)?;
+    }
+    Ok(())
+}
+
+fn use_items(used: &mut Names, items: &[Item]) -> Result<(), Memory>
+    ensures { OnOk result (Adds (items_uses items.now) used.old used.new) }
+{
+    for item in items {
+        used.insert_some(item_target(*item))?;
+    }
+    Ok(())
+}
+
+fn use_terms(used: &mut Names, graph: &Graph, names: &[u32]) -> Result<(), Memory>
+    requires rules { IsGraph graph.now.graph }
+    requires names { names.now ≡ names_of graph.now.graph }
+    ensures { OnOk result (Adds (terms_uses graph.now.graph.blocks) used.old used.new) }
+{
+    for name in names {
+        used.insert_some(term_target(&graph.term(*name)))?;
+    }
+    Ok(())
+}
+
+fn use_blocks(used: &mut Names, graph: &Graph, names: &[u32]) -> Result<(), Memory>
+    requires rules { IsGraph graph.now.graph }
+    requires names { names.now ≡ names_of graph.now.graph }
+    ensures { OnOk result (Adds (flat_map (λ b. items_uses b.items) graph.now.graph.blocks) used.old used.new) }
+{
+    for name in names {
+        use_items(used, graph.items(*name))?;
+    }
+    Ok(())
+}
+
+fn use_bodies(used: &mut Names, graph: &Graph) -> Result<(), Memory>
+    ensures { OnOk result (Adds (flat_map (λ p. items_uses p.body) graph.now.graph.procedures) used.old used.new) }
+{
+    for procedure in 0..graph.procedures() {
+        use_items(used, graph.body(procedure))?;
+    }
+    Ok(())
+}
+
+/// The names that are used: in the entry, code words, terms, and Hi and Lo in blocks and in all procedures.
+pub(crate) fn used_names(alloc: Global, graph: &Graph, names: &[u32]) -> Result<Names, Memory>
+    requires rules { IsGraph graph.now.graph }
+    requires names { names.now ≡ names_of graph.now.graph }
+    ensures { IfOk result (λ used. Adds (uses graph.now.graph) [] used) }
+{
+    let mut used = Names::new(alloc);
+    used.insert(graph.entry())?;
+    use_words(&mut used, graph.code_words())?;
+    use_terms(&mut used, graph, names)?;
+    use_blocks(&mut used, graph, names)?;
+    use_bodies(&mut used, graph)?;
+    Ok(used)
+}

@@ -1,0 +1,25 @@
+-- What is told of a run by its trace.
+use Rattle.std.proofs.Common.{◌≡◌, ℕ, Some, None, sym, ap, ◌∙◌, subst}
+use Rattle.sq_runs.specs.Runs.{Status, Running, Halted, IsNotBroken, trace, state_after, first_break}
+use Rattle.sq_runs.proofs.Breaks.{unbroken_none}
+use Rattle.sq_system.specs.declared.event.Halt.{Halt}
+use Rattle.sq_follow.specs.declared.kind.Kind.{Kind}
+use Rattle.sq_program.specs.Monitored.{Watched, Watches}
+use Rattle.sq_monitor.specs.Steps.{told, outcome_of, outcome_at}
+use Rattle.sq_monitor.specs.declared.moved.WatchOutcome.TheVariants.{Limit, Ended as EndedWith, Break}
+
+module _ (step : Watched → Watches) (n : ℕ) (s : Watched) where
+  told_unbroken : (status : Status Halt) → (trace step n s).status ≡ status → IsNotBroken status → outcome_of None status (state_after step n s).pc ≡ outcome_at step n s
+  told_unbroken status e fine =
+      let none : first_break step n s ≡ None = unbroken_none step n s (subst IsNotBroken (sym e) fine) in
+      λ i. outcome_of (sym none i) (sym e i) (state_after step n s).pc
+
+  pub told_limit : (trace step n s).status ≡ Running → Limit ≡ outcome_at step n s
+  told_limit e = told_unbroken Running e tt
+
+  pub told_end : (halt end : Halt) → halt ≡ told end → (trace step n s).status ≡ Halted end → EndedWith halt ≡ outcome_at step n s
+  told_end halt end h e = ap EndedWith h ∙ told_unbroken (Halted end) e tt
+
+  pub told_break : (kind : Kind) (pc : ℕ) → pc ≡ (state_after step n s).pc → first_break step n s ≡ Some kind → Break pc kind ≡ outcome_at step n s
+  told_break kind pc p e =
+      ap (λ x. Break x kind) p ∙ ap (λ b. outcome_of b (trace step n s).status (state_after step n s).pc) (sym e)

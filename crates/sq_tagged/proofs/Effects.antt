@@ -1,0 +1,62 @@
+-- What an effect rests on, and calls without what their effects don't depend on.
+use Rattle.std.proofs.Common.{◌≡◌, Bool, true, false, ◌==◌, ◌||◌, ◌&&◌, not, if◌then◌else◌, refl, ap, ◌∙◌, arith}
+use Rattle.sq_runs.specs.Runs.{Broke}
+use Rattle.sq_system.specs.declared.call.CallArgs.{CallArgs}
+use Rattle.sq_system.specs.declared.call.Effect.{Effect}
+use Rattle.sq_system.specs.declared.call.Effect.TheVariants.{Exit, Write, Read, Brk, Fail, Ask}
+use Rattle.sq_system.specs.Calls.{effect_of, read_effect, write_effect}
+use Rattle.sq_follow.specs.declared.kind.Kind.TheVariants.{Text}
+use Rattle.sq_follow.specs.Settings.{Setting, Store, meets_text}
+use Rattle.sq_follow.specs.Accesses.{Step}
+use Rattle.sq_follow.specs.Calls.{takes_buffer, effect_row, args_row}
+use Rattle.sq_tagged.specs.Calls.{narrowed, IsAllowed}
+
+either : (P : Effect → Type 0) (b : Bool) (x y : Effect) → (b ≡ true → P x) → (b ≡ false → P y) → P (if b then x else y)
+either P true x y f g = f refl
+either P false x y f g = g refl
+
+is_true : (b : Bool) → not b ≡ false → b ≡ true
+is_true true e = refl
+is_true false e = absurd (cc)
+
+write_allowed : (call : CallArgs) → IsAllowed call (write_effect call)
+write_allowed call =
+    either (IsAllowed call) (not (call.a0 == 1 || call.a0 == 2)) _ _ (λ e. tt)
+    (λ e. either (IsAllowed call) (not call.readable) _ _ (λ f. tt) (λ f. is_true call.readable f))
+
+read_allowed : (call : CallArgs) → IsAllowed call (read_effect call)
+read_allowed call =
+    either (IsAllowed call) (not (call.a0 == 0)) _ _ (λ e. tt)
+    (λ e. either (IsAllowed call) (not call.writable) _ _ (λ f. tt) (λ f. (is_true call.writable f, omega arith, omega arith)))
+
+pub effect_allowed : (call : CallArgs) → IsAllowed call (effect_of call)
+effect_allowed call =
+    either (IsAllowed call) (call.number == 93) _ _ (λ _. tt)
+    (λ _. either (IsAllowed call) (call.number == 94) _ _ (λ _. tt)
+    (λ _. either (IsAllowed call) (call.number == 63) _ _ (λ _. read_allowed call)
+    (λ _. either (IsAllowed call) (call.number == 64) _ _ (λ _. write_allowed call)
+    (λ _. either (IsAllowed call) (call.number == 214) _ _ (λ _. tt) (λ _. tt)))))
+
+-- a call without what its effect doesn't depend on has the same effect
+same_effect : (call : CallArgs) → effect_of (narrowed call) ≡ effect_of call
+same_effect call = by_number (call.number == 63) (call.number == 64) refl refl
+  where
+    by_number : (reads writes : Bool) → (call.number == 63) ≡ reads → (call.number == 64) ≡ writes → effect_of (narrowed call) ≡ effect_of call
+    by_number true writes e f = rw e refl
+    by_number false true e f = rw (e, f) refl
+    by_number false false e f = rw (e, f) refl
+
+same_row : (call : CallArgs) (store : Store) (effect : Effect) → effect_row (narrowed call) store effect ≡ effect_row call store effect
+same_row call store (Exit status) = refl
+same_row call store (Write fd) = refl
+same_row call store (Read count) = refl
+same_row call store (Brk answer) = refl
+same_row call store (Fail code) = refl
+same_row call store Ask = refl
+
+-- and the same row
+pub args_narrowed : (s : Setting) (call : CallArgs) (store : Store) → args_row s (narrowed call) store ≡ args_row s call store
+args_narrowed s call store =
+    let row : effect_row (narrowed call) store (effect_of (narrowed call)) ≡ effect_row call store (effect_of call) =
+    ap (effect_row (narrowed call) store) (same_effect call) ∙ same_row call store (effect_of call) in
+    ap (λ (go : Step). if takes_buffer call && meets_text s call.a1 call.a2 then Broke Text else go) row

@@ -1,0 +1,11 @@
+use Rattle.std.proofs.Common.{◌≡◌, true}
+use Rattle.sq_system.specs.World.{are_all}
+use Rattle.sq_memory.specs.Cells.{is_in_memory}
+use Rattle.sq_tagged.specs.Views.{store_of}
+use Rattle.sq_tagged.proofs.store.Store.are_in_memory.Given as goal
+
+abbrev pub invariant-loop-i : goal.invariant-loop-i
+invariant-loop-i l = record {
+  found : are_all (is_in_memory (store_of l.initial.self).memory) l.x l.i ≡ true;
+  state : store_of l.self ≡ store_of l.initial.self;
+}
