@@ -37,7 +37,7 @@ use Rattle.sq_erasure.specs.Erasure.{Erasing, IsErasedCell}
 use Rattle.sq_program.specs.Programs.{Program}
 use Rattle.sq_program.specs.FilePrograms.{IsReadAs}
 use Rattle.sq_program.specs.FileRuns.{code_word_number, byte_of_word, stale_or, start_byte, start_bytes, start_piece, segment_pieces}
-use Rattle.sq_files.proofs.FileBytes.{bytes_length, whole}
+use Rattle.sq_files.proofs.FileBytes.{filled, filled_length, bytes_length, whole}
 use Rattle.sq_files.proofs.FileRegions.{IsAt, alone, no_copy, loaded}
 use Rattle.sq_files.proofs.FileImages.{image_is, all_segments}
 use Rattle.sq_files.proofs.TextSegment.{unmoved}
@@ -47,7 +47,7 @@ use Rattle.sq_write.proofs.SegmentFacts.{shaped_at}
 use Rattle.sq_writing.specs.Writing.{new_names}
 use Rattle.sq_writing.specs.Files.{IsWritableInto, code_word_address}
 use Rattle.sq_writing.proofs.Somewhere.{AreParallel, parallel_append, regions_apart, AreApart}
-use Rattle.sq_writing.proofs.Parts.{Around, holds, before, behind, filled, filled_length, tagged, tagged_length, IsKept, own_region, copy_region, segment_regions}
+use Rattle.sq_writing.proofs.Parts.{Around, holds, before, behind, tagged, tagged_length, IsKept, own_region, copy_region, segment_regions}
 
 -- CODE WORDS IN TWO LISTS
 

@@ -6,7 +6,7 @@ use Rattle.std.proofs.lemmas.Bool.{eqb-true, cases_lt}
 use Rattle.std.proofs.lemmas.Bool.Decides.{nat_tests}
 use Rattle.std.proofs.lemmas.List.{take_all, length-replicate}
 use Rattle.std.proofs.lemmas.List.Elements.{All-nil, All-cons}
-use Rattle.std.proofs.lemmas.Option.{slice_get-map}
+use Rattle.std.proofs.lemmas.Option.{slice_get-map, slice_get_within}
 use Rattle.byteorder.specs.Endian.{little_bytes}
 use Rattle.sq_isa.specs.Accesses.{bytes_number}
 use Rattle.sq_isa.specs.Registers.{written as with_value}
@@ -43,7 +43,7 @@ use Rattle.sq_run.specs.FileRuns.{start_piece, pieces_of as run_pieces, file_wor
 use Rattle.sq_program.specs.Programs.{Text, Program, end_of}
 use Rattle.sq_program.specs.FilePrograms.{words_from, IsReadAs}
 use Rattle.sq_program.specs.FileRuns.{world_of}
-use Rattle.sq_files.proofs.FileBytes.{whole}
+use Rattle.sq_files.proofs.FileBytes.{le_is, front_byte, whole}
 use Rattle.sq_files.proofs.FileRegions.{get_append, or_agree}
 use Rattle.sq_files.proofs.FileImages.{same_layout, image_is}
 use Rattle.sq_files.proofs.TextSegment.{flagged, has_text}
@@ -67,7 +67,7 @@ use Rattle.sq_writing.specs.Files.{IsWritableInto, code_word_address, WrittenFil
 use Rattle.sq_writing.proofs.Written.{writing_keeps_runs}
 use Rattle.sq_writing.proofs.Standing.{AllFit, text_fits}
 use Rattle.sq_writing.proofs.Somewhere.{Somewhere, none_of, back_of, either_of, one_filtered, some_changed, one_mapped, to_mapped, one_flat, to_flat, HasCell}
-use Rattle.sq_writing.proofs.Parts.{le_is, eq_is, plain_region, cell_in}
+use Rattle.sq_writing.proofs.Parts.{eq_is, plain_region, cell_in}
 use Rattle.sq_writing.proofs.Images.{any_all, images_agree, text_cell}
 use Rattle.sq_writing.proofs.Permissions.{InWith, written_in, file_in}
 use Rattle.sq_writing.proofs.PlainPieces.{passes, always, writes_stay, never_executed, executable_in, in_executable, writable_same, any_somewhere, somewhere_any}
@@ -126,11 +126,6 @@ fits_get : (ps : List Point) (i : ℕ) (p : Point) → AllFit ps → slice_get p
 fits_get [] i p all e = absurd (cc)
 fits_get (q ∷ ps) zero p all e = let same : q ≡ p = cc in subst (λ (r : Point). FieldsFit r.insn) same all.0
 fits_get (q ∷ ps) (suc i) p all e = fits_get ps i p all.1 e
-
-within_get : {X : Type 0} (xs : List X) (i : ℕ) (x : X) → slice_get xs i ≡ Some x → i < length xs
-within_get [] i x e = absurd (cc)
-within_get (y ∷ xs) zero x e = omega arith
-within_get (y ∷ xs) (suc i) x e = omega (arith, within_get xs i x e)
 
 all_true : (test : ℕ → Bool) (x n : ℕ) → ((i : ℕ) → i < n → test (x + i) ≡ true) → are_all test x n ≡ true
 all_true test x zero h = refl
@@ -390,7 +385,7 @@ module _ (bytes : List ℕ) (is : ℕ → Bool) (p : Program) (g : Graph) (fit :
         go (inl h) =
             let c = cell_in (plain_region own_text) x d h in
             let low = c.0 in
-            let within = within_get (take (length (words ws)) (words ws) ++ replicate (length (words ws) - length (words ws)) 0) (x - lo) d c.1 in
+            let within = slice_get_within (take (length (words ws)) (words ws) ++ replicate (length (words ws) - length (words ws)) 0) (x - lo) d c.1 in
             let same : take (length (words ws)) (words ws) ≡ words ws = take_all (length (words ws)) (words ws) (omega arith) in
             not_in_text x out low (omega (arith, low, within, ap length same, length-append (take (length (words ws)) (words ws)) (replicate (length (words ws) - length (words ws)) 0), length-replicate {A = ℕ} (length (words ws) - length (words ws)) 0))
         go (inr h) = absurd h
@@ -407,7 +402,7 @@ module _ (bytes : List ℕ) (is : ℕ → Bool) (p : Program) (g : Graph) (fit :
     text_byte : (i k b : ℕ) (q : Point) → slice_get (text_points g lo) i ≡ Some q → k < 4 → slice_get (little_bytes 4 (point_word q)) k ≡ Some b → (file_state (written bytes g) start).memory (lo + 4 * i + k) ≡ Some b
     text_byte i k b q e l is_byte =
         let x : ℕ = lo + 4 * i + k in
-        let within = within_get (text_points g lo) i q e in
+        let within = slice_get_within (text_points g lo) i q e in
         let size = length_text g lo in
         let w = can.words in
         let low : lo ≤ x = omega arith in
@@ -418,16 +413,11 @@ module _ (bytes : List ℕ) (is : ℕ → Bool) (p : Program) (g : Graph) (fit :
         let full : take (length (words ws)) (words ws) ≡ words ws = take_all (length (words ws)) (words ws) (omega arith) in
         let front : slice_get (take (length (words ws)) (words ws) ++ replicate (length (words ws) - length (words ws)) 0) (x - lo) ≡ Some b =
         ap (slice_get (take (length (words ws)) (words ws) ++ replicate (length (words ws) - length (words ws)) 0)) place
-        ∙ front_get (take (length (words ws)) (words ws)) (replicate (length (words ws) - length (words ws)) 0) (4 * i + k) (let h = within_get (words ws) (4 * i + k) b stored in omega (arith, h, ap length full))
+        ∙ front_byte (take (length (words ws)) (words ws)) (replicate (length (words ws) - length (words ws)) 0) (4 * i + k) (let h = slice_get_within (words ws) (4 * i + k) b stored in omega (arith, h, ap length full))
         ∙ ap (λ xs. slice_get xs (4 * i + k)) full ∙ stored in
         let here : region_cell (plain_region own_text) x ≡ Some b = let f = le_is lo x low in rw f front in
         let found : get written_regions x ≡ Some b = text_cell R cells bytes set some (kept bytes is p g read can) text x b low high here in
         ap (λ (m : Cells ℕ). m x) memory_is ∙ get_append written_regions (plain_ram start ∷ []) x ∙ ap (λ o. or_else o (get (plain_ram start ∷ []) x)) found
-      where
-        front_get : (xs ys : List ℕ) (i : ℕ) → i < length xs → slice_get (xs ++ ys) i ≡ slice_get xs i
-        front_get [] ys i h = absurd (omega (arith, h))
-        front_get (x ∷ xs) ys zero h = refl
-        front_get (x ∷ xs) ys (suc i) h = front_get xs ys i (omega (arith, h))
 
     few : words_of g ≤ 262144
     few = let w = can.words in let t = few_text bytes read.file in omega (arith, w, t)
@@ -445,7 +435,7 @@ module _ (bytes : List ℕ) (is : ℕ → Bool) (p : Program) (g : Graph) (fit :
 
     range_there : (i : ℕ) (q : Point) → slice_get (text_points g lo) i ≡ Some q → is_range (is_executable (file_world (written bytes g) start)) (lo + 4 * i) 4 ≡ true
     range_there i q e =
-        let within = within_get (text_points g lo) i q e in
+        let within = slice_get_within (text_points g lo) i q e in
         let size = length_text g lo in
         let l = long in
         let w = can.words in

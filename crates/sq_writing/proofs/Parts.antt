@@ -3,6 +3,7 @@ use Rattle.std.proofs.Common.{◌≡◌, ◌≢◌, ◌⊎◌, inl, inr, ℕ, ze
 use Rattle.std.specs.Option.{option_map}
 use Rattle.std.proofs.lemmas.Bool.{cases_lt, eqb-true, eqb-false}
 use Rattle.std.proofs.lemmas.Bool.Decides.{nat_tests}
+use Rattle.std.proofs.lemmas.Option.{slice_get_within}
 use Rattle.std.proofs.lemmas.List.{length-take, length-drop, length-replicate}
 use Rattle.sq_elf.specs.declared.segment.Segment.{Segment}
 use Rattle.sq_elf.specs.Segments.{copy_size}
@@ -13,15 +14,11 @@ use Rattle.sq_memory.specs.Regions.{Region, region_cell}
 use Rattle.sq_reloc.specs.Outside.{word_start}
 use Rattle.sq_write.specs.Pieces.{set_byte, with_words, without_x, part_of, part_before, part_behind, is_some_piece}
 use Rattle.sq_outputs.specs.Reading.{piece_image}
+use Rattle.sq_files.proofs.FileBytes.{le_is, lt_is, front_byte, taken_byte, dropped_byte, filled, filled_length}
+use Rattle.sq_outputs.proofs.Lists.{some_at}
 use Rattle.sq_writing.proofs.Somewhere.{Somewhere, HasCell}
 
 -- LISTS
-
-pub le_is : (a b : ℕ) → a ≤ b → nat_le a b ≡ true
-le_is a b le = grind (arith, nat_tests)
-
-pub lt_is : (a b : ℕ) → a < b → nat_lt a b ≡ true
-lt_is a b lt = grind (arith, nat_tests)
 
 pub ne_is : (a b : ℕ) → a ≢ b → nat_eq a b ≡ false
 ne_is a b e = grind (arith, nat_tests)
@@ -32,11 +29,6 @@ ne_of a b e = eqb-false a b e
 pub eq_is : (a b : ℕ) → a ≡ b → nat_eq a b ≡ true
 eq_is a b e = grind (arith, nat_tests)
 
-front_get : {X : Type 0} (xs ys : List X) (i : ℕ) → i < length xs → slice_get (xs ++ ys) i ≡ slice_get xs i
-front_get [] ys i h = absurd (omega (arith, h))
-front_get (x ∷ xs) ys zero h = refl
-front_get (x ∷ xs) ys (suc i) h = front_get xs ys i (omega (arith, h))
-
 back_get : {X : Type 0} (xs ys : List X) (i : ℕ) → length xs ≤ i → slice_get (xs ++ ys) i ≡ slice_get ys (i - length xs)
 back_get [] ys i h = ap (slice_get ys) (omega arith)
 back_get (x ∷ xs) ys zero h = absurd (omega (arith, h))
@@ -46,34 +38,6 @@ replicate_get : (n i : ℕ) → i < n → slice_get {X = ℕ} (replicate n 0) i 
 replicate_get zero i h = absurd (omega (arith, h))
 replicate_get (suc n) zero h = refl
 replicate_get (suc n) (suc i) h = replicate_get n i (omega (arith, h))
-
-taken_get : {X : Type 0} (n : ℕ) (xs : List X) (i : ℕ) → i < n → slice_get (take n xs) i ≡ slice_get xs i
-taken_get zero xs i h = absurd (omega (arith, h))
-taken_get (suc n) [] i h = refl
-taken_get (suc n) (x ∷ xs) zero h = refl
-taken_get (suc n) (x ∷ xs) (suc i) h = taken_get n xs i (omega (arith, h))
-
-dropped_get : {X : Type 0} (n : ℕ) (xs : List X) (i : ℕ) → slice_get (drop n xs) i ≡ slice_get xs (n + i)
-dropped_get zero xs i = let same : i ≡ 0 + i = omega arith in ap (slice_get xs) same
-dropped_get (suc n) [] i = refl
-dropped_get (suc n) (x ∷ xs) i = let same : suc (n + i) ≡ suc n + i = omega arith in dropped_get n xs i ∙ ap (slice_get (x ∷ xs)) same
-
-there_get : {X : Type 0} (xs : List X) (i : ℕ) → i < length xs → (x : X) × (slice_get xs i ≡ Some x)
-there_get [] i h = absurd (omega (arith, h))
-there_get (x ∷ xs) zero h = (x, refl)
-there_get (x ∷ xs) (suc i) h = there_get xs i (omega (arith, h))
-
-within_get : {X : Type 0} (xs : List X) (i : ℕ) (x : X) → slice_get xs i ≡ Some x → i < length xs
-within_get [] i x e = absurd (cc)
-within_get (y ∷ xs) zero x e = omega arith
-within_get (y ∷ xs) (suc i) x e = omega (arith, within_get xs i x e)
-
--- bytes, and then zeros up to a length
-abbrev pub filled : ℕ → List ℕ → List ℕ
-filled n xs = xs ++ replicate (n - length xs) 0
-
-pub filled_length : (n : ℕ) (xs : List ℕ) → length xs ≤ n → length (filled n xs) ≡ n
-filled_length n xs h = omega (arith, h, length-append xs (replicate (n - length xs) 0), length-replicate {A = ℕ} (n - length xs) 0)
 
 filled_zero : (n : ℕ) (xs : List ℕ) (i : ℕ) → length xs ≤ i → i < n → slice_get (filled n xs) i ≡ Some 0
 filled_zero n xs i h l = back_get xs (replicate (n - length xs) 0) i h ∙ replicate_get (n - length xs) (i - length xs) (omega (arith, h, l))
@@ -184,7 +148,7 @@ module _ {C : Type 0} (R : C → ℕ → Type 0) (cell : ℕ → ℕ → C) (byt
 
         inside : j < len
         inside =
-            let h = within_get (take len (ws skip size) ++ replicate (len - length (ws skip size)) 0) j d e in
+            let h = slice_get_within (take len (ws skip size) ++ replicate (len - length (ws skip size)) 0) j d e in
             omega (arith, h, taken, length-append (take len (ws skip size)) (replicate (len - length (ws skip size)) 0), length-replicate {A = ℕ} (len - length (ws skip size)) 0)
 
         place : (s.address + skip) + j ≡ s.address + (skip + j)
@@ -196,17 +160,17 @@ module _ {C : Type 0} (R : C → ℕ → Type 0) (cell : ℕ → ℕ → C) (byt
             let l = long in
             let i = inside in
             let k = taken in
-            let b = there_get bs (skip + j) (omega (arith, stored, front)) in
+            let b = some_at bs (skip + j) (omega (arith, stored, front)) in
             let made : ℕ = set_byte (set (word_start (s.address + (skip + j)))) ((s.address + (skip + j)) % 4) b.0 in
-            let byte : slice_get (take size (drop skip bs)) j ≡ Some b.0 = taken_get size (drop skip bs) j (omega (arith, i, few)) ∙ dropped_get skip bs j ∙ b.1 in
+            let byte : slice_get (take size (drop skip bs)) j ≡ Some b.0 = taken_byte size (drop skip bs) j (omega (arith, i, few)) ∙ dropped_byte skip bs j ∙ b.1 in
             let word : slice_get (ws skip size) j ≡ Some made =
             set_get set (s.address + skip) (take size (drop skip bs)) j ∙ ap (option_map (λ b. set_byte (set (word_start ((s.address + skip) + j))) (((s.address + skip) + j) % 4) b)) byte
             ∙ ap (λ y. Some (set_byte (set (word_start y)) (y % 4) b.0)) place in
             let here : slice_get (take len (ws skip size) ++ replicate (len - length (ws skip size)) 0) j ≡ Some made =
-            front_get (take len (ws skip size)) (replicate (len - length (ws skip size)) 0) j (omega (arith, k, l, i, front, few)) ∙ taken_get len (ws skip size) j i ∙ word in
+            front_byte (take len (ws skip size)) (replicate (len - length (ws skip size)) 0) j (omega (arith, k, l, i, front, few)) ∙ taken_byte len (ws skip size) j i ∙ word in
             let same : made ≡ d = some_same (sym here ∙ e) in (
               cell (s.address + (skip + j)) b.0,
-              tagged_get cell s.address (filled n bs) (skip + j) ∙ ap (option_map (cell (s.address + (skip + j)))) (front_get bs (replicate (n - length bs) 0) (skip + j) (omega (arith, stored, front)) ∙ b.1),
+              tagged_get cell s.address (filled n bs) (skip + j) ∙ ap (option_map (cell (s.address + (skip + j)))) (front_byte bs (replicate (n - length bs) 0) (skip + j) (omega (arith, stored, front)) ∙ b.1),
               subst (R (cell (s.address + (skip + j)) b.0)) same (kept.byte (skip + j) b.0 b.1),
             )
 
@@ -275,7 +239,8 @@ module _ {C : Type 0} (R : C → ℕ → Type 0) (cell : ℕ → ℕ → C) (byt
         let found = values 0 size (length (ws 0 size)) s.filesz j d (omega (arith, most)) (omega arith) whole (omega (arith, most, whole, room)) at.1 in
         let same : 0 + j ≡ x - s.load_address = omega (arith, start) in
         let copy : nat_lt 0 (copy_size s) ≡ true = let more = there.1 in let apart = there.0 in rw apart (lt_is 0 s.filesz (omega (arith, more, most))) in
-        let here : HasCell x found.0 (copy_region s) = cell_at (copy_region s) x found.0 (omega (arith, low, start)) (ap (slice_get (tagged cell s.address (filled s.filesz bs))) (sym same) ∙ found.1) in
+        let moved : slice_get (tagged cell s.address (filled s.filesz bs)) (x - s.load_address) ≡ slice_get (tagged cell s.address (filled s.filesz bs)) (0 + j) = ap (slice_get (tagged cell s.address (filled s.filesz bs))) (sym same) in
+        let here : HasCell x found.0 (copy_region s) = cell_at (copy_region s) x found.0 (omega (arith, low, start)) (moved ∙ found.1) in
         (found.0, inr (rw copy (inl here)), found.2)
 
     -- WHAT IS WRITTEN OF THE SEGMENT
@@ -340,7 +305,7 @@ module _ {C : Type 0} (R : C → ℕ → Type 0) (cell : ℕ → ℕ → C) (byt
         let taken = length-take size (ws skip size) in
         let few = ws_length skip size in
         let long : length (take size (ws skip size) ++ replicate (size - length (ws skip size)) 0) ≡ size = omega (arith, taken, few, length-append (take size (ws skip size)) (replicate (size - length (ws skip size)) 0), length-replicate {A = ℕ} (size - length (ws skip size)) 0) in
-        let there = there_get (take size (ws skip size) ++ replicate (size - length (ws skip size)) 0) (x - (s.address + skip)) (omega (arith, low, high, long)) in
+        let there = some_at (take size (ws skip size) ++ replicate (size - length (ws skip size)) 0) (x - (s.address + skip)) (omega (arith, low, high, long)) in
         (there.0, (lt_is 0 size (omega (arith, low, high)), inl (cell_at region x there.0 low there.1)))
 
     -- and one of its load copy
@@ -360,7 +325,7 @@ module _ {C : Type 0} (R : C → ℕ → Type 0) (cell : ℕ → ℕ → C) (byt
             let size_is : length (take (length (ws 0 s.memsz)) (ws 0 s.memsz) ++ replicate (length (ws 0 s.memsz) - length (ws 0 s.memsz)) 0) ≡ s.filesz =
             omega (arith, taken, long, length-append (take (length (ws 0 s.memsz)) (ws 0 s.memsz)) (replicate (length (ws 0 s.memsz) - length (ws 0 s.memsz)) 0), length-replicate {A = ℕ} (length (ws 0 s.memsz) - length (ws 0 s.memsz)) 0) in
             let region : Region ℕ = plain_region (record { address = (s.load_address + 0) % 2 ^ 32; bytes = ws 0 s.memsz; length = length (ws 0 s.memsz); flags = 4 }) in
-            let there = there_get (take (length (ws 0 s.memsz)) (ws 0 s.memsz) ++ replicate (length (ws 0 s.memsz) - length (ws 0 s.memsz)) 0) (x - (s.load_address + 0) % 2 ^ 32) (omega (arith, low, high, size_is, start)) in
+            let there = some_at (take (length (ws 0 s.memsz)) (ws 0 s.memsz) ++ replicate (length (ws 0 s.memsz) - length (ws 0 s.memsz)) 0) (x - (s.load_address + 0) % 2 ^ 32) (omega (arith, low, high, size_is, start)) in
             let other : nat_eq ((s.load_address + 0) % 2 ^ 32) (s.address + 0) ≡ false = ne_is ((s.load_address + 0) % 2 ^ 32) (s.address + 0) (let differs = ne_of s.load_address s.address apart in λ e. differs (omega (arith, start, e))) in
             let copied : nat_lt 0 (if nat_eq ((s.load_address + 0) % 2 ^ 32) (s.address + 0) then 0 else length (ws 0 s.memsz)) ≡ true = rw other (lt_is 0 (length (ws 0 s.memsz)) (omega (arith, long, low, high))) in
             let cell_here : HasCell x there.0 region = cell_at region x there.0 (omega (arith, start, low)) there.1 in
@@ -377,7 +342,7 @@ module _ {C : Type 0} (R : C → ℕ → Type 0) (cell : ℕ → ℕ → C) (byt
             let whole = kept.whole in
             let size = tagged_length cell s.address (filled s.memsz bs) in
             let full = filled_length s.memsz bs (omega (arith, stored, whole)) in
-            let within = within_get (tagged cell s.address (filled s.memsz bs)) (x - s.address) c a.1 in
+            let within = slice_get_within (tagged cell s.address (filled s.memsz bs)) (x - s.address) c a.1 in
             (low, omega (arith, low, size, full, within))
 
         front : x < (text_of bytes).lo → (d : ℕ) × (Has x d (part_before bytes set s) ⊎ Has x d (part_behind bytes set s))
@@ -408,7 +373,7 @@ module _ {C : Type 0} (R : C → ℕ → Type 0) (cell : ℕ → ℕ → C) (byt
             let stored = kept.stored in
             let size = tagged_length cell s.address (filled s.filesz bs) in
             let full = filled_length s.filesz bs (omega (arith, stored)) in
-            let within = within_get (tagged cell s.address (filled s.filesz bs)) (x - s.load_address) c a.1 in
+            let within = slice_get_within (tagged cell s.address (filled s.filesz bs)) (x - s.load_address) c a.1 in
             by apart low (omega (arith, low, size, full, within)) kept.around
           where
             by : nat_eq s.load_address s.address ≡ false → s.load_address ≤ x → x < s.load_address + s.filesz → Around (text_of bytes).lo (text_of bytes).hi s → (d : ℕ) × (Has x d (part_before bytes set s) ⊎ Has x d (part_behind bytes set s))
@@ -449,7 +414,7 @@ module _ {C : Type 0} (R : C → ℕ → Type 0) (cell : ℕ → ℕ → C) (byt
         inside at len bytes flags few h =
             let c = cell_in (plain_region (record { address = at; bytes = bytes; length = len; flags = flags })) x d h in
             let from = c.0 in
-            let within = within_get (take len bytes ++ replicate (len - length bytes) 0) (x - at) d c.1 in
+            let within = slice_get_within (take len bytes ++ replicate (len - length bytes) 0) (x - at) d c.1 in
             let taken = length-take len bytes in
             let size = length-append (take len bytes) (replicate (len - length bytes) 0) in
             let rest = length-replicate {A = ℕ} (len - length bytes) 0 in
@@ -474,6 +439,3 @@ module _ {C : Type 0} (R : C → ℕ → Type 0) (cell : ℕ → ℕ → C) (byt
 
     pub before_alone : (x d : ℕ) → (text_of bytes).lo ≤ x → x < (text_of bytes).hi → Has x d (part_before bytes set s) → ⊥
     before_alone x d low high h = parts_alone 0 (min s.memsz ((text_of bytes).lo - s.address)) x d (whole_before h.0) low high (λ from below. omega (arith, low, from, below)) h.1
-
-    pub behind_alone : (x d : ℕ) → (text_of bytes).lo ≤ x → x < (text_of bytes).hi → Has x d (part_behind bytes set s) → ⊥
-    behind_alone x d low high h = parts_alone ((text_of bytes).hi - s.address) (s.memsz - ((text_of bytes).hi - s.address)) x d (whole_behind h.0) low high (λ from below. omega (arith, high, from)) h.1

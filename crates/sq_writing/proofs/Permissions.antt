@@ -10,7 +10,8 @@ use Rattle.sq_write.specs.Output.{Piece}
 use Rattle.sq_write.specs.Pieces.{by_address, without_x, part_of, part_before, part_behind, is_some_piece, pieces_before, pieces_behind}
 use Rattle.sq_outputs.specs.Reading.{piece_image}
 use Rattle.sq_writing.proofs.Somewhere.{Somewhere, front_of, back_of, either_of, one_filtered, to_filtered, some_changed, one_mapped, to_mapped, one_flat, to_flat, one_ordered, to_ordered}
-use Rattle.sq_writing.proofs.Parts.{lt_is, eq_is, ne_is, ne_of, Around, holds, before, behind, IsKept, ws, ws_length, copied, whole_before, whole_behind}
+use Rattle.sq_files.proofs.FileBytes.{lt_is}
+use Rattle.sq_writing.proofs.Parts.{eq_is, ne_is, ne_of, Around, holds, before, behind, IsKept, ws, ws_length, copied, whole_before, whole_behind}
 
 -- the byte at x is in the piece, whose flags pass
 abbrev pub InWith : (ℕ → Bool) → ℕ → MemoryPiece → Type 0
