@@ -14,3 +14,5 @@ pub mod Sizes
 pub mod Texts
 pub mod Writing
 pub mod Accepting
+pub mod TextWords
+pub mod Bytes

@@ -263,7 +263,7 @@ module _ (bytes : List ℕ) (g : Graph) (can : IsWritable bytes g) where
   still : (flags : ℕ) → without_x flags % 2 ≡ 0
   still flags = omega arith
 
-  acceptable : IsAcceptable (written_output bytes g)
+  pub acceptable : IsAcceptable (written_output bytes g)
   acceptable =
       let lo = (text_of bytes).lo in
       let set = set_word_at g (text_of bytes).lo in
