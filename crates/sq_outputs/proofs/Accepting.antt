@@ -142,9 +142,6 @@ total_at_most number zero each = omega arith
 total_at_most number (suc n) each = omega (arith, total_at_most number n (λ k below. each k (omega arith)), each n (omega arith))
 
 module _ (o : Output) (can : IsAcceptable o) where
-  abbrev file : List ℕ
-  file = output_file o
-
   header : IsHeader (output_file o) o
   header = (headers_are_read o can.fits).0
 

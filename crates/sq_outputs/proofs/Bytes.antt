@@ -19,9 +19,6 @@ use Rattle.sq_outputs.specs.Contents.{WrittenIsBytes}
 use Rattle.sq_outputs.specs.Reading.{output_sections}
 use Rattle.sq_outputs.proofs.Pairs.{all_append, all_kept}
 
-abbrev AreBytes : List ℕ → Type 0
-AreBytes bytes = AllByRecursion (λ b. b < 256) bytes
-
 abbrev both : (xs ys : List ℕ) → AllByRecursion (λ b. b < 256) xs → AllByRecursion (λ b. b < 256) ys → AllByRecursion (λ b. b < 256) (xs ++ ys)
 both = all_append (λ b. b < 256)
 

@@ -16,3 +16,4 @@ pub mod Writing
 pub mod Accepting
 pub mod TextWords
 pub mod Bytes
+pub mod Ascending

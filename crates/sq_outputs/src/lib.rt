@@ -8,7 +8,7 @@
 
 ghost use Rattle.sq_outputs.specs.Reading.{HeadersAreRead, ProgramHeadersAreRead, SegmentsAreRead, SectionsAreRead, TextIsRead};
 ghost use Rattle.sq_outputs.specs.Accepting.{OutputsAreAccepted, WrittenIsAccepted};
-ghost use Rattle.sq_outputs.specs.Contents.{WrittenIsBytes, WordsAreRead, WrittenWordsAreRead};
+ghost use Rattle.sq_outputs.specs.Contents.{WrittenIsBytes, WordsAreRead, WrittenWordsAreRead, SegmentsAreByAddress, WrittenTextIsWords};
 ghost use Rattle.sq_outputs.specs.Writing.{WrittenFits, WrittenSizes, PiecesArePlaced};
 
 /// The file header of an output file is read as that of the output, and the section headers end the file.
@@ -75,4 +75,14 @@ pub fn words_are_read()
 /// A word of a graph is read at its address in the file of the graph, where it fits 32 bits.
 pub fn written_words_are_read()
     ensures { WrittenWordsAreRead }
+{}
+
+/// The reader's list of the segments of an output file, by address, is that of its pieces.
+pub fn segments_are_by_address()
+    ensures { SegmentsAreByAddress }
+{}
+
+/// Each word of text of the file of a graph is one of the graph's words.
+pub fn written_text_is_words()
+    ensures { WrittenTextIsWords }
 {}
