@@ -39,7 +39,7 @@ unfolding first_from
 none_from fails at zero passes = refl
 none_from fails at (suc n) passes = rw (passes at (omega arith) (omega arith)) (none_from fails (at + 1) n (λ k low high. passes k (omega arith) (omega arith)))
 
-some_from : (fails : ℕ → Bool) (at n place : ℕ) → at ≤ place → place < at + n → ((k : ℕ) → at ≤ k → k < place → fails k ≡ false) → fails place ≡ true → first_from fails at n ≡ Some place
+pub some_from : (fails : ℕ → Bool) (at n place : ℕ) → at ≤ place → place < at + n → ((k : ℕ) → at ≤ k → k < place → fails k ≡ false) → fails place ≡ true → first_from fails at n ≡ Some place
 unfolding first_from
 some_from fails at zero place low high passes here = absurd (omega arith)
 some_from fails at (suc n) place low high passes here =
@@ -74,7 +74,7 @@ equal_is a b same = eq-eqb a b same
 less_not : (a b : ℕ) → b ≤ a → nat_lt a b ≡ false
 less_not a b le = grind (arith, nat_tests)
 
-at_most_not : (a b : ℕ) → b < a → nat_le a b ≡ false
+pub at_most_not : (a b : ℕ) → b < a → nat_le a b ≡ false
 at_most_not a b lt = grind (arith, nat_tests)
 
 if_false : (test x y : Bool) → x ≡ false → y ≡ false → (if test then x else y) ≡ false
@@ -84,7 +84,7 @@ if_false false x y first second = second
 either_false : (x y : Bool) → x ≡ false → y ≡ false → (x || y) ≡ false
 either_false x y first second = rw (first, second) refl
 
-second_fails : (x y : Bool) → y ≡ false → (x && y) ≡ false
+pub second_fails : (x y : Bool) → y ≡ false → (x && y) ≡ false
 second_fails true y fails = fails
 second_fails false y fails = refl
 
@@ -95,7 +95,7 @@ stays : (long size end : ℕ) → end ≤ long → (nat_lt 0 size && nat_lt long
 stays long size end within = second_fails (nat_lt 0 size) (nat_lt long end) (less_not long end within)
 
 -- the earlier of two in a list
-order_at : (ps : List Piece) → AreInOrder ps → (earlier k : ℕ) (p q : Piece) → earlier < k → slice_get ps earlier ≡ Some p → slice_get ps k ≡ Some q → IsBefore p q
+pub order_at : (ps : List Piece) → AreInOrder ps → (earlier k : ℕ) (p q : Piece) → earlier < k → slice_get ps earlier ≡ Some p → slice_get ps k ≡ Some q → IsBefore p q
 order_at [] order earlier k p q below is has = absurd (cc is)
 order_at (r ∷ ps) order earlier zero p q below is has = absurd (omega arith)
 order_at (r ∷ ps) order zero (suc k) p q below is has =
@@ -109,7 +109,7 @@ at_front [] ys k x is = absurd (cc is)
 at_front (z ∷ xs) ys zero x is = is
 at_front (z ∷ xs) ys (suc k) x is = at_front xs ys k x is
 
-at_middle : {X : Type 0} (xs : List X) (y : X) (ys : List X) → slice_get (xs ++ y ∷ ys) (length xs) ≡ Some y
+pub at_middle : {X : Type 0} (xs : List X) (y : X) (ys : List X) → slice_get (xs ++ y ∷ ys) (length xs) ≡ Some y
 at_middle [] y ys = refl
 at_middle (x ∷ xs) y ys = at_middle xs y ys
 
@@ -142,9 +142,6 @@ total_at_most number zero each = omega arith
 total_at_most number (suc n) each = omega (arith, total_at_most number n (λ k below. each k (omega arith)), each n (omega arith))
 
 module _ (o : Output) (can : IsAcceptable o) where
-  abbrev file : List ℕ
-  file = output_file o
-
   header : IsHeader (output_file o) o
   header = (headers_are_read o can.fits).0
 
@@ -197,10 +194,10 @@ module _ (o : Output) (can : IsAcceptable o) where
 
   -- the segments
 
-  at : (k : ℕ) → k < phnum_of (output_file o) → Knows o can.fits k
+  pub at : (k : ℕ) → k < phnum_of (output_file o) → Knows o can.fits k
   at k within = knows o can.fits k (omega (arith, header.pieces))
 
-  made_of : (k : ℕ) → (here : Knows o can.fits k) → segment_of (output_file o) k ≡ segment_at here.segment.offset here.piece
+  pub made_of : (k : ℕ) → (here : Knows o can.fits k) → segment_of (output_file o) k ≡ segment_at here.segment.offset here.piece
   made_of k here = here.read.is ∙ here.made
 
   stays_inside : (k : ℕ) → k < phnum_of (output_file o) → is_outside (output_file o) k ≡ false
@@ -288,13 +285,13 @@ module _ (o : Output) (can : IsAcceptable o) where
 
   -- the segment that holds text
 
-  place_within : length o.before < phnum_of (output_file o)
+  pub place_within : length o.before < phnum_of (output_file o)
   place_within = omega (arith, header.pieces, length-append o.before (text_piece o ∷ o.after))
 
-  same_piece : (p q : Piece) → (found : Option Piece) → found ≡ Some p → found ≡ Some q → p ≡ q
+  pub same_piece : (p q : Piece) → (found : Option Piece) → found ≡ Some p → found ≡ Some q → p ≡ q
   same_piece p q found is has = cc (is, has)
 
-  text_segment : (here : Knows o can.fits (length o.before)) → segment_of (output_file o) (length o.before) ≡ segment_at here.segment.offset (text_piece o)
+  pub text_segment : (here : Knows o can.fits (length o.before)) → segment_of (output_file o) (length o.before) ≡ segment_at here.segment.offset (text_piece o)
   text_segment here =
       made_of (length o.before) here
       ∙ ap (segment_at here.segment.offset) (same_piece here.piece (text_piece o) (slice_get (pieces_of o) (length o.before)) here.is_piece (at_middle o.before (text_piece o) o.after))

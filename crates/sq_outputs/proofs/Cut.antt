@@ -34,13 +34,6 @@ copy_elsewhere s apart = by_test (cases_Bool (nat_eq s.load_address s.address))
     by_test (inl e) = absurd (apart (eqb-true s.load_address s.address e))
     by_test (inr e) = rw e refl
 
-copied_few : (p : Piece) → copied p ≤ length p.bytes
-copied_few p = by_test (cases_Bool (nat_eq p.load_address p.address))
-  where
-    by_test : (nat_eq p.load_address p.address ≡ true) ⊎ (nat_eq p.load_address p.address ≡ false) → copied p ≤ length p.bytes
-    by_test (inl e) = rw e (omega arith)
-    by_test (inr e) = rw e (omega arith)
-
 -- a part of a segment, with what is known of it
 pub record IsCut (bytes : List ℕ) (p : Piece) (s : Segment) : Type 0 where
   pub part : IsPartOf p s
@@ -146,9 +139,6 @@ parts_before p q s t of to apart ends = record {
 
 pub no_range : (a n b m : ℕ) → m ≡ 0 → meets a n b m ≡ false
 no_range a n b m none = apart_from a n b m (λ some other low high. omega arith)
-
-pub no_first_range : (a n b m : ℕ) → n ≡ 0 → meets a n b m ≡ false
-no_first_range a n b m none = apart_from a n b m (λ some other low high. omega arith)
 
 pub still_before : (p q : Piece) → copied p ≡ 0 → copied q ≡ 0 → p.address + p.size ≤ q.address → IsBefore p q
 still_before p q first last ends = record {

@@ -37,7 +37,3 @@ layout_ends at [] last = omega (arith, length-append (replicate (gap at) 0) (las
 layout_ends at (part ∷ parts) last =
     let rest = layout (at + gap at + length part) (parts ++ last ∷ []) in
     omega (arith, length-append (replicate (gap at) 0) (part ++ rest), length-append part rest, length-replicate {A = ℕ} (gap at) 0, layout_ends (at + gap at + length part) parts last)
-
-pub end_above : (at : ℕ) (parts : List (List ℕ)) → at ≤ end_of at parts
-end_above at [] = omega arith
-end_above at (part ∷ parts) = omega (arith, end_above (at + gap at + length part) parts)

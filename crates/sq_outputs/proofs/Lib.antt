@@ -14,3 +14,6 @@ pub mod Sizes
 pub mod Texts
 pub mod Writing
 pub mod Accepting
+pub mod TextWords
+pub mod Bytes
+pub mod Ascending

@@ -84,9 +84,6 @@ module _ (bytes : List ℕ) (accepted : file_refusal_of bytes ≡ None) (set : �
   abbrev IsOne : Segment → Type 0
   IsOne s = IsSound bytes s × Contains (segments_of bytes) s
 
-  abbrev ordered : List Segment
-  ordered = by_address (segments_of bytes)
-
   pub ordered_sound : AllByRecursion (IsSound bytes) (by_address (segments_of bytes))
   ordered_sound = all_by_address (IsSound bytes) (segments_of bytes) (segments_sound bytes accepted)
 

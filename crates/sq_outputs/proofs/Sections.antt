@@ -87,30 +87,13 @@ section_here file (t ∷ ss) (first ∷ parts) are zero s part is has =
     subst (λ x. IsSection file x part) same (subst (λ x. IsSection file t x) stands are.0)
 section_here file (t ∷ ss) (first ∷ parts) are (suc k) s part is has = section_here file ss parts are.1 k s part is has
 
-offset_within : (at : ℕ) (parts : List (List ℕ)) (k place : ℕ) → slice_get (offsets at parts) k ≡ Some place → place ≤ end_of at parts
-offset_within at [] k place is = absurd (cc is)
-offset_within at (part ∷ parts) zero place is =
-    let here : at + gap at ≡ place = cc is in
-    omega (arith, here, end_above (at + gap at + length part) parts)
-offset_within at (part ∷ parts) (suc k) place is = offset_within (at + gap at + length part) parts k place is
-
 module _ (o : Output) (fits : IsFitting o) where
-  abbrev places : List ℕ
-  places = offsets (contents_at o) (contents_of o)
-
   stands : Stands (output_file o) o
   stands = output_stands o
-
-  -- the place of a content, and where the section headers stand
-  place_fits : (k place : ℕ) → slice_get (offsets (contents_at o) (contents_of o)) k ≡ Some place → place < 2 ^ 32
-  place_fits k place is = omega (arith, offset_within (contents_at o) (contents_of o) k place is, stands.long, fits.size)
 
   content_stands : (k place : ℕ) (part : List ℕ) → slice_get (contents_of o ++ section_table (output_sections o) ∷ []) k ≡ Some part → slice_get (offsets (contents_at o) (contents_of o ++ section_table (output_sections o) ∷ [])) k ≡ Some place → PartAt (output_file o) place part
   content_stands k place part is there =
       laid_part (output_file o) (contents_at o) (contents_of o ++ section_table (output_sections o) ∷ []) stands.laid k place part is there
-
-  text_at : ℕ
-  text_at = pieces_at (length (pieces_of o)) + length (piece_bytes o.before)
 
   text_stands : PartAt (output_file o) (pieces_at (length (pieces_of o)) + length (piece_bytes o.before)) (words o.text)
   text_stands =

@@ -102,6 +102,11 @@ program_headers_are_read = λ o fits k p s is of.
     is_segment (output_file o) k p s (headers_are_read o fits).0.program_headers fits.size (all_at IsFittingPiece (pieces_of o) fits.pieces k p is)
     (placed (output_file o) 52 (pieces_at (length (pieces_of o))) (pieces_of o) stands.headers stands.stored k p s is of)
 
+pub piece_stored : (o : Output) (k : ℕ) (p : Piece) (s : Segment) → slice_get (pieces_of o) k ≡ Some p → slice_get (output_segments o) k ≡ Some s → PartAt (output_file o) s.offset p.bytes
+piece_stored o k p s is of =
+    let stands = output_stands o in
+    (placed (output_file o) 52 (pieces_at (length (pieces_of o))) (pieces_of o) stands.headers stands.stored k p s is of).stored
+
 -- All segments
 
 pub length_segments : (start : ℕ) (ps : List Piece) → length (segments_at start ps) ≡ length ps

@@ -96,12 +96,6 @@ kept_bytes f (s ∷ ss) all = by_test (cases_Bool (is_some_piece (f s))) (kept_b
     by_test (inr e) more = rw e (omega (arith, more, ltb-false 0 (f s).size e, all.0, sum_by-cons (λ t. length (f t).bytes) s ss))
 
 module _ (bytes : List ℕ) (accepted : file_refusal_of bytes ≡ None) (set : ℕ → Option ℕ) where
-  abbrev lo : ℕ
-  lo = (text_of bytes).lo
-
-  abbrev hi : ℕ
-  hi = (text_of bytes).hi
-
   some_text : (text_of bytes).lo < (text_of bytes).hi
   some_text = (facts bytes accepted).inside.some
 

@@ -81,12 +81,6 @@ all_stored bytes s inside = rw inside (enough (cases_lt 0 s.filesz))
     enough (inr none) = omega (arith, length-take s.filesz (drop s.offset bytes))
 
 module _ (bytes : List ℕ) (accepted : file_refusal_of bytes ≡ None) where
-  abbrev lo : ℕ
-  lo = (text_of bytes).lo
-
-  abbrev hi : ℕ
-  hi = (text_of bytes).hi
-
   pub facts : TextFacts bytes accepted
   facts = text_facts bytes accepted
 

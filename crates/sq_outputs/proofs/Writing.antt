@@ -1,5 +1,5 @@
 -- The output of a graph fits the fields of the file; its pieces are placed, and its sizes.
-use Rattle.std.proofs.Common.{◌≡◌, ◌%◌, ℕ, zero, suc, ◌+◌, ◌-◌, ◌*◌, ◌^◌, ◌<◌, ◌≤◌, Bool, true, false, nat_le, ◌⊎◌, inl, inr, List, [], ◌∷◌, ◌++◌, map, drop, length, sum_by, Option, if◌then◌else◌, refl, ap, ◌∙◌, arith, length-append}
+use Rattle.std.proofs.Common.{◌≡◌, ◌%◌, ℕ, zero, suc, ◌+◌, ◌-◌, ◌*◌, ◌^◌, ◌<◌, ◌≤◌, Bool, true, false, nat_le, ◌⊎◌, inl, inr, List, [], ◌∷◌, ◌++◌, map, drop, length, sum_by, if◌then◌else◌, refl, ap, ◌∙◌, arith, length-append}
 use Rattle.std.specs.List.{AllByRecursion, Contains}
 use Rattle.std.proofs.lemmas.Bool.{cases_Bool}
 use Rattle.std.proofs.lemmas.List.Elements.{All-contains, All-from_recursion}
@@ -46,9 +46,6 @@ use Rattle.sq_outputs.proofs.Texts.{text_is_read}
 
 -- Fields of bytes
 
-AreBytes : List ℕ → Type 0
-AreBytes bytes = AllByRecursion (λ b. b < 256) bytes
-
 dropped : (n : ℕ) (bytes : List ℕ) → AllByRecursion (λ b. b < 256) bytes → AllByRecursion (λ b. b < 256) (drop n bytes)
 dropped zero bytes all = all
 dropped (suc n) [] all = tt
@@ -90,18 +87,6 @@ file_length o =
     omega (arith, (output_stands o).long, end_at_most (contents_at o) (contents_of o), sum)
 
 module _ (bytes : List ℕ) (g : Graph) (can : IsWritable bytes g) where
-  abbrev lo : ℕ
-  lo = (text_of bytes).lo
-
-  abbrev set : ℕ → Option ℕ
-  set = set_word_at g (text_of bytes).lo
-
-  abbrev output : Output
-  output = written_output bytes g
-
-  abbrev text : Piece
-  text = text_piece (written_output bytes g)
-
   some_text : (text_of bytes).lo < (text_of bytes).hi
   some_text = (facts bytes can.accepted).inside.some
 
@@ -263,7 +248,7 @@ module _ (bytes : List ℕ) (g : Graph) (can : IsWritable bytes g) where
   still : (flags : ℕ) → without_x flags % 2 ≡ 0
   still flags = omega arith
 
-  acceptable : IsAcceptable (written_output bytes g)
+  pub acceptable : IsAcceptable (written_output bytes g)
   acceptable =
       let lo = (text_of bytes).lo in
       let set = set_word_at g (text_of bytes).lo in

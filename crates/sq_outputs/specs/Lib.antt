@@ -2,3 +2,4 @@ pub mod Fitting
 pub mod Reading
 pub mod Writing
 pub mod Accepting
+pub mod Contents

@@ -2,12 +2,13 @@
 //!
 //! To the layers above it promises what is read in an output file whose numbers fit its fields: its header, a segment
 //! for each piece with the piece's bytes, seven sections with theirs, and its text. Of the file of a graph it promises
-//! that its numbers fit, what its text, its entry and its size are, where its pieces stand, and that the reader accepts
-//! it.
+//! that its numbers fit, what its text, its entry and its size are, where its pieces stand, that the reader accepts it,
+//! and which words it has in text.
 #![tactic(auto)]
 
 ghost use Rattle.sq_outputs.specs.Reading.{HeadersAreRead, ProgramHeadersAreRead, SegmentsAreRead, SectionsAreRead, TextIsRead};
 ghost use Rattle.sq_outputs.specs.Accepting.{OutputsAreAccepted, WrittenIsAccepted};
+ghost use Rattle.sq_outputs.specs.Contents.{WrittenIsBytes, WordsAreRead, WrittenWordsAreRead, SegmentsAreByAddress, WrittenTextIsWords};
 ghost use Rattle.sq_outputs.specs.Writing.{WrittenFits, WrittenSizes, PiecesArePlaced};
 
 /// The file header of an output file is read as that of the output, and the section headers end the file.
@@ -59,4 +60,29 @@ pub fn outputs_are_accepted()
 /// The reader accepts the file of a graph.
 pub fn written_is_accepted()
     ensures { WrittenIsAccepted }
+{}
+
+/// Each byte of the file of a graph is below 256.
+pub fn written_is_bytes()
+    ensures { WrittenIsBytes }
+{}
+
+/// A word of the text of an output file is read at its address, where it fits 32 bits.
+pub fn words_are_read()
+    ensures { WordsAreRead }
+{}
+
+/// A word of a graph is read at its address in the file of the graph, where it fits 32 bits.
+pub fn written_words_are_read()
+    ensures { WrittenWordsAreRead }
+{}
+
+/// The reader's list of the segments of an output file, by address, is that of its pieces.
+pub fn segments_are_by_address()
+    ensures { SegmentsAreByAddress }
+{}
+
+/// Each word of text of the file of a graph is one of the graph's words.
+pub fn written_text_is_words()
+    ensures { WrittenTextIsWords }
 {}
