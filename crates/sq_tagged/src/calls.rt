@@ -4,9 +4,9 @@ ghost use Rattle.std.specs.Prelude.{◌≡◌, ◌+◌, ◌<◌, ◌≤◌, ◌^
 ghost use Rattle.std.specs.List.{list_any};
 ghost use Rattle.sq_memory.specs.Cells.{cells_from};
 ghost use Rattle.sq_system.specs.Calls.{effect_of, answer_of};
+ghost use Rattle.sq_machine.specs.Calls.{narrowed, IsAllowed};
 ghost use Rattle.sq_follow.specs.Values.{Byte, is_stale, is_fragment, byte_of};
 ghost use Rattle.sq_follow.specs.Calls.{has_tagged, number_in, call_of, takes_buffer, answer, with_input, effect_row, args_row, call_row};
-ghost use Rattle.sq_tagged.specs.Calls.{narrowed, IsAllowed};
 ghost use Rattle.sq_tagged.specs.Rows.{IsMade};
 ghost use Rattle.sq_tagged.specs.Views.{setting_of, store_of, value_of, cell_of, operands_of};
 
@@ -70,7 +70,7 @@ fn takes_buffer(call: &CallArgs) -> bool
 }
 
 /// The effect of a call.
-#[tactic(auto, using(crate::proofs::Effects::effect_allowed))]
+#[tactic(auto, using(sq_machine::proofs::Effects::effect_allowed))]
 fn effect(call: &CallArgs) -> Effect
     ensures value { result ≡ effect_of call.now }
     ensures allowed { IsAllowed call.now result }

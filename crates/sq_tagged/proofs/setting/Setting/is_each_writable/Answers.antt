@@ -1,7 +1,7 @@
 use Rattle.std.proofs.Common.{sym, ◌∙◌}
 use Rattle.sq_system.specs.World.{is_writable}
 use Rattle.sq_tagged.specs.Views.{layout_of}
-use Rattle.sq_tagged.proofs.Ranges.{are_all-fails}
+use Rattle.sq_machine.proofs.Ranges.{are_all-fails}
 use Rattle.sq_tagged.proofs.setting.Setting.is_each_writable.Goals as goal
 
 pub returns-then-not-is_writable : goal.returns-then-not-is_writable

@@ -1,7 +1,7 @@
 use Rattle.std.proofs.Common.{◌+◌, sym, ap, ◌∙◌}
 use Rattle.sq_memory.specs.Cells.{is_in_memory}
 use Rattle.sq_tagged.specs.Views.{store_of}
-use Rattle.sq_tagged.proofs.Ranges.{is_range-fails}
+use Rattle.sq_machine.proofs.Ranges.{is_range-fails}
 use Rattle.sq_tagged.proofs.store.Store.are_in_memory.Goals as goal
 
 pub returns-then-not-is_in_memory-clause-value : goal.returns-then-not-is_in_memory-clause-value
