@@ -2,6 +2,7 @@
 #![tactic(auto)]
 
 mod blocks;
+mod clear;
 mod find;
 mod jumps;
 mod names;
