@@ -1,13 +1,13 @@
 -- Calls among items and blocks.
-use Rattle.std.proofs.Common.{◌≡◌, ◌≢◌, ℕ, zero, suc, ◌+◌, ◌-◌, ◌<◌, if◌then◌else◌, Bool, true, false, ◌||◌, not, nat_eq, List, [], ◌∷◌, ◌++◌, map, remove, length, get_or, slice_get, refl, sym, ap, ◌∙◌, subst, inl, inr, arith, length-append}
+use Rattle.std.proofs.Common.{◌≡◌, ◌≢◌, ℕ, zero, suc, ◌+◌, ◌-◌, ◌<◌, if◌then◌else◌, Bool, true, false, ◌||◌, nat_eq, List, [], ◌∷◌, ◌++◌, map, remove, length, get_or, slice_get, refl, sym, ap, ◌∙◌, subst, arith, length-append}
 use Rattle.std.specs.List.{All, flat_map}
-use Rattle.std.proofs.lemmas.Bool.{cases_Bool, eqb-true, eqb-false, eq-eqb}
+use Rattle.std.proofs.lemmas.Bool.{eqb-false, eq-eqb}
 use Rattle.std.proofs.lemmas.List.{length-map}
 use Rattle.std.proofs.lemmas.List.Edits.{length-remove}
 use Rattle.std.proofs.lemmas.List.Elements.{All-nil, All-cons, All-head, All-tail, All-append}
 use Rattle.sq_graph.specs.declared.parts.Room.{Room}
 use Rattle.sq_graph.specs.declared.item.Item.{Item}
-use Rattle.sq_graph.specs.declared.item.Item.TheVariants.{Op, Hi, Lo, Out}
+use Rattle.sq_graph.specs.declared.item.Item.TheVariants.{Out}
 use Rattle.sq_graph.specs.Graph.{Block, Procedure, Graph}
 use Rattle.sq_graph.specs.Blocks.{HasProcedure, items_of_blocks, items_of_bodies, all_items, body_of, procedure_body}
 use Rattle.sq_graph.specs.Operations.{without_procedure}
@@ -15,7 +15,7 @@ use Rattle.sq_graph.specs.Renames.{recalled_item, recalled_items, recalled_block
 use Rattle.sq_graph.specs.Room.{count_of, sum_of}
 use Rattle.sq_graph.specs.Rules.{IsGraph, ProcedureFits}
 use Rattle.sq_graph.specs.Uses.{item_calls, calls}
-use Rattle.sq_graph.proofs.Eachs.{All-left, All-right, All-each, All-flat_map}
+use Rattle.sq_graph.proofs.Eachs.{All-each, All-flat_map}
 use Rattle.sq_graph.proofs.Sizes.{same_room}
 use Rattle.sq_jumps.specs.Names.{is_listed}
 use Rattle.sq_jumps.specs.Unreached.{is_called_in}

@@ -1,5 +1,5 @@
 -- Blocks that lose their items and stop.
-use Rattle.std.proofs.Common.{◌≡◌, ◌≢◌, ℕ, zero, suc, ◌+◌, ◌-◌, ◌==◌, Bool, true, false, ◌||◌, if◌then◌else◌, nat_eq, List, [], ◌∷◌, ◌++◌, map, take, drop, length, Option, None, Some, IsSome, is_some, refl, sym, ap, ◌∙◌, subst, inl, inr, arith, length-append}
+use Rattle.std.proofs.Common.{◌≡◌, ℕ, ◌+◌, ◌-◌, ◌==◌, Bool, true, false, ◌||◌, if◌then◌else◌, nat_eq, List, [], ◌∷◌, map, length, Option, None, Some, IsSome, is_some, refl, sym, ap, ◌∙◌, subst, inl, inr, arith}
 use Rattle.std.specs.Prelude.{option_map}
 use Rattle.std.proofs.lemmas.Bool.{cases_Bool, eqb-true, eqb-false}
 use Rattle.std.proofs.lemmas.List.{drop_all}
@@ -11,7 +11,7 @@ use Rattle.sq_graph.specs.declared.item.Item.{Item}
 use Rattle.sq_graph.specs.declared.item.Term.TheVariants.{Stop}
 use Rattle.sq_graph.specs.Graph.{Block, Graph}
 use Rattle.sq_graph.specs.Blocks.{named, HasBlock, HasProcedure, block_of, block_items, items_of}
-use Rattle.sq_graph.specs.Operations.{with_blocks, with_term, replaced, replaced_items}
+use Rattle.sq_graph.specs.Operations.{with_blocks, replaced, replaced_items}
 use Rattle.sq_graph.specs.Room.{count_of, sum_of}
 use Rattle.sq_graph.specs.Rules.{IsGraph}
 use Rattle.sq_graph.proofs.Kept.{absent_behind}

@@ -1,30 +1,26 @@
 -- What is left once the blocks that aren't reached are gone: it is the graph with the others alone, and what a pass
 -- promises holds of it.
-use Rattle.std.proofs.Common.{◌≡◌, ◌≢◌, ℕ, zero, suc, ◌+◌, ◌<◌, ◌≤◌, ◌==◌, nat_lt, Bool, true, false, ◌||◌, ◌&&◌, not, if◌then◌else◌, nat_eq, List, [], ◌∷◌, ◌++◌, map, length, sum_by, slice_get, Option, None, Some, IsSome, is_some, refl, sym, ap, ◌∙◌, subst, inl, inr, ◌⊎◌, append_assoc, arith}
+use Rattle.std.proofs.Common.{◌≡◌, ℕ, zero, suc, ◌+◌, ◌<◌, ◌==◌, nat_lt, Bool, true, false, ◌||◌, ◌&&◌, not, List, [], ◌∷◌, ◌++◌, map, length, sum_by, slice_get, None, Some, IsSome, is_some, refl, sym, ap, ◌∙◌, subst, inl, inr, ◌⊎◌, append_assoc, arith}
 use Rattle.std.specs.List.{All, Contains, filter, flat_map}
-use Rattle.std.proofs.lemmas.Bool.{cases_Bool, eqb-true, eqb-false, eq-eqb}
+use Rattle.std.proofs.lemmas.Bool.{cases_Bool, eqb-true, eq-eqb}
 use Rattle.std.proofs.lemmas.Bool.Decides.{nat_tests}
 use Rattle.std.proofs.lemmas.List.{length-map}
 use Rattle.std.proofs.lemmas.List.Sums.{sum_by-cons}
-use Rattle.std.proofs.lemmas.List.Elements.{All-nil, All-cons, All-head, All-tail}
+use Rattle.std.proofs.lemmas.List.Elements.{All-head, All-tail}
 use Rattle.sq_arena.specs.Entries.{HasDistinctKeys, value_of}
 use Rattle.sq_arena.proofs.EntriesLaws.{distinct_back}
-use Rattle.sq_isa.specs.declared.instructions.Cond.{Cond}
 use Rattle.sq_graph.specs.declared.item.Item.{Item}
 use Rattle.sq_graph.specs.declared.item.Item.TheVariants.{Op, Hi, Lo, Out}
-use Rattle.sq_graph.specs.declared.item.Term.{Term}
 use Rattle.sq_graph.specs.declared.item.Term.TheVariants.{Branch}
 use Rattle.sq_graph.specs.Graph.{Block, Procedure, Graph}
-use Rattle.sq_graph.specs.Blocks.{named, HasBlock, HasProcedure, block_of, block_items, block_term, items_of, term_of}
+use Rattle.sq_graph.specs.Blocks.{named, HasBlock, HasProcedure, block_of, block_items, block_term, items_of}
 use Rattle.sq_graph.specs.Canonical.{canonical_of}
 use Rattle.sq_graph.specs.Renames.{recalled_item, recalled_items, recalled_block, recalled_procedure}
 use Rattle.sq_graph.specs.Rules.{IsGraph}
 use Rattle.sq_graph.specs.Uses.{item_calls}
-use Rattle.sq_graph.specs.Walks.{IsReachedBlock}
 use Rattle.sq_graph.specs.Words.{block_words, procedure_words, words_of}
 use Rattle.sq_graph.proofs.Kept.{absent_behind}
-use Rattle.sq_graph.proofs.SlotReads.{block_at}
-use Rattle.sq_graph.proofs.RulesByBlock.{ItemStands, BlockStands, BodyStands, by_block}
+use Rattle.sq_graph.proofs.RulesByBlock.{BlockStands, BodyStands, by_block}
 use Rattle.sq_patch.specs.Restrictions.{procedures_held, number_held, IsCalledIn, HoldsReached}
 use Rattle.sq_patch.proofs.Restricting.{restrict_follows, restrict_sound, reached_closed}
 use Rattle.sq_reach.proofs.Blocks.{reached_has}
@@ -36,12 +32,12 @@ use Rattle.sq_jumps.proofs.Shrinking.{Shrinks, LedThere, shrunk_in_reach, block_
 use Rattle.sq_jumps.proofs.Shrunk.{shrinks_twice, each_shrinks, filter_shrinks, recalled_shrunk}
 use Rattle.sq_jumps.proofs.Ruled.{block_found}
 use Rattle.sq_jumps.proofs.Applying.{alike_itself}
-use Rattle.sq_jumps.proofs.Clearing.{emptied, cleared_if, all_cleared}
+use Rattle.sq_jumps.proofs.Clearing.{cleared_if, all_cleared}
 use Rattle.sq_jumps.proofs.Uncalled.{number_same, held_same, only_held, held_from}
 use Rattle.sq_jumps.proofs.Removing.{left_of, each_goes}
 use Rattle.sq_jumps.proofs.Unreaching.{listed_in, contains_listed, held_each}
 
-own_there : (front : List Block) (x : Block) (bs : List Block) → IsSome (value_of (named (front ++ (x ∷ bs))) x.name)
+pub own_there : (front : List Block) (x : Block) (bs : List Block) → IsSome (value_of (named (front ++ (x ∷ bs))) x.name)
 own_there [] x bs = let same : (x.name == x.name) ≡ true = eq-eqb x.name x.name refl in rw same refl
 own_there (y ∷ front) x bs = elim (cases_Bool (y.name == x.name)) [ inl same ↦ rw same refl | inr apart ↦ rw apart (own_there front x bs) ]
 

@@ -16,3 +16,4 @@ pub mod Removing
 pub mod Calling
 pub mod Unreaching
 pub mod Leaving
+pub mod Counting

@@ -1,27 +1,27 @@
 -- Blocks go that nothing uses, and into which nothing that stays goes on.
-use Rattle.std.proofs.Common.{◌≡◌, ◌≢◌, ℕ, ◌+◌, ◌<◌, ◌≤◌, ◌==◌, Bool, true, false, ◌||◌, not, nat_eq, List, [], ◌∷◌, ◌++◌, drop, add-one, drop-cons, length, get_or, Option, None, Some, IsSome, is_some, refl, sym, ap, ◌∙◌, subst, inl, inr, arith}
+use Rattle.std.proofs.Common.{◌≡◌, ◌≢◌, ℕ, ◌+◌, ◌<◌, ◌≤◌, ◌==◌, Bool, true, false, ◌||◌, not, nat_eq, List, [], ◌∷◌, drop, add-one, drop-cons, length, get_or, Option, None, Some, is_some, refl, sym, ap, ◌∙◌, subst, inl, inr, arith}
 use Rattle.std.specs.List.{All, filter}
-use Rattle.std.proofs.lemmas.Bool.{cases_Bool, eqb-true, eqb-false, eq-eqb, ne_eqb}
-use Rattle.std.proofs.lemmas.List.Elements.{All-nil, All-cons, All-head, All-tail, All-append, All-weaker}
+use Rattle.std.proofs.lemmas.Bool.{cases_Bool, eqb-true, eqb-false, eq-eqb}
+use Rattle.std.proofs.lemmas.List.Elements.{All-tail, All-append, All-weaker}
 use Rattle.sq_arena.specs.Entries.{HasDistinctKeys, value_of, first_key, next_key}
 use Rattle.sq_arena.specs.Links.{times, places}
 use Rattle.sq_arena.proofs.EntriesLaws.{distinct_keys, times_at_most_once, distinct_back}
 use Rattle.sq_graph.specs.declared.item.Term.{Term}
 use Rattle.sq_graph.specs.Graph.{Block, Graph}
-use Rattle.sq_graph.specs.Blocks.{named, HasBlock, HasProcedure, block_of, block_term, next_of, term_of}
+use Rattle.sq_graph.specs.Blocks.{named, HasBlock, HasProcedure, block_term}
 use Rattle.sq_graph.specs.Operations.{with_blocks, without_block}
-use Rattle.sq_graph.specs.Rules.{IsGraph, last_goes_on}
+use Rattle.sq_graph.specs.Rules.{IsGraph}
 use Rattle.sq_graph.specs.Terms.{goes_on}
 use Rattle.sq_graph.specs.Uses.{uses}
 use Rattle.sq_graph.proofs.Kept.{absent_behind}
-use Rattle.sq_graph.proofs.Located.{IsAt, located}
+use Rattle.sq_graph.proofs.Located.{located}
 use Rattle.sq_graph.proofs.Eachs.{All-left, All-right}
 use Rattle.sq_graph.proofs.Changes.{with_blocks-at}
 use Rattle.sq_graph.proofs.RulesByBlock.{BlockStands, by_block, all_named}
 use Rattle.sq_jumps.specs.Names.{is_listed}
-use Rattle.sq_jumps.specs.Clearings.{without_each, first_listed, AreApart, AreOnce, MayGo}
+use Rattle.sq_jumps.specs.Clearings.{without_each, first_listed, AreApart, MayGo}
 use Rattle.sq_jumps.proofs.Addresses.{block_of-without}
-use Rattle.sq_jumps.proofs.Ruled.{IsEntered, ends_without, without_rules}
+use Rattle.sq_jumps.proofs.Ruled.{ends_without, without_rules}
 
 -- the blocks whose names aren't in the list
 abbrev pub left_of : List ℕ → List Block → List Block

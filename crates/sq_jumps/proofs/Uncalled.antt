@@ -1,7 +1,7 @@
 -- Procedures that no block calls go, from the highest number on.
-use Rattle.std.proofs.Common.{◌≡◌, ◌≢◌, ℕ, zero, suc, ◌+◌, ◌-◌, ◌<◌, ◌≤◌, ◌==◌, nat_lt, Bool, true, false, ◌||◌, ◌&&◌, not, if◌then◌else◌, nat_eq, List, [], ◌∷◌, ◌++◌, map, take, drop, remove, length, refl, sym, ap, ◌∙◌, subst, inl, inr, arith}
+use Rattle.std.proofs.Common.{◌≡◌, ℕ, zero, suc, ◌-◌, ◌<◌, ◌≤◌, nat_lt, Bool, true, false, ◌||◌, not, nat_eq, List, [], ◌∷◌, ◌++◌, map, take, drop, remove, length, refl, sym, ap, ◌∙◌, subst, inl, inr, arith}
 use Rattle.std.specs.List.{flat_map}
-use Rattle.std.proofs.lemmas.Bool.{cases_Bool, cases_lt, eqb-true, ne_eqb, ltb-true, ltb-false}
+use Rattle.std.proofs.lemmas.Bool.{cases_Bool, cases_lt, ne_eqb}
 use Rattle.std.proofs.lemmas.Bool.Decides.{nat_tests}
 use Rattle.std.proofs.lemmas.List.{length-map}
 use Rattle.std.proofs.lemmas.List.Edits.{length-remove}
@@ -9,13 +9,12 @@ use Rattle.sq_graph.specs.declared.item.Item.{Item}
 use Rattle.sq_graph.specs.declared.item.Item.TheVariants.{Op, Hi, Lo, Out}
 use Rattle.sq_graph.specs.Graph.{Block, Procedure, Graph}
 use Rattle.sq_graph.specs.Operations.{without_procedure}
-use Rattle.sq_graph.specs.Renames.{recalled_item, recalled_items, recalled_block, recalled_procedure, recalled, lowered}
+use Rattle.sq_graph.specs.Renames.{recalled_items, recalled_block, recalled_procedure, recalled, lowered}
 use Rattle.sq_graph.specs.Uses.{item_calls}
 use Rattle.sq_patch.specs.Restrictions.{procedures_held, number_held}
 use Rattle.sq_jumps.specs.Names.{is_listed}
 use Rattle.sq_jumps.specs.Unreached.{is_called_in}
 use Rattle.sq_jumps.specs.Clearings.{is_called, without_uncalled}
-use Rattle.sq_jumps.proofs.Adding.{is_listed-append}
 
 -- TESTS THAT AGREE
 
@@ -198,8 +197,8 @@ uncalled_is zero g within =
     let all : (n : ℕ) → held_from g 0 n ≡ true = λ n. let t : nat_lt n 0 ≡ false = grind (arith, nat_tests) in rw t (or_true (is_called g n)) in
     let own : (n : ℕ) → number_held (held_from g 0) n ≡ n = λ n. all_numbers (held_from g 0) n all in
     sym (
-      ap (λ (bs : List Block). record g { blocks = bs; procedures = map (recalled_procedure (number_held (held_from g 0))) (procedures_held (held_from g 0) g.procedures) }) (blocks_own (number_held (held_from g 0)) own g.blocks)
-      ∙ ap (λ (ps : List Procedure). record g { procedures = ps }) (procedures_own (number_held (held_from g 0)) own (procedures_held (held_from g 0) g.procedures) ∙ all_procedures (held_from g 0) g.procedures all)
+    ap (λ (bs : List Block). record g { blocks = bs; procedures = map (recalled_procedure (number_held (held_from g 0))) (procedures_held (held_from g 0) g.procedures) }) (blocks_own (number_held (held_from g 0)) own g.blocks)
+    ∙ ap (λ (ps : List Procedure). record g { procedures = ps }) (procedures_own (number_held (held_from g 0)) own (procedures_held (held_from g 0) g.procedures) ∙ all_procedures (held_from g 0) g.procedures all)
     )
 uncalled_is (suc q) g within =
     elim (cases_Bool (is_called g q)) [

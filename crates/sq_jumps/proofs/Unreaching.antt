@@ -1,37 +1,35 @@
 -- The blocks that aren't reached may go, once they are cleared and the procedures that are left uncalled are gone; and
 -- what is left is the graph with the others alone.
-use Rattle.std.proofs.Common.{◌≡◌, ◌≢◌, ◌↔◌, ℕ, zero, suc, ◌+◌, ◌<◌, ◌≤◌, ◌==◌, nat_lt, Bool, true, false, ◌||◌, ◌&&◌, not, if◌then◌else◌, nat_eq, List, [], ◌∷◌, ◌++◌, map, length, get_or, slice_get, Option, None, Some, IsSome, is_some, refl, sym, ap, ◌∙◌, subst, inl, inr, ◌⊎◌, append_assoc, arith}
+use Rattle.std.proofs.Common.{◌≡◌, ℕ, zero, suc, ◌<◌, ◌==◌, nat_lt, Bool, true, false, ◌||◌, not, if◌then◌else◌, nat_eq, List, [], ◌∷◌, ◌++◌, map, length, get_or, slice_get, None, Some, IsSome, is_some, refl, sym, ap, ◌∙◌, subst, inl, inr, ◌⊎◌, append_assoc, arith}
 use Rattle.std.specs.List.{All, Contains, filter, flat_map}
 use Rattle.std.proofs.lemmas.Bool.{cases_Bool, eqb-true, eqb-false, eq-eqb, ne_eqb}
 use Rattle.std.proofs.lemmas.Bool.Decides.{nat_tests}
-use Rattle.std.proofs.lemmas.List.Elements.{All-nil, All-cons, All-head, All-tail, All-append, All-map, Contains-get_or, Contains-append_left, Contains-append_right}
+use Rattle.std.proofs.lemmas.List.Elements.{All-nil, All-cons, All-append, All-map, Contains-get_or, Contains-append_left, Contains-append_right}
 use Rattle.std.proofs.lemmas.List.Concat.{flat_map-append}
 use Rattle.sq_arena.specs.Entries.{HasDistinctKeys, value_of}
 use Rattle.sq_arena.proofs.EntriesLaws.{distinct_back}
 use Rattle.sq_graph.specs.declared.item.Item.{Item}
 use Rattle.sq_graph.specs.declared.item.Item.TheVariants.{Op, Hi, Lo, Out}
 use Rattle.sq_graph.specs.Graph.{Block, Procedure, Graph}
-use Rattle.sq_graph.specs.Blocks.{named, HasBlock, HasProcedure, block_of, items_of_blocks, items_of_bodies, all_items}
+use Rattle.sq_graph.specs.Blocks.{named, HasBlock, items_of_blocks, items_of_bodies, all_items}
 use Rattle.sq_graph.specs.Parts.{names_of}
-use Rattle.sq_graph.specs.Renames.{recalled_item, recalled_items, recalled_block, recalled_procedure}
+use Rattle.sq_graph.specs.Renames.{recalled_items, recalled_block, recalled_procedure}
 use Rattle.sq_graph.specs.Rules.{IsGraph}
 use Rattle.sq_graph.specs.Terms.{goes_on}
 use Rattle.sq_graph.specs.Uses.{item_uses, items_uses, term_uses, terms_uses, code_word_uses, item_calls, uses}
 use Rattle.sq_graph.specs.Walks.{called_names, procedure_names, first_name, block_successors, successors, successors_in, IsReachedBlock, entry, code_word, walk}
 use Rattle.sq_graph.proofs.Eachs.{All-flat_map}
 use Rattle.sq_graph.proofs.Kept.{absent_behind}
-use Rattle.sq_graph.proofs.RulesByBlock.{ItemStands, BlockStands, BodyStands, by_block}
 use Rattle.sq_patch.specs.Restrictions.{procedures_held, number_held}
-use Rattle.sq_patch.proofs.Restricting.{successors_at, call_among}
+use Rattle.sq_patch.proofs.Restricting.{successors_at}
 use Rattle.sq_reach.proofs.Blocks.{reached_has}
 use Rattle.sq_jumps.specs.Names.{is_listed}
-use Rattle.sq_jumps.specs.Unreached.{stays, is_called_in, is_held, without_all, AreUnreached}
-use Rattle.sq_jumps.specs.Clearings.{cleared_each, is_called, without_uncalled, without_each, first_listed, AreApart, AreOnce, MayGo}
-use Rattle.sq_jumps.proofs.Adding.{is_listed-append, uses_of_blocks, uses_of_bodies}
+use Rattle.sq_jumps.specs.Unreached.{is_called_in, AreUnreached}
+use Rattle.sq_jumps.specs.Clearings.{cleared_each, is_called, without_uncalled, first_listed, AreApart, AreOnce, MayGo}
+use Rattle.sq_jumps.proofs.Adding.{uses_of_blocks, uses_of_bodies}
 use Rattle.sq_jumps.proofs.Ruled.{here}
-use Rattle.sq_jumps.proofs.Clearing.{emptied, cleared_if, all_cleared, each_cleared, cleared_distinct}
-use Rattle.sq_jumps.proofs.Uncalled.{number_same, held_same, only_held, held_from, uncalled_is}
-use Rattle.sq_jumps.proofs.Removing.{left_of, each_goes}
+use Rattle.sq_jumps.proofs.Clearing.{emptied, cleared_if, all_cleared, each_cleared}
+use Rattle.sq_jumps.proofs.Uncalled.{only_held, held_from, uncalled_is}
 
 -- LISTS
 

@@ -1,9 +1,8 @@
 -- Row U: every block that isn't reached, and every procedure that no reached block calls.
-use Rattle.std.specs.Prelude.{◌≡◌, ◌↔◌, ℕ, zero, suc, ◌+◌, ◌≤◌, Bool, true, false, ◌&&◌, ◌||◌, not, List, [], ◌∷◌, sum_by, is_some, if◌then◌else◌}
+use Rattle.std.specs.Prelude.{◌≡◌, ◌↔◌, ℕ, ◌+◌, Bool, false, ◌&&◌, ◌||◌, not, List, [], ◌∷◌, sum_by, is_some}
 use Rattle.std.specs.List.{filter, flat_map}
 use Rattle.sq_graph.specs.Graph.{Block, Graph}
 use Rattle.sq_graph.specs.Blocks.{HasBlock, block_of}
-use Rattle.sq_graph.specs.Operations.{without_block, without_procedure}
 use Rattle.sq_graph.specs.Parts.{names_of}
 use Rattle.sq_graph.specs.Uses.{item_calls}
 use Rattle.sq_graph.specs.Walks.{IsReachedBlock}

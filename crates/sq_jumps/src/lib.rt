@@ -1,6 +1,7 @@
 //! The pass of the rows on jumps.
 #![tactic(auto)]
 
+mod admit;
 mod blocks;
 mod clear;
 mod find;
@@ -9,6 +10,7 @@ mod names;
 mod rewrites;
 mod rows;
 mod survey;
+mod unreached;
 mod uses;
 
 pub use jumps::Jumps;

@@ -1,4 +1,4 @@
-use Rattle.std.proofs.Common.{◌≡◌, ◌+◌, ◌-◌, [], length, sym, ap, ◌∙◌, subst, arith}
+use Rattle.std.proofs.Common.{◌+◌, ◌-◌, [], length, sym, ap, ◌∙◌, subst, arith}
 use Rattle.sq_graph.specs.declared.item.Term.TheVariants.{Stop}
 use Rattle.sq_graph.specs.Graph.{Graph}
 use Rattle.sq_graph.specs.Blocks.{HasBlock, items_of}

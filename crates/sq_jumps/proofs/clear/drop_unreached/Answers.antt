@@ -1,9 +1,7 @@
-use Rattle.std.proofs.Common.{◌≡◌, length, sym, ap, ◌∙◌, subst}
+use Rattle.std.proofs.Common.{length, sym, ap, ◌∙◌, subst}
 use Rattle.sq_graph.specs.Graph.{Graph}
 use Rattle.sq_graph.specs.Rules.{IsGraph}
-use Rattle.sq_jumps.specs.Clearings.{cleared_each, without_uncalled, without_each, MayGo}
-use Rattle.sq_jumps.proofs.Clearing.{all_cleared}
-use Rattle.sq_jumps.proofs.Uncalled.{only_held, held_from}
+use Rattle.sq_jumps.specs.Clearings.{without_uncalled, without_each, MayGo}
 use Rattle.sq_jumps.proofs.Unreaching.{middle_is, all_there, may_go}
 use Rattle.sq_jumps.proofs.Leaving.{all_gone}
 use Rattle.sq_jumps.proofs.clear.drop_unreached.Goals as goal

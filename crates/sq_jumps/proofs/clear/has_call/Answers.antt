@@ -1,4 +1,4 @@
-use Rattle.std.proofs.Common.{◌≡◌, ◌∙◌, sym, ap}
+use Rattle.std.proofs.Common.{◌∙◌, ap}
 use Rattle.sq_graph.specs.declared.item.Item.TheVariants.{Out}
 use Rattle.sq_jumps.proofs.Calling.{call_found}
 use Rattle.sq_jumps.proofs.clear.has_call.Goals as goal

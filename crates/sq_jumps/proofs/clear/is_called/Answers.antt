@@ -1,4 +1,4 @@
-use Rattle.std.proofs.Common.{◌≡◌, true, false, ◌||◌, ◌∙◌, ◌∷◌, sym, ap, length, is_some, arith}
+use Rattle.std.proofs.Common.{◌≡◌, true, false, ◌||◌, ◌∙◌, sym, ap, length, arith}
 use Rattle.std.specs.List.{flat_map}
 use Rattle.sq_graph.specs.Uses.{item_calls}
 use Rattle.sq_layout.proofs.Walks.{blocks_from, starts, here}
@@ -20,9 +20,9 @@ returns-then-has_call c =
     let called : is_listed (flat_map item_calls h.step.block.items) c.args.number ≡ true =
     sym (ap (λ is. is_listed (flat_map item_calls is) c.args.number) (c.items.ensures ∙ h.items)) ∙ sym c.has_call.ensures ∙ c.if-has_call.true in
     sym (
-      c.loop-place.invariant.same
-      ∙ ap (λ bs. is_called_in (λ n. true) bs c.args.number) h.rest
-      ∙ ap (λ t. t || is_called_in (λ n. true) h.step.others c.args.number) called
+    c.loop-place.invariant.same
+    ∙ ap (λ bs. is_called_in (λ n. true) bs c.args.number) h.rest
+    ∙ ap (λ t. t || is_called_in (λ n. true) h.step.others c.args.number) called
     )
 
 pub loop-place-smaller : goal.loop-place-smaller

@@ -1,4 +1,4 @@
-use Rattle.std.proofs.Common.{◌≡◌, ◌+◌, ◌∷◌, get_or, drop, length, ◌∙◌, sym, ap, subst}
+use Rattle.std.proofs.Common.{◌+◌, get_or, drop, length, ◌∙◌, sym, ap, subst}
 use Rattle.sq_graph.specs.Graph.{Graph}
 use Rattle.sq_graph.specs.Blocks.{items_of}
 use Rattle.sq_graph.specs.Operations.{without_block}

@@ -1,4 +1,4 @@
-use Rattle.std.proofs.Common.{◌≡◌, ◌+◌, ◌-◌, ◌<◌, ◌≤◌, suc, true, false, not, if◌then◌else◌, length, sym, ap, ◌∙◌, subst, arith}
+use Rattle.std.proofs.Common.{◌≡◌, ◌+◌, ◌-◌, ◌<◌, false, length, sym, ap, ◌∙◌, arith}
 use Rattle.sq_graph.specs.Graph.{Graph}
 use Rattle.sq_graph.specs.Blocks.{body_of}
 use Rattle.sq_graph.specs.Operations.{without_procedure}
