@@ -44,11 +44,11 @@ adds_pushed f front all x s t u more first second =
     let names : flat_map f all ≡ flat_map f front ++ f x = ap (flat_map f) more ∙ (flat_map-append f front (x ∷ []) ∙ ap (λ ns. flat_map f front ++ ns) (append-nil (f x))) in
     subst (λ ns. Adds ns s u) (sym names) (adds_then (flat_map f front) (f x) s t u first second)
 
-uses_of_blocks : (bs : List Block) → flat_map (λ b. items_uses b.items) bs ≡ items_uses (items_of_blocks bs)
+pub uses_of_blocks : (bs : List Block) → flat_map (λ b. items_uses b.items) bs ≡ items_uses (items_of_blocks bs)
 uses_of_blocks [] = refl
 uses_of_blocks (b ∷ bs) = ap (λ ns. items_uses b.items ++ ns) (uses_of_blocks bs) ∙ sym (flat_map-append item_uses b.items (items_of_blocks bs))
 
-uses_of_bodies : (ps : List Procedure) → flat_map (λ p. items_uses p.body) ps ≡ items_uses (items_of_bodies ps)
+pub uses_of_bodies : (ps : List Procedure) → flat_map (λ p. items_uses p.body) ps ≡ items_uses (items_of_bodies ps)
 uses_of_bodies [] = refl
 uses_of_bodies (p ∷ ps) = ap (λ ns. items_uses p.body ++ ns) (uses_of_bodies ps) ∙ sym (flat_map-append item_uses p.body (items_of_bodies ps))
 

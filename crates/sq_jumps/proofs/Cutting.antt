@@ -1,32 +1,51 @@
 -- A cut that is applied at its block.
-use Rattle.std.proofs.Common.{◌≡◌, ℕ, ◌<◌, List, [], ◌∷◌, length, get_or, sym, ap, ◌∙◌, subst, arith}
+use Rattle.std.proofs.Common.{◌≡◌, ◌≢◌, Result, Ok, Err, Option, None, Some, inl, inr, ℕ, ◌<◌, List, [], ◌∷◌, length, get_or, refl, sym, ap, ◌∙◌, subst, arith}
+use Rattle.std.specs.Prelude.{IfOk, IfSome}
 use Rattle.std.specs.List.{All}
 use Rattle.sq_graph.specs.declared.item.Term.TheVariants.{Jump, Branch, PartJump}
 use Rattle.sq_graph.specs.Graph.{Graph}
 use Rattle.sq_graph.specs.Blocks.{HasBlock}
 use Rattle.sq_graph.specs.Parts.{names_of}
+use Rattle.sq_graph.specs.Rules.{IsGraph}
 use Rattle.sq_pass.specs.declared.cut.Cut.{Cut}
 use Rattle.sq_pass.specs.declared.cut.Row.{Row}
 use Rattle.sq_pass.specs.declared.cut.Row.TheVariants.{U, J1, J2, J3, C, T, O1, O2, O3, O4, W, V, L}
 use Rattle.sq_pass.specs.Applied.{IsApplied}
-use Rattle.sq_jumps.specs.Candidates.{HasRow, IsJumpCut, rewritten, only_block, described}
+use Rattle.sq_pass.specs.Cuts.{IsCompleted}
+use Rattle.sq_num.specs.declared.memory.Memory.{Memory}
+use Rattle.sq_jumps.specs.Candidates.{HasRow, IsJumpCut, IsUnreachedCut, IsCandidate, only_block, rewritten, described}
+use Rattle.sq_jumps.specs.Unreached.{words_gone, without_all}
+use Rattle.sq_jumps.proofs.Leaving.{unreached_applied}
 use Rattle.sq_jumps.proofs.Surveying.{name_listed}
 use Rattle.sq_jumps.proofs.Distances.{has_term, lone, has_lone}
 
 -- what a row makes of the graph at a block for which it is
 abbrev pub Applies : Row → Graph → Type 0
-Applies row g = (block : ℕ) → HasRow row g block → IsApplied 1 (rewritten row g block) g (rewritten row g block)
+Applies row g = (block : ℕ) → HasRow row g block → IsApplied 1 (rewritten row g (block ∷ [])) g (rewritten row g (block ∷ []))
 
-pub applied_at : (row : Row) (g new : Graph) (cut : Cut) (blocks : List ℕ) → Applies row g → IsJumpCut g cut → cut.row ≡ row → blocks ≡ cut.blocks → new ≡ rewritten row g (get_or blocks 0 0) → IsApplied cut.saving (described g cut) g new
-applied_at row g new cut blocks applies candidate row_is blocks_are is =
-    let b = candidate.block in
-    let one : blocks ≡ candidate.block ∷ [] = blocks_are ∙ ap (λ (given : Cut). given.blocks) candidate.is in
-    let new_is : new ≡ rewritten row g candidate.block = is ∙ ap (λ xs. rewritten row g (get_or xs 0 0)) one in
-    let described_is : described g cut ≡ rewritten row g candidate.block =
-    ap (λ r. rewritten r g (only_block cut.blocks)) row_is ∙ ap (λ (given : Cut). rewritten row g (only_block given.blocks)) candidate.is in
+pub applied_at : (row : Row) (g new : Graph) (cut : Cut) → Applies row g → IsJumpCut g cut → cut.row ≡ row → new ≡ rewritten row g cut.blocks → IsApplied cut.saving (described g cut) g new
+applied_at row g new cut applies candidate row_is is =
+    let blocks : cut.blocks ≡ candidate.block ∷ [] = ap (λ (given : Cut). given.blocks) candidate.is in
+    let new_is : new ≡ rewritten row g (candidate.block ∷ []) = is ∙ ap (rewritten row g) blocks in
+    let described_is : described g cut ≡ rewritten row g (candidate.block ∷ []) = ap (λ r. rewritten r g cut.blocks) row_is ∙ ap (rewritten row g) blocks in
     let applied = applies candidate.block (subst (λ r. HasRow r g candidate.block) row_is candidate.has_row) in
     subst (λ n. IsApplied n (described g cut) g new) (sym (ap (λ (given : Cut). given.saving) candidate.is))
-    (subst (λ h. IsApplied 1 h g new) (sym described_is) (subst (λ h. IsApplied 1 (rewritten row g candidate.block) g h) (sym new_is) applied))
+    (subst (λ h. IsApplied 1 h g new) (sym described_is) (subst (λ h. IsApplied 1 (rewritten row g (candidate.block ∷ [])) g h) (sym new_is) applied))
+
+-- a cut of another row isn't one of these
+pub jump_of : (g : Graph) (cut : Cut) → IsCandidate g cut → cut.row ≢ U → IsJumpCut g cut
+jump_of g cut (inl unreached) other = absurd (other unreached.row)
+jump_of g cut (inr jump) other = jump
+
+pub unreached_of : (g : Graph) (cut : Cut) → IsCandidate g cut → cut.row ≡ U → IsUnreachedCut g cut
+unreached_of g cut (inl unreached) row = unreached
+unreached_of g cut (inr jump) row = absurd (subst (λ r. HasRow r g jump.block) row jump.has_row)
+
+pub gone_applied : (g new : Graph) (cut : Cut) → IsGraph g → IsUnreachedCut g cut → IsGraph new → new ≡ without_all g cut.blocks → IsApplied cut.saving (described g cut) g new
+gone_applied g new cut rules u rules' is =
+    let applied = unreached_applied g cut.blocks rules u.unreached (subst IsGraph is rules') in
+    subst (λ n. IsApplied n (described g cut) g new) (sym u.saving)
+    (subst (λ r. IsApplied (words_gone g cut.blocks) (rewritten r g cut.blocks) g new) (sym u.row) (subst (λ h. IsApplied (words_gone g cut.blocks) (without_all g cut.blocks) g h) (sym is) applied))
 
 -- a block for which a row is is there
 row_there : (row : Row) (g : Graph) (block : ℕ) → HasRow row g block → HasBlock g block
@@ -51,3 +70,17 @@ no_cut g names are none cut candidate =
     let block_is : get_or names at.0 0 ≡ candidate.block = ap (λ ns. get_or ns at.0 0) are ∙ at.2 in
     let within : at.0 < length names = omega (arith, at.1, ap (λ ns. length ns) are) in
     none at.0 0 within cut.row (subst (λ b. HasRow cut.row g b) (sym block_is) candidate.has_row)
+
+-- the first of a cut's blocks
+pub first_is : (xs ys : List ℕ) → xs ≡ ys → get_or xs 0 0 ≡ only_block ys
+first_is xs ys e = ap (λ zs. get_or zs 0 0) e ∙ first ys
+  where
+    first : (ys : List ℕ) → get_or ys 0 0 ≡ only_block ys
+    first [] = refl
+    first (y ∷ ys) = refl
+
+-- what is given for a cut of another row
+pub given_jump : (g : Graph) (cut : Cut) (r : Result (Option Cut) Memory) → IfOk r (λ found. IfSome found (λ given. IsJumpCut g given × IsCompleted cut given)) → IfOk r (λ found. IfSome found (λ given. IsCandidate g given × IsCompleted cut given))
+given_jump g cut (Ok None) e = e
+given_jump g cut (Ok (Some given)) e = (inr e.0, e.1)
+given_jump g cut (Err memory) e = e

@@ -10,3 +10,10 @@ pub mod Rewriting
 pub mod RowTests
 pub mod Applying
 pub mod Cutting
+pub mod Clearing
+pub mod Uncalled
+pub mod Removing
+pub mod Calling
+pub mod Unreaching
+pub mod Leaving
+pub mod Counting

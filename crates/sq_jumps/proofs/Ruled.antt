@@ -8,7 +8,7 @@ use Rattle.sq_arena.specs.Entries.{HasDistinctKeys, value_of, first_key, next_ke
 use Rattle.sq_arena.proofs.EntriesLaws.{absent_ahead, behind-append}
 use Rattle.sq_graph.specs.declared.item.Term.{Term}
 use Rattle.sq_graph.specs.Graph.{Block, Graph}
-use Rattle.sq_graph.specs.Blocks.{named, HasBlock, HasProcedure, block_term, next_of, term_of}
+use Rattle.sq_graph.specs.Blocks.{named, HasBlock, HasProcedure, block_of, block_term, next_of, term_of}
 use Rattle.sq_graph.specs.Terms.{goes_on}
 use Rattle.sq_graph.specs.Uses.{term_uses, uses}
 use Rattle.sq_graph.specs.Rules.{IsGraph, TermFits, last_goes_on}
@@ -22,10 +22,14 @@ use Rattle.sq_graph.proofs.Bypassing.{distinct_without}
 use Rattle.sq_graph.proofs.RulesByBlock.{BlockStands, by_block, all_named, from_blocks, by_stays}
 
 -- a block by its place
-pub here : (g : Graph) → IsGraph g → (front : List Block) (x : Block) (bs : List Block) → front ++ (x ∷ bs) ≡ g.blocks → IsAt g.blocks x.name
+unfoldable pub here : (g : Graph) → IsGraph g → (front : List Block) (x : Block) (bs : List Block) → front ++ (x ∷ bs) ≡ g.blocks → IsAt g.blocks x.name
 here g rules front x bs e =
     let keyed : HasDistinctKeys (named front ++ (x.name, x) ∷ named bs) = subst (λ (es : List (ℕ × Block)). HasDistinctKeys es) (ap named (sym e) ∙ named-append front (x ∷ bs)) rules.distinct in
     record { front = front; block = x; back = bs; whole = sym e; has_name = refl; ahead = absent_ahead (named front) (named bs) x.name x keyed }
+
+pub block_found : (g : Graph) → IsGraph g → (front : List Block) (x : Block) (bs : List Block) → front ++ (x ∷ bs) ≡ g.blocks → block_of g x.name ≡ Some x
+unfolding here
+block_found g rules front x bs e = block_at g.blocks x.name (here g rules front x bs e)
 
 -- what stands in the slot behind it
 pub behind_it : (blocks : List Block) (name : ℕ) (at : IsAt blocks name) → next_key (named blocks) name ≡ first_key (named at.back)

@@ -1,5 +1,5 @@
 -- What there is and what is spare add up to the same.
-use Rattle.std.proofs.Common.{◌≡◌, ℕ, ◌+◌, ◌-◌, ◌<◌, List, [], ◌∷◌, ◌++◌, take, drop, length, refl, ap, subst, arith, length-append}
+use Rattle.std.proofs.Common.{◌≡◌, ℕ, ◌+◌, ◌-◌, ◌<◌, List, [], ◌∷◌, ◌++◌, take, drop, length, refl, ap, ◌∙◌, subst, arith, length-append}
 use Rattle.std.proofs.lemmas.List.{length-map, length-take, length-drop}
 use Rattle.sq_graph.specs.declared.parts.Room.{Room}
 use Rattle.sq_graph.specs.declared.item.Item.{Item}
@@ -89,4 +89,23 @@ replaced_total g block at spare has there =
     same_room (sum_of (count_of (replaced g block at 1 [])) (record spare { items = spare.items + 1 - 0 })) (sum_of (count_of g) spare)
     (omega (arith, blocks))
     (omega (arith, own, size, items, length-append (items_of_blocks (with_blocks (λ b. record b { items = replaced_items b.items at 1 [] } ∷ []) g.blocks block)) (items_of_bodies g.procedures), length-append (items_of_blocks g.blocks) (items_of_bodies g.procedures)))
+    refl
+
+no_items : (items : List Item) → length (replaced_items items 0 (length items) []) ≡ 0
+no_items items = omega (arith, length-append (take 0 items) (drop (0 + length items) items), length-take 0 items, length-drop (0 + length items) items)
+
+pub emptied_total : (g : Graph) (block : ℕ) (spare : Room) → HasBlock g block
+    → sum_of (count_of (replaced g block 0 (length (items_of g block)) [])) (record spare { items = spare.items + length (items_of g block) - 0 }) ≡ sum_of (count_of g) spare
+emptied_total g block spare has =
+    let spot = located g.blocks block has in
+    let is = items_at g block spot in
+    let count = length (items_of g block) in
+    let new : Block = record spot.block { items = replaced_items spot.block.items 0 (length (items_of g block)) [] } in
+    let own : length (items_of_blocks (new ∷ [])) ≡ length new.items = omega (arith, length-append new.items []) in
+    let none : length new.items ≡ 0 = ap (λ n. length (replaced_items spot.block.items 0 n [])) (ap (λ items. length items) is) ∙ no_items spot.block.items in
+    let blocks = block_count (λ b. record b { items = replaced_items b.items 0 (length (items_of g block)) [] } ∷ []) g.blocks block spot in
+    let items = item_count (λ b. record b { items = replaced_items b.items 0 (length (items_of g block)) [] } ∷ []) g.blocks block spot in
+    same_room (sum_of (count_of (replaced g block 0 (length (items_of g block)) [])) (record spare { items = spare.items + length (items_of g block) - 0 })) (sum_of (count_of g) spare)
+    (omega (arith, blocks))
+    (omega (arith, own, none, items, ap (λ items. length items) is, length-append (items_of_blocks (with_blocks (λ b. record b { items = replaced_items b.items 0 (length (items_of g block)) [] } ∷ []) g.blocks block)) (items_of_bodies g.procedures), length-append (items_of_blocks g.blocks) (items_of_bodies g.procedures)))
     refl

@@ -1,11 +1,12 @@
--- The candidates of the rows on jumps, and what becomes of a graph by them.
-use Rattle.std.specs.Prelude.{◌≡◌, ℕ, ◌≤◌, List, [], ◌∷◌}
-use Rattle.std.proofs.Common.{subst, sym, lit≤}
+-- The candidates of the rows on jumps and on what isn't reached, and what becomes of a graph by them.
+use Rattle.std.specs.Prelude.{◌≡◌, ◌⊎◌, ℕ, ◌≤◌, List, [], ◌∷◌}
+use Rattle.std.proofs.Common.{inl, inr, subst, sym, lit≤}
 use Rattle.sq_graph.specs.Graph.{Graph}
 use Rattle.sq_pass.specs.declared.cut.Cut.{Cut}
 use Rattle.sq_pass.specs.declared.cut.Row.{Row}
 use Rattle.sq_pass.specs.declared.cut.Row.TheVariants.{U, J1, J2, J3, C, T, O1, O2, O3, O4, W, V, L}
 use Rattle.sq_jumps.specs.Rows.{JumpsToNext, IsDetour, BranchesOverJump, JumpsByDeadPart}
+use Rattle.sq_jumps.specs.Unreached.{AreUnreached, words_gone, without_all}
 use Rattle.sq_jumps.specs.Rewrites.{falling, passed, inverted, hastened}
 
 -- the block is one that the row is for
@@ -42,30 +43,47 @@ pub record IsJumpCut (g : Graph) (cut : Cut) : Type 0 where
   pub has_row : HasRow cut.row g block
   pub is : cut ≡ cut_at cut.row block
 
--- what a row makes of the graph at a block
-abbrev pub rewritten : Row → Graph → ℕ → Graph
-rewritten U g block = g
-rewritten J1 g block = falling g block
-rewritten J2 g block = passed g block
-rewritten J3 g block = inverted g block
-rewritten C g block = hastened g block
-rewritten T g block = g
-rewritten O1 g block = g
-rewritten O2 g block = g
-rewritten O3 g block = g
-rewritten O4 g block = g
-rewritten W g block = g
-rewritten V g block = g
-rewritten L g block = g
+-- a cut of U: the blocks are every one that isn't reached, in layout order, and the saving is their words and those of
+-- every procedure that no reached block calls. There is at least one of either, since a candidate saves a word
+pub record IsUnreachedCut (g : Graph) (cut : Cut) : Type 0 where
+  pub row : cut.row ≡ U
+  pub unreached : AreUnreached g cut.blocks
+  pub procedure : cut.procedure ≡ 0
+  pub other : cut.other ≡ 0
+  pub length : cut.length ≡ 0
+  pub link : cut.link ≡ 0
+  pub saving : cut.saving ≡ words_gone g cut.blocks
+  pub some : 1 ≤ cut.saving
 
--- the cut's one block
+-- a candidate of the pass
+abbrev pub IsCandidate : Graph → Cut → Type 0
+IsCandidate g cut = IsUnreachedCut g cut ⊎ IsJumpCut g cut
+
+-- a cut's one block
 abbrev pub only_block : List ℕ → ℕ
 only_block [] = 0
 only_block (block ∷ rest) = block
 
+-- what a row makes of the graph at the blocks of a cut
+abbrev pub rewritten : Row → Graph → List ℕ → Graph
+rewritten U g blocks = without_all g blocks
+rewritten J1 g blocks = falling g (only_block blocks)
+rewritten J2 g blocks = passed g (only_block blocks)
+rewritten J3 g blocks = inverted g (only_block blocks)
+rewritten C g blocks = hastened g (only_block blocks)
+rewritten T g blocks = g
+rewritten O1 g blocks = g
+rewritten O2 g blocks = g
+rewritten O3 g blocks = g
+rewritten O4 g blocks = g
+rewritten W g blocks = g
+rewritten V g blocks = g
+rewritten L g blocks = g
+
 abbrev pub described : Graph → Cut → Graph
-described g cut = rewritten cut.row g (only_block cut.blocks)
+described g cut = rewritten cut.row g cut.blocks
 
 -- a candidate saves a word
-pub saves_a_word : (g : Graph) (cut : Cut) → IsJumpCut g cut → 1 ≤ cut.saving
-saves_a_word g cut candidate = subst (λ (given : Cut). 1 ≤ given.saving) (sym candidate.is) (lit≤ tt)
+pub saves_a_word : (g : Graph) (cut : Cut) → IsCandidate g cut → 1 ≤ cut.saving
+saves_a_word g cut (inl unreached) = unreached.some
+saves_a_word g cut (inr jump) = subst (λ (given : Cut). 1 ≤ given.saving) (sym jump.is) (lit≤ tt)

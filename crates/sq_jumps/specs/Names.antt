@@ -1,4 +1,4 @@
--- Lists of names as sets. No public clause cites this module.
+-- Lists of names as sets.
 use Rattle.std.specs.Prelude.{◌≡◌, ℕ, Bool, ◌||◌, List, nat_eq}
 use Rattle.std.specs.Set.{is_member}
 

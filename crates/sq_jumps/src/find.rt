@@ -1,6 +1,6 @@
 //! Looking for candidates.
 
-ghost use Rattle.std.specs.Prelude.{◌≡◌, ◌↔◌, ℕ, nat_eq, IsTrue, None, Ok, IfOk, IfSome};
+ghost use Rattle.std.specs.Prelude.{◌≡◌, nat_eq, None, Ok, IfOk, IfSome};
 ghost use Rattle.std.specs.HashMap.{get};
 ghost use Rattle.std.specs.List.{All};
 ghost use Rattle.sq_graph.specs.Blocks.{HasBlock};
@@ -10,13 +10,13 @@ ghost use Rattle.sq_live.specs.Liveness.{IsLivenessOf};
 ghost use Rattle.sq_pass.specs.declared.cut.Row.{Row as RowName};
 ghost use Rattle.sq_pass.specs.declared.cut.Cut.{Cut as Told};
 ghost use Rattle.sq_jumps.specs.Surveys.{IsSurvey};
-ghost use Rattle.sq_jumps.specs.Candidates.{HasRow, cut_at, OneBlock, IsJumpCut};
+ghost use Rattle.sq_jumps.specs.Candidates.{HasRow, cut_at, IsJumpCut};
 
 use crate::rows::{branches_over_jump, is_detour, jumps_by_dead_part, jumps_to_next};
 use crate::survey::{Survey, survey_of};
 use sq_graph::Graph;
 use sq_isa::Reg;
-use sq_live::{Liveness, block_names};
+use sq_live::Liveness;
 use sq_num::Memory;
 use sq_pass::{Blocks, Cut, Row};
 use std::alloc::Global;
@@ -29,7 +29,7 @@ pub(crate) fn no_register() -> Reg
 }
 
 /// The cut of a row for one block, which saves a word.
-pub(crate) fn cut_at(alloc: Global, row: Row, block: u32) -> Result<Cut, Memory>
+fn cut_at(alloc: Global, row: Row, block: u32) -> Result<Cut, Memory>
     ensures { IfOk result (λ cut. cut ≡ cut_at row block) }
 {
     let mut blocks = Blocks::new(alloc);
@@ -102,47 +102,5 @@ pub(crate) fn find_block(
     match first_row(graph, live, &survey, names) {
         Some((row, block)) => Ok(Some(cut_at(alloc, row, block)?)),
         None => Ok(None),
-    }
-}
-
-/// Whether the block is a candidate of the row.
-pub(crate) fn has_row(
-    alloc: Global,
-    graph: &Graph,
-    live: &Liveness,
-    row: Row,
-    block: u32,
-) -> Result<bool, Memory>
-    requires rules { IsGraph graph.now.graph }
-    requires block { HasBlock graph.now.graph block }
-    requires live { IsLivenessOf graph.now.graph live.now }
-    ensures { IfOk result (λ has. IsTrue has ↔ HasRow row graph.now.graph block) }
-{
-    match row {
-        Row::J1 => Ok(jumps_to_next(graph, block)),
-        Row::J2 => {
-            let survey = survey_of(alloc, graph, &block_names(alloc, graph)?)?;
-            Ok(is_detour(graph, &survey, block))
-        }
-        Row::J3 => {
-            let survey = survey_of(alloc, graph, &block_names(alloc, graph)?)?;
-            Ok(branches_over_jump(graph, &survey, block))
-        }
-        Row::C => Ok(jumps_by_dead_part(graph, live, block)),
-        _ => Ok(false),
-    }
-}
-
-/// The block of a cut that has one block, and nothing that a row for one block doesn't use.
-pub(crate) fn only_block(cut: &Cut) -> Option<u32>
-    ensures some { IfSome result (OneBlock cut.now) }
-    ensures none { result ≡ None → (block : ℕ) → ¬ OneBlock cut.now block }
-{
-    if cut.procedure != 0 || cut.other != 0 || cut.length != 0 {
-        return None;
-    }
-    match cut.blocks.as_slice() {
-        [block] => Some(*block),
-        _ => None,
     }
 }

@@ -1,23 +1,26 @@
 //! The pass.
 
-use crate::blocks::{facts, is_block};
-use crate::find::{find_block, has_row, no_register, only_block};
+use crate::admit::{admit_block, admit_unreached};
+use crate::blocks::facts;
+use crate::clear::drop_unreached;
+use crate::find::find_block;
 use crate::rewrites::{fall, invert, pass, shorten};
+use crate::unreached::find_unreached;
 use sq_graph::{Graph, Room};
 use sq_live::{Liveness, block_names};
 use sq_num::Memory;
 use sq_pass::{Cut, Pass, Row};
 use std::alloc::Global;
 
-/// The pass of rows J1, J2, J3 and C.
+/// The pass of rows U, J1, J2, J3 and C.
 #[derive(Clone, Copy, Debug)]
 pub struct Jumps;
 
 impl Pass for Jumps {
     ghost use Rattle.sq_graph.specs.Room.{no_room};
-    ghost use Rattle.sq_jumps.specs.Candidates.{IsJumpCut, described, saves_a_word};
+    ghost use Rattle.sq_jumps.specs.Candidates.{IsCandidate, described, saves_a_word};
 
-    ghost is_candidate = { λ _ graph cut. IsJumpCut graph cut };
+    ghost is_candidate = { λ _ graph cut. IsCandidate graph cut };
 
     ghost described = { λ _ graph cut. described graph cut };
 
@@ -33,23 +36,19 @@ impl Pass for Jumps {
         cut: Cut,
     ) -> Result<Option<Cut>, Memory> {
         facts(graph);
-        let Some(block) = only_block(&cut) else {
-            return Ok(None);
-        };
-        if !is_block(graph, block) || !has_row(alloc, graph, live, cut.row, block)? {
-            return Ok(None);
+        match cut.row {
+            Row::U => admit_unreached(alloc, graph, &cut),
+            _ => admit_block(alloc, graph, live, cut),
         }
-        Ok(Some(Cut {
-            link: no_register(),
-            saving: 1,
-            ..cut
-        }))
     }
 
     fn find(&self, alloc: Global, graph: &Graph, live: &Liveness) -> Result<Option<Cut>, Memory> {
         facts(graph);
         let names = block_names(alloc, graph)?;
-        find_block(alloc, graph, live, &names)
+        match find_block(alloc, graph, live, &names)? {
+            Some(cut) => Ok(Some(cut)),
+            None => find_unreached(alloc, graph, &names),
+        }
     }
 
     fn room(&self, _graph: &Graph, _cut: &Cut) -> Room {
@@ -62,12 +61,13 @@ impl Pass for Jumps {
 
     fn apply(&self, graph: &mut Graph, cut: &Cut) {
         facts(graph);
-        let block = cut.blocks.as_slice()[0];
+        let blocks = cut.blocks.as_slice();
         match cut.row {
-            Row::J1 => fall(graph, block),
-            Row::J2 => pass(graph, block),
-            Row::J3 => invert(graph, block),
-            Row::C => shorten(graph, block),
+            Row::U => drop_unreached(graph, blocks),
+            Row::J1 => fall(graph, blocks[0]),
+            Row::J2 => pass(graph, blocks[0]),
+            Row::J3 => invert(graph, blocks[0]),
+            Row::C => shorten(graph, blocks[0]),
             _ => unreachable!(),
         }
     }
