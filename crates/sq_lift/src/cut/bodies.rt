@@ -9,9 +9,9 @@ ghost use Rattle.sq_lift.specs.Cuts.{position_by, note_part, body_of};
 
 use crate::cut::names::Positions;
 use crate::cut::procedures::Procedures;
+use crate::{Note, Reading, Text, reading_at};
 use sq_graph::{Item, ProcedurePart};
 use sq_isa::Reg;
-use crate::{Note, Reading, Text, reading_at};
 use sq_num::Memory;
 use std::alloc::Global;
 

@@ -7,9 +7,9 @@ ghost use Rattle.sq_graph.specs.Uses.{item_uses, term_uses};
 ghost use Rattle.sq_program.specs.Lifted.{form_of};
 ghost use Rattle.sq_lift.specs.Forms.{shaped};
 
+use crate::Reading;
 use crate::cut::procedures::Procedures;
 use sq_graph::{Item, Term};
-use crate::Reading;
 
 /// An item, or a term. Names are addresses.
 #[derive(Clone, Copy, Debug)]

@@ -12,8 +12,8 @@ ghost use Rattle.sq_lift.specs.Raised.{Raises};
 
 use crate::cut::forms::{Form, form_of, goes_on, item_target, term_target};
 use crate::cut::procedures::Procedures;
-use sq_graph::Term;
 use crate::{Note, Text, TextWord, WordSet, reading_of};
+use sq_graph::Term;
 use sq_num::Memory;
 use sq_reloc::CodeWord;
 use std::alloc::Global;

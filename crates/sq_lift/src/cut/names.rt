@@ -4,8 +4,8 @@ ghost use Rattle.std.specs.Prelude.{◌≡◌, ◌<◌, ◌^◌, ◌++◌, ◌�
 ghost use Rattle.sq_lift.specs.Flags.{is_flagged};
 ghost use Rattle.sq_lift.specs.Cuts.{kept_by, starts};
 
-use sq_graph::{Item, Term};
 use crate::{Text, WordSet};
+use sq_graph::{Item, Term};
 use sq_num::Memory;
 use std::alloc::Global;
 use std::collections::HashMap;

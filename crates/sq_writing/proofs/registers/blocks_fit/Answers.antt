@@ -5,7 +5,7 @@ use Rattle.sq_graph.specs.declared.item.Item.{Item}
 use Rattle.sq_graph.specs.Graph.{Block}
 use Rattle.sq_graph.specs.Blocks.{block_term}
 use Rattle.sq_layout.proofs.Walks.{blocks_from, starts, here}
-use Rattle.sq_writing.specs.Writable.{HasItemRegisters, HasTermRegisters, HasBlockRegisters}
+use Rattle.sq_write.specs.Registers.{HasItemRegisters, HasTermRegisters, HasBlockRegisters}
 use Rattle.sq_writing.proofs.registers.blocks_fit.Goals as goal
 
 pub loop-place-init : goal.loop-place-init

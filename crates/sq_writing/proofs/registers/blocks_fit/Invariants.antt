@@ -3,7 +3,7 @@ use Rattle.std.specs.List.{All}
 use Rattle.sq_graph.specs.Blocks.{named}
 use Rattle.sq_graph.specs.Cursor.{IsPlace}
 use Rattle.sq_layout.proofs.Walks.{blocks_from}
-use Rattle.sq_writing.specs.Writable.{HasBlockRegisters}
+use Rattle.sq_write.specs.Registers.{HasBlockRegisters}
 use Rattle.sq_writing.proofs.registers.blocks_fit.Given as goal
 
 abbrev pub invariant-loop-place : goal.invariant-loop-place

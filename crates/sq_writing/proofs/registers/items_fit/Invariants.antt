@@ -1,6 +1,6 @@
 use Rattle.std.proofs.Common.{ℕ, ◌<◌, get_or}
 use Rattle.sq_graph.specs.declared.item.Item.{Item}
-use Rattle.sq_writing.specs.Writable.{HasItemRegisters}
+use Rattle.sq_write.specs.Registers.{HasItemRegisters}
 use Rattle.sq_writing.proofs.registers.items_fit.Given as goal
 
 abbrev pub invariant-loop-item : goal.invariant-loop-item

@@ -6,7 +6,7 @@ use Rattle.sq_graph.specs.declared.item.Item.{Item}
 use Rattle.sq_graph.specs.Graph.{Procedure}
 use Rattle.sq_graph.specs.Blocks.{procedure_link}
 use Rattle.sq_layout.proofs.Counts.{procedure_here}
-use Rattle.sq_writing.specs.Writable.{HasItemRegisters, HasProcedureRegisters}
+use Rattle.sq_write.specs.Registers.{HasItemRegisters, HasProcedureRegisters}
 use Rattle.sq_writing.proofs.registers.procedures_fit.Goals as goal
 
 pub loop-procedure-preserved : goal.loop-procedure-preserved

@@ -1,6 +1,6 @@
 use Rattle.std.proofs.Common.{drop}
 use Rattle.std.specs.List.{All}
-use Rattle.sq_writing.specs.Writable.{HasProcedureRegisters}
+use Rattle.sq_write.specs.Registers.{HasProcedureRegisters}
 use Rattle.sq_writing.proofs.registers.procedures_fit.Given as goal
 
 abbrev pub invariant-loop-procedure : goal.invariant-loop-procedure
