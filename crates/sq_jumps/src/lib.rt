@@ -1,4 +1,7 @@
-//! The pass of the rows on jumps.
+//! The pass of the rows that make jumps shorter, and of what isn't reached.
+//!
+//! To the layers above it promises that `Jumps` keeps the laws of passes, for the rows U, J1, J2, J3 and C: what it finds
+//! and admits are candidates of these rows, it misses none, and what it makes of a graph is exactly what the row says.
 #![tactic(auto)]
 
 mod admit;
@@ -10,6 +13,8 @@ mod names;
 mod rewrites;
 mod rows;
 mod survey;
+#[cfg(test)]
+mod tests;
 mod unreached;
 mod uses;
 
