@@ -61,10 +61,6 @@ gone_block (b ∷ bs) n distinct =
       | inr apart ↦ rw (apart, apart) (gone_block bs n (distinct_back ((b.name, b) ∷ []) (named bs) distinct))
     ]
 
--- the same Branch as before
-Before : Graph → ℕ → ℕ → Type 0
-Before g n to = (old : Cond) × (x : ℕ) × (y : ℕ) × (term_of g n ≡ Some (Branch old x y to))
-
 -- J1
 
 fall_shrinks : (g : Graph) (block to : ℕ) → term_of g block ≡ Some (Jump to) → Shrinks g.blocks (with_term g block Fall).blocks

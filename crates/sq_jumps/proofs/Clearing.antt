@@ -1,5 +1,5 @@
 -- Blocks that lose their items and stop.
-use Rattle.std.proofs.Common.{◌≡◌, ℕ, ◌+◌, ◌-◌, ◌==◌, Bool, true, false, ◌||◌, if◌then◌else◌, nat_eq, List, [], ◌∷◌, map, length, Option, None, Some, IsSome, is_some, refl, sym, ap, ◌∙◌, subst, inl, inr, arith}
+use Rattle.std.proofs.Common.{◌≡◌, ℕ, ◌+◌, ◌-◌, ◌==◌, true, false, if◌then◌else◌, nat_eq, List, [], ◌∷◌, map, length, Option, None, Some, IsSome, is_some, refl, sym, ap, ◌∙◌, subst, inl, inr, arith}
 use Rattle.std.specs.Prelude.{option_map}
 use Rattle.std.proofs.lemmas.Bool.{cases_Bool, eqb-true, eqb-false}
 use Rattle.std.proofs.lemmas.List.{drop_all}
@@ -34,10 +34,6 @@ all_cleared gone g = record g { blocks = map (cleared_if gone) g.blocks }
 
 none_left : (items : List Item) (count : ℕ) → count ≡ length items → replaced_items items 0 count [] ≡ []
 none_left items count e = drop_all (0 + count) items (omega (arith, e))
-
-or_none : (a : Bool) → (a || false) ≡ a
-or_none true = refl
-or_none false = refl
 
 others_stay : (bs : List Block) (n : ℕ) → value_of (named bs) n ≡ None → map (cleared_if (n ∷ [])) bs ≡ bs
 others_stay [] n none = refl

@@ -36,7 +36,7 @@ called_append keep (x ∷ front) b q =
     ap (λ t. (keep x.name && is_listed (flat_map item_calls x.items) q) || t) (called_append keep front b q)
     ∙ sym (or_or (keep x.name && is_listed (flat_map item_calls x.items) q) (is_called_in keep front q) (keep b.name && is_listed (flat_map item_calls b.items) q))
 
-pub called_more : (keep : ℕ → Bool) (front all : List Block) (b : Block) (q : ℕ) → all ≡ front ++ b ∷ [] → is_called_in keep all q ≡ (is_called_in keep front q || (keep b.name && is_listed (flat_map item_calls b.items) q))
+called_more : (keep : ℕ → Bool) (front all : List Block) (b : Block) (q : ℕ) → all ≡ front ++ b ∷ [] → is_called_in keep all q ≡ (is_called_in keep front q || (keep b.name && is_listed (flat_map item_calls b.items) q))
 called_more keep front all b q more = ap (λ bs. is_called_in keep bs q) more ∙ called_append keep front b q
 
 pub called_skips : (keep : ℕ → Bool) (front all : List Block) (b : Block) (q : ℕ) → all ≡ front ++ b ∷ [] → keep b.name ≡ false → is_called_in keep all q ≡ is_called_in keep front q

@@ -98,18 +98,6 @@ no_branch t cond a b n e = cc
 pub far_if_jump : (g : Graph) (from over : ℕ) (cond : Cond) (a b n : ℕ) → term_of g from ≡ Some (Branch cond a b over) → IsTooFar g from n → over ≡ n
 far_if_jump g from over cond a b n e f = target_is g from over n cond f.cond a b f.a f.b e f.branch
 
-pub not_far_alone : (g : Graph) (from over : ℕ) (cond : Cond) (a b n : ℕ) → term_of g from ≡ Some (Branch cond a b over) → jump_from g over ≡ None → IsTooFar g from n → ⊥
-not_far_alone g from over cond a b n e none f =
-    let same = far_if_jump g from over cond a b n e f in
-    let j : jump_from g over ≡ Some f.to = subst (λ k. jump_from g k ≡ Some f.to) (sym same) f.jump in
-    cc
-
-pub not_far_itself : (g : Graph) (from over : ℕ) (cond : Cond) (a b n : ℕ) → term_of g from ≡ Some (Branch cond a b over) → jump_from g over ≡ Some over → IsTooFar g from n → ⊥
-not_far_itself g from over cond a b n e own f =
-    let same = far_if_jump g from over cond a b n e f in
-    let j : jump_from g over ≡ Some f.to = subst (λ k. jump_from g k ≡ Some f.to) (sym same) f.jump in
-    f.other (let to_is : over ≡ f.to = cc in sym to_is ∙ same)
-
 pub not_far : (g : Graph) (from over to : ℕ) (cond : Cond) (a b n : ℕ) → HasBlock g to → term_of g from ≡ Some (Branch cond a b over) → jump_from g over ≡ Some to → to ≢ over → ReachesWithout g over from to → IsTooFar g from n → ⊥
 not_far g from over to cond a b n there e jump other reach f =
     let same = far_if_jump g from over cond a b n e f in

@@ -4,26 +4,18 @@ use Rattle.std.proofs.Common.{inl, inr, subst, sym, lit≤}
 use Rattle.sq_graph.specs.Graph.{Graph}
 use Rattle.sq_pass.specs.declared.cut.Cut.{Cut}
 use Rattle.sq_pass.specs.declared.cut.Row.{Row}
-use Rattle.sq_pass.specs.declared.cut.Row.TheVariants.{U, J1, J2, J3, C, T, O1, O2, O3, O4, W, V, L}
+use Rattle.sq_pass.specs.declared.cut.Row.TheVariants.{U, J1, J2, J3, C}
 use Rattle.sq_jumps.specs.Rows.{JumpsToNext, IsDetour, BranchesOverJump, JumpsByDeadPart}
 use Rattle.sq_jumps.specs.Unreached.{AreUnreached, words_gone, without_all}
 use Rattle.sq_jumps.specs.Rewrites.{falling, passed, inverted, hastened}
 
 -- the block is one that the row is for
 abbrev pub HasRow : Row → Graph → ℕ → Type 0
-HasRow U g block = ⊥
 HasRow J1 g block = JumpsToNext g block
 HasRow J2 g block = IsDetour g block
 HasRow J3 g block = BranchesOverJump g block
 HasRow C g block = JumpsByDeadPart g block
-HasRow T g block = ⊥
-HasRow O1 g block = ⊥
-HasRow O2 g block = ⊥
-HasRow O3 g block = ⊥
-HasRow O4 g block = ⊥
-HasRow W g block = ⊥
-HasRow V g block = ⊥
-HasRow L g block = ⊥
+HasRow row g block = ⊥
 
 -- the cut of a row for one block, which saves a word
 abbrev pub cut_at : Row → ℕ → Cut
@@ -71,14 +63,7 @@ rewritten J1 g blocks = falling g (only_block blocks)
 rewritten J2 g blocks = passed g (only_block blocks)
 rewritten J3 g blocks = inverted g (only_block blocks)
 rewritten C g blocks = hastened g (only_block blocks)
-rewritten T g blocks = g
-rewritten O1 g blocks = g
-rewritten O2 g blocks = g
-rewritten O3 g blocks = g
-rewritten O4 g blocks = g
-rewritten W g blocks = g
-rewritten V g blocks = g
-rewritten L g blocks = g
+rewritten row g blocks = g
 
 abbrev pub described : Graph → Cut → Graph
 described g cut = rewritten cut.row g cut.blocks
