@@ -1,3 +1,4 @@
+mod Examples
 pub mod Parts
 pub mod Laid
 pub mod Standing

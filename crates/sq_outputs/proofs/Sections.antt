@@ -1,16 +1,16 @@
 -- The sections of an output file, as they are read.
-use Rattle.std.proofs.Common.{◌≡◌, ℕ, zero, suc, ◌+◌, ◌*◌, ◌^◌, ◌<◌, ◌≤◌, false, nat_eq, List, [], ◌∷◌, ◌++◌, length, slice_index, Some, slice_get, refl, ap, subst, ◌∙◌, arith}
+use Rattle.std.proofs.Common.{◌≡◌, ℕ, zero, suc, ◌+◌, ◌*◌, ◌^◌, ◌<◌, false, nat_eq, List, [], ◌∷◌, ◌++◌, length, slice_index, Some, slice_get, refl, ap, subst, ◌∙◌, arith}
 use Rattle.std.proofs.lemmas.Bool.{lt-ltb}
 use Rattle.std.proofs.lemmas.Bool.Decides.{nat_tests}
 use Rattle.std.proofs.lemmas.Option.{slice_get_within}
 use Rattle.sq_elf.specs.Headers.{shoff_of, shnum_of, section_field, section_of, section_header as read_header}
 use Rattle.sq_elf.specs.Reading.{section_at, contents_in, contents_of as section_contents}
-use Rattle.sq_write.specs.Output.{words, Output, text_piece, pieces_of, pieces_at, piece_bytes, contents_at, contents_of, symbol_table, symbol_names, section_names, relocation_table, gap, offsets, end_of, note_kind, Section, section_header, section_table, output_file}
+use Rattle.sq_write.specs.Output.{words, Output, text_piece, pieces_of, pieces_at, piece_bytes, contents_at, contents_of, symbol_table, symbol_names, section_names, relocation_table, offsets, end_of, note_kind, Section, section_header, section_table, output_file}
 use Rattle.sq_write.proofs.PieceWalks.{piece_bytes-append}
 use Rattle.sq_outputs.specs.Fitting.{IsFittingPiece, IsFitting}
 use Rattle.sq_outputs.specs.Reading.{seen, output_sections, section_parts, SectionsAreRead}
 use Rattle.sq_outputs.proofs.Parts.{PartAt, part_here, part_from, first_part, rest_part, part_ends, part_read, word_at}
-use Rattle.sq_outputs.proofs.Laid.{laid_part, end_above}
+use Rattle.sq_outputs.proofs.Laid.{laid_part}
 use Rattle.sq_outputs.proofs.Standing.{Stands, output_stands}
 use Rattle.sq_outputs.proofs.Headers.{headers_are_read}
 use Rattle.sq_outputs.proofs.Lists.{all_middle}
