@@ -1,5 +1,6 @@
 pub mod Views
 pub mod Steps
+pub mod Outcomes
 pub mod FileCells
 pub mod Starts
 pub mod Transcripts

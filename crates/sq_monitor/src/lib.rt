@@ -10,6 +10,7 @@ mod fault;
 mod hart;
 mod jumps;
 mod laid;
+pub mod laws;
 mod moved;
 mod scene;
 mod segments;

@@ -1,3 +1,4 @@
+pub mod BareRam
 pub mod CellLists
 pub mod Effects
 pub mod QuietRows

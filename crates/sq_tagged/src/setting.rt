@@ -1,8 +1,9 @@
 //! What a run never changes.
 
-ghost use Rattle.std.specs.Prelude.{◌≡◌, ◌+◌, ◌<◌, ◌≤◌, ◌^◌, IsTrue};
+ghost use Rattle.std.specs.Prelude.{◌≡◌, ◌+◌, ◌<◌, ◌≤◌, ◌^◌, true, IsTrue};
 ghost use Rattle.std.specs.List.{list_any};
 ghost use Rattle.sq_system.specs.World.{PF_X, is_in, is_in_with, is_in_ram, is_executable, is_writable, are_all, is_range};
+ghost use Rattle.sq_machine.specs.Ranges.{meets_ram};
 ghost use Rattle.sq_follow.specs.Settings.{is_in_text, meets_text, may_store};
 ghost use Rattle.sq_tagged.specs.Views.{layout_of, setting_of};
 
@@ -88,6 +89,25 @@ impl Setting {
         }
     }
 
+    /// Whether one of the n bytes from `x` on is in a piece.
+    #[tactic(auto, unfolding(crate::specs::Views::layout_of))]
+    fn meets_piece(&self, x: u32, n: u32) -> bool
+        ensures { result ≡ list_any (meets_ram x n) (layout_of self.now).pieces }
+    {
+        let end = u64::from(x) + u64::from(n);
+        self.pieces.iter().any(|piece| piece.extent.meets(x, end))
+    }
+
+    /// Whether the n bytes from `x` on are in RAM and in no piece: then they are writable, and most stores go there.
+    #[tactic(auto, using(crate::proofs::BareRam::bare_writable), unfolding(crate::specs::Views::layout_of))]
+    fn are_in_bare_ram(&self, x: u32, n: u32) -> bool
+        ensures { result ≡ true → are_all (is_writable (layout_of self.now)) x n ≡ true }
+    {
+        self.base <= x
+            && u64::from(x) + u64::from(n) <= u64::from(self.base) + u64::from(self.size)
+            && !self.meets_piece(x, n)
+    }
+
     /// Whether each of the n bytes from `x` on is writable.
     fn is_each_writable(&self, x: u32, n: u32) -> bool
         requires { x + n ≤ 2 ^ 32 }
@@ -109,7 +129,7 @@ impl Setting {
         if u64::from(x) + u64::from(n) > END {
             return false;
         }
-        self.is_each_writable(x, n)
+        self.are_in_bare_ram(x, n) || self.is_each_writable(x, n)
     }
 
     /// Whether a store of so many bytes may be made at an address.
