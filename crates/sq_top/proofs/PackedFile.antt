@@ -1,6 +1,7 @@
 -- What the file of a lifted graph is of the file that the graph was lifted from.
-use Rattle.std.proofs.Common.{◌≡◌, ℕ, ◌+◌, ◌*◌, ◌-◌, ◌<◌, ◌≤◌, None, List, [], ◌∷◌, map, length, refl, sym, ap, ◌∙◌, subst, arith}
+use Rattle.std.proofs.Common.{◌≡◌, ℕ, ◌+◌, ◌*◌, ◌-◌, ◌<◌, ◌≤◌, None, IsSome, List, [], ◌∷◌, map, length, refl, sym, ap, ◌∙◌, subst, arith}
 use Rattle.std.specs.List.{AllByRecursion}
+use Rattle.std.proofs.lemmas.List.Elements.{All-from_recursion, recursion_from_All}
 use Rattle.sq_num.specs.declared.packed.Packed.{Packed}
 use Rattle.sq_num.specs.Saved.{words_saved}
 use Rattle.sq_elf.specs.declared.text.Text.{Text}
@@ -8,13 +9,15 @@ use Rattle.sq_elf.specs.Refusing.{text_size, file_refusal_of}
 use Rattle.sq_elf.specs.Sizes.{loaded_of}
 use Rattle.sq_elf.specs.Text.{text_of}
 use Rattle.sq_reloc.specs.declared.mark.CodeWord.{CodeWord}
+use Rattle.sq_reloc.specs.Outside.{code_word_at}
+use Rattle.sq_graph.specs.declared.parts.CodeRef.{CodeRef}
 use Rattle.sq_graph.specs.Graph.{Graph}
 use Rattle.sq_graph.specs.Rules.{IsGraph}
 use Rattle.sq_graph.specs.Words.{words_of}
 use Rattle.sq_follow.specs.Follows.{word_address}
-use Rattle.sq_follow.proofs.Following.{graph_follows_itself}
 use Rattle.sq_program.specs.FilePrograms.{IsAcceptedFile}
 use Rattle.sq_program.specs.Lifted.{code_ref, lifted}
+use Rattle.sq_write.specs.Registers.{HasRegisters}
 use Rattle.sq_write.specs.Written.{written}
 use Rattle.sq_write.proofs.AlikeGraphs.{alike_fit}
 use Rattle.sq_write.proofs.SegmentFacts.{few_text}
@@ -26,15 +29,45 @@ use Rattle.sq_lifted.specs.LiftedFiles.{IsLiftedFile, FitsFile}
 use Rattle.sq_lifted.specs.Same.{Same}
 use Rattle.sq_lifted.proofs.FileWorlds.{files_good}
 use Rattle.sq_lifted.proofs.SameFiles.{same_through}
-use Rattle.sq_top.specs.Packing.{no_savings, Packs, GoodOutput}
+use Rattle.sq_pass.specs.declared.cut.Cut.{Cut}
+use Rattle.sq_jumps.specs.Candidates.{IsCandidate}
+use Rattle.sq_drive.specs.Settled.{IsSettled}
+use Rattle.sq_top.specs.Packing.{CanBeWritten, Packs, GoodOutput}
 
 refs_at : (ws : List CodeWord) → map word_address (map code_ref ws) ≡ map code_word_address ws
 refs_at [] = refl
 refs_at (w ∷ ws) = ap (λ xs. w.at ∷ xs) (refs_at ws)
 
-module _ (bytes : List ℕ) (g : Graph) (fit : AllByRecursion (λ b. b < 256) bytes) (l : IsLiftedFile bytes g) (f : FitsFile bytes g) (rules : IsGraph g) where
+-- what holds at each of equal addresses
+at_each : (P : ℕ → Type 0) (ws vs : List CodeRef) → map word_address ws ≡ map word_address vs → AllByRecursion (λ w. P w.at) vs → AllByRecursion (λ w. P w.at) ws
+at_each P [] vs e all = tt
+at_each P (w ∷ ws) [] e all = absurd (cc)
+at_each P (w ∷ ws) (v ∷ vs) e all =
+    let here : w.at ≡ v.at = cc in
+    let rest : map word_address ws ≡ map word_address vs = cc in
+    (subst P (sym here) all.0, at_each P ws vs rest all.1)
+
+-- a graph that was made by rewriting can be written where the first one can
+module _ (bytes : List ℕ) (first g : Graph) (saved : ℕ) (f : FitsFile bytes first) (s : IsSettled saved first g) where
+  pub settled_fits : CanBeWritten bytes g
+  settled_fits = record {
+    reach = s.reach f.reach;
+    words = omega (arith, f.words, s.words);
+    code_words =
+        All-from_recursion (λ word. IsSome (code_word_at bytes word.at)) g.code_words
+        (at_each (λ x. IsSome (code_word_at bytes x)) g.code_words first.code_words s.follows.addresses
+        (recursion_from_All (λ word. IsSome (code_word_at bytes word.at)) first.code_words f.code_words));
+  }
+
+pub small_text : (bytes : List ℕ) (g : Graph) → file_refusal_of bytes ≡ None → FitsFile bytes g → words_of g ≤ 1048576
+small_text bytes g accepted f = omega (arith, f.words, few_text bytes accepted)
+
+module _ (bytes : List ℕ) (first g : Graph) (saved : ℕ) (fit : AllByRecursion (λ b. b < 256) bytes) (l : IsLiftedFile bytes first) (f : FitsFile bytes first) (s : IsSettled saved first g) (rules : IsGraph g) (registers : HasRegisters g) where
   accepted : IsAcceptedFile bytes
   accepted = record { reached = l.is; program = l.program; accepted = l.lifted.accepted }
+
+  can : CanBeWritten bytes g
+  can = settled_fits bytes first g saved f s
 
   writable : IsWritable bytes g
   writable = record {
@@ -42,23 +75,23 @@ module _ (bytes : List ℕ) (g : Graph) (fit : AllByRecursion (λ b. b < 256) by
     accepted = l.lifted.accepted.read.file;
     relocs = l.lifted.accepted.read.relocs;
     rules = rules;
-    code_words = f.code_words;
-    reach = f.reach;
-    words = f.words;
+    code_words = can.code_words;
+    reach = can.reach;
+    words = can.words;
   }
 
   into : IsWritableInto bytes l.program g
   into = record {
     rules = rules;
-    registers = f.registers;
-    reach = f.reach;
-    words = f.words;
-    code_words = (alike_fit (lifted l.is l.program) g (files_good bytes l.is l.program fit l.lifted.accepted).graph l.lifted.alike).code_words ∙ refs_at l.program.code_words;
+    registers = registers;
+    reach = can.reach;
+    words = can.words;
+    code_words = s.follows.addresses ∙ ((alike_fit (lifted l.is l.program) first (files_good bytes l.is l.program fit l.lifted.accepted).graph l.lifted.alike).code_words ∙ refs_at l.program.code_words);
   }
 
   same : Same bytes (written bytes g)
   same =
-      same_through bytes (written bytes g) l.is l.program g g fit l.lifted (graph_follows_itself g)
+      same_through bytes (written bytes g) l.is l.program first g fit l.lifted s.follows
       (written_files_show_graphs bytes l.is l.program g fit l.lifted.accepted.read into)
 
   sizes : HasSizes bytes g (written bytes g)
@@ -68,17 +101,24 @@ module _ (bytes : List ℕ) (g : Graph) (fit : AllByRecursion (λ b. b < 256) by
   text_written = ap (λ (t : Text). t.hi - t.lo) sizes.text ∙ omega arith
 
   loads_less : loaded_of (written bytes g) ≤ loaded_of bytes
-  loads_less = omega (arith, sizes.size, f.words)
+  loads_less = omega (arith, sizes.size, can.words)
 
-  pub packs : (packed : Packed) → packed.bytes ≡ written bytes g → packed.text_before ≡ text_size bytes → packed.text_after ≡ 4 * words_of g → packed.loaded_before ≡ loaded_of bytes → packed.loaded_after + text_size bytes ≡ loaded_of bytes + 4 * words_of g → packed.procedures ≡ length g.procedures → packed.savings ≡ no_savings → packed.text_before ≡ packed.text_after + 4 * (packed.unreached + words_saved packed.savings) → Packs bytes packed
-  packs packed output before after loaded left procedures savings balance = record {
+  pub enough_loaded : text_size bytes ≤ loaded_of bytes + 4 * words_of g
+  enough_loaded = omega (arith, sizes.size)
+
+  pub packs : (packed : Packed) → ((cut : Cut) → ¬ IsCandidate g cut) → packed.bytes ≡ written bytes g → packed.text_before ≡ text_size bytes → packed.text_after ≡ 4 * words_of g → packed.loaded_before ≡ loaded_of bytes → packed.loaded_after + text_size bytes ≡ loaded_of bytes + 4 * words_of g → packed.procedures ≡ length g.procedures → 4 * (packed.unreached + words_of first) ≡ text_size bytes → words_saved packed.savings ≡ saved → packed.text_before ≡ packed.text_after + 4 * (packed.unreached + words_saved packed.savings) → Packs bytes packed
+  packs packed none output before after loaded left procedures unreached savings balance = record {
     good = record {
       accepted = accepted;
       same = subst (Same bytes) (sym output) same;
       loads_no_more = subst (λ file. loaded_of file ≤ loaded_of bytes) (sym output) loads_less;
       readable = ap file_refusal_of output ∙ written_is_accepted bytes g writable;
-      graph = g;
+      first = first;
       lifted = l;
+      graph = g;
+      saved = saved;
+      settled = s;
+      left = none;
       output_is = output;
     };
     text_before = before;
@@ -86,6 +126,7 @@ module _ (bytes : List ℕ) (g : Graph) (fit : AllByRecursion (λ b. b < 256) by
     loaded_before = loaded;
     loaded_after = omega (arith, left, sizes.size) ∙ ap loaded_of (sym output);
     procedures = procedures;
+    unreached = unreached;
     savings = savings;
     balance = balance;
   }
@@ -93,6 +134,3 @@ module _ (bytes : List ℕ) (g : Graph) (fit : AllByRecursion (λ b. b < 256) by
 -- what is asked of the sizes before a packing is made
 pub few_bytes : (bytes : List ℕ) → file_refusal_of bytes ≡ None → (text_of bytes).hi ≤ (text_of bytes).lo + 1048576
 few_bytes bytes accepted = few_text bytes accepted
-
-pub enough_loaded : (bytes : List ℕ) (g : Graph) → AllByRecursion (λ b. b < 256) bytes → IsLiftedFile bytes g → FitsFile bytes g → IsGraph g → text_size bytes ≤ loaded_of bytes + 4 * words_of g
-enough_loaded bytes g fit l f rules = let s = sizes bytes g fit l f rules in omega (arith, s.size)

@@ -1,18 +1,22 @@
 -- What a packing gives.
-use Rattle.std.specs.Prelude.{◌≡◌, ℕ, ◌+◌, ◌*◌, ◌≤◌, List, ◌++◌, length, codes, decimal, None}
+use Rattle.std.specs.Prelude.{◌≡◌, ℕ, ◌+◌, ◌*◌, ◌≤◌, List, ◌++◌, length, codes, decimal, None, IsSome}
+use Rattle.std.specs.List.{All}
 use Rattle.sq_num.specs.declared.packed.Packed.{Packed}
-use Rattle.sq_num.specs.declared.packed.Savings.{Savings}
 use Rattle.sq_num.specs.Saved.{words_saved}
 use Rattle.sq_elf.specs.Refusing.{text_size, file_refusal_of}
 use Rattle.sq_elf.specs.Sizes.{loaded_of}
+use Rattle.sq_elf.specs.Text.{text_of}
+use Rattle.sq_reloc.specs.Outside.{code_word_at}
 use Rattle.sq_graph.specs.Graph.{Graph}
+use Rattle.sq_graph.specs.Places.{IsInReach}
+use Rattle.sq_graph.specs.Words.{words_of}
+use Rattle.sq_pass.specs.declared.cut.Cut.{Cut}
+use Rattle.sq_jumps.specs.Candidates.{IsCandidate}
+use Rattle.sq_drive.specs.Settled.{IsSettled}
 use Rattle.sq_program.specs.FilePrograms.{IsAcceptedFile}
 use Rattle.sq_write.specs.Written.{written}
 use Rattle.sq_lifted.specs.LiftedFiles.{IsLiftedFile}
 use Rattle.sq_lifted.specs.Same.{Same}
-
-abbrev pub no_savings : Savings
-no_savings = record { u = 0; j1 = 0; j2 = 0; j3 = 0; c = 0; t = 0; o1 = 0; o2 = 0; o3 = 0; o4 = 0; moved = 0 }
 
 -- the line that tells the sizes
 abbrev pub sizes_text : ℕ → ℕ → ℕ → ℕ → List ℕ
@@ -22,6 +26,13 @@ sizes_text text_before text_after loaded_before loaded_after =
 
 unfoldable pub packed_text : Packed → List ℕ
 packed_text packed = sizes_text packed.text_before packed.text_after packed.loaded_before packed.loaded_after
+
+-- a graph that can be written in the place of a file's text: it is in reach, it has no more words than text, and its code
+-- words stand where the file has some
+pub record CanBeWritten (given : List ℕ) (graph : Graph) : Type 0 where
+  pub reach : IsInReach graph
+  pub words : (text_of given).lo + 4 * words_of graph ≤ (text_of given).hi
+  pub code_words : All (λ word. IsSome (code_word_at given word.at)) graph.code_words
 
 -- what an output is of a given file
 pub record GoodOutput (given output : List ℕ) : Type 0 where
@@ -33,9 +44,16 @@ pub record GoodOutput (given output : List ℕ) : Type 0 where
   pub loads_no_more : loaded_of output ≤ loaded_of given
   -- the file reader accepts it
   pub readable : file_refusal_of output ≡ None
-  -- it is made of the data of the given file and of the words of its graph, which has what is reached alone
+  -- the graph of the given file, which has what is reached alone
+  pub first : Graph
+  pub lifted : IsLiftedFile given first
+  -- what rewriting made of it, with what was saved
   pub graph : Graph
-  pub lifted : IsLiftedFile given graph
+  pub saved : ℕ
+  pub settled : IsSettled saved first graph
+  -- no row on jumps, and nothing that isn't reached, is left over
+  pub left : (cut : Cut) → ¬ IsCandidate graph cut
+  -- the output is made of the data of the given file and of the words of that graph
   pub output_is : output ≡ written given graph
 
 -- the packing of a given file: a good output, and its sizes
@@ -46,7 +64,9 @@ pub record Packs (given : List ℕ) (packed : Packed) : Type 0 where
   pub loaded_before : packed.loaded_before ≡ loaded_of given
   pub loaded_after : packed.loaded_after ≡ loaded_of packed.bytes
   pub procedures : packed.procedures ≡ length good.graph.procedures
-  pub savings : packed.savings ≡ no_savings
+  -- the words of text that the first graph doesn't have
+  pub unreached : 4 * (packed.unreached + words_of good.first) ≡ text_size given
+  pub savings : words_saved packed.savings ≡ good.saved
   -- what text lost is what was not reached and what was saved
   pub balance : packed.text_before ≡ packed.text_after + 4 * (packed.unreached + words_saved packed.savings)
 

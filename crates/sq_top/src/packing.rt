@@ -11,9 +11,10 @@ ghost use Rattle.sq_graph.specs.Rules.{IsGraph};
 ghost use Rattle.sq_graph.specs.Words.{words_of};
 ghost use Rattle.sq_program.specs.FilePrograms.{IsRefusalOf};
 ghost use Rattle.sq_write.specs.Written.{written};
-ghost use Rattle.sq_lifted.specs.LiftedFiles.{FitsFile};
-ghost use Rattle.sq_top.specs.Packing.{Packs, GoodOutput, no_savings};
+ghost use Rattle.sq_write.specs.Registers.{HasRegisters};
+ghost use Rattle.sq_top.specs.Packing.{Packs, GoodOutput, CanBeWritten};
 
+use sq_drive::settle;
 use sq_elf::{Elf, read_elf};
 use sq_graph::Graph;
 use sq_layout::{place, words_of};
@@ -21,10 +22,11 @@ use sq_lifted::lift;
 use sq_num::{Bytes, Denied, Memory, Packed, Savings};
 use sq_reloc::{Relocs, read_relocs};
 use sq_write::write_elf;
+use sq_writing::registers_fit;
 use std::alloc::Global;
 
-/// Packs the file of these bytes: reads it as a graph of what is reached, and writes that in the place of its text. Any
-/// step may find no memory.
+/// Packs the file of these bytes: reads it as a graph of what is reached, rewrites that by the rows of the cost rule until
+/// none saves a word, and writes it in the place of its text. Any step may find no memory.
 pub fn pack_bytes(alloc: Global, bytes: &[u8]) -> Result<Packed, Denied>
     ensures packed { IfOk result (Packs bytes.now) }
     ensures good { IfOk result (λ packed. GoodOutput bytes.now packed.bytes) }
@@ -34,9 +36,11 @@ pub fn pack_bytes(alloc: Global, bytes: &[u8]) -> Result<Packed, Denied>
     bytes_fit(bytes);
     let elf = read_elf(alloc, bytes)?;
     let relocs = read_relocs(alloc, &elf)?;
-    let graph = lift(alloc, &elf, &relocs)?;
+    let mut graph = lift(alloc, &elf, &relocs)?;
+    let reached = words_of(&graph);
+    let savings = settle(alloc, &mut graph)?;
     let file = write_graph(alloc, &elf, &relocs, &graph)?;
-    Ok(packed_of(&elf, &graph, file))
+    Ok(packed_of(&elf, &graph, reached, savings, file))
 }
 
 /// Each number of a slice of bytes is below 256.
@@ -54,19 +58,23 @@ fn write_graph(
     graph: &Graph,
 ) -> Result<Vec<u8>, Memory>
     requires same { relocs.now ≡ elf.now }
-    requires fits { FitsFile elf.now graph.now.graph }
+    requires fits { CanBeWritten elf.now graph.now.graph }
     ensures file { IfOk result (λ file. file.items ≡ written elf.now graph.now.graph) }
     ensures rules { OnOk result (IsGraph graph.now.graph) }
+    ensures registers { OnOk result (HasRegisters graph.now.graph) }
 {
     // Its contract has that a graph keeps the rules.
     let _entry = graph.entry();
+    registers_fit(graph);
     let places = place(alloc, graph, elf.text().lo)?;
     write_elf(alloc, elf, relocs, graph, &places)
 }
 
-/// The file of a graph, with the bytes of text and the bytes that are loaded before and after.
-fn packed_of(elf: &Elf<'_>, graph: &Graph, file: Vec<u8>) -> Packed
-    requires words { (text_of elf.now).lo + 4 * words_of graph.now.graph ≤ (text_of elf.now).hi }
+/// The file of a graph, with the bytes of text and the bytes that are loaded before and after. `reached` is how many words
+/// of text are reached.
+fn packed_of(elf: &Elf<'_>, graph: &Graph, reached: u32, savings: Savings, file: Vec<u8>) -> Packed
+    requires words { (text_of elf.now).lo + 4 * reached ≤ (text_of elf.now).hi }
+    requires saved { words_of graph.now.graph + words_saved savings ≡ reached }
     requires short { (text_of elf.now).hi ≤ (text_of elf.now).lo + 1048576 }
     requires loads { text_size elf.now ≤ loaded_of elf.now + 4 * words_of graph.now.graph }
     ensures output { result.bytes ≡ file.items }
@@ -76,7 +84,8 @@ fn packed_of(elf: &Elf<'_>, graph: &Graph, file: Vec<u8>) -> Packed
     ensures loaded_after { result.loaded_after + text_size elf.now ≡ loaded_of elf.now + 4 * words_of graph.now.graph }
     ensures balance { result.text_before ≡ result.text_after + 4 * (result.unreached + words_saved result.savings) }
     ensures procedures { result.procedures ≡ length graph.now.graph.procedures }
-    ensures savings { result.savings ≡ no_savings }
+    ensures unreached { 4 * (result.unreached + reached) ≡ text_size elf.now }
+    ensures savings { result.savings ≡ savings }
 {
     let text = elf.text();
     let before = (text.hi - u64::from(text.lo)) as u32;
@@ -87,8 +96,8 @@ fn packed_of(elf: &Elf<'_>, graph: &Graph, file: Vec<u8>) -> Packed
         text_after: after,
         loaded_before: elf.loaded(),
         loaded_after: elf.loaded() - (before - after),
-        unreached: (before - after) / 4,
+        unreached: before / 4 - reached,
         procedures: graph.procedures(),
-        savings: Savings::NONE,
+        savings,
     }
 }
