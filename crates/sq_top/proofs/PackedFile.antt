@@ -26,7 +26,7 @@ use Rattle.sq_lifted.specs.LiftedFiles.{IsLiftedFile, FitsFile}
 use Rattle.sq_lifted.specs.Same.{Same}
 use Rattle.sq_lifted.proofs.FileWorlds.{files_good}
 use Rattle.sq_lifted.proofs.SameFiles.{same_through}
-use Rattle.sq_top.specs.Packing.{no_savings, Packs, GoodOutput}
+use Rattle.sq_top.specs.Packing.{no_savings, Packs}
 
 refs_at : (ws : List CodeWord) → map word_address (map code_ref ws) ≡ map code_word_address ws
 refs_at [] = refl
