@@ -1,13 +1,14 @@
 -- The forms of a command line.
 use Rattle.std.specs.Prelude.{◌≡◌, ℕ, ◌+◌, ◌%◌, ◌^◌, ◌≤◌, Bool, ◌==◌, ◌&&◌, nat_le, List, [], ◌∷◌, drop, Option, Some, None, if◌then◌else◌, codes, decimal}
+use Rattle.std.specs.Option.{option_map}
 use Rattle.std.specs.Str.{bytes_eq}
 use Rattle.sq_system.specs.Starts.{StartFits}
 use Rattle.sq_command.specs.Numbers.{number_of}
 use Rattle.sq_command.specs.declared.command.Command.{Command}
-use Rattle.sq_command.specs.declared.command.Command.TheVariants.{Pack, Run}
+use Rattle.sq_command.specs.declared.command.Command.TheVariants.{Pack, Run, Watch}
 use Rattle.sq_command.specs.declared.run_words.RunWords.{RunWords}
 
--- what `run` asks for
+-- what `run` or `watch` asks for
 pub record RunRequest : Type 0 where
   pub file : List ℕ
   pub input : List ℕ
@@ -22,6 +23,8 @@ pub data Form : Type 0 where
   PackForm : List ℕ → List ℕ → Form
   -- run FILE INPUT LIMIT BASE SIZE ARG*
   RunForm : RunRequest → Form
+  -- watch FILE INPUT LIMIT BASE SIZE ARG*
+  WatchForm : RunRequest → Form
 
 -- at most so many steps
 abbrev pub most_steps : ℕ
@@ -32,11 +35,11 @@ abbrev pub start_fits : ℕ → ℕ → Bool
 start_fits base size =
     base % 16 == 0 && size % 16 == 0 && nat_le 16 size && nat_le size 16777216 && nat_le (base + size) (2 ^ 32)
 
--- `run` with these numbers, where the words have them and they are in their ranges
-abbrev pub run_of : List ℕ → List ℕ → Option ℕ → Option ℕ → Option ℕ → List (List ℕ) → Option Form
+-- the request with these numbers, where the words have them and they are in their ranges
+abbrev pub run_of : List ℕ → List ℕ → Option ℕ → Option ℕ → Option ℕ → List (List ℕ) → Option RunRequest
 run_of file input (Some limit) (Some base) (Some size) arguments =
     if nat_le limit most_steps && start_fits base size
-    then Some (RunForm (record { file = file; input = input; limit = limit; base = base; size = size; arguments = arguments }))
+    then Some (record { file = file; input = input; limit = limit; base = base; size = size; arguments = arguments })
     else None
 run_of file input limit base size arguments = None
 
@@ -45,25 +48,34 @@ abbrev pub pack_form : List (List ℕ) → Option Form
 pack_form (input ∷ output ∷ []) = Some (PackForm input output)
 pack_form words = None
 
--- the words behind `run`
-abbrev pub run_form : List (List ℕ) → Option Form
-run_form (file ∷ input ∷ limit ∷ base ∷ size ∷ arguments) =
+-- the words behind `run` or `watch`
+abbrev pub run_request : List (List ℕ) → Option RunRequest
+run_request (file ∷ input ∷ limit ∷ base ∷ size ∷ arguments) =
     run_of file input (number_of limit) (number_of base) (number_of size) arguments
-run_form words = None
+run_request words = None
 
 -- the form of the words, where they have one
 unfoldable pub form_of : List (List ℕ) → Option Form
 form_of [] = None
 form_of (verb ∷ words) =
     if bytes_eq verb (codes "pack") then pack_form words
-    else if bytes_eq verb (codes "run") then run_form words
+    else if bytes_eq verb (codes "run") then option_map RunForm (run_request words)
+    else if bytes_eq verb (codes "watch") then option_map WatchForm (run_request words)
     else None
 
--- the words are `run FILE INPUT LIMIT BASE SIZE ARG*`: numbers in decimal, each in its range
-pub record IsRun (words : List (List ℕ)) (request : RunRequest) : Type 0 where
-  pub words_are : words ≡ codes "run" ∷ request.file ∷ request.input ∷ decimal request.limit ∷ decimal request.base ∷ decimal request.size ∷ request.arguments
+-- the words are `VERB FILE INPUT LIMIT BASE SIZE ARG*`: numbers in decimal, each in its range
+pub record AsksRun (verb : List ℕ) (words : List (List ℕ)) (request : RunRequest) : Type 0 where
+  pub words_are : words ≡ verb ∷ request.file ∷ request.input ∷ decimal request.limit ∷ decimal request.base ∷ decimal request.size ∷ request.arguments
   pub limit : request.limit ≤ most_steps
   pub fits : StartFits request.base request.size
+
+-- the words are `run FILE INPUT LIMIT BASE SIZE ARG*`
+abbrev pub IsRun : List (List ℕ) → RunRequest → Type 0
+IsRun = AsksRun (codes "run")
+
+-- the words are `watch FILE INPUT LIMIT BASE SIZE ARG*`
+abbrev pub IsWatch : List (List ℕ) → RunRequest → Type 0
+IsWatch = AsksRun (codes "watch")
 
 -- the words are `pack IN OUT`
 abbrev pub IsPack : List (List ℕ) → List ℕ → List ℕ → Type 0
@@ -78,3 +90,4 @@ request_of words run =
 abbrev pub form : List (List ℕ) → Command → Form
 form words (Pack input output) = PackForm input.now output.now
 form words (Run run) = RunForm (request_of words run)
+form words (Watch run) = WatchForm (request_of words run)

@@ -2,7 +2,7 @@
 
 ghost use Rattle.std.specs.Prelude.{◌≡◌, ◌↔◌, ℕ, List, drop};
 ghost use Rattle.std.specs.Option.{option_map};
-ghost use Rattle.sq_command.specs.Commands.{Form, PackForm, RunForm, RunRequest, form, form_of, pack_form, run_form, run_of, request_of, IsPack, IsRun};
+ghost use Rattle.sq_command.specs.Commands.{Form, PackForm, RunForm, WatchForm, RunRequest, form, form_of, pack_form, run_request, run_of, request_of, IsPack, IsRun, IsWatch};
 
 use crate::number::number_of;
 use crate::run_words::RunWords;
@@ -16,6 +16,8 @@ pub enum Command<'w> {
     Pack { input: &'w str, output: &'w str },
     /// `run FILE INPUT LIMIT BASE SIZE ARG*`
     Run(RunWords<'w>),
+    /// `watch FILE INPUT LIMIT BASE SIZE ARG*`
+    Watch(RunWords<'w>),
 }
 
 /// The most steps that a run is allowed.
@@ -33,35 +35,35 @@ fn pack_words(words: &WordList) -> Option<Command<'_>>
     Some(Command::Pack { input, output })
 }
 
-/// `run` with these numbers, where the words have them and they are in their ranges.
+/// A run with these numbers, where the words have them and they are in their ranges.
 fn run_of<'w>(
     file: &'w str,
     input: &'w str,
     limit: Option<u32>,
     base: Option<u32>,
     size: Option<u32>,
-) -> Option<Command<'w>>
-    ensures { (words : List (List ℕ)) → option_map (form words) result ≡ run_of file.now input.now limit base size (drop 6 words) }
+) -> Option<RunWords<'w>>
+    ensures { (words : List (List ℕ)) → option_map (request_of words) result ≡ run_of file.now input.now limit base size (drop 6 words) }
 {
     let limit = limit?;
     let base = base?;
     let size = size?;
     if limit <= MOST_STEPS && start_fits(base, size) {
-        Some(Command::Run(RunWords {
+        Some(RunWords {
             file,
             input,
             limit,
             base,
             size,
-        }))
+        })
     } else {
         None
     }
 }
 
-/// `run` with the words behind it.
-fn run_words(words: &WordList) -> Option<Command<'_>>
-    ensures { option_map (form words.now) result ≡ run_form (drop 1 words.now) }
+/// The words behind `run` or `watch`.
+fn run_words(words: &WordList) -> Option<RunWords<'_>>
+    ensures { option_map (request_of words.now) result ≡ run_request (drop 1 words.now) }
 {
     let file = words.get(1)?;
     let input = words.get(2)?;
@@ -77,17 +79,34 @@ fn run_words(words: &WordList) -> Option<Command<'_>>
     )
 }
 
+/// `run` with the words behind it.
+fn run_command(words: &WordList) -> Option<Command<'_>>
+    ensures { option_map (form words.now) result ≡ option_map RunForm (run_request (drop 1 words.now)) }
+{
+    Some(Command::Run(run_words(words)?))
+}
+
+/// `watch` with the words behind it.
+fn watch_command(words: &WordList) -> Option<Command<'_>>
+    ensures { option_map (form words.now) result ≡ option_map WatchForm (run_request (drop 1 words.now)) }
+{
+    Some(Command::Watch(run_words(words)?))
+}
+
 /// The command of the words, or None where they have no form. It takes no memory.
 pub fn command_of(words: &WordList) -> Option<Command<'_>>
     ensures value { option_map (form words.now) result ≡ form_of words.now }
     ensures pack { (input output : List ℕ) → (form_of words.now ≡ Some (PackForm input output)) ↔ IsPack words.now input output }
     ensures run { (request : RunRequest) → (form_of words.now ≡ Some (RunForm request)) ↔ IsRun words.now request }
+    ensures watch { (request : RunRequest) → (form_of words.now ≡ Some (WatchForm request)) ↔ IsWatch words.now request }
 {
     let verb = words.get(0)?;
     if verb == "pack" {
         pack_words(words)
     } else if verb == "run" {
-        run_words(words)
+        run_command(words)
+    } else if verb == "watch" {
+        watch_command(words)
     } else {
         None
     }

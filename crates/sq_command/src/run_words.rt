@@ -1,8 +1,8 @@
-//! The words of `run`.
+//! The words of `run` and `watch`.
 
 ghost use Rattle.sq_system.specs.Starts.{StartFits};
 
-/// `run FILE INPUT LIMIT BASE SIZE ARG*`, but for the arguments: they are the words of the command
+/// `run` or `watch` with `FILE INPUT LIMIT BASE SIZE ARG*`, but for the arguments: they are the words of the command
 /// line behind these six.
 #[derive(Clone, Copy, Debug)]
 pub struct RunWords<'w> {

@@ -8,13 +8,15 @@ use Rattle.sq_elf.proofs.Accepted.{too_long_refused}
 use Rattle.sq_command.specs.Commands.{RunRequest}
 use Rattle.sq_desk.specs.Outside.{Outside, ForFiles, content_of}
 use Rattle.sq_top.specs.declared.ending.Ending.{Ending}
-use Rattle.sq_top.specs.declared.ending.Ending.TheVariants.{Done, Words, Desk, Refused, Memory, Limit, BadStart}
+use Rattle.sq_top.specs.declared.ending.Ending.TheVariants.{Done, Words, Desk, Refused, Memory, Break, Limit, BadStart}
 use Rattle.sq_top.specs.declared.ending.DeskCall.TheVariants.{Load, Store, Print}
 use Rattle.sq_top.specs.Denials.{denied_ending}
 use Rattle.sq_program.specs.FilePrograms.{IsRefusalOf}
 use Rattle.sq_program.specs.FilePrograms.IsRefusalOf.{by_file}
 use Rattle.sq_top.specs.Endings.{LeavesUnpacked}
 use Rattle.sq_top.specs.RunEndings.{LeavesUnloaded, LeavesUnrun}
+use Rattle.sq_top.specs.Running.{file_of}
+use Rattle.sq_top.specs.WatchEndings.{LeavesUnwatched}
 
 -- an answer that is this error
 abbrev pub error : (T E : Type 0) → E → Result T E
@@ -34,6 +36,7 @@ unloaded name (Desk Store) before after gone = absurd gone
 unloaded name (Desk Print) before after gone = absurd gone
 unloaded name (Refused refusal) before after gone = λ files told. by_file (too_long_refused _ (gone.1 files told) ∙ ap Some (sym gone.0))
 unloaded name Memory before after gone = gone
+unloaded name Break before after gone = absurd gone
 unloaded name Limit before after gone = absurd gone
 unloaded name BadStart before after gone = absurd gone
 
@@ -52,5 +55,24 @@ file_unloaded request (Desk Store) before after gone = absurd gone
 file_unloaded request (Desk Print) before after gone = absurd gone
 file_unloaded request (Refused refusal) before after gone = λ files told. inl (too_long_refused _ (gone.1 files told) ∙ ap Some (sym gone.0))
 file_unloaded request Memory before after gone = gone
+file_unloaded request Break before after gone = absurd gone
 file_unloaded request Limit before after gone = absurd gone
 file_unloaded request BadStart before after gone = absurd gone
+
+pub file_unwatched : (request : RunRequest) (ending : Ending) (before after : Outside) → LeavesUnloaded request.file 134217728 ending before after → LeavesUnwatched request ending before after
+file_unwatched request Done before after gone = absurd gone
+file_unwatched request Words before after gone = absurd gone
+file_unwatched request (Desk Load) before after rose = inl rose
+file_unwatched request (Desk Store) before after gone = absurd gone
+file_unwatched request (Desk Print) before after gone = absurd gone
+file_unwatched request (Refused refusal) before after gone = λ files told. inl (by_file (too_long_refused _ (gone.1 files told) ∙ ap Some (sym gone.0)))
+file_unwatched request Memory before after gone = gone
+file_unwatched request Break before after gone = absurd gone
+file_unwatched request Limit before after gone = absurd gone
+file_unwatched request BadStart before after gone = absurd gone
+
+-- where FILE is refused
+pub file_denied : (request : RunRequest) (denied : Denied) (before after : Outside) (bytes : List ℕ) → ForFiles before (λ files. bytes ≡ file_of request files) →
+    ((refusal : Cause) → denied ≡ DeniedFile refusal → IsRefusalOf bytes refusal) → LeavesUnwatched request (denied_ending denied) before after
+file_denied request (DeniedFile refusal) before after bytes told refused = λ files held. inl (subst (λ b. IsRefusalOf b refusal) (told files held) (refused refusal refl))
+file_denied request NoMemory before after bytes told refused = tt

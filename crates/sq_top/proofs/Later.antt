@@ -4,12 +4,14 @@ use Rattle.std.proofs.lemmas.Bool.{cases_lt}
 use Rattle.sq_num.specs.declared.packed.Packed.{Packed}
 use Rattle.sq_desk.specs.Outside.{Outside, Place, Rose, NoneFall, Complaining, KeepsFiles, KeepsPrinted, KeepsComplained, extended_text}
 use Rattle.sq_top.specs.declared.ending.Ending.{Ending}
-use Rattle.sq_top.specs.declared.ending.Ending.TheVariants.{Done, Words, Desk, Refused, Memory, Limit, BadStart}
+use Rattle.sq_top.specs.declared.ending.Ending.TheVariants.{Done, Words, Desk, Refused, Memory, Break, Limit, BadStart}
 use Rattle.sq_top.specs.declared.ending.DeskCall.TheVariants.{Load, Store, Print}
-use Rattle.sq_command.specs.Commands.{RunRequest, Form, PackForm, RunForm, form_of}
+use Rattle.sq_command.specs.Commands.{RunRequest, Form, PackForm, RunForm, WatchForm, form_of}
 use Rattle.sq_top.specs.Statuses.{complaint_of}
 use Rattle.sq_top.specs.Endings.{StoresPacked, LeavesPack, Leaves, ComplainsLine}
-use Rattle.sq_top.specs.RunEndings.{FailsToLoad, RunLeft}
+use Rattle.sq_top.specs.RunEndings.{FailsToLoad, IsReadable, RunLeft}
+use Rattle.sq_top.specs.WatchEndings.{WatchLeft}
+use Rattle.sq_program.specs.FilePrograms.{IsAcceptedFile}
 use Rattle.sq_top.specs.Promises.{Ends}
 
 -- a complaint: files and what is printed stay, and no faults fall
@@ -44,29 +46,45 @@ module _ (before middle after : Outside) (first : NoneFall before middle) (quiet
   pack_on input output (Refused refusal) left = (left.0, quiet.files ∙ left.1, quiet.printed ∙ left.2)
   pack_on input output Memory left =
       (elim left.0 [ inl kept ↦ inl (quiet.files ∙ kept) | inr stored ↦ inr (stored.0, stores_on stored.1) ], quiet.printed ∙ left.1)
+  pack_on input output Break left = left
   pack_on input output Limit left = left
   pack_on input output BadStart left = left
 
-  fails_on : (request : RunRequest) → FailsToLoad request before middle → FailsToLoad request before after
-  fails_on request (inl file) = inl (rose_on _ before middle after first quiet.faults file)
-  fails_on request (inr input) = inr (input.0, rose_on _ before middle after first quiet.faults input.1)
+  fails_on : (Accepts : List ℕ → Type 0) (request : RunRequest) → FailsToLoad Accepts request before middle → FailsToLoad Accepts request before after
+  fails_on Accepts request (inl file) = inl (rose_on _ before middle after first quiet.faults file)
+  fails_on Accepts request (inr input) = inr (input.0, rose_on _ before middle after first quiet.faults input.1)
 
   run_left_on : (request : RunRequest) (ending : Ending) → RunLeft request ending before middle → RunLeft request ending before after
   run_left_on request Done left = (left.0, left.1, quiet.printed ∙ left.2)
   run_left_on request Words left = left
-  run_left_on request (Desk Load) left = (quiet.printed ∙ left.0, fails_on request left.1)
+  run_left_on request (Desk Load) left = (quiet.printed ∙ left.0, fails_on IsReadable request left.1)
   run_left_on request (Desk Store) left = left
   run_left_on request (Desk Print) left =
       (rose_on _ before middle after first quiet.faults left.0, (left.1.0, left.1.1, (left.1.2.0, quiet.printed ∙ left.1.2.1)))
   run_left_on request (Refused refusal) left = (quiet.printed ∙ left.0, left.1)
   run_left_on request Memory left = quiet.printed ∙ left
+  run_left_on request Break left = left
   run_left_on request Limit left = (left.0, left.1, quiet.printed ∙ left.2)
   run_left_on request BadStart left = (quiet.printed ∙ left.0, left.1)
+
+  watch_left_on : (request : RunRequest) (ending : Ending) → WatchLeft request ending before middle → WatchLeft request ending before after
+  watch_left_on request Done left = (left.0, left.1, quiet.printed ∙ left.2)
+  watch_left_on request Words left = left
+  watch_left_on request (Desk Load) left = (quiet.printed ∙ left.0, fails_on IsAcceptedFile request left.1)
+  watch_left_on request (Desk Store) left = left
+  watch_left_on request (Desk Print) left =
+      (rose_on _ before middle after first quiet.faults left.0, (left.1.0, left.1.1, (left.1.2.0, quiet.printed ∙ left.1.2.1)))
+  watch_left_on request (Refused refusal) left = (quiet.printed ∙ left.0, left.1)
+  watch_left_on request Memory left = quiet.printed ∙ left
+  watch_left_on request Break left = (left.0, left.1, quiet.printed ∙ left.2)
+  watch_left_on request Limit left = (left.0, left.1, quiet.printed ∙ left.2)
+  watch_left_on request BadStart left = (quiet.printed ∙ left.0, left.1)
 
   leaves_on : (form : Option Form) (ending : Ending) → Leaves form ending before middle → Leaves form ending before after
   leaves_on None ending left = (left.0, quiet.files ∙ left.1, quiet.printed ∙ left.2)
   leaves_on (Some (PackForm input output)) ending left = pack_on input output ending left
   leaves_on (Some (RunForm request)) ending left = (quiet.files ∙ left.0, run_left_on request ending left.1)
+  leaves_on (Some (WatchForm request)) ending left = (quiet.files ∙ left.0, watch_left_on request ending left.1)
 
   complains_on : (line : Option (List ℕ)) → KeepsComplained before middle → ComplainsLine line middle after → ComplainsLine line before after
   complains_on None silent said = said ∙ silent

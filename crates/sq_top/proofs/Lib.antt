@@ -5,3 +5,5 @@ pub mod Promised
 pub mod Refusals
 pub mod RunPromised
 pub mod StatusesPromised
+pub mod WatchPromised
+pub mod Watched

@@ -32,7 +32,7 @@ use Rattle.sq_lifted.proofs.SameFiles.{same_through}
 use Rattle.sq_pass.specs.declared.cut.Cut.{Cut}
 use Rattle.sq_jumps.specs.Candidates.{IsCandidate}
 use Rattle.sq_drive.specs.Settled.{IsSettled}
-use Rattle.sq_top.specs.Packing.{CanBeWritten, Packs, GoodOutput}
+use Rattle.sq_top.specs.Packing.{CanBeWritten, Packs}
 
 refs_at : (ws : List CodeWord) → map word_address (map code_ref ws) ≡ map code_word_address ws
 refs_at [] = refl

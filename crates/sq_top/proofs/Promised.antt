@@ -4,9 +4,9 @@ use Rattle.std.specs.Option.{option_map}
 use Rattle.sq_num.specs.declared.packed.Packed.{Packed}
 use Rattle.sq_desk.specs.Outside.{Outside, Files, content_of, with_file}
 use Rattle.sq_top.specs.declared.ending.Ending.{Ending}
-use Rattle.sq_top.specs.declared.ending.Ending.TheVariants.{Done, Words, Desk, Refused, Memory, Limit, BadStart}
+use Rattle.sq_top.specs.declared.ending.Ending.TheVariants.{Done, Words, Desk, Refused, Memory, Break, Limit, BadStart}
 use Rattle.sq_top.specs.declared.ending.DeskCall.TheVariants.{Load, Store, Print}
-use Rattle.sq_command.specs.Commands.{Form, PackForm, RunForm, form_of}
+use Rattle.sq_command.specs.Commands.{Form, PackForm, RunForm, WatchForm, form_of}
 use Rattle.sq_top.specs.Packing.{Packs, Headline, packed_text, sizes_text}
 use Rattle.sq_top.specs.Statuses.{status_of, complaint_of}
 use Rattle.sq_top.specs.Endings.{StoresPacked, LeavesPack, Leaves, ComplainsLine}
@@ -44,6 +44,7 @@ done_promised words ending before after ends input output form status files told
     by_case (Desk call) other gone = absurd (cc other)
     by_case (Refused refusal) other gone = absurd (cc other)
     by_case Memory other gone = absurd (cc other)
+    by_case Break other gone = absurd gone
     by_case Limit other gone = absurd gone
     by_case BadStart other gone = absurd gone
 
@@ -56,6 +57,7 @@ refused_promised words ending before after ends input output form status = by_ca
     by_case (Desk call) other gone said = absurd (cc other)
     by_case (Refused refusal) three gone said = (gone.1, gone.2, refusal, gone.0, said)
     by_case Memory other gone said = absurd (cc other)
+    by_case Break other gone said = absurd gone
     by_case Limit other gone said = absurd gone
     by_case BadStart other gone said = absurd gone
 
@@ -70,6 +72,7 @@ complete_promised words ending before after ends input output form no_fault file
     by_case (Desk Print) gone = absurd (no_fault Print gone.2)
     by_case (Refused refusal) gone = absurd (accepted refusal (gone.0 files told))
     by_case Memory gone = inr refl
+    by_case Break gone = absurd gone
     by_case Limit gone = absurd gone
     by_case BadStart gone = absurd gone
 
@@ -83,6 +86,7 @@ files_promised words ending before after ends = by_form (form_of words) refl end
     by_case input output form (Desk Store) gone = inr ((λ same. cc same), (λ same. cc same), input, output, form, inr (refl, gone.2, gone.3))
     by_case input output form (Desk Print) gone = inr ((λ same. cc same), (λ same. cc same), input, output, form, inl (holds gone.1))
     by_case input output form (Refused refusal) gone = inl gone.1
+    by_case input output form Break gone = absurd gone
     by_case input output form Limit gone = absurd gone
     by_case input output form BadStart gone = absurd gone
     by_case input output form Memory gone = elim gone.0 [ inl kept ↦ inl kept | inr stored ↦ inr ((λ same. cc same), (λ same. cc same), input, output, form, inl (holds stored.1)) ]
@@ -91,3 +95,4 @@ files_promised words ending before after ends = by_form (form_of words) refl end
     by_form None form gone = inl gone.1
     by_form (Some (PackForm input output)) form gone = by_case input output form ending gone
     by_form (Some (RunForm request)) form gone = inl gone.0
+    by_form (Some (WatchForm request)) form gone = inl gone.0

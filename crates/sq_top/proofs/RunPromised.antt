@@ -7,7 +7,7 @@ use Rattle.sq_system.specs.declared.event.Halt.{Halt}
 use Rattle.sq_command.specs.Commands.{RunRequest, RunForm, form_of}
 use Rattle.sq_desk.specs.Outside.{Outside, Files, KeepsFiles}
 use Rattle.sq_top.specs.declared.ending.Ending.{Ending}
-use Rattle.sq_top.specs.declared.ending.Ending.TheVariants.{Done, Words, Desk, Refused, Memory, Limit, BadStart}
+use Rattle.sq_top.specs.declared.ending.Ending.TheVariants.{Done, Words, Desk, Refused, Memory, Break, Limit, BadStart}
 use Rattle.sq_top.specs.declared.ending.DeskCall.TheVariants.{Load, Store, Print}
 use Rattle.sq_top.specs.Statuses.{status_of, complaint_of}
 use Rattle.sq_top.specs.Endings.{ComplainsLine}
@@ -17,7 +17,7 @@ use Rattle.sq_top.specs.RunPromises.{ForRun, HasRunFault, HasRunRefusal, IsBadRu
 use Rattle.sq_top.specs.Promises.{Ends}
 
 -- a trace that has halted is not at its limit
-not_both : (trace : Trace Event Halt) → HasHalted trace → IsAtLimit trace → ⊥
+pub not_both : (trace : Trace Event Halt) → HasHalted trace → IsAtLimit trace → ⊥
 not_both trace halted limit = subst IsHalted limit halted
 
 -- what is refused is not accepted
@@ -28,6 +28,7 @@ not_accepted request files refusal (inr input) accepted = omega (arith, input.1,
 -- two causes give one status
 same_status : (request : RunRequest) (files : Files) (first second : Ending) → RunCause request first files → RunCause request second files → status_of first ≡ status_of second
 same_status request files Done Done one other = refl
+same_status request files Done Break one other = absurd other
 same_status request files Done Limit one other = absurd (not_both (trace_in request files) one.1 other.1)
 same_status request files Done BadStart one other = absurd (one.0.valid other.bad)
 same_status request files Done (Refused refusal) one other = absurd (not_accepted request files refusal other one.0.accepted)
@@ -35,6 +36,7 @@ same_status request files Done Words one other = absurd other
 same_status request files Done (Desk call) one other = absurd other
 same_status request files Done Memory one other = absurd other
 same_status request files Limit Done one other = absurd (not_both (trace_in request files) other.1 one.1)
+same_status request files Limit Break one other = absurd other
 same_status request files Limit Limit one other = refl
 same_status request files Limit BadStart one other = absurd (one.0.valid other.bad)
 same_status request files Limit (Refused refusal) one other = absurd (not_accepted request files refusal other one.0.accepted)
@@ -42,6 +44,7 @@ same_status request files Limit Words one other = absurd other
 same_status request files Limit (Desk call) one other = absurd other
 same_status request files Limit Memory one other = absurd other
 same_status request files BadStart Done one other = absurd (other.0.valid one.bad)
+same_status request files BadStart Break one other = absurd other
 same_status request files BadStart Limit one other = absurd (other.0.valid one.bad)
 same_status request files BadStart BadStart one other = refl
 same_status request files BadStart (Refused refusal) one other = absurd (not_accepted request files refusal other one.accepted)
@@ -49,12 +52,14 @@ same_status request files BadStart Words one other = absurd other
 same_status request files BadStart (Desk call) one other = absurd other
 same_status request files BadStart Memory one other = absurd other
 same_status request files (Refused refusal) Done one other = absurd (not_accepted request files refusal one other.0.accepted)
+same_status request files (Refused refusal) Break one other = absurd other
 same_status request files (Refused refusal) Limit one other = absurd (not_accepted request files refusal one other.0.accepted)
 same_status request files (Refused refusal) BadStart one other = absurd (not_accepted request files refusal one other.accepted)
 same_status request files (Refused refusal) (Refused more) one other = refl
 same_status request files (Refused refusal) Words one other = absurd other
 same_status request files (Refused refusal) (Desk call) one other = absurd other
 same_status request files (Refused refusal) Memory one other = absurd other
+same_status request files Break second one other = absurd one
 same_status request files Words second one other = absurd one
 same_status request files (Desk call) second one other = absurd one
 same_status request files Memory second one other = absurd one
@@ -75,6 +80,7 @@ module _ (words : List (List ℕ)) (ending : Ending) (before after : Outside) (e
       by_case (Desk call) is gone = absurd (cc is)
       by_case (Refused refusal) is gone = absurd (cc is)
       by_case Memory is gone = absurd (cc is)
+      by_case Break is gone = absurd gone
       by_case Limit is gone = absurd (cc is)
       by_case BadStart is gone = absurd (cc is)
 
@@ -87,6 +93,7 @@ module _ (words : List (List ℕ)) (ending : Ending) (before after : Outside) (e
       by_case (Desk call) is gone = absurd (cc is)
       by_case (Refused refusal) is gone = absurd (cc is)
       by_case Memory is gone = absurd (cc is)
+      by_case Break is gone = absurd gone
       by_case Limit is gone = gone
       by_case BadStart is gone = absurd (cc is)
 
@@ -99,6 +106,7 @@ module _ (words : List (List ℕ)) (ending : Ending) (before after : Outside) (e
       by_case (Desk call) is gone said = absurd (cc is)
       by_case (Refused refusal) is gone said = absurd (cc is)
       by_case Memory is gone said = absurd (cc is)
+      by_case Break is gone said = absurd gone
       by_case Limit is gone said = absurd (cc is)
       by_case BadStart is gone said = (gone.0, gone.1, said)
 
@@ -113,6 +121,7 @@ module _ (words : List (List ℕ)) (ending : Ending) (before after : Outside) (e
       by_case (Desk Print) is gone said = (Print, gone.0, said)
       by_case (Refused refusal) is gone said = absurd (cc is)
       by_case Memory is gone said = absurd (cc is)
+      by_case Break is gone said = absurd gone
       by_case Limit is gone said = absurd (cc is)
       by_case BadStart is gone said = absurd (cc is)
 
@@ -125,6 +134,7 @@ module _ (words : List (List ℕ)) (ending : Ending) (before after : Outside) (e
       by_case (Desk call) is gone said = absurd (cc is)
       by_case (Refused refusal) is gone said = (gone.0, refusal, gone.1, said)
       by_case Memory is gone said = absurd (cc is)
+      by_case Break is gone said = absurd gone
       by_case Limit is gone said = absurd (cc is)
       by_case BadStart is gone said = absurd (cc is)
 
@@ -142,6 +152,7 @@ module _ (words : List (List ℕ)) (ending : Ending) (before after : Outside) (e
       by_case (Desk Print) gone = inr (inl (refl, inr (inr ((gone.1.1 files told).can, gone.0))))
       by_case (Refused refusal) gone = by_cause (Refused refusal) (gone.1 files told)
       by_case Memory gone = inr (inr refl)
+      by_case Break gone = absurd gone
       by_case Limit gone = by_cause Limit ((gone.1 files told).0.can, (gone.1 files told).1)
       by_case BadStart gone = by_cause BadStart (gone.1 files told)
 
@@ -156,5 +167,6 @@ module _ (words : List (List ℕ)) (ending : Ending) (before after : Outside) (e
       by_case (Desk Print) gone = absurd (no_fault Print gone.0)
       by_case (Refused refusal) gone = absurd (accepted refusal (gone.1 files told))
       by_case Memory gone = inr (inl refl)
+      by_case Break gone = absurd gone
       by_case Limit gone = inr (inr (inl refl))
       by_case BadStart gone = inr (inr (inr refl))

@@ -1,14 +1,20 @@
 -- What every command's status says, and what each prints.
 use Rattle.std.proofs.Common.{◌≡◌, ◌≢◌, ◌↔◌, ℕ, ◌≤◌, ◌⊎◌, inl, inr, List, Option, Some, None, refl, ap, arith}
+use Rattle.std.specs.Prelude.{⊤}
 use Rattle.sq_num.specs.declared.packed.Packed.{Packed}
-use Rattle.sq_command.specs.Commands.{RunRequest, Form, PackForm, RunForm, form_of}
-use Rattle.sq_desk.specs.Outside.{Outside, Place, content_of, Loading, Storing, Printing, Rose}
+use Rattle.sq_command.specs.Commands.{RunRequest, Form, PackForm, RunForm, WatchForm, form_of}
+use Rattle.sq_desk.specs.Outside.{Outside, Place, ForFiles, content_of, Loading, Storing, Printing, Rose}
 use Rattle.sq_top.specs.declared.ending.Ending.{Ending}
-use Rattle.sq_top.specs.declared.ending.Ending.TheVariants.{Done, Words, Desk, Refused, Memory, Limit, BadStart}
+use Rattle.sq_top.specs.declared.ending.Ending.TheVariants.{Done, Words, Desk, Refused, Memory, Break, Limit, BadStart}
 use Rattle.sq_top.specs.declared.ending.DeskCall.TheVariants.{Load, Store, Print}
 use Rattle.sq_top.specs.Statuses.{status_of, complaint_of, IsStatusOf}
 use Rattle.sq_top.specs.Endings.{PacksFile, LeavesPack, Leaves, ComplainsLine}
 use Rattle.sq_top.specs.RunEndings.{RunLeft}
+use Rattle.sq_top.specs.WatchEndings.{WatchLeft}
+use Rattle.sq_top.specs.Watching.{HasWatched}
+use Rattle.sq_runs.specs.Runs.{Trace}
+use Rattle.sq_system.specs.declared.event.Event.{Event}
+use Rattle.sq_system.specs.declared.event.Halt.{Halt}
 use Rattle.sq_lifted.proofs.Accepting.{not_refused}
 use Rattle.sq_top.specs.Promises.{Ends, ForPack, HasFault, RefusesExactly, PrintsAsSaid}
 
@@ -31,6 +37,7 @@ module _ (words : List (List ℕ)) (ending : Ending) (before after : Outside) (e
       pack_else input output (Desk call) gone one = absurd (cc one)
       pack_else input output (Refused refusal) gone one = absurd (cc one)
       pack_else input output Memory gone one = absurd (cc one)
+      pack_else input output Break gone one = absurd (cc one)
       pack_else input output Limit gone one = absurd (cc one)
       pack_else input output BadStart gone one = absurd (cc one)
 
@@ -40,13 +47,25 @@ module _ (words : List (List ℕ)) (ending : Ending) (before after : Outside) (e
       run_else request (Desk call) gone one = absurd (cc one)
       run_else request (Refused refusal) gone one = absurd (cc one)
       run_else request Memory gone one = absurd (cc one)
+      run_else request Break gone one = gone
       run_else request Limit gone one = absurd (cc one)
       run_else request BadStart gone one = absurd (cc one)
+
+      watch_else : (request : RunRequest) (e : Ending) → WatchLeft request e before after → status_of e ≡ 1 → ⊥
+      watch_else request Done gone one = absurd (cc one)
+      watch_else request Words gone one = gone
+      watch_else request (Desk call) gone one = absurd (cc one)
+      watch_else request (Refused refusal) gone one = absurd (cc one)
+      watch_else request Memory gone one = absurd (cc one)
+      watch_else request Break gone one = absurd (cc one)
+      watch_else request Limit gone one = absurd (cc one)
+      watch_else request BadStart gone one = absurd (cc one)
 
       only : (form : Option Form) → form_of words ≡ form → Leaves form ending before after → status_of ending ≡ 1 → form_of words ≡ None
       only None is gone one = is
       only (Some (PackForm input output)) is gone one = absurd (pack_else input output ending gone one)
       only (Some (RunForm request)) is gone one = absurd (run_else request ending gone.1 one)
+      only (Some (WatchForm request)) is gone one = absurd (watch_else request ending gone.1 one)
 
   -- each form has its statuses
   pub statuses_promised : IsStatusOf (form_of words) (status_of ending)
@@ -58,22 +77,35 @@ module _ (words : List (List ℕ)) (ending : Ending) (before after : Outside) (e
       pack_status input output (Desk call) gone = omega arith
       pack_status input output (Refused refusal) gone = omega arith
       pack_status input output Memory gone = omega arith
+      pack_status input output Break gone = absurd gone
       pack_status input output Limit gone = absurd gone
       pack_status input output BadStart gone = absurd gone
 
-      run_status : (e : Ending) → (status_of e ≤ 4) ⊎ (status_of e ≡ 6) ⊎ (status_of e ≡ 7)
-      run_status Done = inl (omega arith)
-      run_status Words = inl (omega arith)
-      run_status (Desk call) = inl (omega arith)
-      run_status (Refused refusal) = inl (omega arith)
-      run_status Memory = inl (omega arith)
-      run_status Limit = inr (inl refl)
-      run_status BadStart = inr (inr refl)
+      run_status : (request : RunRequest) (e : Ending) → RunLeft request e before after → (status_of e ≤ 4) ⊎ (status_of e ≡ 6) ⊎ (status_of e ≡ 7)
+      run_status request Done gone = inl (omega arith)
+      run_status request Words gone = inl (omega arith)
+      run_status request (Desk call) gone = inl (omega arith)
+      run_status request (Refused refusal) gone = inl (omega arith)
+      run_status request Memory gone = inl (omega arith)
+      run_status request Break gone = absurd gone
+      run_status request Limit gone = inr (inl refl)
+      run_status request BadStart gone = inr (inr refl)
+
+      watch_status : (e : Ending) → (status_of e ≤ 4) ⊎ (status_of e ≡ 5) ⊎ (status_of e ≡ 6) ⊎ (status_of e ≡ 7)
+      watch_status Done = inl (omega arith)
+      watch_status Words = inl (omega arith)
+      watch_status (Desk call) = inl (omega arith)
+      watch_status (Refused refusal) = inl (omega arith)
+      watch_status Memory = inl (omega arith)
+      watch_status Break = inr (inl refl)
+      watch_status Limit = inr (inr (inl refl))
+      watch_status BadStart = inr (inr (inr refl))
 
       by_form : (form : Option Form) → Leaves form ending before after → IsStatusOf form (status_of ending)
       by_form None gone = ap status_of gone.0
       by_form (Some (PackForm input output)) gone = pack_status input output ending gone
-      by_form (Some (RunForm request)) gone = run_status ending
+      by_form (Some (RunForm request)) gone = run_status request ending gone.1
+      by_form (Some (WatchForm request)) gone = watch_status ending
 
   -- without faults the status is not 2
   pub sound_promised : ((place : Place) → after.faults place ≡ 0) → status_of ending ≢ 2
@@ -87,6 +119,7 @@ module _ (words : List (List ℕ)) (ending : Ending) (before after : Outside) (e
       pack_sound input output (Desk Print) gone is = none_rose Printing before after (none Printing) gone.2
       pack_sound input output (Refused refusal) gone is = absurd (cc is)
       pack_sound input output Memory gone is = absurd (cc is)
+      pack_sound input output Break gone is = gone
       pack_sound input output Limit gone is = gone
       pack_sound input output BadStart gone is = gone
 
@@ -99,13 +132,28 @@ module _ (words : List (List ℕ)) (ending : Ending) (before after : Outside) (e
       run_sound request (Desk Print) gone is = none_rose Printing before after (none Printing) gone.0
       run_sound request (Refused refusal) gone is = absurd (cc is)
       run_sound request Memory gone is = absurd (cc is)
+      run_sound request Break gone is = gone
       run_sound request Limit gone is = absurd (cc is)
       run_sound request BadStart gone is = absurd (cc is)
+
+      watch_sound : (request : RunRequest) (e : Ending) → WatchLeft request e before after → status_of e ≡ 2 → ⊥
+      watch_sound request Done gone is = absurd (cc is)
+      watch_sound request Words gone is = gone
+      watch_sound request (Desk Load) gone is =
+          elim gone.1 [ inl file ↦ none_rose (Loading request.file) before after (none (Loading request.file)) file | inr input ↦ none_rose (Loading request.input) before after (none (Loading request.input)) input.1 ]
+      watch_sound request (Desk Store) gone is = gone
+      watch_sound request (Desk Print) gone is = none_rose Printing before after (none Printing) gone.0
+      watch_sound request (Refused refusal) gone is = absurd (cc is)
+      watch_sound request Memory gone is = absurd (cc is)
+      watch_sound request Break gone is = absurd (cc is)
+      watch_sound request Limit gone is = absurd (cc is)
+      watch_sound request BadStart gone is = absurd (cc is)
 
       by_form : (form : Option Form) → Leaves form ending before after → ⊥
       by_form None gone = absurd (cc (gone.0, two))
       by_form (Some (PackForm input output)) gone = pack_sound input output ending gone two
       by_form (Some (RunForm request)) gone = run_sound request ending gone.1 two
+      by_form (Some (WatchForm request)) gone = watch_sound request ending gone.1 two
 
   left : (input output : List ℕ) → form_of words ≡ Some (PackForm input output) → LeavesPack input output ending before after
   left input output form = rw form at ends.leaves
@@ -121,6 +169,7 @@ module _ (words : List (List ℕ)) (ending : Ending) (before after : Outside) (e
       by_case (Desk Print) is gone said = (Print, gone.2, said)
       by_case (Refused refusal) is gone said = absurd (cc is)
       by_case Memory is gone said = absurd (cc is)
+      by_case Break is gone said = absurd gone
       by_case Limit is gone said = absurd gone
       by_case BadStart is gone said = absurd gone
 
@@ -138,6 +187,7 @@ module _ (words : List (List ℕ)) (ending : Ending) (before after : Outside) (e
       by_case (Desk Print) gone = absurd (packs_not gone.0 gone.1.packs)
       by_case (Refused more) gone = inl refl
       by_case Memory gone = inr (inr refl)
+      by_case Break gone = absurd gone
       by_case Limit gone = absurd gone
       by_case BadStart gone = absurd gone
 
@@ -148,26 +198,44 @@ module _ (words : List (List ℕ)) (ending : Ending) (before after : Outside) (e
       pack_printed : (input output : List ℕ) → form_of words ≡ Some (PackForm input output) → (e : Ending) → LeavesPack input output e before after → PrintsAsSaid words (status_of e) before after
       pack_printed input output form Done gone = inr (inl (input, output, form, gone.0, gone.1.packs, inl (refl, gone.2)))
       pack_printed input output form Words gone = absurd gone
-      pack_printed input output form (Desk Load) gone = inl ((λ is. cc is), (λ is. cc is), gone.2)
-      pack_printed input output form (Desk Store) gone = inl ((λ is. cc is), (λ is. cc is), gone.4)
+      pack_printed input output form (Desk Load) gone = inl ((λ is. cc is), (λ is. cc is), (λ is. cc is), gone.2)
+      pack_printed input output form (Desk Store) gone = inl ((λ is. cc is), (λ is. cc is), (λ is. cc is), gone.4)
       pack_printed input output form (Desk Print) gone = inr (inl (input, output, form, gone.0, gone.1.packs, inr (refl, gone.2, gone.3)))
-      pack_printed input output form (Refused refusal) gone = inl ((λ is. cc is), (λ is. cc is), gone.2)
-      pack_printed input output form Memory gone = inl ((λ is. cc is), (λ is. cc is), gone.1)
+      pack_printed input output form (Refused refusal) gone = inl ((λ is. cc is), (λ is. cc is), (λ is. cc is), gone.2)
+      pack_printed input output form Memory gone = inl ((λ is. cc is), (λ is. cc is), (λ is. cc is), gone.1)
+      pack_printed input output form Break gone = absurd gone
       pack_printed input output form Limit gone = absurd gone
       pack_printed input output form BadStart gone = absurd gone
 
       run_printed : (request : RunRequest) → form_of words ≡ Some (RunForm request) → (e : Ending) → RunLeft request e before after → PrintsAsSaid words (status_of e) before after
-      run_printed request form Done gone = inr (inr (request, form, gone.0, (λ files told. (gone.1 files told).0), inl (inl refl, gone.2)))
+      run_printed request form Done gone = inr (inr (inl (request, form, gone.0, (λ files told. (gone.1 files told).0), inl (inl refl, gone.2))))
       run_printed request form Words gone = absurd gone
-      run_printed request form (Desk Load) gone = inl ((λ is. cc is), (λ is. cc is), gone.0)
+      run_printed request form (Desk Load) gone = inl ((λ is. cc is), (λ is. cc is), (λ is. cc is), gone.0)
       run_printed request form (Desk Store) gone = absurd gone
-      run_printed request form (Desk Print) gone = inr (inr (request, form, gone.1.0, gone.1.1, inr (refl, gone.0, gone.1.2)))
-      run_printed request form (Refused refusal) gone = inl ((λ is. cc is), (λ is. cc is), gone.0)
-      run_printed request form Memory gone = inl ((λ is. cc is), (λ is. cc is), gone)
-      run_printed request form Limit gone = inr (inr (request, form, gone.0, (λ files told. (gone.1 files told).0), inl (inr refl, gone.2)))
-      run_printed request form BadStart gone = inl ((λ is. cc is), (λ is. cc is), gone.0)
+      run_printed request form (Desk Print) gone = inr (inr (inl (request, form, gone.1.0, gone.1.1, inr (refl, gone.0, gone.1.2))))
+      run_printed request form (Refused refusal) gone = inl ((λ is. cc is), (λ is. cc is), (λ is. cc is), gone.0)
+      run_printed request form Memory gone = inl ((λ is. cc is), (λ is. cc is), (λ is. cc is), gone)
+      run_printed request form Break gone = absurd gone
+      run_printed request form Limit gone = inr (inr (inl (request, form, gone.0, (λ files told. (gone.1 files told).0), inl (inr refl, gone.2))))
+      run_printed request form BadStart gone = inl ((λ is. cc is), (λ is. cc is), (λ is. cc is), gone.0)
+
+      watch_seen : (request : RunRequest) (P : Trace Event Halt → Type 0) (text : List ℕ) → ForFiles before (λ files. HasWatched request P files text) → ForFiles before (λ files. HasWatched request (λ trace. ⊤) files text)
+      watch_seen request P text seen files told = let w = seen files told in record { can = w.can; seen = tt; text_is = w.text_is }
+
+      watch_printed : (request : RunRequest) → form_of words ≡ Some (WatchForm request) → (e : Ending) → WatchLeft request e before after → PrintsAsSaid words (status_of e) before after
+      watch_printed request form Done gone = inr (inr (inr (request, form, gone.0, watch_seen request _ gone.0 gone.1, inl (inl refl, gone.2))))
+      watch_printed request form Words gone = absurd gone
+      watch_printed request form (Desk Load) gone = inl ((λ is. cc is), (λ is. cc is), (λ is. cc is), gone.0)
+      watch_printed request form (Desk Store) gone = absurd gone
+      watch_printed request form (Desk Print) gone = inr (inr (inr (request, form, gone.1.0, gone.1.1, inr (refl, gone.0, gone.1.2))))
+      watch_printed request form (Refused refusal) gone = inl ((λ is. cc is), (λ is. cc is), (λ is. cc is), gone.0)
+      watch_printed request form Memory gone = inl ((λ is. cc is), (λ is. cc is), (λ is. cc is), gone)
+      watch_printed request form Break gone = inr (inr (inr (request, form, gone.0, watch_seen request _ gone.0 gone.1, inl (inr (inl refl), gone.2))))
+      watch_printed request form Limit gone = inr (inr (inr (request, form, gone.0, watch_seen request _ gone.0 gone.1, inl (inr (inr refl), gone.2))))
+      watch_printed request form BadStart gone = inl ((λ is. cc is), (λ is. cc is), (λ is. cc is), gone.0)
 
       by_form : (form : Option Form) → form_of words ≡ form → Leaves form ending before after → PrintsAsSaid words (status_of ending) before after
-      by_form None is gone = inl ((λ zero. cc (gone.0, zero)), (λ six. cc (gone.0, six)), gone.2)
+      by_form None is gone = inl ((λ zero. cc (gone.0, zero)), (λ five. cc (gone.0, five)), (λ six. cc (gone.0, six)), gone.2)
       by_form (Some (PackForm input output)) is gone = pack_printed input output is ending gone
       by_form (Some (RunForm request)) is gone = run_printed request is ending gone.1
+      by_form (Some (WatchForm request)) is gone = watch_printed request is ending gone.1

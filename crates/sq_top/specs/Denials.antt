@@ -1,8 +1,10 @@
--- How a command ends where a file is denied, or a run.
+-- How a command ends where a file is denied, a run, or a watch.
 use Rattle.sq_num.specs.declared.refusal.Denied.{Denied}
 use Rattle.sq_num.specs.declared.refusal.Denied.TheVariants.{Refused as DeniedFile, Memory as NoMemory}
 use Rattle.sq_run.specs.declared.fault.RunFault.{RunFault}
 use Rattle.sq_run.specs.declared.fault.RunFault.TheVariants.{BadStart as NoStart, Memory as NoRoom}
+use Rattle.sq_monitor.specs.declared.fault.WatchFault.{WatchFault}
+use Rattle.sq_monitor.specs.declared.fault.WatchFault.TheVariants.{BadStart as NoWatch, Memory as NoSpace}
 use Rattle.sq_top.specs.declared.ending.Ending.{Ending}
 use Rattle.sq_top.specs.declared.ending.Ending.TheVariants.{Refused, Memory, BadStart}
 
@@ -13,3 +15,7 @@ denied_ending NoMemory = Memory
 abbrev pub fault_ending : RunFault → Ending
 fault_ending NoStart = BadStart
 fault_ending NoRoom = Memory
+
+abbrev pub watch_fault_ending : WatchFault → Ending
+watch_fault_ending NoWatch = BadStart
+watch_fault_ending NoSpace = Memory

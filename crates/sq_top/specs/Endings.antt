@@ -3,12 +3,13 @@ use Rattle.std.specs.Prelude.{◌≡◌, ℕ, ◌⊎◌, List, Option, Some, Non
 use Rattle.sq_num.specs.declared.packed.Packed.{Packed}
 use Rattle.sq_desk.specs.Outside.{Outside, content_of, Rose, Loading, Storing, Printing, Complaining, KeepsFiles, SetsFile, LosesFile, KeepsPrinted, KeepsComplained, Prints, PrintsPrefix, Complains, ComplainsPrefix, ForFiles}
 use Rattle.sq_top.specs.declared.ending.Ending.{Ending}
-use Rattle.sq_top.specs.declared.ending.Ending.TheVariants.{Done, Words, Desk, Refused, Memory, Limit, BadStart}
+use Rattle.sq_top.specs.declared.ending.Ending.TheVariants.{Done, Words, Desk, Refused, Memory, Break, Limit, BadStart}
 use Rattle.sq_top.specs.declared.ending.DeskCall.TheVariants.{Load, Store, Print}
-use Rattle.sq_command.specs.Commands.{Form, PackForm, RunForm}
+use Rattle.sq_command.specs.Commands.{Form, PackForm, RunForm, WatchForm}
 use Rattle.sq_top.specs.Packing.{Packs, packed_text}
 use Rattle.sq_program.specs.FilePrograms.{IsRefusalOf}
 use Rattle.sq_top.specs.RunEndings.{LeavesRun}
+use Rattle.sq_top.specs.WatchEndings.{LeavesWatch}
 
 -- what the named file holds was packed so
 abbrev pub PacksFile : List ℕ → Packed → Outside → Type 0
@@ -58,6 +59,7 @@ LeavesPack input output (Refused refusal) before after =
     ForFiles before (λ files. IsRefusalOf (content_of files input) refusal) × KeepsFiles before after × KeepsPrinted before after
 LeavesPack input output Memory before after =
     (KeepsFiles before after ⊎ ((packed : Packed) × StoresPacked input output packed before after)) × KeepsPrinted before after
+LeavesPack input output Break before after = ⊥
 LeavesPack input output Limit before after = ⊥
 LeavesPack input output BadStart before after = ⊥
 
@@ -66,6 +68,7 @@ abbrev pub Leaves : Option Form → Ending → Outside → Outside → Type 0
 Leaves None ending before after = (ending ≡ Words) × KeepsFiles before after × KeepsPrinted before after
 Leaves (Some (PackForm input output)) ending before after = LeavesPack input output ending before after
 Leaves (Some (RunForm request)) ending before after = LeavesRun request ending before after
+Leaves (Some (WatchForm request)) ending before after = LeavesWatch request ending before after
 
 -- the line was complained, or a prefix of it where complaining failed, or nothing for want of memory
 abbrev pub ComplainsLine : Option (List ℕ) → Outside → Outside → Type 0

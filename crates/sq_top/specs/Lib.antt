@@ -6,3 +6,6 @@ pub mod RunEndings
 pub mod RunPromises
 pub mod Running
 pub mod Statuses
+pub mod WatchEndings
+pub mod WatchPromises
+pub mod Watching

@@ -1,5 +1,5 @@
 -- The promises of the top call, over what is outside before it and after it.
-use Rattle.std.specs.Prelude.{◌≡◌, ℕ, ◌⊎◌, List, ◌++◌, codes, Some, ◌≢◌}
+use Rattle.std.specs.Prelude.{◌≡◌, ℕ, ◌⊎◌, ⊤, List, ◌++◌, codes, Some, ◌≢◌}
 use Rattle.sq_num.specs.RefusalTexts.{refusal_text}
 use Rattle.sq_num.specs.declared.refusal.Refusal.{Refusal}
 use Rattle.sq_num.specs.declared.packed.Packed.{Packed}
@@ -7,12 +7,13 @@ use Rattle.sq_desk.specs.Outside.{Outside, Place, Loading, Storing, Printing, co
 use Rattle.sq_top.specs.declared.ending.Ending.{Ending}
 use Rattle.sq_top.specs.declared.ending.DeskCall.{DeskCall}
 use Rattle.sq_top.specs.declared.ending.DeskCall.TheVariants.{Load, Store, Print}
-use Rattle.sq_command.specs.Commands.{RunRequest, PackForm, RunForm, form_of}
+use Rattle.sq_command.specs.Commands.{RunRequest, PackForm, RunForm, WatchForm, form_of}
 use Rattle.sq_top.specs.Packing.{GoodOutput, Headline, packed_text}
 use Rattle.sq_program.specs.FilePrograms.{IsRefusalOf}
 use Rattle.sq_top.specs.Statuses.{call_text, complaint_of}
 use Rattle.sq_top.specs.Endings.{PacksFile, Leaves, ComplainsLine}
 use Rattle.sq_top.specs.Running.{HasRun}
+use Rattle.sq_top.specs.Watching.{HasWatched}
 
 -- the call ended so: with what the form leaves, and with the ending's complaint
 pub record Ends (words : List (List ℕ)) (ending : Ending) (before after : Outside) : Type 0 where
@@ -61,10 +62,19 @@ PrintsLines words status before after =
     (request : RunRequest) × (form_of words ≡ Some (RunForm request)) × (text : List ℕ) × ForFiles before (λ files. HasRun request files text)
     × ((((status ≡ 0) ⊎ (status ≡ 6)) × Prints text before after) ⊎ ((status ≡ 2) × Rose Printing before after × PrintsPrefix text before after))
 
--- nothing was printed, but with status 0 or 6; or what a packing or a run prints
+-- what was printed of a watch: the lines with status 0, 5 or 6, or a prefix of them where printing failed
+abbrev pub PrintsWatchLines : List (List ℕ) → ℕ → Outside → Outside → Type 0
+PrintsWatchLines words status before after =
+    (request : RunRequest) × (form_of words ≡ Some (WatchForm request)) × (text : List ℕ) × ForFiles before (λ files. HasWatched request (λ trace. ⊤) files text)
+    × ((((status ≡ 0) ⊎ (status ≡ 5) ⊎ (status ≡ 6)) × Prints text before after) ⊎ ((status ≡ 2) × Rose Printing before after × PrintsPrefix text before after))
+
+-- nothing was printed, but with status 0, 5 or 6; or what a packing, a run or a watch prints
 abbrev pub PrintsAsSaid : List (List ℕ) → ℕ → Outside → Outside → Type 0
 PrintsAsSaid words status before after =
-    ((status ≢ 0) × (status ≢ 6) × KeepsPrinted before after) ⊎ PrintsSizes words status before after ⊎ PrintsLines words status before after
+    ((status ≢ 0) × (status ≢ 5) × (status ≢ 6) × KeepsPrinted before after)
+    ⊎ PrintsSizes words status before after
+    ⊎ PrintsLines words status before after
+    ⊎ PrintsWatchLines words status before after
 
 -- status 2 has its cause, and its line names it
 abbrev pub HasFault : List ℕ → List ℕ → Outside → Outside → Type 0

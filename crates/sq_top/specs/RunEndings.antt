@@ -12,7 +12,7 @@ use Rattle.sq_run.specs.declared.run.Transcript.{Transcript}
 use Rattle.sq_command.specs.Commands.{RunRequest}
 use Rattle.sq_desk.specs.Outside.{Outside, Rose, Loading, Printing, KeepsFiles, KeepsPrinted, Prints, PrintsPrefix, ForFiles, content_of}
 use Rattle.sq_top.specs.declared.ending.Ending.{Ending}
-use Rattle.sq_top.specs.declared.ending.Ending.TheVariants.{Done, Words, Desk, Refused, Memory, Limit, BadStart}
+use Rattle.sq_top.specs.declared.ending.Ending.TheVariants.{Done, Words, Desk, Refused, Memory, Break, Limit, BadStart}
 use Rattle.sq_top.specs.declared.ending.DeskCall.TheVariants.{Load, Store, Print}
 use Rattle.sq_top.specs.Running.{file_of, trace_in, IsAtLimit, IsRunRefused, HasBadStart, HasRun}
 
@@ -24,11 +24,15 @@ LeavesUnloaded name limit (Refused refusal) before after =
 LeavesUnloaded name limit Memory before after = ⊤
 LeavesUnloaded name limit other before after = ⊥
 
--- loading FILE failed; or FILE is not refused, and loading INPUT failed
-abbrev pub FailsToLoad : RunRequest → Outside → Outside → Type 0
-FailsToLoad request before after =
+-- loading FILE failed; or FILE is accepted, and loading INPUT failed
+abbrev pub FailsToLoad : (List ℕ → Type 0) → RunRequest → Outside → Outside → Type 0
+FailsToLoad Accepts request before after =
     Rose (Loading request.file) before after
-    ⊎ (ForFiles before (λ files. file_refusal_of (file_of request files) ≡ None) × Rose (Loading request.input) before after)
+    ⊎ (ForFiles before (λ files. Accepts (file_of request files)) × Rose (Loading request.input) before after)
+
+-- `run` accepts what the table of the file reader does not refuse
+abbrev pub IsReadable : List ℕ → Type 0
+IsReadable bytes = file_refusal_of bytes ≡ None
 
 -- the transcript is that of the run
 abbrev pub IsTranscript : RunRequest → Transcript → Outside → Type 0
@@ -37,7 +41,7 @@ IsTranscript request transcript before =
 
 -- what the loads and the run leave where they give no transcript
 abbrev pub LeavesUnrun : RunRequest → Ending → Outside → Outside → Type 0
-LeavesUnrun request (Desk Load) before after = FailsToLoad request before after
+LeavesUnrun request (Desk Load) before after = FailsToLoad IsReadable request before after
 LeavesUnrun request (Refused refusal) before after = ForFiles before (λ files. IsRunRefused request files refusal)
 LeavesUnrun request BadStart before after = ForFiles before (HasBadStart request)
 LeavesUnrun request Memory before after = ⊤
@@ -70,11 +74,12 @@ PrintsRunPrefix request before after =
 abbrev pub RunLeft : RunRequest → Ending → Outside → Outside → Type 0
 RunLeft request Done before after = PrintsRun request HasHalted before after
 RunLeft request Words before after = ⊥
-RunLeft request (Desk Load) before after = KeepsPrinted before after × FailsToLoad request before after
+RunLeft request (Desk Load) before after = KeepsPrinted before after × FailsToLoad IsReadable request before after
 RunLeft request (Desk Store) before after = ⊥
 RunLeft request (Desk Print) before after = Rose Printing before after × PrintsRunPrefix request before after
 RunLeft request (Refused refusal) before after = KeepsPrinted before after × ForFiles before (λ files. IsRunRefused request files refusal)
 RunLeft request Memory before after = KeepsPrinted before after
+RunLeft request Break before after = ⊥
 RunLeft request Limit before after = PrintsRun request IsAtLimit before after
 RunLeft request BadStart before after = KeepsPrinted before after × ForFiles before (HasBadStart request)
 

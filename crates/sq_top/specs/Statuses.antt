@@ -1,9 +1,9 @@
 -- The statuses and the complaints of endings.
 use Rattle.std.specs.Prelude.{◌≡◌, ℕ, ◌≤◌, ◌⊎◌, List, ◌++◌, codes, Option, Some, None}
 use Rattle.sq_num.specs.RefusalTexts.{refusal_text}
-use Rattle.sq_command.specs.Commands.{Form, PackForm, RunForm}
+use Rattle.sq_command.specs.Commands.{Form, PackForm, RunForm, WatchForm}
 use Rattle.sq_top.specs.declared.ending.Ending.{Ending}
-use Rattle.sq_top.specs.declared.ending.Ending.TheVariants.{Done, Words, Desk, Refused, Memory, Limit, BadStart}
+use Rattle.sq_top.specs.declared.ending.Ending.TheVariants.{Done, Words, Desk, Refused, Memory, Break, Limit, BadStart}
 use Rattle.sq_top.specs.declared.ending.DeskCall.{DeskCall}
 use Rattle.sq_top.specs.declared.ending.DeskCall.TheVariants.{Load, Store, Print}
 
@@ -13,6 +13,7 @@ status_of Words = 1
 status_of (Desk call) = 2
 status_of (Refused refusal) = 3
 status_of Memory = 4
+status_of Break = 5
 status_of Limit = 6
 status_of BadStart = 7
 
@@ -28,11 +29,13 @@ complaint_of Words = Some (codes "words\n")
 complaint_of (Desk call) = Some (call_text call)
 complaint_of (Refused refusal) = Some (refusal_text refusal ++ codes "\n")
 complaint_of Memory = Some (codes "memory\n")
+complaint_of Break = None
 complaint_of Limit = None
 complaint_of BadStart = Some (codes "bad start\n")
 
--- the statuses that a form can have: 0 to 4, and of a run 6 and 7 too
+-- the statuses that a form can have: 0 to 4, and of a run 6 and 7 too, and of a watch 5
 abbrev pub IsStatusOf : Option Form → ℕ → Type 0
 IsStatusOf None status = status ≡ 1
 IsStatusOf (Some (PackForm input output)) status = status ≤ 4
 IsStatusOf (Some (RunForm request)) status = (status ≤ 4) ⊎ (status ≡ 6) ⊎ (status ≡ 7)
+IsStatusOf (Some (WatchForm request)) status = (status ≤ 4) ⊎ (status ≡ 5) ⊎ (status ≡ 6) ⊎ (status ≡ 7)

@@ -25,7 +25,7 @@ fn complaint_of(ending: &Ending) -> Option<Line>
     ensures { result ≡ complaint_of ending.now }
 {
     match ending {
-        Ending::Done | Ending::Limit => None,
+        Ending::Done | Ending::Break | Ending::Limit => None,
         Ending::Words => Some(line_of("words\n")),
         Ending::Desk(DeskCall::Load) => Some(line_of("desk load\n")),
         Ending::Desk(DeskCall::Store) => Some(line_of("desk store\n")),

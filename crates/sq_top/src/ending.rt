@@ -3,6 +3,7 @@
 ghost use Rattle.std.specs.Prelude.{◌≡◌};
 ghost use Rattle.sq_top.specs.Statuses.{status_of};
 
+use sq_monitor::WatchFault;
 use sq_num::{Denied, Refusal};
 use sq_run::RunFault;
 
@@ -27,6 +28,8 @@ pub enum Ending {
     Refused(Refusal),
     /// Memory ran out.
     Memory,
+    /// The program that was watched met a break.
+    Break,
     /// The program that was run came to its limit.
     Limit,
     /// The program cannot be started so.
@@ -44,6 +47,7 @@ impl Ending {
             Ending::Desk(_) => 2,
             Ending::Refused(_) => 3,
             Ending::Memory => 4,
+            Ending::Break => 5,
             Ending::Limit => 6,
             Ending::BadStart => 7,
         }
@@ -74,6 +78,20 @@ impl From<RunFault> for Ending {
         match fault {
             RunFault::BadStart => Ending::BadStart,
             RunFault::Memory => Ending::Memory,
+        }
+    }
+}
+
+impl From<WatchFault> for Ending {
+    ghost use Rattle.std.specs.Prelude.{◌≡◌};
+    ghost use Rattle.sq_top.specs.Denials.{watch_fault_ending};
+
+    ghost from_gives = { λ fault ending. ending ≡ watch_fault_ending fault };
+
+    fn from(fault: WatchFault) -> Ending {
+        match fault {
+            WatchFault::BadStart => Ending::BadStart,
+            WatchFault::Memory => Ending::Memory,
         }
     }
 }

@@ -2,7 +2,8 @@
 //!
 //! Its clauses are the product's promises. Where the answer to `pack` is 0 the output holds the
 //! packing of the input, loads no more, and the line that was printed tells the sizes. What `run`
-//! printed is exactly the lines of the file's trace. Each status has its cause, and its complaint;
+//! printed is exactly the lines of the file's trace, and what `watch` printed those of its monitored
+//! trace, with its first break. Each status has its cause, and its complaint;
 //! and in every case files stay, or hold a good output.
 #![tactic(auto)]
 
@@ -14,6 +15,7 @@ mod pack_command;
 mod packing;
 mod run_command;
 mod top;
+mod watch_command;
 
 pub use packing::pack_bytes;
 pub use top::squeeze;
@@ -24,3 +26,5 @@ mod pack_tests;
 mod run_tests;
 #[cfg(test)]
 mod tests;
+#[cfg(test)]
+mod watch_tests;

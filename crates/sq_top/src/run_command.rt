@@ -18,10 +18,10 @@ use sq_system::Start;
 use std::alloc::Global;
 
 /// The most bytes of an input.
-const LONGEST_INPUT: u32 = 16_777_216;
+pub(crate) const LONGEST_INPUT: u32 = 16_777_216;
 
 /// The number of the first argument among the words.
-const FIRST_ARGUMENT: usize = 6;
+pub(crate) const FIRST_ARGUMENT: usize = 6;
 
 /// Runs FILE over INPUT, and prints what tells the run.
 pub fn run<D: Desk>(alloc: Global, desk: &mut D, words: &WordList, asked: &RunWords<'_>) -> Ending

@@ -7,7 +7,7 @@ use std::alloc::Global;
 use std::test::Fail;
 
 /// `li a7,93; li a0,7; ecall; j .`
-const EXIT_7: &[u32] = &[0x05d0_0893, 0x0070_0513, 0x0000_0073, 0x0000_006f];
+pub(crate) const EXIT_7: &[u32] = &[0x05d0_0893, 0x0070_0513, 0x0000_0073, 0x0000_006f];
 
 /// `j L1; L2: j L1; L1: j L2`
 const LOOPS_OF_JUMPS: &[u32] = &[0x0080_006f, 0x0040_006f, 0xffdf_f06f];
@@ -76,7 +76,7 @@ const ATOMICS: &[u32] = &[
 ];
 
 /// `csrrw x0,mtvec,t0; j .`: no instruction that the machine knows.
-const NO_INSTRUCTION: &[u32] = &[0x3052_9073, 0x0000_006f];
+pub(crate) const NO_INSTRUCTION: &[u32] = &[0x3052_9073, 0x0000_006f];
 
 /// The file of a program that copies a code word from its load copy at 0x00018000 to 0x00020000 and
 /// calls what it names: `li a0,5; ret`.
@@ -220,7 +220,7 @@ const STARTUP_FROM_FLASH: &[u32] = &[
 ];
 
 /// A desk with a plain file `a` of these words and an input `e`.
-fn desk_of(alloc: Global, words: &[u32], input: &[u8]) -> Result<MemoryDesk, Memory> {
+pub(crate) fn desk_of(alloc: Global, words: &[u32], input: &[u8]) -> Result<MemoryDesk, Memory> {
     if words.is_empty() || words.len() > 262_144 {
         return Err(Memory);
     }

@@ -9,22 +9,26 @@ ghost use Rattle.sq_top.specs.Statuses.{status_of, IsStatusOf};
 ghost use Rattle.sq_top.specs.Endings.{Leaves};
 ghost use Rattle.sq_top.specs.Promises.{Ends, ForPack, IsDone, StayOrHold, PrintsAsSaid, HasFault, HasRefusal, RefusesExactly, IsComplete};
 ghost use Rattle.sq_top.specs.Running.{IsAtLimit};
+ghost use Rattle.sq_top.specs.Watching.{HasBroken};
+ghost use Rattle.sq_top.specs.WatchEndings.{PrintsWatch};
+ghost use Rattle.sq_top.specs.WatchPromises.{ForWatch, HasWatchRefusal, IsBadWatch, WatchesExactly, IsWatchComplete};
 ghost use Rattle.sq_top.specs.RunEndings.{PrintsRun};
 ghost use Rattle.sq_top.specs.RunPromises.{ForRun, HasRunFault, HasRunRefusal, IsBadRun, RunsExactly, IsRunComplete};
 
 use crate::complaint::complain;
 use crate::ending::Ending;
-use crate::{pack_command, run_command};
+use crate::{pack_command, run_command, watch_command};
 use sq_command::{Command, command_of};
 use sq_desk::Desk;
 use sq_num::WordList;
 use std::alloc::Global;
 
 /// Does what the words of a command line ask for, over a desk, and answers the status: 0 done, 1
-/// words without a form, 2 a fault of the desk, 3 refused, 4 out of memory, 6 a run at its limit, 7 a
-/// bad start. The words are those behind the program's name: `pack IN OUT` loads IN, packs it, stores
+/// words without a form, 2 a fault of the desk, 3 refused, 4 out of memory, 5 a break of what is watched,
+/// 6 a run at its limit, 7 a bad start. The words are those behind the program's name: `pack IN OUT` loads IN, packs it, stores
 /// OUT, and prints the sizes; `run FILE INPUT LIMIT BASE SIZE ARG*` loads FILE and INPUT, runs FILE
-/// for at most LIMIT steps, and prints the events and the end.
+/// for at most LIMIT steps, and prints the events and the end; `watch` with the same words does so under the
+/// monitor, which refuses all that `pack` refuses and ends at the first break too.
 pub fn squeeze<D: Desk>(alloc: Global, desk: &mut D, words: &WordList) -> u8
     // Status 0: the headline.
     ensures done { ForPack words.now (λ input output. result ≡ 0 → IsDone input output (D.outside desk.old) (D.outside desk.new)) }
@@ -44,6 +48,17 @@ pub fn squeeze<D: Desk>(alloc: Global, desk: &mut D, words: &WordList) -> u8
     ensures run_exact { ForRun words.now (λ request. RunsExactly request result (D.outside desk.old) (D.outside desk.new)) }
     ensures run_complete { ForRun words.now (λ request. IsRunComplete request result (D.outside desk.old) (D.outside desk.new)) }
     ensures run_files { ForRun words.now (λ _. KeepsFiles (D.outside desk.old) (D.outside desk.new)) }
+
+    // `watch`: what was printed with 0, 5 and 6, and the cause of each other status.
+    ensures watch_done { ForWatch words.now (λ request. result ≡ 0 → PrintsWatch request HasHalted (D.outside desk.old) (D.outside desk.new)) }
+    ensures watch_break { ForWatch words.now (λ request. result ≡ 5 → PrintsWatch request HasBroken (D.outside desk.old) (D.outside desk.new)) }
+    ensures watch_limit { ForWatch words.now (λ request. result ≡ 6 → PrintsWatch request IsAtLimit (D.outside desk.old) (D.outside desk.new)) }
+    ensures watch_bad { ForWatch words.now (λ request. result ≡ 7 → IsBadWatch request (D.outside desk.old) (D.outside desk.new)) }
+    ensures watch_fault { ForWatch words.now (λ request. result ≡ 2 → HasRunFault request (D.outside desk.old) (D.outside desk.new)) }
+    ensures watch_refused { ForWatch words.now (λ request. result ≡ 3 → HasWatchRefusal request (D.outside desk.old) (D.outside desk.new)) }
+    ensures watch_exact { ForWatch words.now (λ request. WatchesExactly request result (D.outside desk.old) (D.outside desk.new)) }
+    ensures watch_complete { ForWatch words.now (λ request. IsWatchComplete request result (D.outside desk.old) (D.outside desk.new)) }
+    ensures watch_files { ForWatch words.now (λ _. KeepsFiles (D.outside desk.old) (D.outside desk.new)) }
 
     // Words without a form, and statuses.
     ensures words { (result ≡ 1) ↔ (form_of words.now ≡ None) }
@@ -78,5 +93,6 @@ fn run<D: Desk>(alloc: Global, desk: &mut D, words: &WordList) -> Ending
         None => Ending::Words,
         Some(Command::Pack { input, output }) => pack_command::pack(alloc, desk, input, output),
         Some(Command::Run(asked)) => run_command::run(alloc, desk, words, &asked),
+        Some(Command::Watch(asked)) => watch_command::watch(alloc, desk, words, &asked),
     }
 }

@@ -2,7 +2,7 @@
 use Rattle.std.proofs.Common.{◌≡◌, None, sym, ap, ◌∙◌}
 use Rattle.std.specs.Option.{option_map}
 use Rattle.sq_command.specs.Commands.{form}
-use Rattle.sq_command.proofs.Forms.{at_none, at_pack, at_run, at_other, pack_is, run_is}
+use Rattle.sq_command.proofs.Forms.{at_none, at_pack, at_run, at_watch, at_other, pack_is, run_is, watch_is}
 use Rattle.sq_command.proofs.command.command_of.Goals as goal
 
 pub returns-in_err-verb-clause-value : goal.returns-in_err-verb-clause-value
@@ -16,6 +16,9 @@ returns-in_err-verb-clause-pack c = pack_is c.args.words.now
 pub returns-in_err-verb-clause-run : goal.returns-in_err-verb-clause-run
 returns-in_err-verb-clause-run c = run_is c.args.words.now
 
+pub returns-in_err-verb-clause-watch : goal.returns-in_err-verb-clause-watch
+returns-in_err-verb-clause-watch c = watch_is c.args.words.now
+
 pub returns-then-eq-clause-value : goal.returns-then-eq-clause-value
 returns-then-eq-clause-value c =
     c.pack_words.ensures ∙ sym (at_pack c.args.words.now c.in_ok-verb.verb.now (sym c.in_ok-verb.ensures) (sym c.if-eq.ensures))
@@ -26,9 +29,12 @@ returns-then-eq-clause-pack c = pack_is c.args.words.now
 pub returns-then-eq-clause-run : goal.returns-then-eq-clause-run
 returns-then-eq-clause-run c = run_is c.args.words.now
 
+pub returns-then-eq-clause-watch : goal.returns-then-eq-clause-watch
+returns-then-eq-clause-watch c = watch_is c.args.words.now
+
 pub returns-then-eq-2-clause-value : goal.returns-then-eq-2-clause-value
 returns-then-eq-2-clause-value c =
-    c.run_words.ensures ∙ sym (at_run c.args.words.now c.in_ok-verb.verb.now (sym c.in_ok-verb.ensures) (sym c.if-eq.ensures) (sym c.if-eq-2.ensures))
+    c.run_command.ensures ∙ sym (at_run c.args.words.now c.in_ok-verb.verb.now (sym c.in_ok-verb.ensures) (sym c.if-eq.ensures) (sym c.if-eq-2.ensures))
 
 pub returns-then-eq-2-clause-pack : goal.returns-then-eq-2-clause-pack
 returns-then-eq-2-clause-pack c = pack_is c.args.words.now
@@ -36,12 +42,31 @@ returns-then-eq-2-clause-pack c = pack_is c.args.words.now
 pub returns-then-eq-2-clause-run : goal.returns-then-eq-2-clause-run
 returns-then-eq-2-clause-run c = run_is c.args.words.now
 
-pub returns-else-eq-2-clause-value : goal.returns-else-eq-2-clause-value
-returns-else-eq-2-clause-value c =
-    sym (at_other c.args.words.now c.in_ok-verb.verb.now (sym c.in_ok-verb.ensures) (sym c.if-eq.ensures) (sym c.if-eq-2.ensures))
+pub returns-then-eq-2-clause-watch : goal.returns-then-eq-2-clause-watch
+returns-then-eq-2-clause-watch c = watch_is c.args.words.now
 
-pub returns-else-eq-2-clause-pack : goal.returns-else-eq-2-clause-pack
-returns-else-eq-2-clause-pack c = pack_is c.args.words.now
+pub returns-then-eq-3-clause-value : goal.returns-then-eq-3-clause-value
+returns-then-eq-3-clause-value c =
+    c.watch_command.ensures ∙ sym (at_watch c.args.words.now c.in_ok-verb.verb.now (sym c.in_ok-verb.ensures) (sym c.if-eq.ensures) (sym c.if-eq-2.ensures) (sym c.if-eq-3.ensures))
 
-pub returns-else-eq-2-clause-run : goal.returns-else-eq-2-clause-run
-returns-else-eq-2-clause-run c = run_is c.args.words.now
+pub returns-then-eq-3-clause-pack : goal.returns-then-eq-3-clause-pack
+returns-then-eq-3-clause-pack c = pack_is c.args.words.now
+
+pub returns-then-eq-3-clause-run : goal.returns-then-eq-3-clause-run
+returns-then-eq-3-clause-run c = run_is c.args.words.now
+
+pub returns-then-eq-3-clause-watch : goal.returns-then-eq-3-clause-watch
+returns-then-eq-3-clause-watch c = watch_is c.args.words.now
+
+pub returns-else-eq-3-clause-value : goal.returns-else-eq-3-clause-value
+returns-else-eq-3-clause-value c =
+    sym (at_other c.args.words.now c.in_ok-verb.verb.now (sym c.in_ok-verb.ensures) (sym c.if-eq.ensures) (sym c.if-eq-2.ensures) (sym c.if-eq-3.ensures))
+
+pub returns-else-eq-3-clause-pack : goal.returns-else-eq-3-clause-pack
+returns-else-eq-3-clause-pack c = pack_is c.args.words.now
+
+pub returns-else-eq-3-clause-run : goal.returns-else-eq-3-clause-run
+returns-else-eq-3-clause-run c = run_is c.args.words.now
+
+pub returns-else-eq-3-clause-watch : goal.returns-else-eq-3-clause-watch
+returns-else-eq-3-clause-watch c = watch_is c.args.words.now

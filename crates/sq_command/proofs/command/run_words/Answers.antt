@@ -1,6 +1,6 @@
--- the words behind `run`, one after another
+-- the words behind the verb, one after another
 use Rattle.std.proofs.Common.{◌≡◌, List, ◌∷◌, drop, ℕ, sym, ap, ◌∙◌}
-use Rattle.sq_command.specs.Commands.{run_of, run_form}
+use Rattle.sq_command.specs.Commands.{run_of, run_request}
 use Rattle.sq_command.proofs.Words.{dropped}
 use Rattle.sq_command.proofs.command.run_words.Goals as goal
 
@@ -15,4 +15,4 @@ returns c =
     let tail : drop 1 words ≡ c.in_ok-file.file.now ∷ c.in_ok-input.input.now ∷ c.in_ok-limit.limit.now ∷ c.in_ok-base.base.now ∷ c.in_ok-size.size.now ∷ drop 6 words = cc (first, second, third, fourth, fifth) in
     c.run_of.ensures words
     ∙ (λ i. run_of c.in_ok-file.file.now c.in_ok-input.input.now (c.number_of.ensures.value i) (c.number_of-2.ensures.value i) (c.number_of-3.ensures.value i) (drop 6 words))
-    ∙ sym (ap run_form tail)
+    ∙ sym (ap run_request tail)

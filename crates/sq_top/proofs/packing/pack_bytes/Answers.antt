@@ -2,7 +2,7 @@
 use Rattle.std.proofs.Common.{◌≡◌, ◌<◌, ◌+◌, ◌*◌, ℕ, List, inl, inr, Err, sym, ap, ◌∙◌, subst}
 use Rattle.std.specs.List.{AllByRecursion}
 use Rattle.std.proofs.lemmas.Result.{err_from_is_err_and}
-use Rattle.sq_num.specs.declared.refusal.Denied.TheVariants.{Refused, Memory}
+use Rattle.sq_num.specs.declared.refusal.Denied.TheVariants.{Refused}
 use Rattle.sq_num.specs.Saved.{words_saved}
 use Rattle.sq_elf.specs.Refusing.{file_refusal_of, text_size}
 use Rattle.sq_program.specs.FilePrograms.{IsRefusalOf}

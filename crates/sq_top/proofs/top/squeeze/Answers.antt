@@ -8,6 +8,8 @@ use Rattle.sq_top.specs.RunPromises.{ForRun, RunsExactly, IsRunComplete}
 use Rattle.sq_top.proofs.Promised.{done_promised, refused_promised, complete_promised, files_promised}
 use Rattle.sq_top.proofs.StatusesPromised.{words_promised, statuses_promised, sound_promised, fault_promised, exact_promised, printed_promised}
 use Rattle.sq_top.proofs.RunPromised.{run_files_promised, run_done_promised, run_limit_promised, run_bad_promised, run_fault_promised, run_refused_promised, run_exact_promised, run_complete_promised}
+use Rattle.sq_top.specs.WatchPromises.{ForWatch, WatchesExactly, IsWatchComplete}
+use Rattle.sq_top.proofs.WatchPromised.{watch_files_promised, watch_done_promised, watch_break_promised, watch_limit_promised, watch_bad_promised, watch_fault_promised, watch_refused_promised, watch_exact_promised, watch_complete_promised}
 use Rattle.sq_top.proofs.top.squeeze.Goals as goal
 
 pub returns-clause-done : goal.returns-clause-done
@@ -72,6 +74,47 @@ returns-clause-run_complete g c =
 
 pub returns-clause-run_files : goal.returns-clause-run_files
 returns-clause-run_files g c = run_files_promised c.args.words.now c.run_and_complain-ending.result _ _ c.run_and_complain-ending.ensures
+
+pub returns-clause-watch_done : goal.returns-clause-watch_done
+returns-clause-watch_done g c = λ request form status.
+    watch_done_promised c.args.words.now c.run_and_complain-ending.result _ _ c.run_and_complain-ending.ensures request form (sym c.status.ensures ∙ status)
+
+pub returns-clause-watch_break : goal.returns-clause-watch_break
+returns-clause-watch_break g c = λ request form status.
+    watch_break_promised c.args.words.now c.run_and_complain-ending.result _ _ c.run_and_complain-ending.ensures request form (sym c.status.ensures ∙ status)
+
+pub returns-clause-watch_limit : goal.returns-clause-watch_limit
+returns-clause-watch_limit g c = λ request form status.
+    watch_limit_promised c.args.words.now c.run_and_complain-ending.result _ _ c.run_and_complain-ending.ensures request form (sym c.status.ensures ∙ status)
+
+pub returns-clause-watch_bad : goal.returns-clause-watch_bad
+returns-clause-watch_bad g c = λ request form status.
+    watch_bad_promised c.args.words.now c.run_and_complain-ending.result _ _ c.run_and_complain-ending.ensures request form (sym c.status.ensures ∙ status)
+
+pub returns-clause-watch_fault : goal.returns-clause-watch_fault
+returns-clause-watch_fault g c = λ request form status.
+    watch_fault_promised c.args.words.now c.run_and_complain-ending.result _ _ c.run_and_complain-ending.ensures request form (sym c.status.ensures ∙ status)
+
+pub returns-clause-watch_refused : goal.returns-clause-watch_refused
+returns-clause-watch_refused g c = λ request form status.
+    watch_refused_promised c.args.words.now c.run_and_complain-ending.result _ _ c.run_and_complain-ending.ensures request form (sym c.status.ensures ∙ status)
+
+pub returns-clause-watch_exact : goal.returns-clause-watch_exact
+returns-clause-watch_exact g c =
+    let before : Outside = g.D.Desk.outside c.args.desk.now in
+    let after : Outside = g.D.Desk.outside c.run_and_complain-ending.new.desk in
+    let P : ℕ → Type 0 = λ status. ForWatch c.args.words.now (λ request. WatchesExactly request status before after) in
+    subst P (sym c.status.ensures) (watch_exact_promised c.args.words.now c.run_and_complain-ending.result before after c.run_and_complain-ending.ensures)
+
+pub returns-clause-watch_complete : goal.returns-clause-watch_complete
+returns-clause-watch_complete g c =
+    let before : Outside = g.D.Desk.outside c.args.desk.now in
+    let after : Outside = g.D.Desk.outside c.run_and_complain-ending.new.desk in
+    let P : ℕ → Type 0 = λ status. ForWatch c.args.words.now (λ request. IsWatchComplete request status before after) in
+    subst P (sym c.status.ensures) (watch_complete_promised c.args.words.now c.run_and_complain-ending.result before after c.run_and_complain-ending.ensures)
+
+pub returns-clause-watch_files : goal.returns-clause-watch_files
+returns-clause-watch_files g c = watch_files_promised c.args.words.now c.run_and_complain-ending.result _ _ c.run_and_complain-ending.ensures
 
 pub returns-clause-words : goal.returns-clause-words
 returns-clause-words g c =
