@@ -220,7 +220,7 @@ module _ (words : List (List ℕ)) (ending : Ending) (before after : Outside) (e
       run_printed request form BadStart gone = inl ((λ is. cc is), (λ is. cc is), (λ is. cc is), gone.0)
 
       watch_seen : (request : RunRequest) (P : Trace Event Halt → Type 0) (text : List ℕ) → ForFiles before (λ files. HasWatched request P files text) → ForFiles before (λ files. HasWatched request (λ trace. ⊤) files text)
-      watch_seen request P text seen files told = let w = seen files told in record { can = w.can; seen = tt; text_is = w.text_is }
+      watch_seen request P text seen files told = let w = seen files told in record { can = w.can; seen = tt; text_is = w.text_is; plain = w.plain }
 
       watch_printed : (request : RunRequest) → form_of words ≡ Some (WatchForm request) → (e : Ending) → WatchLeft request e before after → PrintsAsSaid words (status_of e) before after
       watch_printed request form Done gone = inr (inr (inr (request, form, gone.0, watch_seen request _ gone.0 gone.1, inl (inl refl, gone.2))))

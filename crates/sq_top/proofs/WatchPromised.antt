@@ -16,7 +16,7 @@ use Rattle.sq_top.specs.Statuses.{status_of, complaint_of}
 use Rattle.sq_top.specs.Endings.{ComplainsLine}
 use Rattle.sq_top.specs.Running.{file_of, IsAtLimit}
 use Rattle.sq_top.specs.RunPromises.{HasRunFault}
-use Rattle.sq_top.specs.Watching.{watched_in, HasBroken, IsBadFor, IsWatchRefused, IsWatchAccepted, HasBadWatch, CanWatch}
+use Rattle.sq_top.specs.Watching.{watched_in, HasBroken, IsWatchRefused, IsWatchAccepted, HasBadWatch, CanWatch}
 use Rattle.sq_top.specs.WatchEndings.{PrintsWatch, LeavesWatch, WatchLeft}
 use Rattle.sq_top.specs.WatchPromises.{ForWatch, HasWatchRefusal, IsBadWatch, WatchCause, MeetsWatchFault, WatchesExactly, IsWatchComplete}
 use Rattle.sq_top.specs.Promises.{Ends}
@@ -41,7 +41,7 @@ apart {Q = Q} never request files a b p q =
     never (watched_in request files a.accepted.file.program) p (subst (λ x. Q (watched_in request files x)) (same_program (file_of request files) b.accepted.file a.accepted.file) q)
 
 bad_or_valid : (request : RunRequest) (files : Files) → HasBadWatch request files → CanWatch request files → ⊥
-bad_or_valid request files bad can = can.valid (subst (IsBadFor request files) (same_program (file_of request files) bad.accepted.file can.accepted.file) bad.bad)
+bad_or_valid request files bad can = can.valid bad.bad
 
 -- what is refused is not accepted
 not_accepted : (request : RunRequest) (files : Files) (refusal : Refusal) → IsWatchRefused request files refusal → IsWatchAccepted request files → ⊥

@@ -1,6 +1,7 @@
 -- What is seen of a watch by what is told of it.
-use Rattle.std.proofs.Common.{◌≡◌, ℕ, ◌≤◌, List, length, take, Option, Some, None, refl, sym, subst, ap, ◌∙◌}
+use Rattle.std.proofs.Common.{◌≡◌, ℕ, ◌<◌, ◌≤◌, Bool, List, length, take, Option, Some, None, refl, sym, subst, ap, ◌∙◌}
 use Rattle.std.specs.Prelude.{⊤}
+use Rattle.std.specs.List.{AllByRecursion}
 use Rattle.sq_runs.specs.Runs.{Trace, Status, Running, Halted, Broken, IsNotBroken, IsHalted, HasHalted, trace, first_break, state_after}
 use Rattle.sq_runs.proofs.Breaks.{unbroken_none, none_unbroken}
 use Rattle.sq_system.specs.Starts.{Start, IsBadStart}
@@ -9,9 +10,13 @@ use Rattle.sq_system.specs.declared.event.Halt.{Halt}
 use Rattle.sq_follow.specs.declared.kind.Kind.{Kind}
 use Rattle.sq_follow.specs.Worlds.{extents}
 use Rattle.sq_program.specs.Programs.{Program}
-use Rattle.sq_program.specs.FilePrograms.{IsProgramOf, IsAcceptedFile}
+use Rattle.sq_program.specs.FilePrograms.{IsProgramOf, IsAccepted, IsAcceptedFile}
 use Rattle.sq_program.specs.Monitored.{Watched, Watches, monitored_step}
-use Rattle.sq_program.specs.FileRuns.{world_of, watched_start, watched_layout, monitored_trace}
+use Rattle.sq_program.specs.FileRuns.{world_of, watched_start, watched_layout, monitored_trace, IsUnbrokenRun}
+use Rattle.sq_run.specs.FileRuns.{file_trace, IsBadFileStart}
+use Rattle.sq_lifted.proofs.FileWorlds.{files_keep_runs}
+use Rattle.sq_lifted.proofs.PlainStarts.{show_plain}
+use Rattle.sq_lifted.proofs.FilePieces.{file_extents}
 use Rattle.sq_monitor.specs.Steps.{outcome_of, outcome_at}
 use Rattle.sq_monitor.specs.Transcripts.{file_outcome, transcript_text}
 use Rattle.sq_monitor.specs.declared.moved.WatchOutcome.{WatchOutcome}
@@ -49,8 +54,21 @@ unfolding file_outcome
 seen_as bytes p start n outcome is =
     subst (λ o. IsToldAs o (monitored_trace bytes p start n)) (sym is) (told (monitored_step (watched_layout bytes p start) p.text) n (watched_start (world_of bytes p) p start))
 
+-- a start is bad for a file exactly where it is for its world
+bad_there : (bytes : List ℕ) (p : Program) (start : Start) → IsBadStart (extents (world_of bytes p)) start → IsBadFileStart bytes start
+unfolding IsBadFileStart
+bad_there bytes p start bad = subst (λ es. IsBadStart es start) (sym (file_extents bytes p)) bad
+
+bad_here : (bytes : List ℕ) (p : Program) (start : Start) → IsBadFileStart bytes start → IsBadStart (extents (world_of bytes p)) start
+unfolding IsBadFileStart
+bad_here bytes p start bad = subst (λ es. IsBadStart es start) (file_extents bytes p) bad
+
+-- with no break the monitored run is the plain one
+erased : (bytes : List ℕ) (is : ℕ → Bool) (p : Program) → AllByRecursion (λ b. b < 256) bytes → IsAccepted bytes is p → (start : Start) (n : ℕ) → IsUnbrokenRun bytes p start n → monitored_trace bytes p start n ≡ file_trace bytes start n
+erased bytes is p fit accepted start n unbroken = sym (files_keep_runs bytes is p fit accepted start n unbroken).1 ∙ (show_plain bytes is p fit accepted start n unbroken).1
+
 -- what was loaded is what the files held
-module _ (request : RunRequest) (bytes input : List ℕ) (n : ℕ) (files : Files) (b : bytes ≡ file_of request files) (i : input ≡ input_of request files) (limit : n ≡ request.limit) (accepted : IsAcceptedFile bytes) (short : length input ≤ longest_input) where
+module _ (request : RunRequest) (bytes input : List ℕ) (n : ℕ) (files : Files) (b : bytes ≡ file_of request files) (i : input ≡ input_of request files) (limit : n ≡ request.limit) (fit : AllByRecursion (λ b. b < 256) bytes) (accepted : IsAcceptedFile bytes) (short : length input ≤ longest_input) where
   moved : (P : List ℕ → List ℕ → ℕ → Type 0) → P bytes input n → P (file_of request files) (input_of request files) request.limit
   moved P holds = subst (P (file_of request files) (input_of request files)) limit (subst (λ y. P (file_of request files) y n) i (subst (λ x. P x input n) b holds))
 
@@ -63,7 +81,7 @@ module _ (request : RunRequest) (bytes input : List ℕ) (n : ℕ) (files : File
   pub bad_watch : ((p : Program) → IsProgramOf bytes p → IsBadStart (extents (world_of bytes p)) (start_at request input)) → HasBadWatch request files
   bad_watch bad = record {
     accepted = record { file = held; input = within };
-    bad = moved (λ x y m. (p : Program) → IsProgramOf x p → IsBadStart (extents (world_of x p)) (start_at request y)) bad held.program held.accepted.read.program;
+    bad = moved (λ x y m. IsBadFileStart x (start_at request y)) (bad_there bytes accepted.program (start_at request input) (bad accepted.program accepted.accepted.read.program));
   }
 
   pub has_watched : (outcome : WatchOutcome) (text : List ℕ) →
@@ -73,12 +91,13 @@ module _ (request : RunRequest) (bytes input : List ℕ) (n : ℕ) (files : File
   has_watched outcome text valid told lines = record {
     can = record {
       accepted = record { file = held; input = within };
-      valid = moved (λ x y m. (p : Program) → IsProgramOf x p → ¬ IsBadStart (extents (world_of x p)) (start_at request y)) valid held.program held.accepted.read.program;
+      valid = moved (λ x y m. ¬ IsBadFileStart x (start_at request y)) (λ bad. valid accepted.program accepted.accepted.read.program (bad_here bytes accepted.program (start_at request input) bad));
     };
     seen =
         seen_as (file_of request files) held.program (start_in request files) request.limit outcome
         (moved (λ x y m. (p : Program) → IsProgramOf x p → outcome ≡ file_outcome x p (start_at request y) m) told held.program held.accepted.read.program);
     text_is = moved (λ x y m. (p : Program) → IsProgramOf x p → text ≡ transcript_text x p (start_at request y) m) lines held.program held.accepted.read.program;
+    plain = erased (file_of request files) held.reached held.program (subst (AllByRecursion (λ b. b < 256)) b fit) held.accepted (start_in request files) request.limit;
   }
 
 -- where there is no watch
@@ -102,7 +121,7 @@ broken AtLimit is t seen = absurd (cc is)
 broken (AtBreak pc kind) is t seen = seen
 
 seen_so : (request : RunRequest) (P Q : Trace Event Halt → Type 0) (text : List ℕ) (before : Outside) → ((t : Trace Event Halt) → P t → Q t) → ForFiles before (λ files. HasWatched request P files text) → ForFiles before (λ files. HasWatched request Q files text)
-seen_so request P Q text before so all files told = let w = all files told in record { can = w.can; seen = so _ w.seen; text_is = w.text_is }
+seen_so request P Q text before so all files told = let w = all files told in record { can = w.can; seen = so _ w.seen; text_is = w.text_is; plain = w.plain }
 
 -- what the printing of a transcript leaves of a watch
 module _ (request : RunRequest) (transcript : WatchTranscript) (before middle after : Outside) (first : NoneFall before middle) (kept : KeepsPrinted before middle) (watched : IsWatchTranscript request transcript before) where

@@ -2,18 +2,17 @@
 use Rattle.std.specs.Prelude.{◌≡◌, ℕ, ◌<◌, ◌≤◌, ◌⊎◌, List, length}
 use Rattle.sq_num.specs.declared.refusal.Refusal.{Refusal}
 use Rattle.sq_num.specs.declared.refusal.Refusal.TheVariants.{FileTooLong}
-use Rattle.sq_runs.specs.Runs.{Trace, Broken}
-use Rattle.sq_system.specs.Starts.{IsBadStart}
+use Rattle.sq_runs.specs.Runs.{Trace, Broken, IsUnbroken}
 use Rattle.sq_system.specs.declared.event.Event.{Event}
 use Rattle.sq_system.specs.declared.event.Halt.{Halt}
-use Rattle.sq_follow.specs.Worlds.{extents}
 use Rattle.sq_program.specs.Programs.{Program}
 use Rattle.sq_program.specs.FilePrograms.{IsRefusalOf, IsAcceptedFile}
-use Rattle.sq_program.specs.FileRuns.{world_of, monitored_trace}
+use Rattle.sq_program.specs.FileRuns.{monitored_trace}
+use Rattle.sq_run.specs.FileRuns.{IsBadFileStart}
 use Rattle.sq_monitor.specs.Transcripts.{transcript_text}
 use Rattle.sq_command.specs.Commands.{RunRequest}
 use Rattle.sq_desk.specs.Outside.{Files}
-use Rattle.sq_top.specs.Running.{file_of, input_of, start_in, longest_input}
+use Rattle.sq_top.specs.Running.{file_of, input_of, start_in, trace_in, longest_input}
 
 -- what is seen of the first LIMIT steps of this program under the monitor
 abbrev pub watched_in : RunRequest → Files → Program → Trace Event Halt
@@ -22,10 +21,6 @@ watched_in request files p = monitored_trace (file_of request files) p (start_in
 -- the lines that tell them: the events, and the end, the first break or the limit
 abbrev pub lines_in : RunRequest → Files → Program → List ℕ
 lines_in request files p = transcript_text (file_of request files) p (start_in request files) request.limit
-
--- the start is bad for the pieces of this program's file
-abbrev pub IsBadFor : RunRequest → Files → Program → Type 0
-IsBadFor request files p = IsBadStart (extents (world_of (file_of request files) p)) (start_in request files)
 
 -- one of the steps was a break
 abbrev pub HasBroken : Trace Event Halt → Type 0
@@ -45,15 +40,17 @@ pub record IsWatchAccepted (request : RunRequest) (files : Files) : Type 0 where
 -- nothing is refused, and the start is bad
 pub record HasBadWatch (request : RunRequest) (files : Files) : Type 0 where
   pub accepted : IsWatchAccepted request files
-  pub bad : IsBadFor request files accepted.file.program
+  pub bad : IsBadFileStart (file_of request files) (start_in request files)
 
 -- nothing is refused, and the start is valid
 pub record CanWatch (request : RunRequest) (files : Files) : Type 0 where
   pub accepted : IsWatchAccepted request files
-  pub valid : ¬ IsBadFor request files accepted.file.program
+  pub valid : ¬ IsBadFileStart (file_of request files) (start_in request files)
 
--- it is watched, P holds of what is seen, and these are the lines that tell it
+-- it is watched, P holds of what is seen, and these are the lines that tell it; with no break the plain run of FILE
+-- shows the same
 pub record HasWatched (request : RunRequest) (P : Trace Event Halt → Type 0) (files : Files) (text : List ℕ) : Type 0 where
   pub can : CanWatch request files
   pub seen : P (watched_in request files can.accepted.file.program)
   pub text_is : text ≡ lines_in request files can.accepted.file.program
+  pub plain : IsUnbroken (watched_in request files can.accepted.file.program) → watched_in request files can.accepted.file.program ≡ trace_in request files

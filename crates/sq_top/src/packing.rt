@@ -44,7 +44,7 @@ pub fn pack_bytes(alloc: Global, bytes: &[u8]) -> Result<Packed, Denied>
 }
 
 /// Each number of a slice of bytes is below 256.
-fn bytes_fit(bytes: &[u8])
+pub(crate) fn bytes_fit(bytes: &[u8])
     ensures { AllByRecursion (λ b. b < 256) bytes.now }
 {
     let _count = bytes.len();

@@ -1,7 +1,8 @@
 //! `watch FILE INPUT LIMIT BASE SIZE ARG*`: loads both, runs FILE under the monitor from the start that the
 //! words and INPUT give, and prints the events and the end, the first break or the limit.
 
-ghost use Rattle.std.specs.Prelude.{◌≡◌, IfOk, IfErr, OnOk, Err, List, ℕ};
+ghost use Rattle.std.specs.Prelude.{◌≡◌, ◌<◌, IfOk, IfErr, OnOk, Err, List, ℕ};
+ghost use Rattle.std.specs.List.{AllByRecursion};
 ghost use Rattle.sq_num.specs.declared.refusal.Refusal.{Refusal};
 ghost use Rattle.sq_command.specs.Commands.{request_of};
 ghost use Rattle.sq_system.specs.Starts.{start_of, StartFits, IsBadStart};
@@ -15,6 +16,7 @@ ghost use Rattle.sq_top.specs.WatchEndings.{IsWatchTranscript, LeavesUnwatched, 
 
 use crate::ending::{DeskCall, Ending};
 use crate::loading::load;
+use crate::packing::bytes_fit;
 use crate::run_command::{FIRST_ARGUMENT, LONGEST_INPUT};
 use sq_command::RunWords;
 use sq_desk::{Desk, DeskFault};
@@ -71,11 +73,12 @@ fn load_and_watch<D: Desk>(
 /// The relocations of a file of which nothing is refused. Its graph is made to see that, and let go.
 fn accepted_relocs<'a>(alloc: Global, elf: &Elf<'a>) -> Result<Relocs<'a>, Denied>
     ensures read { IfOk result (λ relocs. relocs ≡ elf.now) }
+    ensures fit { OnOk result (AllByRecursion (λ b. b < 256) elf.now) }
     ensures accepted { OnOk result (IsAcceptedFile elf.now) }
     ensures refused { (refusal : Refusal) → result ≡ Err (Denied.Refused refusal) → IsRefusalOf elf.now refusal }
 {
-    // Its contract has that nothing before the relocations refuses the file.
-    let _bytes = elf.bytes();
+    // Their contracts have that nothing before the relocations refuses the file.
+    bytes_fit(elf.bytes());
     let relocs = read_relocs(alloc, elf)?;
     let _graph = lift(alloc, elf, &relocs)?;
     Ok(relocs)

@@ -10,7 +10,7 @@ pub returns-in_err-relocs-clause-refused : goal.returns-in_err-relocs-clause-ref
 returns-in_err-relocs-clause-refused c = λ refusal is.
     let p = err_from_is_err_and c.from_residual.result c.from_residual.ensures.1 in
     let same : c.in_err-relocs.field-0.0 ≡ Refused refusal = cc (p.1, p.2, is) in
-    by_relocs c.bytes-bytes.ensures.accepted (c.in_err-relocs.ensures.refused refusal (ap Err same))
+    by_relocs c.bytes.ensures.accepted (c.in_err-relocs.ensures.refused refusal (ap Err same))
 
 pub returns-in_err-_graph-clause-refused : goal.returns-in_err-_graph-clause-refused
 returns-in_err-_graph-clause-refused c = λ refusal is.

@@ -27,7 +27,7 @@ returns-in_err-watch_text-clause-fails g c =
     bad_watch (request_of c.args.words.now c.args.asked.now) c.in_ok-elf.elf c.as_slice-2.result.now c.from.result files
     (c.in_ok-elf.ensures.read ∙ c.as_slice.ensures.value ∙ c.in_ok-bytes.ensures.told files told)
     (c.as_slice-2.ensures.value ∙ c.in_ok-input.ensures.told files (c.in_ok-bytes.ensures.files ∙ told))
-    c.from.ensures c.in_ok-relocs.ensures.accepted
+    c.from.ensures c.in_ok-relocs.ensures.fit c.in_ok-relocs.ensures.accepted
     (subst (λ (y : List ℕ). length y ≤ longest_input) (sym c.as_slice-2.ensures.value) c.in_ok-input.ensures.within)
     (c.in_err-watch_text.ensures.bad (ap Err is))))
 
@@ -36,7 +36,7 @@ returns-clause-watches g c = λ files told.
     has_watched (request_of c.args.words.now c.args.asked.now) c.in_ok-elf.elf c.as_slice-2.result.now c.from.result files
     (c.in_ok-elf.ensures.read ∙ c.as_slice.ensures.value ∙ c.in_ok-bytes.ensures.told files told)
     (c.as_slice-2.ensures.value ∙ c.in_ok-input.ensures.told files (c.in_ok-bytes.ensures.files ∙ told))
-    c.from.ensures c.in_ok-relocs.ensures.accepted
+    c.from.ensures c.in_ok-relocs.ensures.fit c.in_ok-relocs.ensures.accepted
     (subst (λ (y : List ℕ). length y ≤ longest_input) (sym c.as_slice-2.ensures.value) c.in_ok-input.ensures.within)
     c.in_ok-watch_text.field-0.outcome c.in_ok-watch_text.field-0.text
     c.in_ok-watch_text.ensures.valid c.in_ok-watch_text.ensures.outcome c.in_ok-watch_text.ensures.text
