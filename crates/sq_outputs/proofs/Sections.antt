@@ -10,7 +10,7 @@ use Rattle.sq_write.proofs.PieceWalks.{piece_bytes-append}
 use Rattle.sq_outputs.specs.Fitting.{IsFittingPiece, IsFitting}
 use Rattle.sq_outputs.specs.Reading.{seen, output_sections, section_parts, SectionsAreRead}
 use Rattle.sq_outputs.proofs.Parts.{PartAt, part_here, part_from, first_part, rest_part, part_ends, part_read, word_at}
-use Rattle.sq_outputs.proofs.Laid.{laid_part, end_above}
+use Rattle.sq_outputs.proofs.Laid.{laid_part}
 use Rattle.sq_outputs.proofs.Standing.{Stands, output_stands}
 use Rattle.sq_outputs.proofs.Headers.{headers_are_read}
 use Rattle.sq_outputs.proofs.Lists.{all_middle}
