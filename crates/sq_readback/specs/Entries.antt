@@ -39,3 +39,8 @@ numbered number (r ∷ rs) = read_entry number r ∷ numbered (suc number) rs
 abbrev pub EntriesAreRead : Type 0
 EntriesAreRead =
     (o : Output) → IsFitting o → AllByRecursion IsFittingRelocation o.relocations → read_entries (output_file o) ≡ numbered 0 o.relocations
+
+-- The entries of the file of a graph are the graph's, in order.
+abbrev pub WrittenEntriesAreRead : Type 0
+WrittenEntriesAreRead =
+    (bytes : List ℕ) (g : Graph) → IsWritable bytes g → read_entries (written bytes g) ≡ numbered 0 (entries_of g (text_of bytes).lo)

@@ -1,9 +1,14 @@
 //! What the readers of files find in a file that is written of a graph.
 #![tactic(auto)]
 
-ghost use Rattle.sq_readback.specs.Entries.{EntriesAreRead};
+ghost use Rattle.sq_readback.specs.Entries.{EntriesAreRead, WrittenEntriesAreRead};
 
 /// The relocation entries of an output file are read as they were written, in order.
 pub fn entries_are_read()
     ensures { EntriesAreRead }
+{}
+
+/// The relocation entries of the file of a graph are read as the graph's, in order.
+pub fn written_entries_are_read()
+    ensures { WrittenEntriesAreRead }
 {}
