@@ -1,3 +1,4 @@
 pub mod Entries
 pub mod Points
 pub mod Written
+pub mod CodeWords

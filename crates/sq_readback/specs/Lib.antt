@@ -1,1 +1,2 @@
+pub mod CodeWords
 pub mod Entries

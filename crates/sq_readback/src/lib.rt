@@ -1,6 +1,7 @@
 //! What the readers of files find in a file that is written of a graph.
 #![tactic(auto)]
 
+ghost use Rattle.sq_readback.specs.CodeWords.{WrittenCodeWordsAreRead, NoByteIsStale};
 ghost use Rattle.sq_readback.specs.Entries.{EntriesAreRead, WrittenEntriesAreRead};
 
 /// The relocation entries of an output file are read as they were written, in order.
@@ -11,4 +12,14 @@ pub fn entries_are_read()
 /// The relocation entries of the file of a graph are read as the graph's, in order.
 pub fn written_entries_are_read()
     ensures { WrittenEntriesAreRead }
+{}
+
+/// The code words of the file of a graph are the graph's, each the new address of its block.
+pub fn written_code_words_are_read()
+    ensures { WrittenCodeWordsAreRead }
+{}
+
+/// No byte of the file of a graph is stale.
+pub fn no_byte_is_stale()
+    ensures { NoByteIsStale }
 {}
