@@ -2,3 +2,5 @@ pub mod Entries
 pub mod Points
 pub mod Written
 pub mod CodeWords
+pub mod Fields
+pub mod Words

@@ -125,7 +125,7 @@ module _ (g : Graph) (lo : ℕ) where
   abbrev pub entries_in : List Point → List Relocation
   entries_in ps = flat_map (λ (p : Point). p.entries) ps
 
-  point_halves : (low high at : ℕ) (p : Point) → low ≤ at → at + 4 ≤ high → Shape g lo at p → AllByRecursion (IsHalf low high) p.entries
+  pub point_halves : (low high at : ℕ) (p : Point) → low ≤ at → at + 4 ≤ high → Shape g lo at p → AllByRecursion (IsHalf low high) p.entries
   point_halves low high at p below within (inl none) = subst (λ es. AllByRecursion (IsHalf low high) es) (sym none) tt
   point_halves low high at p below within (inr (inl upper)) =
       subst (λ es. AllByRecursion (IsHalf low high) es) (sym upper.entries)

@@ -2,6 +2,7 @@
 #![tactic(auto)]
 
 ghost use Rattle.sq_readback.specs.CodeWords.{WrittenCodeWordsAreRead, NoByteIsStale};
+ghost use Rattle.sq_readback.specs.Words.{WrittenInstructionsAreRead, WrittenMarksAreRead};
 ghost use Rattle.sq_readback.specs.Entries.{EntriesAreRead, WrittenEntriesAreRead};
 
 /// The relocation entries of an output file are read as they were written, in order.
@@ -22,4 +23,14 @@ pub fn written_code_words_are_read()
 /// No byte of the file of a graph is stale.
 pub fn no_byte_is_stale()
     ensures { NoByteIsStale }
+{}
+
+/// The instruction at the address of a word of text of the file of a graph is that of its point.
+pub fn written_instructions_are_read()
+    ensures { WrittenInstructionsAreRead }
+{}
+
+/// The mark of a word of text of the file of a graph is Hi, Lo or Plain, as its point says.
+pub fn written_marks_are_read()
+    ensures { WrittenMarksAreRead }
 {}
