@@ -4,3 +4,4 @@ pub mod Written
 pub mod CodeWords
 pub mod Fields
 pub mod Words
+pub mod Outside

@@ -71,7 +71,7 @@ all_kept : (P : Relocation → Type 0) (test : Entry → Bool) → ((k : ℕ) (r
 all_kept P test passes [] n all = refl
 all_kept P test passes (r ∷ rs) n all = rw (passes n r all.0) (ap (λ es. read_entry n r ∷ es) (all_kept P test passes rs (suc n) all.1))
 
-behind_text : (low high x : ℕ) → (nat_le low x && nat_lt x high) ≡ false → low ≤ x → high ≤ x
+pub behind_text : (low high x : ℕ) → (nat_le low x && nat_lt x high) ≡ false → low ≤ x → high ≤ x
 behind_text low high x out above = grind (arith, nat_tests)
 
 module _ (g : Graph) (lo : ℕ) where

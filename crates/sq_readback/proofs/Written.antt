@@ -1,6 +1,7 @@
 -- The relocations of the file of a graph: those of its words of text, and those of its code words.
-use Rattle.std.proofs.Common.{◌≡◌, ℕ, ◌+◌, ◌*◌, ◌^◌, ◌<◌, ◌≤◌, Bool, true, false, ◌⊎◌, inl, inr, nat_lt, nat_le, List, [], ◌∷◌, ◌++◌, map, filter, Option, Some, None, IsSome, option_map, refl, sym, ap, subst, arith}
-use Rattle.std.specs.List.{All, AllByRecursion}
+use Rattle.std.proofs.Common.{◌≡◌, ℕ, ◌+◌, ◌*◌, ◌^◌, ◌<◌, ◌≤◌, Bool, true, false, ◌⊎◌, inl, inr, nat_lt, nat_le, List, [], ◌∷◌, ◌++◌, map, filter, Option, Some, None, IsSome, option_map, refl, sym, ap, subst, arith, suc, nat_eq, get_or, eq-eqb, length}
+use Rattle.std.specs.List.{All, AllByRecursion, find}
+use Rattle.std.specs.List.Sorted.{IsStrictlyIncreasing}
 use Rattle.std.proofs.lemmas.Bool.{cases_Bool, leb-true}
 use Rattle.std.proofs.lemmas.Bool.Decides.{nat_tests}
 use Rattle.std.proofs.lemmas.List.Elements.{All-head, All-tail}
@@ -29,7 +30,7 @@ use Rattle.sq_write.proofs.Fitting.{new_spot}
 use Rattle.sq_write.proofs.Lengths.{length_text}
 use Rattle.sq_write.proofs.SegmentFacts.{shaped_at, few_text}
 use Rattle.sq_outputs.specs.Writing.{IsWritable}
-use Rattle.sq_outputs.proofs.Pairs.{all_append, all_map}
+use Rattle.sq_outputs.proofs.Pairs.{all_append, all_map, all_both}
 use Rattle.sq_outputs.proofs.Sound.{facts}
 use Rattle.sq_outputs.proofs.Writing.{fitting}
 use Rattle.sq_readback.specs.Entries.{IsFittingRelocation, numbered, WrittenEntriesAreRead}
@@ -76,9 +77,43 @@ pub record IsGoodWord (bytes : List ℕ) (g : Graph) (word : CodeRef) : Type 0 w
   pub target : ℕ
   pub facts : IsCodeWord bytes word.at target
   pub there : HasBlock g word.block
+  pub own : find (λ other. nat_eq other.at word.at) g.code_words ≡ Some word
 
-outside_text : (low high x : ℕ) → (nat_le low x ≡ true → nat_lt x high ≡ true → ⊥) → (x < low) ⊎ (high ≤ x)
-outside_text low high x none = grind (arith, nat_tests)
+increasing_tail : (x : ℕ) (xs : List ℕ) → IsStrictlyIncreasing (x ∷ xs) → IsStrictlyIncreasing xs
+increasing_tail x xs up = λ k within.
+    let e : suc k + 1 ≡ suc (k + 1) = omega arith in
+    subst (λ n. get_or xs k 0 < get_or (x ∷ xs) n 0) e (up (suc k) (omega arith))
+
+-- words that ascend are above what the first of them is above
+all_above : (low : ℕ) (words : List CodeRef) → (0 < length words → low < get_or (map (λ w. w.at) words) 0 0) → IsStrictlyIncreasing (map (λ w. w.at) words) → AllByRecursion (λ w. low < w.at) words
+all_above low [] first up = tt
+all_above low (word ∷ words) first up =
+    let here : low < word.at = first (omega arith) in
+    (here, all_above low words (next here words up) (increasing_tail word.at (map (λ w. w.at) words) up))
+  where
+    next : low < word.at → (others : List CodeRef) → IsStrictlyIncreasing (word.at ∷ map (λ w. w.at) others) → 0 < length others → low < get_or (map (λ w. w.at) others) 0 0
+    next here [] up some = absurd (omega arith)
+    next here (other ∷ others) up some = let step = up 0 (omega arith) in omega (arith, here, step)
+
+first_above : (word : CodeRef) (words : List CodeRef) → IsStrictlyIncreasing (word.at ∷ map (λ w. w.at) words) → 0 < length words → word.at < get_or (map (λ w. w.at) words) 0 0
+first_above word [] up some = absurd (omega arith)
+first_above word (other ∷ others) up some = let step = up 0 (omega arith) in omega (arith, step)
+
+differ : (a b : ℕ) → a < b → nat_eq a b ≡ false
+differ a b less = grind (arith, nat_tests)
+
+-- each of words that ascend is the one at its address
+own_words : (words : List CodeRef) → IsStrictlyIncreasing (map (λ w. w.at) words) → AllByRecursion (λ w. find (λ other. nat_eq other.at w.at) words ≡ Some w) words
+own_words [] up = tt
+own_words (word ∷ words) up =
+    let tail = increasing_tail word.at (map (λ w. w.at) words) up in
+    let same : nat_eq word.at word.at ≡ true = eq-eqb word.at word.at refl in (
+      rw same refl,
+      all_map (λ (w : CodeRef). (word.at < w.at) × (find (λ other. nat_eq other.at w.at) words ≡ Some w)) (λ w. find (λ other. nat_eq other.at w.at) (word ∷ words) ≡ Some w)
+          (λ w both. let apart : nat_eq word.at w.at ≡ false = differ word.at w.at both.0 in rw apart both.1)
+          words
+          (all_both (λ (w : CodeRef). word.at < w.at) (λ w. find (λ other. nat_eq other.at w.at) words ≡ Some w) words (all_above word.at words (first_above word words up) tail) (own_words words tail)),
+    )
 
 -- a relocation of a code word that the test lets through
 pub record IsWordEntry (bytes : List ℕ) (g : Graph) (p : CodeRef → Bool) (r : Relocation) : Type 0 where
@@ -88,22 +123,25 @@ pub record IsWordEntry (bytes : List ℕ) (g : Graph) (p : CodeRef → Bool) (r 
   pub is : r ≡ word_entry g (text_of bytes).lo word
 
 module _ (bytes : List ℕ) (g : Graph) (can : IsWritable bytes g) where
-  good_words : (words : List CodeRef) → All (λ word. IsSome (code_word_at bytes word.at)) words → All (HasBlock g) (map (λ w. w.block) words) → AllByRecursion (IsGoodWord bytes g) words
-  good_words [] some there = tt
-  good_words (word ∷ words) some there = (
+  abbrev IsOwn : CodeRef → Type 0
+  IsOwn word = find (λ other. nat_eq other.at word.at) g.code_words ≡ Some word
+
+  good_words : (words : List CodeRef) → AllByRecursion IsOwn words → All (λ word. IsSome (code_word_at bytes word.at)) words → All (HasBlock g) (map (λ w. w.block) words) → AllByRecursion (IsGoodWord bytes g) words
+  good_words [] own some there = tt
+  good_words (word ∷ words) own some there = (
     one (code_word_at bytes word.at) refl (All-head {X = CodeRef} (λ word. IsSome (code_word_at bytes word.at)) word words some),
-    good_words words (All-tail {X = CodeRef} (λ word. IsSome (code_word_at bytes word.at)) word words some) (All-tail (HasBlock g) word.block (map (λ w. w.block) words) there),
+    good_words words own.1 (All-tail {X = CodeRef} (λ word. IsSome (code_word_at bytes word.at)) word words some) (All-tail (HasBlock g) word.block (map (λ w. w.block) words) there),
   )
     where
       one : (found : Option ℕ) → code_word_at bytes word.at ≡ found → IsSome found → IsGoodWord bytes g word
       one None is h = absurd (cc)
       one (Some target) is h =
-          record { target = target; facts = is_code_word bytes can.relocs word.at target is; there = All-head (HasBlock g) word.block (map (λ w. w.block) words) there }
+          record { target = target; facts = is_code_word bytes can.relocs word.at target is; there = All-head (HasBlock g) word.block (map (λ w. w.block) words) there; own = own.0 }
 
   pub all_good : AllByRecursion (IsGoodWord bytes g) g.code_words
   all_good =
       let by = by_block (HasBlock g) (HasProcedure g) g can.rules can.rules.named_all can.rules.called_all in
-      good_words g.code_words can.code_words by.words
+      good_words g.code_words (own_words g.code_words can.rules.code_words) can.code_words by.words
 
   pub word_entries : (p : CodeRef → Bool) (words : List CodeRef) → AllByRecursion (IsGoodWord bytes g) words → AllByRecursion (IsWordEntry bytes g p) (map (word_entry g (text_of bytes).lo) (filter p words))
   word_entries p [] all = tt

@@ -1,7 +1,7 @@
 //! What the readers of files find in a file that is written of a graph.
 #![tactic(auto)]
 
-ghost use Rattle.sq_readback.specs.CodeWords.{WrittenCodeWordsAreRead, NoByteIsStale};
+ghost use Rattle.sq_readback.specs.CodeWords.{WrittenCodeWordsAreRead, NoByteIsStale, WrittenCodeWordsStand};
 ghost use Rattle.sq_readback.specs.Words.{WrittenInstructionsAreRead, WrittenMarksAreRead};
 ghost use Rattle.sq_readback.specs.Entries.{EntriesAreRead, WrittenEntriesAreRead};
 
@@ -33,4 +33,9 @@ pub fn written_instructions_are_read()
 /// The mark of a word of text of the file of a graph is Hi, Lo or Plain, as its point says.
 pub fn written_marks_are_read()
     ensures { WrittenMarksAreRead }
+{}
+
+/// In the file of a graph the new address of its block stands at the address of each code word.
+pub fn written_code_words_stand()
+    ensures { WrittenCodeWordsStand }
 {}
