@@ -85,7 +85,7 @@ module _ (bytes : List ℕ) (g : Graph) (can : IsWritable bytes g) where
   word_outside k word good =
       ap not (out_of_text (text_of bytes).lo (text_of bytes).hi ((text_of bytes).lo + 4 * words_of g) word.at can.words good.facts.outside)
 
-  word_target : (k : ℕ) (word : CodeRef) → IsGoodWord bytes g word → target_of (read_entry k (word_entry g (text_of bytes).lo word)) ≡ new_address g (text_of bytes).lo word.block
+  pub word_target : (k : ℕ) (word : CodeRef) → IsGoodWord bytes g word → target_of (read_entry k (word_entry g (text_of bytes).lo word)) ≡ new_address g (text_of bytes).lo word.block
   word_target k word good = small_target k (word_entry g (text_of bytes).lo word) (address_fits bytes g can word.block good.there)
 
   pub word_is_code : (k : ℕ) (word : CodeRef) → IsGoodWord bytes g word → is_code_entry new_text (read_entry k (word_entry g (text_of bytes).lo word)) ≡ true
@@ -100,13 +100,13 @@ module _ (bytes : List ℕ) (g : Graph) (can : IsWritable bytes g) where
 
   -- entries of words of text
 
-  half_inside : (k : ℕ) (r : Relocation) → IsHalf g (text_of bytes).lo (text_of bytes).lo ((text_of bytes).lo + 4 * words_of g) r → is_in_text new_text (read_entry k r).offset ≡ true
+  pub half_inside : (k : ℕ) (r : Relocation) → IsHalf g (text_of bytes).lo (text_of bytes).lo ((text_of bytes).lo + 4 * words_of g) r → is_in_text new_text (read_entry k r).offset ≡ true
   half_inside k r half =
       let low : nat_le (text_of bytes).lo r.offset ≡ true = le-leb (text_of bytes).lo r.offset half.begins in
       let end : nat_lt r.offset ((text_of bytes).lo + 4 * words_of g) ≡ true = lt-ltb r.offset ((text_of bytes).lo + 4 * words_of g) (omega (arith, half.ends)) in
       rw (low, end) refl
 
-  half_outside : (k : ℕ) (r : Relocation) → IsHalf g (text_of bytes).lo (text_of bytes).lo ((text_of bytes).lo + 4 * words_of g) r → is_outside new_text (read_entry k r) ≡ false
+  pub half_outside : (k : ℕ) (r : Relocation) → IsHalf g (text_of bytes).lo (text_of bytes).lo ((text_of bytes).lo + 4 * words_of g) r → is_outside new_text (read_entry k r) ≡ false
   half_outside k r half = ap not (half_inside k r half)
 
   pub half_is_no_code : (k : ℕ) (r : Relocation) → IsHalf g (text_of bytes).lo (text_of bytes).lo ((text_of bytes).lo + 4 * words_of g) r → is_code_entry new_text (read_entry k r) ≡ false

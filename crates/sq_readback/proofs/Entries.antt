@@ -127,7 +127,7 @@ module _ (file : List ℕ) (table : ReadSection) (rs : List Relocation) (all : A
       ∙ sym (numbered_append 0 (take k rs) here.0)
       ∙ ap (numbered 0) (sym (take_one_more rs k here.0 here.1))
 
-  all_entries : table.size ≡ length (relocation_table rs) → table_entries file 4 table ≡ numbered 0 rs
+  pub all_entries : table.size ≡ length (relocation_table rs) → table_entries file 4 table ≡ numbered 0 rs
   all_entries sized =
       let count : table.size / 12 ≡ length rs = omega (arith, sized, table_size rs) in
       ap (entries_in file 4 table) count ∙ first_entries (length rs) (omega arith) ∙ ap (numbered 0) (take_all rs)

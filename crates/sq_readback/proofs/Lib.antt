@@ -5,3 +5,4 @@ pub mod CodeWords
 pub mod Fields
 pub mod Words
 pub mod Outside
+pub mod Refusing

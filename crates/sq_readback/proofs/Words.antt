@@ -42,11 +42,11 @@ use Rattle.sq_readback.proofs.Written.{IsWordEntry, all_good, word_entries, few_
 
 -- Which entries touch a word
 
-word_width : width_of 1 ≡ 4
+pub word_width : width_of 1 ≡ 4
 unfolding width_of
 word_width = refl
 
-half_width : (kind : ℕ) → (kind ≡ 26) ⊎ (kind ≡ 27) → width_of kind ≡ 4
+pub half_width : (kind : ℕ) → (kind ≡ 26) ⊎ (kind ≡ 27) → width_of kind ≡ 4
 unfolding width_of
 half_width kind (inl is) = ap width_of is
 half_width kind (inr is) = ap width_of is

@@ -218,7 +218,7 @@ module _ (bytes : List ℕ) (g : Graph) (can : IsWritable bytes g) where
   abbrev pub half_entries : List Relocation
   half_entries = entries_in g (text_of bytes).lo (text_points g (text_of bytes).lo)
 
-  all_fit : AllByRecursion IsFittingRelocation (entries_of g (text_of bytes).lo)
+  pub all_fit : AllByRecursion IsFittingRelocation (entries_of g (text_of bytes).lo)
   all_fit =
       let below : CodeRef → Bool = λ word. nat_lt word.at (text_of bytes).lo in
       let above : CodeRef → Bool = λ word. nat_le (text_of bytes).lo word.at in

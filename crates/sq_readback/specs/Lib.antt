@@ -1,3 +1,4 @@
 pub mod CodeWords
 pub mod Entries
 pub mod Words
+pub mod Refusing

@@ -1,6 +1,7 @@
 //! What the readers of files find in a file that is written of a graph.
 #![tactic(auto)]
 
+ghost use Rattle.sq_readback.specs.Refusing.{WrittenRelocationsAreAccepted};
 ghost use Rattle.sq_readback.specs.CodeWords.{WrittenCodeWordsAreRead, NoByteIsStale, WrittenCodeWordsStand};
 ghost use Rattle.sq_readback.specs.Words.{WrittenInstructionsAreRead, WrittenMarksAreRead};
 ghost use Rattle.sq_readback.specs.Entries.{EntriesAreRead, WrittenEntriesAreRead};
@@ -38,4 +39,9 @@ pub fn written_marks_are_read()
 /// In the file of a graph the new address of its block stands at the address of each code word.
 pub fn written_code_words_stand()
     ensures { WrittenCodeWordsStand }
+{}
+
+/// No row of the table of relocations refuses the file of a graph.
+pub fn written_relocations_are_accepted()
+    ensures { WrittenRelocationsAreAccepted }
 {}
