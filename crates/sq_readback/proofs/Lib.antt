@@ -6,3 +6,5 @@ pub mod Fields
 pub mod Words
 pub mod Outside
 pub mod Refusing
+pub mod Notes
+pub mod Programs

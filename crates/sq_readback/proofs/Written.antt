@@ -79,13 +79,13 @@ pub record IsGoodWord (bytes : List ℕ) (g : Graph) (word : CodeRef) : Type 0 w
   pub there : HasBlock g word.block
   pub own : find (λ other. nat_eq other.at word.at) g.code_words ≡ Some word
 
-increasing_tail : (x : ℕ) (xs : List ℕ) → IsStrictlyIncreasing (x ∷ xs) → IsStrictlyIncreasing xs
+pub increasing_tail : (x : ℕ) (xs : List ℕ) → IsStrictlyIncreasing (x ∷ xs) → IsStrictlyIncreasing xs
 increasing_tail x xs up = λ k within.
     let e : suc k + 1 ≡ suc (k + 1) = omega arith in
     subst (λ n. get_or xs k 0 < get_or (x ∷ xs) n 0) e (up (suc k) (omega arith))
 
 -- words that ascend are above what the first of them is above
-all_above : (low : ℕ) (words : List CodeRef) → (0 < length words → low < get_or (map (λ w. w.at) words) 0 0) → IsStrictlyIncreasing (map (λ w. w.at) words) → AllByRecursion (λ w. low < w.at) words
+pub all_above : (low : ℕ) (words : List CodeRef) → (0 < length words → low < get_or (map (λ w. w.at) words) 0 0) → IsStrictlyIncreasing (map (λ w. w.at) words) → AllByRecursion (λ w. low < w.at) words
 all_above low [] first up = tt
 all_above low (word ∷ words) first up =
     let here : low < word.at = first (omega arith) in
@@ -95,7 +95,7 @@ all_above low (word ∷ words) first up =
     next here [] up some = absurd (omega arith)
     next here (other ∷ others) up some = let step = up 0 (omega arith) in omega (arith, here, step)
 
-first_above : (word : CodeRef) (words : List CodeRef) → IsStrictlyIncreasing (word.at ∷ map (λ w. w.at) words) → 0 < length words → word.at < get_or (map (λ w. w.at) words) 0 0
+pub first_above : (word : CodeRef) (words : List CodeRef) → IsStrictlyIncreasing (word.at ∷ map (λ w. w.at) words) → 0 < length words → word.at < get_or (map (λ w. w.at) words) 0 0
 first_above word [] up some = absurd (omega arith)
 first_above word (other ∷ others) up some = let step = up 0 (omega arith) in omega (arith, step)
 

@@ -2,3 +2,4 @@ pub mod CodeWords
 pub mod Entries
 pub mod Words
 pub mod Refusing
+pub mod Programs

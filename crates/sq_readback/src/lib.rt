@@ -1,6 +1,7 @@
 //! What the readers of files find in a file that is written of a graph.
 #![tactic(auto)]
 
+ghost use Rattle.sq_readback.specs.Programs.{WrittenNotesAreRead, WrittenProgramsAreRead};
 ghost use Rattle.sq_readback.specs.Refusing.{WrittenRelocationsAreAccepted};
 ghost use Rattle.sq_readback.specs.CodeWords.{WrittenCodeWordsAreRead, NoByteIsStale, WrittenCodeWordsStand};
 ghost use Rattle.sq_readback.specs.Words.{WrittenInstructionsAreRead, WrittenMarksAreRead};
@@ -44,4 +45,14 @@ pub fn written_code_words_stand()
 /// No row of the table of relocations refuses the file of a graph.
 pub fn written_relocations_are_accepted()
     ensures { WrittenRelocationsAreAccepted }
+{}
+
+/// The note of the file of a graph lists the graph's procedures, each at its new address.
+pub fn written_notes_are_read()
+    ensures { WrittenNotesAreRead }
+{}
+
+/// The program of the file of a graph is that of the graph.
+pub fn written_programs_are_read()
+    ensures { WrittenProgramsAreRead }
 {}
