@@ -8,3 +8,4 @@ pub mod Outside
 pub mod Refusing
 pub mod Notes
 pub mod Programs
+pub mod Readings

@@ -3,3 +3,4 @@ pub mod Entries
 pub mod Words
 pub mod Refusing
 pub mod Programs
+pub mod Readings

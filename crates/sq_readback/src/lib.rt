@@ -1,6 +1,7 @@
 //! What the readers of files find in a file that is written of a graph.
 #![tactic(auto)]
 
+ghost use Rattle.sq_readback.specs.Readings.{WrittenWordsReadBack};
 ghost use Rattle.sq_readback.specs.Programs.{WrittenNotesAreRead, WrittenProgramsAreRead};
 ghost use Rattle.sq_readback.specs.Refusing.{WrittenRelocationsAreAccepted};
 ghost use Rattle.sq_readback.specs.CodeWords.{WrittenCodeWordsAreRead, NoByteIsStale, WrittenCodeWordsStand};
@@ -55,4 +56,9 @@ pub fn written_notes_are_read()
 /// The program of the file of a graph is that of the graph.
 pub fn written_programs_are_read()
     ensures { WrittenProgramsAreRead }
+{}
+
+/// Each word of text of the file of a graph reads as the item, the term or the return that it was written of.
+pub fn written_words_read_back()
+    ensures { WrittenWordsReadBack }
 {}
