@@ -9,3 +9,4 @@ pub mod Refusing
 pub mod Notes
 pub mod Programs
 pub mod Readings
+pub mod Faults

@@ -39,7 +39,7 @@ use Rattle.sq_readback.proofs.Words.{point_fits}
 use Rattle.sq_readback.proofs.Written.{high, few_words}
 
 -- an offset between places that are near leads to its target
-offset_leads : (at to : ℕ) → at < 2 ^ 32 → to < 2 ^ 32 → to < at + 2 ^ 21 → at < to + 2 ^ 21 → target_from at (offset_to at to) ≡ to
+pub offset_leads : (at to : ℕ) → at < 2 ^ 32 → to < 2 ^ 32 → to < at + 2 ^ 21 → at < to + 2 ^ 21 → target_from at (offset_to at to) ≡ to
 offset_leads at to h k near far = omega (arith, ints)
 
 apart : (x : ℕ) → x ≢ 0 → (x == 0) ≡ false

@@ -4,3 +4,4 @@ pub mod Words
 pub mod Refusing
 pub mod Programs
 pub mod Readings
+pub mod Faults

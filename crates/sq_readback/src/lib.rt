@@ -1,6 +1,7 @@
 //! What the readers of files find in a file that is written of a graph.
 #![tactic(auto)]
 
+ghost use Rattle.sq_readback.specs.Faults.{WrittenTextIsNotRefused};
 ghost use Rattle.sq_readback.specs.Readings.{WrittenWordsReadBack};
 ghost use Rattle.sq_readback.specs.Programs.{WrittenNotesAreRead, WrittenProgramsAreRead};
 ghost use Rattle.sq_readback.specs.Refusing.{WrittenRelocationsAreAccepted};
@@ -61,4 +62,9 @@ pub fn written_programs_are_read()
 /// Each word of text of the file of a graph reads as the item, the term or the return that it was written of.
 pub fn written_words_read_back()
     ensures { WrittenWordsReadBack }
+{}
+
+/// Whichever words of the program of the file of a graph are reached, none of them has a fault.
+pub fn written_text_is_not_refused()
+    ensures { WrittenTextIsNotRefused }
 {}
