@@ -89,7 +89,7 @@ plain_fine t at insn straight stays no_auipc = record {
 }
 
 -- an Op names no address
-no_target : (at : ℕ) (insn : Insn) → IsOperation insn → (jump_target at insn ≡ []) × (is_auipc insn ≡ false)
+pub no_target : (at : ℕ) (insn : Insn) → IsOperation insn → (jump_target at insn ≡ []) × (is_auipc insn ≡ false)
 no_target at (Lui rd upper) op = (refl, refl)
 no_target at (Auipc rd upper) op = absurd op
 no_target at (Jal rd offset) op = absurd op
@@ -105,7 +105,7 @@ no_target at Ebreak op = absurd op
 no_target at (Unimp word) op = absurd op
 no_target at (Atomic o order rd rs src) op = (refl, refl)
 
-stop_facts : (at word : ℕ) → (jump_target at (stop_insn word) ≡ []) × (is_auipc (stop_insn word) ≡ false) × (insn_goes_on (stop_insn word) ≡ false)
+pub stop_facts : (at word : ℕ) → (jump_target at (stop_insn word) ≡ []) × (is_auipc (stop_insn word) ≡ false) × (insn_goes_on (stop_insn word) ≡ false)
 stop_facts at word = by_test (cases_Bool (word == 0x00100073))
   where
     by_test : ((word == 0x00100073) ≡ true) ⊎ ((word == 0x00100073) ≡ false) → (jump_target at (stop_insn word) ≡ []) × (is_auipc (stop_insn word) ≡ false) × (insn_goes_on (stop_insn word) ≡ false)
@@ -116,7 +116,7 @@ not_there : (x y : ℕ) → x < y → (x == y) ≡ false
 not_there x y less = grind (arith, nat_tests)
 
 -- where a procedure stands, in words
-start_place : (ps : List Procedure) (at p : ℕ) → p < length ps → (a j : ℕ) × (slice_get (procedure_addresses ps at) p ≡ Some a) × (a ≡ at + 4 * j) × (j < sum_by procedure_words ps)
+pub start_place : (ps : List Procedure) (at p : ℕ) → p < length ps → (a j : ℕ) × (slice_get (procedure_addresses ps at) p ≡ Some a) × (a ≡ at + 4 * j) × (j < sum_by procedure_words ps)
 start_place [] at p within = absurd (let f : p < 0 = within in omega arith)
 start_place (q ∷ ps) at zero within = (at, 0, refl, omega arith, omega (arith, sum_by-cons procedure_words q ps))
 start_place (q ∷ ps) at (suc p) within =
@@ -128,23 +128,23 @@ module _ (g : Graph) (lo : ℕ) (rules : IsGraph g) (few : words_of g ≤ 262144
   size = length-map (text_points g lo) word_at_point ∙ length_text g lo
 
   -- a word of text
-  record IsPlaced (x : ℕ) : Type 0 where
-    place : ℕ
-    is : x ≡ lo + 4 * place
-    within : place < words_of g
+  pub record IsPlaced (x : ℕ) : Type 0 where
+    pub place : ℕ
+    pub is : x ≡ lo + 4 * place
+    pub within : place < words_of g
 
-  block_placed : (n : ℕ) → HasBlock g n → IsPlaced (new_address g lo n)
+  pub block_placed : (n : ℕ) → HasBlock g n → IsPlaced (new_address g lo n)
   block_placed n there =
       let found = new_spot g lo rules few n there in
       record { place = found.3.place; is = omega (arith, found.2, found.3.is); within = found.3.within }
 
-  procedure_placed : (p : ℕ) → HasProcedure g p → IsPlaced (new_start g lo p)
+  pub procedure_placed : (p : ℕ) → HasProcedure g p → IsPlaced (new_start g lo p)
   procedure_placed p there =
       let found = start_place g.procedures (procedures_at g lo) p there in
       let is : new_start g lo p ≡ found.0 = ap (λ o. unwrap_or o 0) found.2 in
       record { place = sum_by block_words g.blocks + found.1; is = omega (arith, is, found.3); within = omega (arith, found.4) }
 
-  placed_word : (x : ℕ) → IsPlaced x → is_word (graph_text g lo) x ≡ true
+  pub placed_word : (x : ℕ) → IsPlaced x → is_word (graph_text g lo) x ≡ true
   placed_word x placed =
       let word = some_at (map word_at_point (text_points g lo)) placed.place (omega (arith, size, placed.within)) in
       ap is_some (ap (word_at (graph_text g lo)) placed.is ∙ word_there (map word_at_point (text_points g lo)) lo placed.place word.0 word.1)
@@ -274,11 +274,11 @@ module _ (g : Graph) (lo : ℕ) (rules : IsGraph g) (few : words_of g ≤ 262144
       omega (arith, length-append (items_points g lo at b.items) (term_points g lo (at + 4 * length b.items) b.term), length_items g lo at b.items, length_term g lo (at + 4 * length b.items) b.term)
 
   -- where a block's term stands, text hasn't ended
-  some_room : (b : Block) (bs : List Block) → last_goes_on (b ∷ bs) ≡ false → (1 ≤ sum_by block_words bs) ⊎ (goes_on b.term ≡ false)
+  pub some_room : (b : Block) (bs : List Block) → last_goes_on (b ∷ bs) ≡ false → (1 ≤ sum_by block_words bs) ⊎ (goes_on b.term ≡ false)
   some_room b [] stops = inr stops
   some_room b (c ∷ bs) stops = inl (word_is_left c bs stops)
 
-  own_word : (term : Term) → goes_on term ≡ false → term_words term ≡ 1
+  pub own_word : (term : Term) → goes_on term ≡ false → term_words term ≡ 1
   own_word Fall stops = absurd (cc stops)
   own_word (Jump to) stops = refl
   own_word (Branch c a b to) stops = refl
@@ -287,7 +287,7 @@ module _ (g : Graph) (lo : ℕ) (rules : IsGraph g) (few : words_of g ≤ 262144
   own_word (Indirect link register offset) stops = refl
   own_word (Stop word) stops = refl
 
-  rest_stops : (b : Block) (bs : List Block) → last_goes_on (b ∷ bs) ≡ false → last_goes_on bs ≡ false
+  pub rest_stops : (b : Block) (bs : List Block) → last_goes_on (b ∷ bs) ≡ false → last_goes_on bs ≡ false
   rest_stops b [] stops = refl
   rest_stops b (c ∷ bs) stops = stops
 

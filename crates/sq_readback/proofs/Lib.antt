@@ -10,3 +10,5 @@ pub mod Notes
 pub mod Programs
 pub mod Readings
 pub mod Faults
+pub mod Entering
+pub mod NoteFaults

@@ -20,11 +20,12 @@ use Rattle.sq_write.specs.Registers.{HasRegisters}
 use Rattle.sq_write.specs.Written.{written}
 use Rattle.sq_write.proofs.Lengths.{length_text}
 use Rattle.sq_outputs.specs.Writing.{IsWritable}
-use Rattle.sq_outputs.proofs.Writing.{written_sizes}
-use Rattle.sq_readback.specs.Programs.{word_at_point, graph_text, new_code_word, graph_program, WrittenProgramsAreRead}
+use Rattle.sq_outputs.proofs.Writing.{written_sizes, written_is_accepted}
+use Rattle.sq_readback.specs.Programs.{word_at_point, graph_text, new_code_word, graph_program, WrittenProgramsAreRead, WrittenFilesAreRead}
 use Rattle.sq_readback.specs.Words.{point_mark}
 use Rattle.sq_readback.proofs.CodeWords.{text_is, code_word_here}
 use Rattle.sq_readback.proofs.Notes.{notes_here}
+use Rattle.sq_readback.proofs.Refusing.{relocations_accepted}
 use Rattle.sq_readback.proofs.Words.{word_here, mark_is}
 use Rattle.sq_readback.proofs.Written.{increasing_tail, all_above, first_above}
 
@@ -99,3 +100,12 @@ module _ (bytes : List ℕ) (g : Graph) (can : IsWritable bytes g) (registers : 
 
 pub written_programs_are_read : WrittenProgramsAreRead
 written_programs_are_read = λ bytes g can registers. program_here bytes g can registers
+
+pub written_files_are_read : WrittenFilesAreRead
+written_files_are_read = λ bytes g can registers is decides.
+    record {
+      file = written_is_accepted bytes g can;
+      relocs = relocations_accepted bytes g can;
+      program = program_here bytes g can registers;
+      reached = decides;
+    }

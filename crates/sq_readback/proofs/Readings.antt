@@ -162,7 +162,7 @@ module _ (g : Graph) (lo : ℕ) (rules : IsGraph g) (few : words_of g ≤ 262144
   abbrev Keeps : Item → Type 0
   Keeps = ItemStands (HasBlock g) (HasProcedure g)
 
-  item_reads : (item : Item) (at : ℕ) → lo ≤ at → at < lo + 4 * words_of g → Keeps item → ReadsAs (graph_text g lo) at (item_point g lo at item) (item_reading g lo item)
+  pub item_reads : (item : Item) (at : ℕ) → lo ≤ at → at < lo + 4 * words_of g → Keeps item → ReadsAs (graph_text g lo) at (item_point g lo at item) (item_reading g lo item)
   item_reads (Op insn) at low high keeps = operation_reads at insn keeps.fits.0
   item_reads (Hi rd to) at low high keeps = rw (in_text to (All-head (HasBlock g) to [] keeps.names)) refl
   item_reads (Lo rd rs to) at low high keeps = rw (in_text to (All-head (HasBlock g) to [] keeps.names)) refl

@@ -142,7 +142,7 @@ module _ (g : Graph) (lo : ℕ) where
       let next : at + 4 + 4 * k ≡ at + 4 * suc k = omega arith in
       subst (λ a. Shape g lo a p) next (shape_at ps (at + 4) k p shaped.1 is)
 
-fits_at : (ps : List Point) (k : ℕ) (p : Point) → AllFit ps → slice_get ps k ≡ Some p → FieldsFit p.insn
+pub fits_at : (ps : List Point) (k : ℕ) (p : Point) → AllFit ps → slice_get ps k ≡ Some p → FieldsFit p.insn
 fits_at [] k p all is = absurd (cc is)
 fits_at (q ∷ ps) zero p all is = let same : q ≡ p = cc is in subst (λ (x : Point). FieldsFit x.insn) same all.0
 fits_at (q ∷ ps) (suc k) p all is = fits_at ps k p all.1 is

@@ -5,3 +5,4 @@ pub mod Refusing
 pub mod Programs
 pub mod Readings
 pub mod Faults
+pub mod NoteFaults

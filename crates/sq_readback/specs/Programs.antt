@@ -1,12 +1,13 @@
 -- The program of the file of a graph.
-use Rattle.std.specs.Prelude.{◌≡◌, ℕ, ◌+◌, ◌*◌, List, [], ◌∷◌, length, map, Some}
+use Rattle.std.specs.Prelude.{◌≡◌, ℕ, Bool, ◌+◌, ◌*◌, List, [], ◌∷◌, length, map, Some}
 use Rattle.sq_elf.specs.Text.{text_of}
 use Rattle.sq_reloc.specs.declared.mark.CodeWord.{CodeWord}
 use Rattle.sq_graph.specs.declared.parts.CodeRef.{CodeRef}
 use Rattle.sq_graph.specs.Graph.{Procedure, Graph}
 use Rattle.sq_graph.specs.Words.{procedure_words}
 use Rattle.sq_program.specs.Programs.{Word, Text, Note, Program}
-use Rattle.sq_program.specs.FilePrograms.{IsProgramOf}
+use Rattle.sq_program.specs.FilePrograms.{IsProgramOf, IsReadAs}
+use Rattle.sq_program.specs.Reached.{Decides}
 use Rattle.sq_program.specs.NoteSections.{notes_of}
 use Rattle.sq_write.specs.Points.{Point, new_address, point_word, procedures_at, text_points}
 use Rattle.sq_write.specs.Registers.{HasRegisters}
@@ -53,3 +54,9 @@ WrittenNotesAreRead =
 abbrev pub WrittenProgramsAreRead : Type 0
 WrittenProgramsAreRead =
     (bytes : List ℕ) (g : Graph) → IsWritable bytes g → HasRegisters g → IsProgramOf (written bytes g) (graph_program g (text_of bytes).lo)
+
+-- The file passes what is asked before its text, and its program is that of the graph.
+abbrev pub WrittenFilesAreRead : Type 0
+WrittenFilesAreRead =
+    (bytes : List ℕ) (g : Graph) → IsWritable bytes g → HasRegisters g → (is : ℕ → Bool)
+    → Decides (graph_program g (text_of bytes).lo) is → IsReadAs (written bytes g) is (graph_program g (text_of bytes).lo)

@@ -1,9 +1,14 @@
-//! What the readers of files find in a file that is written of a graph.
+//! What the readers of relocations and of programs find in the file that is written of a graph.
+//!
+//! To the layers above it promises its relocation entries, its code words, the instruction and the mark of each word of
+//! its text, its note and its program; how each word reads; and that neither its relocations, nor its text, nor the
+//! places, bodies and calls of its noted procedures are refused.
 #![tactic(auto)]
 
+ghost use Rattle.sq_readback.specs.NoteFaults.{WrittenFilesPassEarly};
 ghost use Rattle.sq_readback.specs.Faults.{WrittenTextIsNotRefused};
 ghost use Rattle.sq_readback.specs.Readings.{WrittenWordsReadBack};
-ghost use Rattle.sq_readback.specs.Programs.{WrittenNotesAreRead, WrittenProgramsAreRead};
+ghost use Rattle.sq_readback.specs.Programs.{WrittenNotesAreRead, WrittenProgramsAreRead, WrittenFilesAreRead};
 ghost use Rattle.sq_readback.specs.Refusing.{WrittenRelocationsAreAccepted};
 ghost use Rattle.sq_readback.specs.CodeWords.{WrittenCodeWordsAreRead, NoByteIsStale, WrittenCodeWordsStand};
 ghost use Rattle.sq_readback.specs.Words.{WrittenInstructionsAreRead, WrittenMarksAreRead};
@@ -67,4 +72,15 @@ pub fn written_words_read_back()
 /// Whichever words of the program of the file of a graph are reached, none of them has a fault.
 pub fn written_text_is_not_refused()
     ensures { WrittenTextIsNotRefused }
+{}
+
+/// The file of a graph passes what is asked before its text, and its program is that of the graph.
+pub fn written_files_are_read()
+    ensures { WrittenFilesAreRead }
+{}
+
+/// Where the bodies of the procedures are sound, neither the text nor the note of the file of a graph is refused, whichever
+/// words are reached.
+pub fn written_files_pass_early()
+    ensures { WrittenFilesPassEarly }
 {}
