@@ -12,3 +12,4 @@ pub mod Readings
 pub mod Faults
 pub mod Entering
 pub mod NoteFaults
+pub mod Parts

@@ -67,15 +67,15 @@ position (f ∷ front) p back base (suc q) within =
 
 -- WORDS THAT ARE THERE
 
-abbrev AreThere : Text → ℕ → List Point → Type 0
+abbrev pub AreThere : Text → ℕ → List Point → Type 0
 AreThere t at [] = Unit {0}
 AreThere t at (p ∷ ps) = ((word_at t at ≡ Some (word_at_point p)) × FieldsFit p.insn) × AreThere t (at + 4) ps
 
-front_there : (t : Text) (xs ys : List Point) (at : ℕ) → AreThere t at (xs ++ ys) → AreThere t at xs
+pub front_there : (t : Text) (xs ys : List Point) (at : ℕ) → AreThere t at (xs ++ ys) → AreThere t at xs
 front_there t [] ys at there = tt
 front_there t (x ∷ xs) ys at there = (there.0, front_there t xs ys (at + 4) there.1)
 
-back_there : (t : Text) (xs ys : List Point) (at to : ℕ) → to ≡ at + 4 * length xs → AreThere t at (xs ++ ys) → AreThere t to ys
+pub back_there : (t : Text) (xs ys : List Point) (at to : ℕ) → to ≡ at + 4 * length xs → AreThere t at (xs ++ ys) → AreThere t to ys
 back_there t [] ys at to e there = let same : at ≡ to = omega (arith, e) in subst (λ x. AreThere t x ys) same there
 back_there t (x ∷ xs) ys at to e there = back_there t xs ys (at + 4) to (omega (arith, e)) there.1
 
@@ -221,7 +221,7 @@ module _ (g : Graph) (lo : ℕ) (rules : IsGraph g) (few : words_of g ≤ 262144
       above_zero : (x : ℕ) → x ≢ 0 → nat_lt 0 x ≡ true
       above_zero x some = grind (arith, nat_tests)
 
-  text_there : AllFit (text_points g lo) → AreThere (graph_text g lo) lo (text_points g lo)
+  pub text_there : AllFit (text_points g lo) → AreThere (graph_text g lo) lo (text_points g lo)
   text_there fits =
       all_there (graph_text g lo) (text_points g lo) lo fits
       (λ k p is. word_there (map word_at_point (text_points g lo)) lo k (word_at_point p) (slice_get-map word_at_point (text_points g lo) k ∙ ap (option_map word_at_point) is))

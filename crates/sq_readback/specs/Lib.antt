@@ -6,3 +6,4 @@ pub mod Programs
 pub mod Readings
 pub mod Faults
 pub mod NoteFaults
+pub mod Parts

@@ -5,6 +5,7 @@
 //! places, bodies and calls of its noted procedures are refused.
 #![tactic(auto)]
 
+ghost use Rattle.sq_readback.specs.Parts.{WrittenPartsLiftBack};
 ghost use Rattle.sq_readback.specs.NoteFaults.{WrittenFilesPassEarly};
 ghost use Rattle.sq_readback.specs.Faults.{WrittenTextIsNotRefused};
 ghost use Rattle.sq_readback.specs.Readings.{WrittenWordsReadBack};
@@ -83,4 +84,10 @@ pub fn written_files_are_read()
 /// words are reached.
 pub fn written_files_pass_early()
     ensures { WrittenFilesPassEarly }
+{}
+
+/// The entry, the code words and the procedures that are lifted from the file of a graph are those of the graph, with new
+/// addresses for names.
+pub fn written_parts_lift_back()
+    ensures { WrittenPartsLiftBack }
 {}
