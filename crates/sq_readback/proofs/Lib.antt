@@ -1,0 +1,15 @@
+pub mod Entries
+pub mod Points
+pub mod Written
+pub mod CodeWords
+pub mod Fields
+pub mod Words
+pub mod Outside
+pub mod Refusing
+pub mod Notes
+pub mod Programs
+pub mod Readings
+pub mod Faults
+pub mod Entering
+pub mod NoteFaults
+pub mod Parts
