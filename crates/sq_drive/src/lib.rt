@@ -7,8 +7,6 @@
 mod once;
 mod savings;
 mod settling;
-#[cfg(test)]
-mod tests;
 
 pub use once::{Rewrite, rewrite_once};
 pub use settling::{settle, settle_by};

@@ -1,5 +1,8 @@
 //! The graphs of linked files, part by part.
 
+ghost use Rattle.std.specs.Prelude.{IsTrue};
+ghost use Rattle.sq_graph.specs.Blocks.{HasBlock};
+
 use super::files::{CODE_WORD, PROCEDURES, PROCEDURES_PACKED, SHARED_UPPER_HALF, USUAL_LINK};
 use crate::lift;
 use sq_elf::read_elf;
@@ -65,15 +68,23 @@ fn graph_of(alloc: Global, words: &[u32]) -> Result<Graph, Denied> {
     lift(alloc, &elf, &relocs)
 }
 
+/// Whether the graph has a block of this name.
+fn is_block(graph: &Graph, name: u32) -> bool
+    ensures { IsTrue result → HasBlock graph.now.graph name }
+{
+    graph.links().get(name).is_some()
+}
+
 /// The four parts of a graph: entry and code words, each block with the name of the next, and procedures.
 fn shown(alloc: Global, words: &[u32]) -> Result<String, Fail> {
     let graph = graph_of(alloc, words).map_err(|_| "refused")?;
     let mut text = format!(in alloc; "{} {:?}\n", graph.entry(), graph.code_words())?;
     for name in 0..NAMES {
-        if let Some(slot) = graph.links().get(name) {
+        if is_block(&graph, name) {
             let items = graph.items(name);
+            let term = graph.term(name);
             let next = graph.next(name);
-            let line = format!(in alloc; "{} {:?} {:?} {:?}\n", name, items, slot.term, next)?;
+            let line = format!(in alloc; "{} {:?} {:?} {:?}\n", name, items, term, next)?;
             text.push_str(&line)?;
         }
     }
