@@ -1,0 +1,109 @@
+#!/usr/bin/env python3
+"""Packs a collection of linked programs, runs each before and after, watches it, and prints docs/FIGURES.md's table.
+
+    examples/figures.py SQUEEZE COLLECTION
+
+SQUEEZE is the built program. COLLECTION is a folder with manifest.json: a record with base, size, limit and a list of
+executables. Each has file, verdict, text, loaded and runs, and each run has argv, stdin, stdout_sha256, plain_end and
+watch_end. Any folder of this form serves. The script ends with status 1 where a file doesn't do what its manifest says.
+"""
+
+import hashlib
+import json
+import pathlib
+import re
+import subprocess
+import sys
+import tempfile
+import time
+
+
+def call(squeeze, *words):
+    """The status, the lines that were printed, and the seconds of time used."""
+    start = time.perf_counter()
+    done = subprocess.run([squeeze, *map(str, words)], capture_output=True, text=True)
+    return done.returncode, (done.stdout + done.stderr).splitlines(), time.perf_counter() - start
+
+
+def written(lines):
+    """The bytes that a run wrote to its standard output."""
+    texts = (line.split() for line in lines)
+    return b"".join(bytes.fromhex("".join(t[2:])) for t in texts if t[0] == "write" and t[1] == "1")
+
+
+def agrees(run, lines):
+    digest = hashlib.sha256(written(lines)).hexdigest()
+    return digest == run["stdout_sha256"] and lines[-1] == run["plain_end"]
+
+
+class Collection:
+    def __init__(self, squeeze, folder):
+        self.squeeze = squeeze
+        self.folder = folder
+        self.manifest = json.loads((folder / "manifest.json").read_text())
+        self.wrong = []
+
+    def run_words(self, file, run):
+        head = self.manifest
+        given = self.folder / run["stdin"] if run["stdin"] else "/dev/null"
+        return file, given, head["limit"], head["base"], head["size"], *run["argv"]
+
+    def check(self, name, good, lines):
+        if not good:
+            self.wrong.append(f"{name}: {lines[-1] if lines else 'nothing printed'}")
+
+    def runs(self, entry, packed):
+        """How many runs were unbroken, how many broke, and the steps and seconds of the plain runs."""
+        unbroken, broken, steps, seconds = 0, 0, 0, 0.0
+        for run in entry["runs"]:
+            name = f"{entry['file']} {run['case']}"
+            before = call(self.squeeze, "run", *self.run_words(self.folder / entry["file"], run))
+            self.check(f"run {name}", agrees(run, before[1]) or run["plain_end"] == "limit", before[1])
+            steps, seconds = steps + run["steps"], seconds + before[2]
+            watched = call(self.squeeze, "watch", *self.run_words(self.folder / entry["file"], run))
+            end = re.sub(r" steps \d+$", "", run["watch_end"])
+            self.check(f"watch {name}", watched[1][-1:] == [end], watched[1])
+            if end.startswith("break"):
+                broken += 1
+                continue
+            unbroken += 1
+            after = call(self.squeeze, "run", *self.run_words(packed, run))
+            self.check(f"packed {name}", agrees(run, after[1]), after[1])
+        return unbroken, broken, steps, seconds
+
+    def figures(self, entry, packed):
+        file = self.folder / entry["file"]
+        status, lines, seconds = call(self.squeeze, "pack", file, packed)
+        if entry["verdict"] != "accepted":
+            self.check(f"pack {entry['file']}", status == 3, lines)
+            return f"| {file.stem} | {lines[-1]} | | | | | | |"
+        numbers = re.fullmatch(r"text (\d+) -> (\d+), loaded (\d+) -> (\d+)", lines[-1])
+        self.check(f"pack {entry['file']}", status == 0 and numbers is not None, lines)
+        if numbers is None:
+            return f"| {file.stem} | {lines[-1]} | | | | | | |"
+        again = call(self.squeeze, "pack", packed, f"{packed}.again")
+        same = again[0] == 0 and packed.read_bytes() == pathlib.Path(f"{packed}.again").read_bytes()
+        self.check(f"again {entry['file']}", same, again[1])
+        unbroken, broken, _, _ = self.runs(entry, packed)
+        before, after, loaded_before, loaded_after = map(int, numbers.groups())
+        share = f"{100 * (before - after) / before:.1f} %"
+        return (
+            f"| {file.stem} | {before:,} | {after:,} | {share} | {loaded_before:,} -> {loaded_after:,} "
+            f"| {seconds:.2f} s | {unbroken} | {broken} |"
+        )
+
+
+def main():
+    collection = Collection(sys.argv[1], pathlib.Path(sys.argv[2]))
+    print("| Program | Text before | after | less | Loaded | pack | runs kept | runs that break |")
+    print("|---|---|---|---|---|---|---|---|")
+    with tempfile.TemporaryDirectory() as folder:
+        for entry in collection.manifest["executables"]:
+            print(collection.figures(entry, pathlib.Path(folder) / "packed.elf"), flush=True)
+    for line in collection.wrong:
+        print(line, file=sys.stderr)
+    return 1 if collection.wrong else 0
+
+
+if __name__ == "__main__":
+    sys.exit(main())
