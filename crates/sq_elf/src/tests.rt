@@ -73,12 +73,12 @@ fn file_with(alloc: Global, changes: &[(usize, u32)]) -> Result<Vec<u8>, Memory>
     Ok(file)
 }
 
-/// What refuses the file: None where it is read, and NotBuilt for want of memory.
-fn refusal(alloc: Global, file: &[u8]) -> Option<Refusal> {
+/// What refuses the file: None where it is read.
+fn refusal(alloc: Global, file: &[u8]) -> Result<Option<Refusal>, Denied> {
     match read_elf(alloc, file) {
-        Ok(_) => None,
-        Err(Denied::Refused(refusal)) => Some(refusal),
-        Err(Denied::Memory) => Some(Refusal::NotBuilt),
+        Ok(_) => Ok(None),
+        Err(Denied::Refused(refusal)) => Ok(Some(refusal)),
+        Err(denied) => Err(denied),
     }
 }
 
@@ -130,7 +130,7 @@ fn cut_files_are_refused(rt: HostRuntime) -> Result<(), Fail> {
             _ => Refusal::TableOutside { table: 2, index: 0 },
         };
         let cut = file.as_slice().get(..offset as usize).ok_or("too short")?;
-        assert_eq!(rt; refusal(rt.alloc(), cut), Some(wanted), "at {offset}");
+        assert_eq!(rt; refusal(rt.alloc(), cut)?, Some(wanted), "at {offset}");
         offset = offset.wrapping_add(1);
     }
     Ok(())
@@ -187,7 +187,7 @@ fn lying_files_are_refused(rt: HostRuntime) -> Result<(), Fail> {
     ] {
         let file = file_with(rt.alloc(), &[(at, value)])?;
         assert_eq!(rt;
-            refusal(rt.alloc(), file.as_slice()),
+            refusal(rt.alloc(), file.as_slice())?,
             Some(wanted),
             "{at} = {value:x}"
         );
@@ -360,7 +360,7 @@ fn limits_are_exact(rt: HostRuntime) -> Result<(), Fail> {
         ),
     ] {
         let bytes = file_of(rt.alloc(), &file)?;
-        assert_eq!(rt; refusal(rt.alloc(), bytes.as_slice()), wanted);
+        assert_eq!(rt; refusal(rt.alloc(), bytes.as_slice())?, wanted);
     }
     Ok(())
 }
@@ -438,7 +438,7 @@ fn segments_and_copies_do_not_meet(rt: HostRuntime) -> Result<(), Fail> {
         ),
     ] {
         let bytes = file_of(rt.alloc(), &file)?;
-        assert_eq!(rt; refusal(rt.alloc(), bytes.as_slice()), wanted);
+        assert_eq!(rt; refusal(rt.alloc(), bytes.as_slice())?, wanted);
     }
     Ok(())
 }

@@ -2,12 +2,11 @@
 use Rattle.std.specs.Prelude.{ℕ, Option, Some, None, List, [], ◌++◌, codes, decimal}
 use Rattle.sq_num.specs.Texts.{hex_text}
 use Rattle.sq_num.specs.declared.refusal.Refusal.{Refusal}
-use Rattle.sq_num.specs.declared.refusal.Refusal.TheVariants.{NotBuilt, FileTooLong, NotElf, HeaderField, Flags, TableOutside, BadSegment, SegmentKind, SegmentOverlap, NoText, BadTextSection, TextSplit, TextMoved, TextTooLarge, NoRelocs, BadRelocTable, BadSymbol, UnsupportedReloc, RelocDisagrees, BadEntry, UnsupportedInstruction, BadTarget, FallsOffText, UnrelocatedAuipc, ReadsText, ConflictingReloc, BadNote, LoneHalf, TooLarge}
+use Rattle.sq_num.specs.declared.refusal.Refusal.TheVariants.{FileTooLong, NotElf, HeaderField, Flags, TableOutside, BadSegment, SegmentKind, SegmentOverlap, NoText, BadTextSection, TextSplit, TextMoved, TextTooLarge, NoRelocs, BadRelocTable, BadSymbol, UnsupportedReloc, RelocDisagrees, BadEntry, UnsupportedInstruction, BadTarget, FallsOffText, UnrelocatedAuipc, ReadsText, ConflictingReloc, BadNote, LoneHalf, TooLarge}
 use Rattle.sq_num.specs.declared.refusal.Place.{Place}
 use Rattle.sq_num.specs.declared.refusal.Place.TheVariants.{Hex, Number}
 
 abbrev pub number_of : Refusal → ℕ
-number_of NotBuilt = 0
 number_of FileTooLong = 1
 number_of (NotElf offset) = 2
 number_of (HeaderField offset) = 3
@@ -39,7 +38,6 @@ number_of (TooLarge kind count) = 28
 
 -- addresses, offsets, words and flags are hexadecimal, all other numbers decimal
 abbrev pub first_place : Refusal → Option Place
-first_place NotBuilt = None
 first_place FileTooLong = None
 first_place (NotElf offset) = Some (Hex offset)
 first_place (HeaderField offset) = Some (Hex offset)
@@ -70,7 +68,6 @@ first_place (LoneHalf address) = Some (Hex address)
 first_place (TooLarge kind count) = Some (Number kind)
 
 abbrev pub second_place : Refusal → Option Place
-second_place NotBuilt = None
 second_place FileTooLong = None
 second_place (NotElf offset) = None
 second_place (HeaderField offset) = None

@@ -10,8 +10,6 @@ use crate::memory::Memory;
 /// that of the numbers) and carries the places that its text names.
 #[derive(Clone, Copy, Debug, PartialEq, Eq)]
 pub enum Refusal {
-    /// 0: this version does not pack such a file yet.
-    NotBuilt,
     /// 1: more than 134,217,728 bytes.
     FileTooLong,
     /// 2: the first offset of the identification (magic number, 32 bits, least byte first, version
@@ -103,13 +101,12 @@ impl From<Memory> for Denied {
 }
 
 impl Refusal {
-    /// The number of the refusal, 0 to 28.
+    /// The number of the refusal, 1 to 28.
     fn number(&self) -> u32
         ensures value { result ≡ number_of self.now }
         ensures small { result ≤ 28 }
     {
         match self {
-            Refusal::NotBuilt => 0,
             Refusal::FileTooLong => 1,
             Refusal::NotElf { .. } => 2,
             Refusal::HeaderField { .. } => 3,
@@ -146,7 +143,7 @@ impl Refusal {
         ensures { result ≡ first_place self.now }
     {
         match self {
-            Refusal::NotBuilt | Refusal::FileTooLong | Refusal::NoText | Refusal::NoRelocs => None,
+            Refusal::FileTooLong | Refusal::NoText | Refusal::NoRelocs => None,
             Refusal::NotElf { offset } | Refusal::HeaderField { offset } => Some(Place::Hex(
                 *offset,
             )),

@@ -89,7 +89,7 @@ fn refusals_have_their_texts(rt: HostRuntime) {
             },
             "refused 28 2 18446744073709551615\n",
         ),
-        (Refusal::NotBuilt, "refused 0\n"),
+        (Refusal::FileTooLong, "refused 1\n"),
         (Refusal::NotElf { offset: 3 }, "refused 2 0x00000003\n"),
         (
             Refusal::TextTooLarge { bytes: 1_048_580 },

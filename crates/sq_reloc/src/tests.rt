@@ -113,12 +113,12 @@ fn relocs_of<'a>(alloc: Global, file: &'a [u8]) -> Result<Relocs<'a>, Denied> {
     read_relocs(alloc, &elf)
 }
 
-/// What refuses the file: None where it is read, and NotBuilt for want of memory.
-fn refusal(alloc: Global, file: &[u8]) -> Option<Refusal> {
+/// What refuses the file: None where it is read.
+fn refusal(alloc: Global, file: &[u8]) -> Result<Option<Refusal>, Denied> {
     match relocs_of(alloc, file) {
-        Ok(_) => None,
-        Err(Denied::Refused(refusal)) => Some(refusal),
-        Err(Denied::Memory) => Some(Refusal::NotBuilt),
+        Ok(_) => Ok(None),
+        Err(Denied::Refused(refusal)) => Ok(Some(refusal)),
+        Err(denied) => Err(denied),
     }
 }
 
@@ -284,7 +284,7 @@ fn entries_outside_text_are_refused_in_order(rt: HostRuntime) -> Result<(), Fail
         let kind = entry.1;
         let file = with_data(rt.alloc(), &[Rela(0, 43, 7, 0), entry])?;
         assert_eq!(rt;
-            refusal(rt.alloc(), file.as_slice()),
+            refusal(rt.alloc(), file.as_slice())?,
             expected,
             "type {kind}"
         );
@@ -294,10 +294,10 @@ fn entries_outside_text_are_refused_in_order(rt: HostRuntime) -> Result<(), Fail
         Rela(0x0002_0000, 1, 0, 0x0001_0010),
     ];
     let file = with_data(rt.alloc(), &both)?;
-    assert_eq!(rt; refusal(rt.alloc(), file.as_slice()), Some(unsupported));
+    assert_eq!(rt; refusal(rt.alloc(), file.as_slice())?, Some(unsupported));
     let [later, earlier] = both;
     let file = with_data(rt.alloc(), &[earlier, later])?;
-    assert_eq!(rt; refusal(rt.alloc(), file.as_slice()), Some(disagrees));
+    assert_eq!(rt; refusal(rt.alloc(), file.as_slice())?, Some(disagrees));
     Ok(())
 }
 
@@ -419,7 +419,7 @@ fn relocation_sections_are_refused(rt: HostRuntime) -> Result<(), Fail> {
     for (changes, expected) in cases {
         let file = file_with(rt.alloc(), &SMALLEST, changes)?;
         assert_eq!(rt;
-            refusal(rt.alloc(), file.as_slice()),
+            refusal(rt.alloc(), file.as_slice())?,
             expected,
             "{changes:?}"
         );
