@@ -1,3 +1,4 @@
 pub mod Reaching
 pub mod Blocks
 pub mod Searches
+pub mod Deciding

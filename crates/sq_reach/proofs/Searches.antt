@@ -21,7 +21,7 @@ use Rattle.sq_reach.proofs.Reaching.{reaches_then, or_left, or_right}
 marked_from_contains : (names : List ℕ) (n : ℕ) → Contains names n → is_marked names n ≡ true
 marked_from_contains names n h = list_any-from_Contains nat_eq_equiv n names h
 
-contains_from_marked : (names : List ℕ) (n : ℕ) → is_marked names n ≡ true → Contains names n
+pub contains_from_marked : (names : List ℕ) (n : ℕ) → is_marked names n ≡ true → Contains names n
 contains_from_marked [] n e = absurd (cc)
 contains_from_marked (name ∷ names) n e =
     elim (cases_Bool (nat_eq n name)) [

@@ -167,7 +167,7 @@ module _ (g : Graph) (lo : ℕ) (rules : IsGraph g) (few : words_of g ≤ 262144
       let there : is_word (graph_text g lo) y ≡ true = ap (is_word (graph_text g lo)) same ∙ placed_word x placed in
       rw there refl
 
-  leads : (at x : ℕ) → lo ≤ at → at < lo + 4 * words_of g → IsPlaced x → target_from at (offset_to at x) ≡ x
+  pub leads : (at x : ℕ) → lo ≤ at → at < lo + 4 * words_of g → IsPlaced x → target_from at (offset_to at x) ≡ x
   leads at x low high placed =
       let is = placed.is in
       let within = placed.within in

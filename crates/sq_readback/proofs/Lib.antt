@@ -13,3 +13,12 @@ pub mod Faults
 pub mod Entering
 pub mod NoteFaults
 pub mod Parts
+pub mod WordsReached
+mod WholeExamples
+pub mod GraphLeaders
+pub mod BlockPlaces
+pub mod Forms
+pub mod TextLeaders
+pub mod Cutting
+pub mod LiftedBack
+pub mod AlikeBack

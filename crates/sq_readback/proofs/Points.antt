@@ -80,7 +80,7 @@ module _ (g : Graph) (lo : ℕ) where
   term_shaped (Indirect link register offset) at names = (inl refl, tt)
   term_shaped (Stop word) at names = (inl refl, tt)
 
-  block_length : (b : Block) (at : ℕ) → length (block_points g lo at b) ≡ block_words b
+  pub block_length : (b : Block) (at : ℕ) → length (block_points g lo at b) ≡ block_words b
   block_length b at =
       omega (arith, length-append (items_points g lo at b.items) (term_points g lo (at + 4 * length b.items) b.term), length_items g lo at b.items, length_term g lo (at + 4 * length b.items) b.term)
 

@@ -81,7 +81,7 @@ start_in (q ∷ ps) at (suc p) within =
     let more = start_in ps (at + 4 * procedure_words q) p (let f : suc p < suc (length ps) = within in omega arith) in
     (more.0, more.1, omega (arith, more.2), omega (arith, more.3, sum_by-cons procedure_words q ps))
 
-link_real : (ps : List Procedure) (p : ℕ) → p < length ps → All ProcedureFits ps → unwrap_or (procedure_link (slice_get ps p)) 0 ≢ 0
+pub link_real : (ps : List Procedure) (p : ℕ) → p < length ps → All ProcedureFits ps → unwrap_or (procedure_link (slice_get ps p)) 0 ≢ 0
 link_real [] p within all = absurd (let f : p < 0 = within in omega arith)
 link_real (q ∷ ps) zero within all = let fits = All-head {X = Procedure} ProcedureFits q ps all in fits.link
 link_real (q ∷ ps) (suc p) within all =
@@ -89,11 +89,11 @@ link_real (q ∷ ps) (suc p) within all =
 
 -- TEXT
 
-abbrev ReadsAs : Text → ℕ → Point → Reading → Type 0
+abbrev pub ReadsAs : Text → ℕ → Point → Reading → Type 0
 ReadsAs t at p r = marked_reading t at (point_mark p) p.insn ≡ Some r
 
 -- these points, which stand from an address on, read as these
-abbrev AreRead : Text → ℕ → List Point → List Reading → Type 0
+abbrev pub AreRead : Text → ℕ → List Point → List Reading → Type 0
 AreRead t at [] [] = Unit {0}
 AreRead t at [] (r ∷ rs) = ⊥
 AreRead t at (p ∷ ps) [] = ⊥
@@ -221,7 +221,7 @@ module _ (g : Graph) (lo : ℕ) (rules : IsGraph g) (few : words_of g ≤ 262144
       both_read (graph_text g lo) (procedure_points g lo at p) (procedures_points g lo (at + 4 * procedure_words p) ps) (procedure_readings g lo p) (flat_map (procedure_readings g lo) ps) at (at + 4 * procedure_words p) next whole
       (procedures_read ps (at + 4 * procedure_words p) (omega arith) (omega (arith, high, sum)) (All-tail {X = Procedure} (BodyStands (HasBlock g) (HasProcedure g)) p ps all))
 
-  text_read : AreRead (graph_text g lo) lo (text_points g lo) (text_readings g lo)
+  pub text_read : AreRead (graph_text g lo) lo (text_points g lo) (text_readings g lo)
   text_read =
       let by = by_block (HasBlock g) (HasProcedure g) g rules rules.named_all rules.called_all in
       let behind : procedures_at g lo ≡ lo + 4 * length (blocks_points g lo lo g.blocks) = omega (arith, length_blocks g lo lo g.blocks) in

@@ -7,3 +7,5 @@ pub mod Readings
 pub mod Faults
 pub mod NoteFaults
 pub mod Parts
+pub mod Whole
+pub mod Cutting

@@ -1,10 +1,13 @@
 //! What the readers of relocations and of programs find in the file that is written of a graph.
 //!
 //! To the layers above it promises its relocation entries, its code words, the instruction and the mark of each word of
-//! its text, its note and its program; how each word reads; and that neither its relocations, nor its text, nor the
-//! places, bodies and calls of its noted procedures are refused.
+//! its text, its note and its program; how each word reads; that neither its relocations, nor its text, nor the places,
+//! bodies and calls of its noted procedures are refused; and, where nothing of the graph is dead, that each word is
+//! reached and that the graph that is lifted from it is the graph that was written, under other names of blocks.
 #![tactic(auto)]
 
+ghost use Rattle.sq_readback.specs.Cutting.{NewAddressesAreNames, WrittenGraphsLiftBack, LiftedBackIsAlike};
+ghost use Rattle.sq_readback.specs.Whole.{WrittenWordsAreReached, WrittenNotesAreUsed};
 ghost use Rattle.sq_readback.specs.Parts.{WrittenPartsLiftBack};
 ghost use Rattle.sq_readback.specs.NoteFaults.{WrittenFilesPassEarly};
 ghost use Rattle.sq_readback.specs.Faults.{WrittenTextIsNotRefused};
@@ -90,4 +93,30 @@ pub fn written_files_pass_early()
 /// addresses for names.
 pub fn written_parts_lift_back()
     ensures { WrittenPartsLiftBack }
+{}
+
+/// Each word of text of the file of a graph is reached, where each block is reached and each procedure is called.
+pub fn written_words_are_reached()
+    ensures { WrittenWordsAreReached }
+{}
+
+/// All notes of the file of such a graph are used.
+pub fn written_notes_are_used()
+    ensures { WrittenNotesAreUsed }
+{}
+
+/// In the file of a canonical graph different blocks have different new addresses.
+pub fn new_addresses_are_names()
+    ensures { NewAddressesAreNames }
+{}
+
+/// Where each word of text is reached, the graph that is lifted from the file of a canonical and whole graph is that graph,
+/// with new addresses for names.
+pub fn written_graphs_lift_back()
+    ensures { WrittenGraphsLiftBack }
+{}
+
+/// So it differs from that graph in the names of blocks alone, and that graph from it.
+pub fn lifted_back_is_alike()
+    ensures { LiftedBackIsAlike }
 {}
