@@ -1,8 +1,9 @@
--- One rewrite, and rewrites one after another.
-use Rattle.std.proofs.Common.{◌≡◌, ℕ, zero, suc, ◌+◌, ◌<◌, ◌≤◌, Bool, false, List, [], ◌∷◌, ◌++◌, length, sum_by, refl, sym, ap, ◌∙◌, subst, arith, length-append}
-use Rattle.std.specs.List.{All, AllByRecursion}
+-- Room for a rewrite, and what the canonical graph keeps.
+use Rattle.std.proofs.Common.{◌≡◌, ◌+◌, ◌≤◌, false, List, [], ◌∷◌, length, sum_by, sym, subst, arith, length-append}
+use Rattle.std.specs.List.{AllByRecursion}
 use Rattle.std.proofs.lemmas.List.Elements.{recursion_from_All}
 use Rattle.std.proofs.lemmas.List.Sums.{sum_by-cons}
+use Rattle.sq_graph.proofs.CanonicalReach.{canonical_in_reach}
 use Rattle.sq_graph.specs.declared.item.Item.{Item}
 use Rattle.sq_graph.specs.declared.item.Term.{Term}
 use Rattle.sq_graph.specs.declared.item.Term.TheVariants.{Fall, Jump, Branch, Call, PartJump, Indirect, Stop}
@@ -17,14 +18,13 @@ use Rattle.sq_graph.specs.Rules.{IsGraph}
 use Rattle.sq_graph.specs.Soundness.{IsSound}
 use Rattle.sq_graph.specs.Words.{block_words, procedure_words, words_of}
 use Rattle.sq_follow.specs.Follows.{Follows}
-use Rattle.sq_follow.proofs.Following.{graph_follows_itself, graph_follows_through}
 use Rattle.sq_patch.proofs.Joining.{canonical_follows, canonical_sound}
-use Rattle.sq_pass.specs.Applied.{IsApplied, IsWithin}
-use Rattle.sq_drive.specs.Settled.{IsSettled, IsRewritten}
+use Rattle.sq_pass.specs.Applied.{IsWithin}
+use Rattle.sq_pass.specs.Rewrites.{IsSettled}
 
 -- HOW MUCH A CANONICAL GRAPH HAS
 
-some_word : (b : Block) → is_bare b ≡ false → 1 ≤ block_words b
+pub some_word : (b : Block) → is_bare b ≡ false → 1 ≤ block_words b
 some_word b e = go b.items b.term e
   where
     go : (items : List Item) (term : Term) → is_bare (record { name = b.name; items = items; term = term }) ≡ false → 1 ≤ block_words (record { name = b.name; items = items; term = term })
@@ -61,32 +61,14 @@ small_room g room canonical few within =
     let c = within.procedures in
     record { blocks = omega (arith, blocks, few, a); items = omega (arith, all, items, bodies, few, b); procedures = omega (arith, bodies, few, c) }
 
--- ONE REWRITE, MADE CANONICAL
+-- THE CANONICAL GRAPH
 
-pub rewritten : (saving : ℕ) (described old same mid new : Graph) → same ≡ old → IsApplied saving described same mid → IsGraph mid → new ≡ canonical_of mid → IsCanonical new → words_of new ≡ words_of mid → (IsInReach mid → IsInReach (canonical_of mid)) → 1 ≤ saving → IsRewritten saving old new
-rewritten saving described old same mid new kept applied rules made canonical words reach some =
-    record {
-      settled = record {
-        follows = subst (λ g. Follows g new) kept (subst (Follows same) (sym made) (graph_follows_through same mid (canonical_of mid) applied.follows (canonical_follows mid rules)));
-        sound = λ s. subst IsSound (sym made) (canonical_sound mid rules (applied.sound (subst IsSound (sym kept) s)));
-        reach = λ r. subst IsInReach (sym made) (reach (applied.reach (subst IsInReach (sym kept) r)));
-        canonical = canonical;
-        words = omega (arith, words, applied.words) ∙ ap words_of kept;
-      };
-      some = some;
-    }
-
--- ONE AFTER ANOTHER
-
-pub settled_itself : (g : Graph) → IsCanonical g → IsSettled 0 g g
-settled_itself g canonical =
-    record { follows = graph_follows_itself g; sound = λ s. s; reach = λ r. r; canonical = canonical; words = omega arith }
-
-pub settled_on : (saved saving total : ℕ) (old mid new : Graph) → IsSettled saved old mid → IsRewritten saving mid new → total ≡ saved + saving → IsSettled total old new
-settled_on saved saving total old mid new a b e = record {
-  follows = graph_follows_through old mid new a.follows b.settled.follows;
-  sound = λ s. b.settled.sound (a.sound s);
-  reach = λ r. b.settled.reach (a.reach r);
-  canonical = b.settled.canonical;
-  words = omega (arith, a.words, b.settled.words, e);
+-- it keeps what a rewrite keeps, and has as many words
+pub made_canonical : (mid new : Graph) → IsGraph mid → new ≡ canonical_of mid → IsCanonical new → words_of new ≡ words_of mid → IsSettled 0 mid new
+made_canonical mid new rules made canonical words = record {
+  follows = subst (Follows mid) (sym made) (canonical_follows mid rules);
+  sound = λ s. subst IsSound (sym made) (canonical_sound mid rules s);
+  reach = λ r. subst IsInReach (sym made) (canonical_in_reach mid rules r);
+  canonical = canonical;
+  words = omega (arith, words);
 }

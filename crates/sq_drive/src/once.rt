@@ -4,20 +4,13 @@ ghost use Rattle.std.specs.Prelude.{◌≡◌, ◌≤◌, None, Ok, IfOk, IfSome
 ghost use Rattle.sq_graph.specs.Leaders.{IsCanonical};
 ghost use Rattle.sq_graph.specs.Words.{words_of};
 ghost use Rattle.sq_pass.specs.declared.cut.Cut.{Cut as Told};
-ghost use Rattle.sq_drive.specs.Settled.{IsRewritten};
+ghost use Rattle.sq_pass.specs.Rewrites.{IsRewrite, IsSettled};
 
 use sq_graph::Graph;
 use sq_live::live;
 use sq_num::Memory;
-use sq_pass::{Pass, Row};
+use sq_pass::{Pass, Rewrite};
 use std::alloc::Global;
-
-/// A rewrite that was made: its row, and how many words it saved.
-#[derive(Clone, Copy, Debug, PartialEq, Eq)]
-pub struct Rewrite {
-    pub row: Row,
-    pub saving: u32,
-}
 
 /// Rewrites the graph by one candidate of the pass, and makes it canonical. None where the pass has no candidate. It
 /// looks at the whole graph.
@@ -28,7 +21,9 @@ pub fn rewrite_once<P: Pass>(
 ) -> Result<Option<Rewrite>, Memory>
     requires canonical { IsCanonical graph.old.graph }
     requires words { words_of graph.old.graph ≤ 1048576 }
-    ensures some { IfOk result (λ done. IfSome done (λ rewrite. IsRewritten rewrite.saving graph.old.graph graph.new.graph)) }
+    ensures some { IfOk result (λ done. IfSome done (λ rewrite. IsRewrite (P.is_candidate pass.now) (P.described pass.now) rewrite graph.old.graph graph.new.graph)) }
+    ensures settled { IfOk result (λ done. IfSome done (λ rewrite. IsSettled rewrite.saving graph.old.graph graph.new.graph)) }
+    ensures saves { IfOk result (λ done. IfSome done (λ rewrite. 1 ≤ rewrite.saving)) }
     ensures none { result ≡ Ok None → graph.new.graph ≡ graph.old.graph }
     ensures left { result ≡ Ok None → (cut : Told) → ¬ P.is_candidate pass.now graph.old.graph cut }
     ensures kept { OnErr result (graph.new.graph ≡ graph.old.graph) }

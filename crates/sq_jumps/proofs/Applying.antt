@@ -209,7 +209,7 @@ invert_applied g block rules o =
 
 -- C
 
-hastening_is : (g : Graph) (block at link part to : ℕ) → IsShortable g block at link part to → hastened g block ≡ shortened g block at link to
+pub hastening_is : (g : Graph) (block at link part to : ℕ) → IsShortable g block at link part to → hastened g block ≡ shortened g block at link to
 hastening_is g block at link part to can =
     let at_is : length (items_of g block) - 1 ≡ at = omega (arith, can.last) in
     ap (hastened_by g block) can.jump ∙ ap (λ n. shortened g block n link to) at_is

@@ -1,5 +1,5 @@
 -- A cut that is applied at its block.
-use Rattle.std.proofs.Common.{◌≡◌, ◌≢◌, Result, Ok, Err, Option, None, Some, inl, inr, ℕ, ◌<◌, List, [], ◌∷◌, length, get_or, refl, sym, ap, ◌∙◌, subst, arith}
+use Rattle.std.proofs.Common.{◌≡◌, ◌≢◌, Result, Ok, Err, Option, None, Some, inl, inr, ℕ, ◌<◌, List, [], ◌∷◌, length, get_or, sym, ap, ◌∙◌, subst, arith}
 use Rattle.std.specs.Prelude.{IfOk, IfSome}
 use Rattle.std.specs.List.{All}
 use Rattle.sq_graph.specs.declared.item.Term.TheVariants.{Jump, Branch, PartJump}
@@ -13,24 +13,23 @@ use Rattle.sq_pass.specs.declared.cut.Row.TheVariants.{U, J1, J2, J3, C, T, O1, 
 use Rattle.sq_pass.specs.Applied.{IsApplied}
 use Rattle.sq_pass.specs.Cuts.{IsCompleted}
 use Rattle.sq_num.specs.declared.memory.Memory.{Memory}
-use Rattle.sq_jumps.specs.Candidates.{HasRow, IsJumpCut, IsUnreachedCut, IsCandidate, only_block, rewritten, described}
+use Rattle.sq_jumps.specs.Candidates.{HasRow, IsJumpCut, IsUnreachedCut, IsCandidate, rewritten, described}
 use Rattle.sq_jumps.specs.Unreached.{words_gone, without_all}
 use Rattle.sq_jumps.proofs.Leaving.{unreached_applied}
 use Rattle.sq_jumps.proofs.Surveying.{name_listed}
 use Rattle.sq_jumps.proofs.Distances.{has_term, lone, has_lone}
 
--- what a row makes of the graph at a block for which it is
-abbrev pub Applies : Row → Graph → Type 0
-Applies row g = (block : ℕ) → HasRow row g block → IsApplied 1 (rewritten row g (block ∷ [])) g (rewritten row g (block ∷ []))
+-- a row that is known is applied at its block
+pub row_applied : (row known : Row) (g new : Graph) (block : ℕ) → row ≡ known → HasRow row g block → (HasRow known g block → IsApplied 1 (rewritten known g (block ∷ [])) g (rewritten known g (block ∷ []))) → new ≡ rewritten known g (block ∷ []) → IsApplied 1 (rewritten row g (block ∷ [])) g new
+row_applied row known g new block is has applied made =
+    subst (λ r. IsApplied 1 (rewritten r g (block ∷ [])) g new) (sym is)
+    (subst (λ h. IsApplied 1 (rewritten known g (block ∷ [])) g h) (sym made) (applied (subst (λ r. HasRow r g block) is has)))
 
-pub applied_at : (row : Row) (g new : Graph) (cut : Cut) → Applies row g → IsJumpCut g cut → cut.row ≡ row → new ≡ rewritten row g cut.blocks → IsApplied cut.saving (described g cut) g new
-applied_at row g new cut applies candidate row_is is =
-    let blocks : cut.blocks ≡ candidate.block ∷ [] = ap (λ (given : Cut). given.blocks) candidate.is in
-    let new_is : new ≡ rewritten row g (candidate.block ∷ []) = is ∙ ap (rewritten row g) blocks in
-    let described_is : described g cut ≡ rewritten row g (candidate.block ∷ []) = ap (λ r. rewritten r g cut.blocks) row_is ∙ ap (rewritten row g) blocks in
-    let applied = applies candidate.block (subst (λ r. HasRow r g candidate.block) row_is candidate.has_row) in
-    subst (λ n. IsApplied n (described g cut) g new) (sym (ap (λ (given : Cut). given.saving) candidate.is))
-    (subst (λ h. IsApplied 1 h g new) (sym described_is) (subst (λ h. IsApplied 1 (rewritten row g (candidate.block ∷ [])) g h) (sym new_is) applied))
+-- what a row makes of the graph at the block of a cut is what the cut describes
+pub applied_at : (g new : Graph) (cut : Cut) (block : ℕ) → (jump : IsJumpCut g cut) → block ≡ jump.block → IsApplied 1 (rewritten cut.row g (block ∷ [])) g new → IsApplied cut.saving (described g cut) g new
+applied_at g new cut block jump same applied =
+    let blocks : cut.blocks ≡ block ∷ [] = ap (λ (given : Cut). given.blocks) jump.is ∙ ap (λ n. n ∷ []) (sym same) in
+    subst (λ n. IsApplied n (described g cut) g new) (sym (ap (λ (given : Cut). given.saving) jump.is)) (subst (λ ns. IsApplied 1 (rewritten cut.row g ns) g new) (sym blocks) applied)
 
 -- a cut of another row isn't one of these
 pub jump_of : (g : Graph) (cut : Cut) → IsCandidate g cut → cut.row ≢ U → IsJumpCut g cut
@@ -71,13 +70,11 @@ no_cut g names are none cut candidate =
     let within : at.0 < length names = omega (arith, at.1, ap (λ ns. length ns) are) in
     none at.0 0 within cut.row (subst (λ b. HasRow cut.row g b) (sym block_is) candidate.has_row)
 
--- the first of a cut's blocks
-pub first_is : (xs ys : List ℕ) → xs ≡ ys → get_or xs 0 0 ≡ only_block ys
-first_is xs ys e = ap (λ zs. get_or zs 0 0) e ∙ first ys
-  where
-    first : (ys : List ℕ) → get_or ys 0 0 ≡ only_block ys
-    first [] = refl
-    first (y ∷ ys) = refl
+-- a jump cut has one block
+pub one_block : (g : Graph) (cut : Cut) (xs : List ℕ) → xs ≡ cut.blocks → (jump : IsJumpCut g cut) → (0 < length xs) × (get_or xs 0 0 ≡ jump.block)
+one_block g cut xs e jump =
+    let is : xs ≡ jump.block ∷ [] = e ∙ ap (λ (given : Cut). given.blocks) jump.is in
+    (omega (arith, ap (λ (ys : List ℕ). length ys) is), ap (λ ys. get_or ys 0 0) is)
 
 -- what is given for a cut of another row
 pub given_jump : (g : Graph) (cut : Cut) (r : Result (Option Cut) Memory) → IfOk r (λ found. IfSome found (λ given. IsJumpCut g given × IsCompleted cut given)) → IfOk r (λ found. IfSome found (λ given. IsCandidate g given × IsCompleted cut given))

@@ -4,11 +4,15 @@ pub mod Ruled
 pub mod Totals
 pub mod Addresses
 pub mod Adding
+pub mod Tabling
 pub mod Surveying
 pub mod Distances
 pub mod Rewriting
 pub mod RowTests
 pub mod Applying
+pub mod Hastening
+pub mod StayingDead
+pub mod Sweeping
 pub mod Cutting
 pub mod Clearing
 pub mod Uncalled

@@ -4,7 +4,7 @@ use Rattle.std.specs.Prelude.{option_map}
 use Rattle.std.specs.List.{All, Contains}
 use Rattle.std.proofs.lemmas.Bool.{cases_Bool, ne_eqb, eqb-true, eqb-false}
 use Rattle.std.proofs.lemmas.List.Elements.{All-nil, All-cons, All-head}
-use Rattle.sq_arena.specs.Entries.{first_key, next_key}
+use Rattle.sq_arena.specs.Entries.{first_key, next_key, value_of}
 use Rattle.sq_isa.specs.declared.instructions.Cond.{Cond}
 use Rattle.sq_graph.specs.declared.parts.Room.{Room}
 use Rattle.sq_graph.specs.declared.item.Item.{Item}
@@ -55,12 +55,24 @@ next_names (x ∷ xs) (y ∷ ys) n same =
     first_names (x ∷ xs) [] same = absurd (cc)
     first_names (x ∷ xs) (y ∷ ys) same = let name : x.name ≡ y.name = cc in ap Some name
 
-names-changed : (f : Block → Block) (bs : List Block) (n : ℕ) → ((b : Block) → (f b).name ≡ b.name) → map (λ (b : Block). b.name) (with_blocks (λ b. f b ∷ []) bs n) ≡ map (λ (b : Block). b.name) bs
+pub names-changed : (f : Block → Block) (bs : List Block) (n : ℕ) → ((b : Block) → (f b).name ≡ b.name) → map (λ (b : Block). b.name) (with_blocks (λ b. f b ∷ []) bs n) ≡ map (λ (b : Block). b.name) bs
 names-changed f [] n names = refl
 names-changed f (b ∷ bs) n names =
     elim (cases_Bool (b.name == n)) [
       | inl here ↦ rw here (ap (λ k. k ∷ map (λ (c : Block). c.name) bs) (names b))
       | inr apart ↦ rw apart (ap (λ ks. b.name ∷ ks) (names-changed f bs n names))
+    ]
+
+-- blocks of the same names are there
+pub has_names : (xs ys : List Block) (n : ℕ) → map (λ (b : Block). b.name) xs ≡ map (λ (b : Block). b.name) ys → IsSome (value_of (named xs) n) → IsSome (value_of (named ys) n)
+has_names [] ys n same some = absurd (cc)
+has_names (x ∷ xs) [] n same some = absurd (cc)
+has_names (x ∷ xs) (y ∷ ys) n same some =
+    let name : x.name ≡ y.name = cc in
+    let rest : map (λ (b : Block). b.name) xs ≡ map (λ (b : Block). b.name) ys = cc in
+    elim (cases_Bool (y.name == n)) [
+      | inl here ↦ rw here refl
+      | inr apart ↦ let apart' : (x.name == n) ≡ false = ap (λ k. k == n) name ∙ apart in rw apart (has_names xs ys n rest (rw apart' at some))
     ]
 
 names-retargeted : (f : ℕ → ℕ) (bs : List Block) → map (λ (b : Block). b.name) (map (retargeted_block f) bs) ≡ map (λ (b : Block). b.name) bs

@@ -1,8 +1,10 @@
 pub mod Branches
 pub mod Names
+pub mod Tables
 pub mod Surveys
 pub mod Rows
 pub mod Rewrites
 pub mod Unreached
 pub mod Clearings
 pub mod Candidates
+pub mod Sweeps

@@ -1,7 +1,6 @@
 //! Looking for candidates.
 
-ghost use Rattle.std.specs.Prelude.{◌≡◌, nat_eq, None, Ok, IfOk, IfSome};
-ghost use Rattle.std.specs.HashMap.{get};
+ghost use Rattle.std.specs.Prelude.{◌≡◌, None, Ok, IfOk, IfSome};
 ghost use Rattle.std.specs.List.{All};
 ghost use Rattle.sq_graph.specs.Blocks.{HasBlock};
 ghost use Rattle.sq_graph.specs.Parts.{names_of};
@@ -10,6 +9,8 @@ ghost use Rattle.sq_live.specs.Liveness.{IsLivenessOf};
 ghost use Rattle.sq_pass.specs.declared.cut.Row.{Row as RowName};
 ghost use Rattle.sq_pass.specs.declared.cut.Cut.{Cut as Told};
 ghost use Rattle.sq_jumps.specs.Surveys.{IsSurvey};
+ghost use Rattle.sq_jumps.specs.Tables.{number_at};
+ghost use Rattle.sq_jumps.specs.Rows.{JumpsToNext, IsDetour, BranchesOverJump};
 ghost use Rattle.sq_jumps.specs.Candidates.{HasRow, cut_at, IsJumpCut};
 
 use crate::rows::{branches_over_jump, is_detour, jumps_by_dead_part, jumps_to_next};
@@ -45,13 +46,12 @@ fn cut_at(alloc: Global, row: Row, block: u32) -> Result<Cut, Memory>
     })
 }
 
-/// The row for which a block is a candidate.
-fn row_at(graph: &Graph, live: &Liveness, survey: &Survey, block: u32) -> Option<Row>
+/// The row of J1, J2 and J3 for which a block is a candidate.
+pub(crate) fn jump_row(graph: &Graph, survey: &Survey, block: u32) -> Option<Row>
     requires block { HasBlock graph.now.graph block }
-    requires live { IsLivenessOf graph.now.graph live.now }
-    requires survey { IsSurvey graph.now.graph (get nat_eq survey.now.addresses) survey.now.used survey.now.needed }
+    requires survey { IsSurvey graph.now.graph (number_at survey.now.addresses) survey.now.used survey.now.needed }
     ensures some { IfSome result (λ row. HasRow row graph.now.graph block) }
-    ensures none { result ≡ None → (row : RowName) → ¬ HasRow row graph.now.graph block }
+    ensures none { result ≡ None → ¬ JumpsToNext graph.now.graph block × ¬ IsDetour graph.now.graph block × ¬ BranchesOverJump graph.now.graph block }
 {
     if jumps_to_next(graph, block) {
         return Some(Row::J1);
@@ -61,6 +61,20 @@ fn row_at(graph: &Graph, live: &Liveness, survey: &Survey, block: u32) -> Option
     }
     if branches_over_jump(graph, survey, block) {
         return Some(Row::J3);
+    }
+    None
+}
+
+/// The row for which a block is a candidate.
+fn row_at(graph: &Graph, live: &Liveness, survey: &Survey, block: u32) -> Option<Row>
+    requires block { HasBlock graph.now.graph block }
+    requires live { IsLivenessOf graph.now.graph live.now }
+    requires survey { IsSurvey graph.now.graph (number_at survey.now.addresses) survey.now.used survey.now.needed }
+    ensures some { IfSome result (λ row. HasRow row graph.now.graph block) }
+    ensures none { result ≡ None → (row : RowName) → ¬ HasRow row graph.now.graph block }
+{
+    if let Some(row) = jump_row(graph, survey, block) {
+        return Some(row);
     }
     if jumps_by_dead_part(graph, live, block) {
         return Some(Row::C);
@@ -72,7 +86,7 @@ fn row_at(graph: &Graph, live: &Liveness, survey: &Survey, block: u32) -> Option
 fn first_row(graph: &Graph, live: &Liveness, survey: &Survey, names: &[u32]) -> Option<(Row, u32)>
     requires rules { IsGraph graph.now.graph }
     requires live { IsLivenessOf graph.now.graph live.now }
-    requires survey { IsSurvey graph.now.graph (get nat_eq survey.now.addresses) survey.now.used survey.now.needed }
+    requires survey { IsSurvey graph.now.graph (number_at survey.now.addresses) survey.now.used survey.now.needed }
     requires names { names.now ≡ names_of graph.now.graph }
     ensures some { IfSome result (λ found. HasRow found.0 graph.now.graph found.1) }
     ensures none { result ≡ None → All (λ block. (row : RowName) → ¬ HasRow row graph.now.graph block) names.now }

@@ -4,11 +4,12 @@ use crate::admit::{admit_block, admit_unreached};
 use crate::blocks::facts;
 use crate::clear::drop_unreached;
 use crate::find::find_block;
-use crate::rewrites::{fall, invert, pass, shorten};
+use crate::rewrites::apply_row;
+use crate::sweep::{sweep_calls, sweep_jumps};
 use crate::unreached::find_unreached;
 use sq_graph::{Graph, Room};
 use sq_live::{Liveness, block_names};
-use sq_num::Memory;
+use sq_num::{Memory, Savings};
 use sq_pass::{Cut, Pass, Row};
 use std::alloc::Global;
 
@@ -64,11 +65,12 @@ impl Pass for Jumps {
         let blocks = cut.blocks.as_slice();
         match cut.row {
             Row::U => drop_unreached(graph, blocks),
-            Row::J1 => fall(graph, blocks[0]),
-            Row::J2 => pass(graph, blocks[0]),
-            Row::J3 => invert(graph, blocks[0]),
-            Row::C => shorten(graph, blocks[0]),
-            _ => unreachable!(),
+            row => apply_row(graph, row, blocks[0]),
         }
+    }
+
+    fn sweep(&self, alloc: Global, graph: &mut Graph, savings: Savings) -> Result<Savings, Memory> {
+        let after = sweep_calls(alloc, graph, savings)?;
+        sweep_jumps(alloc, graph, after)
     }
 }

@@ -13,8 +13,8 @@ mod names;
 mod rewrites;
 mod rows;
 mod survey;
-#[cfg(test)]
-mod tests;
+mod sweep;
+mod table;
 mod unreached;
 mod uses;
 

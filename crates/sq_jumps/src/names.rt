@@ -1,14 +1,14 @@
 //! Sets of names.
 
+use crate::table::Table;
 use sq_num::Memory;
 use std::alloc::Global;
-use std::collections::HashSet;
 use std::marker::Model;
 
-/// A set of names of blocks.
+/// A set of names of blocks, or of procedures.
 #[derive(Drop)]
 pub(crate) struct Names {
-    names: HashSet<u32>,
+    table: Table,
 }
 
 impl Model for Names {
@@ -16,7 +16,9 @@ impl Model for Names {
 
     ghost Value = { List ℕ };
 
-    ghost view = { λ s. s.names.keys };
+    ghost use Rattle.sq_jumps.specs.Tables.{names_from};
+
+    ghost view = { λ s. names_from 0 s.table };
 }
 
 impl Names {
@@ -27,14 +29,14 @@ impl Names {
         ensures { result ≡ [] }
     {
         Names {
-            names: HashSet::new(alloc),
+            table: Table::new(alloc),
         }
     }
 
     pub fn insert(&mut self, name: u32) -> Result<(), Memory>
         ensures { OnOk result (Adds (name ∷ []) self.old self.new) }
     {
-        self.names.insert(name)?;
+        self.table.insert(name, 0)?;
         Ok(())
     }
 
@@ -51,6 +53,6 @@ impl Names {
     pub fn has(&self, name: u32) -> bool
         ensures { result ≡ is_listed self.now name }
     {
-        self.names.contains(&name)
+        self.table.get(name).is_some()
     }
 }

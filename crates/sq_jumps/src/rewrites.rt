@@ -1,14 +1,17 @@
 //! What the rows make of a graph.
 
-ghost use Rattle.std.specs.Prelude.{◌≡◌};
+ghost use Rattle.std.specs.Prelude.{◌≡◌, [], ◌∷◌};
 ghost use Rattle.sq_graph.specs.Room.{KeepsTotal};
 ghost use Rattle.sq_patch.specs.Operations.{hastened as short_jump};
+ghost use Rattle.sq_pass.specs.Applied.{IsApplied};
+ghost use Rattle.sq_jumps.specs.Candidates.{HasRow, rewritten};
 ghost use Rattle.sq_jumps.specs.Rows.{JumpsToNext, IsDetour, BranchesOverJump, JumpsByDeadPart};
 ghost use Rattle.sq_jumps.specs.Rewrites.{falling, passed, inverted, hastened};
 
 use crate::blocks::{facts, jump_from};
 use sq_graph::{Graph, Term};
 use sq_isa::{Reg, inverse};
+use sq_pass::Row;
 
 /// Makes the term Fall.
 pub(crate) fn fall(graph: &mut Graph, block: u32)
@@ -79,4 +82,20 @@ pub(crate) fn shorten(graph: &mut Graph, block: u32)
     let last = graph.items(block).len() as u32 - 1;
     graph.replace(block, last, 1, &[]);
     graph.set_term(block, short_jump(link, to));
+}
+
+/// Makes of the graph what a row for one block says.
+pub(crate) fn apply_row(graph: &mut Graph, row: Row, block: u32)
+    requires { HasRow row graph.old.graph block }
+    ensures applied { IsApplied 1 (rewritten row graph.old.graph (block ∷ [])) graph.old.graph graph.new.graph }
+    ensures total { KeepsTotal graph.old graph.new }
+{
+    facts(graph);
+    match row {
+        Row::J1 => fall(graph, block),
+        Row::J2 => pass(graph, block),
+        Row::J3 => invert(graph, block),
+        Row::C => shorten(graph, block),
+        _ => unreachable!(),
+    }
 }

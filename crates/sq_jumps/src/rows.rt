@@ -1,10 +1,11 @@
 //! Which blocks the rows are for.
 
-ghost use Rattle.std.specs.Prelude.{◌↔◌, nat_eq, IsTrue};
-ghost use Rattle.std.specs.HashMap.{get};
+ghost use Rattle.std.specs.Prelude.{◌↔◌, IsTrue};
 ghost use Rattle.sq_graph.specs.Blocks.{HasBlock};
 ghost use Rattle.sq_live.specs.Liveness.{IsLivenessOf};
 ghost use Rattle.sq_jumps.specs.Surveys.{IsSurvey};
+ghost use Rattle.sq_jumps.specs.Tables.{number_at};
+ghost use Rattle.sq_jumps.specs.Sweeps.{IsStillDead};
 ghost use Rattle.sq_jumps.specs.Rows.{JumpsToNext, IsDetour, BranchesOverJump, JumpsByDeadPart};
 
 use crate::blocks::{facts, jump_from};
@@ -26,7 +27,7 @@ pub(crate) fn jumps_to_next(graph: &Graph, block: u32) -> bool
 /// Whether the block is a lone Jump to another block, without which all others can do.
 pub(crate) fn is_detour(graph: &Graph, survey: &Survey, block: u32) -> bool
     requires block { HasBlock graph.now.graph block }
-    requires survey { IsSurvey graph.now.graph (get nat_eq survey.now.addresses) survey.now.used survey.now.needed }
+    requires survey { IsSurvey graph.now.graph (number_at survey.now.addresses) survey.now.used survey.now.needed }
     ensures { IsTrue result ↔ IsDetour graph.now.graph block }
 {
     facts(graph);
@@ -39,7 +40,7 @@ pub(crate) fn is_detour(graph: &Graph, survey: &Survey, block: u32) -> bool
 /// Whether the block ends in a Branch over a lone Jump that can be inverted.
 pub(crate) fn branches_over_jump(graph: &Graph, survey: &Survey, block: u32) -> bool
     requires block { HasBlock graph.now.graph block }
-    requires survey { IsSurvey graph.now.graph (get nat_eq survey.now.addresses) survey.now.used survey.now.needed }
+    requires survey { IsSurvey graph.now.graph (number_at survey.now.addresses) survey.now.used survey.now.needed }
     ensures { IsTrue result ↔ BranchesOverJump graph.now.graph block }
 {
     facts(graph);
@@ -61,11 +62,13 @@ pub(crate) fn branches_over_jump(graph: &Graph, survey: &Survey, block: u32) -> 
     reaches_without(graph, &survey.addresses, over, block, to)
 }
 
-/// Whether the block jumps by an upper half, its last item, which nothing else needs.
+/// Whether the block jumps by an upper half, its last item, which nothing else needs. The live registers may be those of
+/// a graph before, and then an upper half that was needed there counts as needed.
 pub(crate) fn jumps_by_dead_part(graph: &Graph, live: &Liveness, block: u32) -> bool
     requires block { HasBlock graph.now.graph block }
-    requires live { IsLivenessOf graph.now.graph live.now }
-    ensures { IsTrue result ↔ JumpsByDeadPart graph.now.graph block }
+    requires live { IsStillDead live.now graph.now.graph }
+    ensures some { IsTrue result → JumpsByDeadPart graph.now.graph block }
+    ensures all { IsLivenessOf graph.now.graph live.now → JumpsByDeadPart graph.now.graph block → IsTrue result }
 {
     facts(graph);
     let Term::PartJump { link, part, to } = graph.term(block) else {

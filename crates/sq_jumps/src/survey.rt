@@ -1,7 +1,6 @@
 //! What is gathered of a graph before its blocks are tested.
 
-ghost use Rattle.std.specs.Prelude.{◌≡◌, ℕ, ◌<◌, ◌^◌, ◌↔◌, nat_eq, true, Some, IsTrue, IfOk, length};
-ghost use Rattle.std.specs.HashMap.{get};
+ghost use Rattle.std.specs.Prelude.{◌≡◌, ℕ, pos, ◌-ℤ◌, ◌<◌, ◌^◌, ◌↔◌, true, Some, IsTrue, IfOk, length};
 ghost use Rattle.sq_graph.specs.Blocks.{HasBlock, items_of};
 ghost use Rattle.sq_graph.specs.Parts.{names_of};
 ghost use Rattle.sq_graph.specs.Places.{block_address};
@@ -9,33 +8,34 @@ ghost use Rattle.sq_graph.specs.Rules.{IsGraph};
 ghost use Rattle.sq_graph.specs.Words.{words_of};
 ghost use Rattle.sq_jumps.specs.Names.{is_listed};
 ghost use Rattle.sq_jumps.specs.Surveys.{lifted, address_of, ReachesWithout, GoesInto, IsTooFar, Needs, IsSurvey};
+ghost use Rattle.sq_jumps.specs.Tables.{number_at};
 
 use crate::blocks::{block_words, facts, goes_on, jump_from};
 use crate::names::Names;
+use crate::table::Table;
 use crate::uses::used_names;
 use sq_graph::{Graph, Term};
 use sq_layout::reaches;
 use sq_num::Memory;
 use std::alloc::Global;
-use std::collections::HashMap;
 
 /// Where blocks stand in a text that starts at 0, which names are used, and without which blocks another one can't do:
 /// it goes on into the block, or its Branch to this lone Jump wouldn't reach where the Jump leads once that is gone.
 #[derive(Drop)]
 pub(crate) struct Survey {
-    pub addresses: HashMap<u32, u64>,
+    pub addresses: Table,
     pub used: Names,
     pub needed: Names,
 }
 
 /// The address of each block in a text that starts at 0.
-fn block_addresses(alloc: Global, graph: &Graph, names: &[u32]) -> Result<HashMap<u32, u64>, Memory>
+fn block_addresses(alloc: Global, graph: &Graph, names: &[u32]) -> Result<Table, Memory>
     requires rules { IsGraph graph.now.graph }
     requires few { words_of graph.now.graph < 2 ^ 31 }
     requires names { names.now ≡ names_of graph.now.graph }
-    ensures { IfOk result (λ addresses. (n : ℕ) → get nat_eq addresses n ≡ block_address graph.now.graph 0 n) }
+    ensures { IfOk result (λ addresses. (n : ℕ) → number_at addresses n ≡ block_address graph.now.graph 0 n) }
 {
-    let mut addresses = HashMap::new(alloc);
+    let mut addresses = Table::new(alloc);
     let mut at = 0;
     for name in names {
         addresses.insert(*name, at)?;
@@ -45,13 +45,13 @@ fn block_addresses(alloc: Global, graph: &Graph, names: &[u32]) -> Result<HashMa
 }
 
 /// The address of a block.
-fn address(graph: &Graph, addresses: &HashMap<u32, u64>, block: u32) -> u64
+fn address(graph: &Graph, addresses: &Table, block: u32) -> u64
     requires few { words_of graph.now.graph < 2 ^ 31 }
-    requires addresses { (n : ℕ) → get nat_eq addresses.now n ≡ block_address graph.now.graph 0 n }
+    requires addresses { (n : ℕ) → number_at addresses.now n ≡ block_address graph.now.graph 0 n }
     ensures value { result ≡ address_of graph.now.graph block }
     ensures small { result < 2 ^ 34 }
 {
-    addresses.get(&block).copied().unwrap_or(0)
+    addresses.get(block).unwrap_or(0)
 }
 
 /// Where a place stands once a word is gone.
@@ -61,24 +61,33 @@ fn lifted(gone: u64, at: u64) -> u64
     if gone < at { at.saturating_sub(4) } else { at }
 }
 
+/// How far a place is behind another one.
+fn distance(target: u64, at: u64) -> i64
+    requires target { target < 2 ^ 40 }
+    requires at { at < 2 ^ 40 }
+    ensures { result ≡ pos target -ℤ pos at }
+{
+    target as i64 - at as i64
+}
+
 /// Whether the Branch at the end of the block reaches another one, once a block of one word is gone.
 pub(crate) fn reaches_without(
     graph: &Graph,
-    addresses: &HashMap<u32, u64>,
+    addresses: &Table,
     gone: u32,
     from: u32,
     to: u32,
 ) -> bool
     requires few { words_of graph.now.graph < 2 ^ 31 }
     requires block { HasBlock graph.now.graph from }
-    requires addresses { (n : ℕ) → get nat_eq addresses.now n ≡ block_address graph.now.graph 0 n }
+    requires addresses { (n : ℕ) → number_at addresses.now n ≡ block_address graph.now.graph 0 n }
     ensures { IsTrue result ↔ ReachesWithout graph.now.graph gone from to }
 {
     let word = address(graph, addresses, gone);
     let start = lifted(word, address(graph, addresses, from));
     let at = start + 4 * graph.items(from).len() as u64;
     let target = lifted(word, address(graph, addresses, to));
-    reaches(target as i64 - at as i64)
+    reaches(distance(target, at))
 }
 
 /// The block into which a block goes on, if it does.
@@ -95,11 +104,11 @@ fn entered(graph: &Graph, from: u32) -> Option<u32>
 
 /// The lone Jump to another block to which the block's Branch leads, where it doesn't reach the Jump's target once the
 /// Jump is gone.
-fn far_jump(graph: &Graph, addresses: &HashMap<u32, u64>, from: u32) -> Option<u32>
+fn far_jump(graph: &Graph, addresses: &Table, from: u32) -> Option<u32>
     requires rules { IsGraph graph.now.graph }
     requires few { words_of graph.now.graph < 2 ^ 31 }
     requires block { HasBlock graph.now.graph from }
-    requires addresses { (n : ℕ) → get nat_eq addresses.now n ≡ block_address graph.now.graph 0 n }
+    requires addresses { (n : ℕ) → number_at addresses.now n ≡ block_address graph.now.graph 0 n }
     ensures { (n : ℕ) → (result ≡ Some n) ↔ IsTooFar graph.now.graph from n }
 {
     let Term::Branch { to: over, .. } = graph.term(from) else {
@@ -121,12 +130,12 @@ fn needed_names(
     alloc: Global,
     graph: &Graph,
     names: &[u32],
-    addresses: &HashMap<u32, u64>,
+    addresses: &Table,
 ) -> Result<Names, Memory>
     requires rules { IsGraph graph.now.graph }
     requires few { words_of graph.now.graph < 2 ^ 31 }
     requires names { names.now ≡ names_of graph.now.graph }
-    requires addresses { (n : ℕ) → get nat_eq addresses.now n ≡ block_address graph.now.graph 0 n }
+    requires addresses { (n : ℕ) → number_at addresses.now n ≡ block_address graph.now.graph 0 n }
     ensures { IfOk result (λ needed. (n : ℕ) → (is_listed needed n ≡ true) ↔ ((from : ℕ) × Needs graph.now.graph from n)) }
 {
     let mut needed = Names::new(alloc);
@@ -140,7 +149,7 @@ fn needed_names(
 /// The survey of a graph, of whose blocks these are the names in layout order. It looks at each word a few times.
 pub(crate) fn survey_of(alloc: Global, graph: &Graph, names: &[u32]) -> Result<Survey, Memory>
     requires { names.now ≡ names_of graph.now.graph }
-    ensures { IfOk result (λ survey. IsSurvey graph.now.graph (get nat_eq survey.addresses) survey.used survey.needed) }
+    ensures { IfOk result (λ survey. IsSurvey graph.now.graph (number_at survey.addresses) survey.used survey.needed) }
 {
     facts(graph);
     let addresses = block_addresses(alloc, graph, names)?;

@@ -1,25 +1,23 @@
 -- The world of a file: its pieces have their bytes, and no two of them meet.
-use Rattle.std.proofs.Common.{◌≡◌, ℕ, zero, suc, ◌+◌, ◌-◌, ◌%◌, ◌^◌, ◌<◌, ◌≤◌, nat_lt, Bool, true, false, ◌&&◌, ◌==◌, List, [], ◌∷◌, ◌++◌, length, take, drop, map, replicate, Option, Some, None, if◌then◌else◌, refl, sym, ap, ◌∙◌, subst, arith}
+use Rattle.std.proofs.Common.{◌≡◌, ℕ, zero, suc, ◌+◌, ◌-◌, ◌%◌, ◌<◌, ◌≤◌, nat_lt, Bool, true, false, List, [], ◌∷◌, ◌++◌, length, take, drop, map, replicate, Option, Some, None, if◌then◌else◌, refl, sym, ap, ◌∙◌, subst, arith}
 use Rattle.std.specs.Option.{unwrap_or}
-use Rattle.std.specs.List.{All, AllByRecursion, flat_map}
+use Rattle.std.specs.List.{AllByRecursion, flat_map}
 use Rattle.std.proofs.lemmas.Bool.Decides.{nat_tests}
 use Rattle.std.proofs.lemmas.List.Elements.{All-from_recursion}
 use Rattle.std.proofs.lemmas.List.{length-map}
 use Rattle.std.proofs.lemmas.List.Concat.{flat_map-append}
 use Rattle.sq_system.specs.declared.start.Extent.{Extent}
-use Rattle.sq_system.specs.Starts.{IsIn}
 use Rattle.sq_elf.specs.declared.segment.Segment.{Segment}
-use Rattle.sq_elf.specs.Headers.{phnum_of, is_load, segment_of}
-use Rattle.sq_elf.specs.Ranges.{meets, leaves, bytes_at}
+use Rattle.sq_elf.specs.Headers.{phnum_of, segment_of}
+use Rattle.sq_elf.specs.Ranges.{leaves, bytes_at}
 use Rattle.sq_elf.specs.Segments.{copy_size}
 use Rattle.sq_elf.specs.Memory.{has_memory, segments_before, MemoryPiece, own_piece, copy_piece, file_bytes_of, image_before, image_of, segment_pieces as image_pieces, pieces_meet, AreApart}
 use Rattle.sq_elf.specs.Refusing.{file_refusal_of}
 use Rattle.sq_elf.proofs.Apart.{pieces_are_apart}
 use Rattle.sq_reloc.specs.declared.mark.CodeWord.{CodeWord}
 use Rattle.sq_reloc.specs.Outside.{is_stale, word_start}
-use Rattle.sq_follow.specs.Worlds.{StartByte, Given, OfWord, StaleByte, StartPiece, extent_of, extents, IsStartByte, IsFilled, AreApart as ApartExtents, AreAllApart, IsWorld}
+use Rattle.sq_follow.specs.Worlds.{Given, StaleByte, StartPiece, extent_of, extents, IsStartByte, IsFilled, AreApart as ApartExtents, AreAllApart}
 use Rattle.sq_program.specs.Programs.{Program, target_of}
-use Rattle.sq_program.specs.FilePrograms.{IsReadAs}
 use Rattle.sq_program.specs.FileRuns.{code_word_number, byte_of_word, stale_or, start_byte, start_bytes, start_piece, segment_pieces, world_of}
 use Rattle.sq_machine.specs.Starts.{extent_of as plain_extent}
 use Rattle.sq_run.specs.FileRuns.{start_piece as plain_piece, pieces_of}

@@ -1,5 +1,5 @@
 -- The lifted graph of a file fits the file, whatever its blocks are called.
-use Rattle.std.proofs.Common.{◌≡◌, ◌≢◌, ℕ, zero, suc, ◌+◌, ◌*◌, ◌<◌, ◌≤◌, ◌==◌, ◌&&◌, ◌||◌, not, Bool, ◌⊎◌, inl, inr, true, false, nat_eq, List, [], ◌∷◌, map, length, Option, Some, IsSome, slice_get, refl, sym, ap, ◌∙◌, subst, arith}
+use Rattle.std.proofs.Common.{◌≡◌, ◌≢◌, ℕ, zero, suc, ◌+◌, ◌*◌, ◌<◌, ◌≤◌, ◌==◌, ◌&&◌, ◌||◌, not, Bool, inl, inr, true, false, nat_eq, List, [], ◌∷◌, map, length, Some, IsSome, slice_get, refl, sym, ap, ◌∙◌, subst, arith}
 use Rattle.std.specs.List.{All, AllByRecursion}
 use Rattle.std.proofs.lemmas.Bool.{cases_Bool, eq-eqb, eqb-true, or_right}
 use Rattle.std.proofs.lemmas.List.Elements.{All-from_recursion, recursion_from_All}
@@ -186,7 +186,7 @@ module _ (f : ℕ → ℕ) where
       links_kept rest k.1 h.1,
     )
 
-sound_kept : (g h : Graph) → IsGraph g → AreAlike g h → IsSound g → IsSound h
+pub sound_kept : (g h : Graph) → IsGraph g → AreAlike g h → IsSound g → IsSound h
 sound_kept g h rules alike s =
     let f = alike.name in
     subst IsSound (sym alike.is) (record {

@@ -19,3 +19,4 @@ pub mod FilePieces
 pub mod SameFiles
 pub mod Accepting
 pub mod GoodGraphs
+pub mod SoundNotes

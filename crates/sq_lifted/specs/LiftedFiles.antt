@@ -1,10 +1,14 @@
 -- What `lift` gives for a file.
-use Rattle.std.specs.Prelude.{ℕ, ◌+◌, ◌*◌, ◌≤◌, Bool, List, length, IsSome}
+use Rattle.std.specs.Prelude.{◌≡◌, ℕ, ◌+◌, ◌*◌, ◌≤◌, Bool, List, length, IsSome}
 use Rattle.std.specs.List.{All}
+use Rattle.sq_runs.specs.Runs.{IsUnbroken}
+use Rattle.sq_runs.specs.Follows.{LeadsTo}
 use Rattle.sq_num.specs.declared.refusal.Refusal.{Refusal}
+use Rattle.sq_system.specs.Starts.{Start}
 use Rattle.sq_graph.specs.declared.parts.Room.{Room}
 use Rattle.sq_elf.specs.Text.{text_of}
 use Rattle.sq_reloc.specs.Outside.{code_word_at}
+use Rattle.sq_graph.specs.Alike.{AreAlike}
 use Rattle.sq_graph.specs.Graph.{Graph}
 use Rattle.sq_graph.specs.Leaders.{IsCanonical}
 use Rattle.sq_graph.specs.Soundness.{IsSound}
@@ -12,7 +16,11 @@ use Rattle.sq_graph.specs.Words.{words_of}
 use Rattle.sq_graph.specs.Places.{IsInReach}
 use Rattle.sq_write.specs.Registers.{HasRegisters}
 use Rattle.sq_program.specs.Programs.{Text, Program}
-use Rattle.sq_program.specs.FilePrograms.{IsLiftRefusal, IsLiftedFrom, IsRefusalOf, IsAcceptedFile}
+use Rattle.sq_follow.specs.Follows.{graph_run}
+use Rattle.sq_program.specs.FilePrograms.{IsProgramOf, IsLiftRefusal, IsLiftedFrom, IsRefusalOf, IsAcceptedFile}
+use Rattle.sq_program.specs.FileRuns.{world_of, IsUnbrokenRun}
+use Rattle.sq_run.specs.FileRuns.{file_trace}
+use Rattle.sq_files.specs.Shows.{IsFileStart}
 
 -- the file is accepted, and g is its lifted graph, but for the names of blocks
 pub record IsLiftedFile (bytes : List ℕ) (g : Graph) : Type 0 where
@@ -35,6 +43,30 @@ pub record FitsFile (bytes : List ℕ) (g : Graph) : Type 0 where
   pub reach : IsInReach g
   pub words : (text_of bytes).lo + 4 * words_of g ≤ (text_of bytes).hi
   pub code_words : All (λ word. IsSome (code_word_at bytes word.at)) g.code_words
+
+-- While the monitored run of the file is unbroken, the graph's run over the file's world is that of the file's plain
+-- machine: each moment of the plain run is one of the graph's, and each moment of the graph's run leads to one of the plain
+-- run. The graph's run is then unbroken too. p is the program of the file.
+pub record RunsAsFile (bytes : List ℕ) (p : Program) (g : Graph) (start : Start) : Type 0 where
+  pub kept : (n : ℕ) → IsUnbrokenRun bytes p start n → (m : ℕ) × IsUnbroken (graph_run (world_of bytes p) g start m) × (graph_run (world_of bytes p) g start m ≡ file_trace bytes start n)
+  pub only : (m : ℕ) → (n : ℕ) × (IsUnbrokenRun bytes p start n → IsUnbroken (graph_run (world_of bytes p) g start m) × LeadsTo (graph_run (world_of bytes p) g start m) (file_trace bytes start n))
+
+-- so from every start that is valid for the file
+abbrev pub KeepsRunsOf : List ℕ → Graph → Type 0
+KeepsRunsOf bytes g = (p : Program) → IsProgramOf bytes p → (start : Start) → IsFileStart bytes start → RunsAsFile bytes p g start
+
+-- The run of the graph over the file's world shows, after each number of steps, what the file's plain machine shows, while
+-- the monitored run of the file is unbroken. The graph's run is then unbroken too.
+abbrev pub ShowsFile : List ℕ → Graph → Type 0
+ShowsFile bytes g =
+    (p : Program) → IsProgramOf bytes p → (start : Start) (n : ℕ) → IsUnbrokenRun bytes p start n
+    → IsUnbroken (graph_run (world_of bytes p) g start n) × (graph_run (world_of bytes p) g start n ≡ file_trace bytes start n)
+
+-- so does a graph that differs from this one in the names of blocks alone
+pub record IsAlikeShown (bytes : List ℕ) (g : Graph) : Type 0 where
+  pub named : Graph
+  pub alike : AreAlike named g
+  pub shows : ShowsFile bytes named
 
 -- room for as many blocks, items and procedures as text has words
 abbrev pub room_for : Text → Room

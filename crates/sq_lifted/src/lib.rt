@@ -11,8 +11,6 @@
 
 mod lifts;
 mod live_links;
-#[cfg(test)]
-mod tests;
 
 ghost use Rattle.sq_lifted.specs.Lifted.{LiftedIsGood};
 ghost use Rattle.sq_lifted.specs.Files.{FilesAreLinked, FileWorldsFit, LiftedFilesAreGood, LiftedFilesKeepRuns, LiftedFilesFollow, FilesAreLaidOut, FilesStartPlain, FilesShowPlain};

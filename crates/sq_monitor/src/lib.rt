@@ -23,6 +23,3 @@ pub use fault::WatchFault;
 pub use moved::WatchOutcome;
 pub use transcript::{WatchTranscript, outcome_line, watch_file};
 pub use watch::Watch;
-
-#[cfg(test)]
-mod tests;

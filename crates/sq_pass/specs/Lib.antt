@@ -1,2 +1,4 @@
 pub mod Cuts
 pub mod Applied
+pub mod Counted
+pub mod Rewrites

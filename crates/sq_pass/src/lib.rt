@@ -7,11 +7,14 @@
 #![tactic(auto)]
 
 mod blocks;
+mod boxed;
 mod cut;
 mod pass;
+mod rewrite;
 #[cfg(test)]
 mod tests;
 
 pub use blocks::Blocks;
 pub use cut::{Cut, Row};
 pub use pass::Pass;
+pub use rewrite::Rewrite;

@@ -1,19 +1,23 @@
 //! The trait of passes.
 
-ghost use Rattle.std.specs.Prelude.{◌≡◌, ◌≤◌, None, Ok, IfOk, IfSome};
+ghost use Rattle.std.specs.Prelude.{◌≡◌, ◌≤◌, ◌+◌, None, Ok, IfOk, IfSome};
 ghost use Rattle.sq_graph.specs.declared.parts.Room.{Room as Spare};
 ghost use Rattle.sq_graph.specs.Graph.{Graph as Parts};
 ghost use Rattle.sq_graph.specs.Room.{Covers, KeepsTotal};
+ghost use Rattle.sq_graph.specs.Leaders.{IsCanonical};
 ghost use Rattle.sq_graph.specs.Words.{words_of};
+ghost use Rattle.sq_follow.specs.Follows.{Follows};
 ghost use Rattle.sq_live.specs.Liveness.{IsLivenessOf};
 ghost use Rattle.sq_pass.specs.declared.cut.Cut.{Cut as Told};
 ghost use Rattle.sq_pass.specs.Cuts.{IsCompleted};
 ghost use Rattle.sq_pass.specs.Applied.{IsApplied, IsWithin};
+ghost use Rattle.sq_pass.specs.Rewrites.{IsRewritten};
+ghost use Rattle.sq_num.specs.Saved.{words_saved};
 
 use crate::cut::Cut;
 use sq_graph::{Graph, Room};
 use sq_live::Liveness;
-use sq_num::Memory;
+use sq_num::{Memory, Savings};
 use std::alloc::Global;
 
 /// A pass: some rows of the cost rule.
@@ -61,4 +65,13 @@ pub trait Pass: Drop {
         requires room { Covers graph.old.spare (room_for self.now graph.old.graph cut.now) }
         ensures applied { IsApplied cut.now.saving (described self.now graph.old.graph cut.now) graph.old.graph graph.new.graph }
         ensures total { KeepsTotal graph.old graph.new };
+
+    /// Rewrites the graph by candidates that take small steps to find, one after another, and answers the savings with
+    /// what each saved. It may leave candidates, which `find` finds. Where it finds no memory, the graph is left as the
+    /// rewrites made it so far.
+    fn sweep(&self, alloc: Global, graph: &mut Graph, savings: Savings) -> Result<Savings, Memory>
+        requires canonical { IsCanonical graph.old.graph }
+        requires words { words_of graph.old.graph + words_saved savings ≤ 1048576 }
+        ensures rewritten { IfOk result (λ after. IsRewritten (is_candidate self.now) (described self.now) savings after graph.old.graph graph.new.graph) }
+        ensures follows { Follows graph.old.graph graph.new.graph };
 }

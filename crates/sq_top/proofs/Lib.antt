@@ -1,3 +1,5 @@
+pub mod WholeGraphs
+pub mod ReadBack
 pub mod EarlyEndings
 pub mod Later
 pub mod PackedFile

@@ -3,6 +3,7 @@ use Rattle.std.proofs.Common.{◌≡◌, ℕ, ◌+◌, ◌*◌, ◌-◌, ◌<◌
 use Rattle.std.specs.List.{AllByRecursion}
 use Rattle.std.proofs.lemmas.List.Elements.{All-from_recursion, recursion_from_All}
 use Rattle.sq_num.specs.declared.packed.Packed.{Packed}
+use Rattle.sq_num.specs.declared.packed.Savings.{Savings}
 use Rattle.sq_num.specs.Saved.{words_saved}
 use Rattle.sq_elf.specs.declared.text.Text.{Text}
 use Rattle.sq_elf.specs.Refusing.{text_size, file_refusal_of}
@@ -22,7 +23,7 @@ use Rattle.sq_write.specs.Written.{written}
 use Rattle.sq_write.proofs.AlikeGraphs.{alike_fit}
 use Rattle.sq_write.proofs.SegmentFacts.{few_text}
 use Rattle.sq_outputs.specs.Writing.{IsWritable, HasSizes}
-use Rattle.sq_outputs.proofs.Writing.{written_sizes, written_is_accepted}
+use Rattle.sq_outputs.proofs.Writing.{written_sizes}
 use Rattle.sq_writing.specs.Files.{code_word_address, IsWritableInto}
 use Rattle.sq_writing.proofs.FileStarts.{written_files_show_graphs}
 use Rattle.sq_lifted.specs.LiftedFiles.{IsLiftedFile, FitsFile}
@@ -30,9 +31,13 @@ use Rattle.sq_lifted.specs.Same.{Same}
 use Rattle.sq_lifted.proofs.FileWorlds.{files_good}
 use Rattle.sq_lifted.proofs.SameFiles.{same_through}
 use Rattle.sq_pass.specs.declared.cut.Cut.{Cut}
-use Rattle.sq_jumps.specs.Candidates.{IsCandidate}
-use Rattle.sq_drive.specs.Settled.{IsSettled}
-use Rattle.sq_top.specs.Packing.{CanBeWritten, Packs}
+use Rattle.sq_num.specs.declared.packed.TheConstants.Savings.{NONE}
+use Rattle.sq_pass.specs.Rewrites.{IsSettled, IsRewritten}
+use Rattle.sq_jumps.specs.Candidates.{IsCandidate, described}
+use Rattle.sq_readback.specs.Whole.{IsWhole}
+use Rattle.sq_top.specs.Packing.{CanBeWritten, GoodOutput, Packs}
+use Rattle.sq_top.proofs.ReadBack.{reads_back}
+use Rattle.sq_top.proofs.WholeGraphs.{whole_without_candidates}
 
 refs_at : (ws : List CodeWord) → map word_address (map code_ref ws) ≡ map code_word_address ws
 refs_at [] = refl
@@ -48,9 +53,12 @@ at_each P (w ∷ ws) (v ∷ vs) e all =
     (subst P (sym here) all.0, at_each P ws vs rest all.1)
 
 -- a graph that was made by rewriting can be written where the first one can
-module _ (bytes : List ℕ) (first g : Graph) (saved : ℕ) (f : FitsFile bytes first) (s : IsSettled saved first g) where
-  pub settled_fits : CanBeWritten bytes g
-  settled_fits = record {
+module _ (bytes : List ℕ) (first g : Graph) (savings : Savings) (f : FitsFile bytes first) (r : IsRewritten IsCandidate described NONE savings first g) where
+  s : IsSettled r.saved first g
+  s = r.settled
+
+  pub rewritten_fits : CanBeWritten bytes g
+  rewritten_fits = record {
     reach = s.reach f.reach;
     words = omega (arith, f.words, s.words);
     code_words =
@@ -62,12 +70,15 @@ module _ (bytes : List ℕ) (first g : Graph) (saved : ℕ) (f : FitsFile bytes 
 pub small_text : (bytes : List ℕ) (g : Graph) → file_refusal_of bytes ≡ None → FitsFile bytes g → words_of g ≤ 1048576
 small_text bytes g accepted f = omega (arith, f.words, few_text bytes accepted)
 
-module _ (bytes : List ℕ) (first g : Graph) (saved : ℕ) (fit : AllByRecursion (λ b. b < 256) bytes) (l : IsLiftedFile bytes first) (f : FitsFile bytes first) (s : IsSettled saved first g) (rules : IsGraph g) (registers : HasRegisters g) where
+module _ (bytes : List ℕ) (first g : Graph) (savings : Savings) (fit : AllByRecursion (λ b. b < 256) bytes) (l : IsLiftedFile bytes first) (f : FitsFile bytes first) (r : IsRewritten IsCandidate described NONE savings first g) (rules : IsGraph g) (registers : HasRegisters g) where
+  settled : IsSettled r.saved first g
+  settled = r.settled
+
   accepted : IsAcceptedFile bytes
   accepted = record { reached = l.is; program = l.program; accepted = l.lifted.accepted }
 
   can : CanBeWritten bytes g
-  can = settled_fits bytes first g saved f s
+  can = rewritten_fits bytes first g savings f r
 
   writable : IsWritable bytes g
   writable = record {
@@ -86,12 +97,12 @@ module _ (bytes : List ℕ) (first g : Graph) (saved : ℕ) (fit : AllByRecursio
     registers = registers;
     reach = can.reach;
     words = can.words;
-    code_words = s.follows.addresses ∙ ((alike_fit (lifted l.is l.program) first (files_good bytes l.is l.program fit l.lifted.accepted).graph l.lifted.alike).code_words ∙ refs_at l.program.code_words);
+    code_words = settled.follows.addresses ∙ ((alike_fit (lifted l.is l.program) first (files_good bytes l.is l.program fit l.lifted.accepted).graph l.lifted.alike).code_words ∙ refs_at l.program.code_words);
   }
 
   same : Same bytes (written bytes g)
   same =
-      same_through bytes (written bytes g) l.is l.program first g fit l.lifted s.follows
+      same_through bytes (written bytes g) l.is l.program first g fit l.lifted settled.follows
       (written_files_show_graphs bytes l.is l.program g fit l.lifted.accepted.read into)
 
   sizes : HasSizes bytes g (written bytes g)
@@ -106,30 +117,38 @@ module _ (bytes : List ℕ) (first g : Graph) (saved : ℕ) (fit : AllByRecursio
   pub enough_loaded : text_size bytes ≤ loaded_of bytes + 4 * words_of g
   enough_loaded = omega (arith, sizes.size)
 
-  pub packs : (packed : Packed) → ((cut : Cut) → ¬ IsCandidate g cut) → packed.bytes ≡ written bytes g → packed.text_before ≡ text_size bytes → packed.text_after ≡ 4 * words_of g → packed.loaded_before ≡ loaded_of bytes → packed.loaded_after + text_size bytes ≡ loaded_of bytes + 4 * words_of g → packed.procedures ≡ length g.procedures → 4 * (packed.unreached + words_of first) ≡ text_size bytes → words_saved packed.savings ≡ saved → packed.text_before ≡ packed.text_after + 4 * (packed.unreached + words_saved packed.savings) → Packs bytes packed
-  packs packed none output before after loaded left procedures unreached savings balance = record {
+  module _ (none : (cut : Cut) → ¬ IsCandidate g cut) where
+    whole : IsWhole g
+    whole = whole_without_candidates g rules settled.canonical none
+
+    abbrev good : GoodOutput bytes (written bytes g)
     good = record {
       accepted = accepted;
-      same = subst (Same bytes) (sym output) same;
-      loads_no_more = subst (λ file. loaded_of file ≤ loaded_of bytes) (sym output) loads_less;
-      readable = ap file_refusal_of output ∙ written_is_accepted bytes g writable;
+      same = same;
+      loads_no_more = loads_less;
       first = first;
       lifted = l;
       graph = g;
-      saved = saved;
-      settled = s;
+      read_back = reads_back bytes g writable registers settled.canonical (settled.sound f.sound) whole;
+      savings = savings;
+      rewritten = r;
       left = none;
-      output_is = output;
-    };
-    text_before = before;
-    text_after = after ∙ (sym text_written ∙ ap text_size (sym output));
-    loaded_before = loaded;
-    loaded_after = omega (arith, left, sizes.size) ∙ ap loaded_of (sym output);
-    procedures = procedures;
-    unreached = unreached;
-    savings = savings;
-    balance = balance;
-  }
+      output_is = refl;
+    }
+
+    pub packs : (packed : Packed) → packed.bytes ≡ written bytes g → packed.text_before ≡ text_size bytes → packed.text_after ≡ 4 * words_of g → packed.loaded_before ≡ loaded_of bytes → packed.loaded_after + text_size bytes ≡ loaded_of bytes + 4 * words_of g → packed.procedures ≡ length g.procedures → 4 * (packed.unreached + words_of first) ≡ text_size bytes → packed.savings ≡ savings → packed.text_before ≡ packed.text_after + 4 * (packed.unreached + words_saved packed.savings) → Packs bytes packed
+    packs packed output before after loaded left procedures unreached saved balance =
+        subst (Packs bytes) (ap (λ file. record packed { bytes = file }) (sym output)) (record {
+          good = good;
+          text_before = before;
+          text_after = after ∙ sym text_written;
+          loaded_before = loaded;
+          loaded_after = omega (arith, left, sizes.size);
+          procedures = procedures;
+          unreached = unreached;
+          savings = saved;
+          balance = balance;
+        })
 
 -- what is asked of the sizes before a packing is made
 pub few_bytes : (bytes : List ℕ) → file_refusal_of bytes ≡ None → (text_of bytes).hi ≤ (text_of bytes).lo + 1048576

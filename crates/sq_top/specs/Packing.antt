@@ -1,20 +1,29 @@
 -- What a packing gives.
-use Rattle.std.specs.Prelude.{◌≡◌, ℕ, ◌+◌, ◌*◌, ◌≤◌, List, ◌++◌, length, codes, decimal, None, IsSome}
+use Rattle.std.specs.Prelude.{◌≡◌, ℕ, ◌+◌, ◌*◌, ◌≤◌, List, ◌++◌, length, codes, decimal, IsSome}
 use Rattle.std.specs.List.{All}
 use Rattle.sq_num.specs.declared.packed.Packed.{Packed}
+use Rattle.sq_num.specs.declared.packed.Savings.{Savings}
 use Rattle.sq_num.specs.Saved.{words_saved}
-use Rattle.sq_elf.specs.Refusing.{text_size, file_refusal_of}
+use Rattle.sq_elf.specs.Refusing.{text_size}
 use Rattle.sq_elf.specs.Sizes.{loaded_of}
 use Rattle.sq_elf.specs.Text.{text_of}
 use Rattle.sq_reloc.specs.Outside.{code_word_at}
 use Rattle.sq_graph.specs.Graph.{Graph}
+use Rattle.sq_graph.specs.Leaders.{IsCanonical}
 use Rattle.sq_graph.specs.Places.{IsInReach}
+use Rattle.sq_graph.specs.Soundness.{IsSound}
 use Rattle.sq_graph.specs.Words.{words_of}
 use Rattle.sq_pass.specs.declared.cut.Cut.{Cut}
-use Rattle.sq_jumps.specs.Candidates.{IsCandidate}
-use Rattle.sq_drive.specs.Settled.{IsSettled}
+use Rattle.sq_num.specs.declared.packed.TheConstants.Savings.{NONE}
+use Rattle.sq_pass.specs.Rewrites.{IsRewritten}
+use Rattle.sq_jumps.specs.Candidates.{IsCandidate, described}
+use Rattle.sq_program.specs.Programs.{IsWord}
+use Rattle.sq_program.specs.Reached.{IsReached}
 use Rattle.sq_program.specs.FilePrograms.{IsAcceptedFile}
+use Rattle.sq_write.specs.Registers.{HasRegisters}
 use Rattle.sq_write.specs.Written.{written}
+use Rattle.sq_outputs.specs.Writing.{IsWritable}
+use Rattle.sq_readback.specs.Whole.{IsWhole}
 use Rattle.sq_lifted.specs.LiftedFiles.{IsLiftedFile}
 use Rattle.sq_lifted.specs.Same.{Same}
 
@@ -34,6 +43,19 @@ pub record CanBeWritten (given : List ℕ) (graph : Graph) : Type 0 where
   pub words : (text_of given).lo + 4 * words_of graph ≤ (text_of given).hi
   pub code_words : All (λ word. IsSome (code_word_at given word.at)) graph.code_words
 
+-- nothing of a file is refused, the graph is its lifted graph, but for the names of blocks, and each word of its text is
+-- reached
+pub record IsReachedFile (bytes : List ℕ) (graph : Graph) : Type 0 where
+  pub lifted : IsLiftedFile bytes graph
+  pub reached : (x : ℕ) → IsWord lifted.program.text x → IsReached lifted.program x
+
+-- A file that is written of a sound and canonical graph, of which each block is reached and each procedure called, is read
+-- back as this graph.
+abbrev pub WrittenFilesReadBack : Type 0
+WrittenFilesReadBack =
+    (given : List ℕ) (graph : Graph) → IsWritable given graph → HasRegisters graph → IsCanonical graph → IsSound graph → IsWhole graph
+    → IsReachedFile (written given graph) graph
+
 -- what an output is of a given file
 pub record GoodOutput (given output : List ℕ) : Type 0 where
   -- nothing of the given file is refused
@@ -42,15 +64,15 @@ pub record GoodOutput (given output : List ℕ) : Type 0 where
   pub same : Same given output
   -- it loads no more bytes
   pub loads_no_more : loaded_of output ≤ loaded_of given
-  -- the file reader accepts it
-  pub readable : file_refusal_of output ≡ None
   -- the graph of the given file, which has what is reached alone
   pub first : Graph
   pub lifted : IsLiftedFile given first
-  -- what rewriting made of it, with what was saved
+  -- nothing of the output is refused, this is its graph, and all of its text is reached
   pub graph : Graph
-  pub saved : ℕ
-  pub settled : IsSettled saved first graph
+  pub read_back : IsReachedFile output graph
+  -- rewriting made it of the first graph, by one candidate after another, and each is counted in the savings of its row
+  pub savings : Savings
+  pub rewritten : IsRewritten IsCandidate described NONE savings first graph
   -- no row on jumps, and nothing that isn't reached, is left over
   pub left : (cut : Cut) → ¬ IsCandidate graph cut
   -- the output is made of the data of the given file and of the words of that graph
@@ -66,7 +88,7 @@ pub record Packs (given : List ℕ) (packed : Packed) : Type 0 where
   pub procedures : packed.procedures ≡ length good.graph.procedures
   -- the words of text that the first graph doesn't have
   pub unreached : 4 * (packed.unreached + words_of good.first) ≡ text_size given
-  pub savings : words_saved packed.savings ≡ good.saved
+  pub savings : packed.savings ≡ good.savings
   -- what text lost is what was not reached and what was saved
   pub balance : packed.text_before ≡ packed.text_after + 4 * (packed.unreached + words_saved packed.savings)
 

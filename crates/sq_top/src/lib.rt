@@ -9,6 +9,7 @@
 
 mod complaint;
 mod ending;
+mod laws;
 mod lines;
 mod loading;
 mod pack_command;
@@ -17,14 +18,6 @@ mod run_command;
 mod top;
 mod watch_command;
 
+pub use laws::written_files_read_back;
 pub use packing::pack_bytes;
 pub use top::squeeze;
-
-#[cfg(test)]
-mod pack_tests;
-#[cfg(test)]
-mod run_tests;
-#[cfg(test)]
-mod tests;
-#[cfg(test)]
-mod watch_tests;

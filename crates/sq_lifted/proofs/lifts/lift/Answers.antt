@@ -9,6 +9,7 @@ use Rattle.sq_lifted.specs.LiftedFiles.{IsLiftedFile, IsRefusedFile}
 use Rattle.sq_lifted.proofs.EarlyGraphs.{found_noted}
 use Rattle.sq_lifted.proofs.LiftedFiles.{refused_early, room_fits, room_covers, early_answer, procedures_are, is_lifted, in_notes, is_refused, one_refusal, no_refusal}
 use Rattle.sq_lifted.proofs.GoodGraphs.{lifted_fits}
+use Rattle.sq_lifted.proofs.SameFiles.{lifted_runs, lifted_shows}
 use Rattle.sq_lifted.proofs.lifts.lift.Goals as goal
 
 pub returns-in_err-noted-clause-refused : goal.returns-in_err-noted-clause-refused
@@ -56,6 +57,12 @@ pub returns-clause-lifted : goal.returns-clause-lifted
 returns-clause-lifted c =
     let found = found_noted c.args.elf.now c.bytes.result.now c.args.relocs.now c.in_ok-noted.noted.program.text c.in_ok-noted.noted.program.reached c.deref.result.now c.in_ok-noted.noted.notes.items c.code_words-code_words.result.now (entry_of c.args.elf.now) c.bytes.ensures.value c.bytes_fit.ensures c.requires c.code_words-code_words.ensures.accepted c.code_words-code_words.ensures.value c.deref.ensures.value c.in_ok-noted.ensures.read c.bytes.ensures.accepted refl in
     subst (IsLiftedFile c.args.elf.now) (sym c.reserve.ensures.graph) (is_lifted c.args.elf.now c.in_ok-noted.noted.program.text c.in_ok-noted.noted.program.reached c.deref.result.now c.code_words-code_words.result.now found c.in_ok-graph.graph.graph c.in_ok-graph.ensures c.in_ok-number.field-0 c.in_ok-number.ensures c.in-None.is)
+
+pub returns-clause-runs : goal.returns-clause-runs
+returns-clause-runs c = lifted_runs c.args.elf.now c.reserve.new.self.graph (subst (AllByRecursion (λ b. b < 256)) c.bytes.ensures.value c.bytes_fit.ensures) (returns-clause-lifted c)
+
+pub returns-clause-shows : goal.returns-clause-shows
+returns-clause-shows c = lifted_shows c.args.elf.now c.reserve.new.self.graph (subst (AllByRecursion (λ b. b < 256)) c.bytes.ensures.value c.bytes_fit.ensures) (returns-clause-lifted c)
 
 pub returns-clause-fits : goal.returns-clause-fits
 returns-clause-fits c = lifted_fits c.args.elf.now c.reserve.new.self.graph (subst (AllByRecursion (λ b. b < 256)) c.bytes.ensures.value c.bytes_fit.ensures) (returns-clause-lifted c)

@@ -3,13 +3,12 @@ use Rattle.std.proofs.Common.{◌≡◌, ◌<◌, ◌+◌, ◌*◌, ℕ, List, i
 use Rattle.std.specs.List.{AllByRecursion}
 use Rattle.std.proofs.lemmas.Result.{err_from_is_err_and}
 use Rattle.sq_num.specs.declared.refusal.Denied.TheVariants.{Refused}
-use Rattle.sq_num.specs.Saved.{words_saved}
 use Rattle.sq_elf.specs.Refusing.{file_refusal_of, text_size}
 use Rattle.sq_program.specs.FilePrograms.{IsRefusalOf}
 use Rattle.sq_program.specs.FilePrograms.IsRefusalOf.{by_file, by_relocs}
 use Rattle.sq_lifted.proofs.Accepting.{not_refused}
 use Rattle.sq_top.specs.Packing.{Packs}
-use Rattle.sq_top.proofs.PackedFile.{packs, settled_fits, small_text, few_bytes, enough_loaded}
+use Rattle.sq_top.proofs.PackedFile.{packs, rewritten_fits, small_text, few_bytes, enough_loaded}
 use Rattle.sq_top.proofs.Refusals.{file_exact, relocs_exact, lift_exact, lift_refused}
 use Rattle.sq_top.proofs.packing.pack_bytes.Goals as goal
 
@@ -61,28 +60,28 @@ pub settle-requires-clause-words : goal.settle-requires-clause-words
 settle-requires-clause-words c = small_text c.in_ok-elf.elf c.in_ok-graph.graph.graph (ap file_refusal_of c.in_ok-elf.ensures.read ∙ c.in_ok-elf.ensures.accepted) c.in_ok-graph.ensures.fits
 
 pub write_graph-requires-clause-fits : goal.write_graph-requires-clause-fits
-write_graph-requires-clause-fits c = settled_fits c.in_ok-elf.elf c.in_ok-graph.graph.graph c.settle.new.graph.graph (words_saved c.in_ok-savings.savings) c.in_ok-graph.ensures.fits c.in_ok-savings.ensures.settled
+write_graph-requires-clause-fits c = rewritten_fits c.in_ok-elf.elf c.in_ok-graph.graph.graph c.settle.new.graph.graph c.in_ok-savings.savings c.in_ok-graph.ensures.fits c.in_ok-savings.ensures.rewritten
 
 pub packed_of-requires-clause-short : goal.packed_of-requires-clause-short
 packed_of-requires-clause-short c = few_bytes c.in_ok-elf.elf (ap file_refusal_of c.in_ok-elf.ensures.read ∙ c.in_ok-elf.ensures.accepted)
 
 pub packed_of-requires-clause-loads : goal.packed_of-requires-clause-loads
 packed_of-requires-clause-loads c =
-    enough_loaded c.in_ok-elf.elf c.in_ok-graph.graph.graph c.settle.new.graph.graph (words_saved c.in_ok-savings.savings)
+    enough_loaded c.in_ok-elf.elf c.in_ok-graph.graph.graph c.settle.new.graph.graph c.in_ok-savings.savings
     (subst (AllByRecursion (λ b. b < 256)) (sym c.in_ok-elf.ensures.read) c.bytes_fit.ensures)
-    c.in_ok-graph.ensures.lifted c.in_ok-graph.ensures.fits c.in_ok-savings.ensures.settled c.in_ok-file.ensures.rules c.in_ok-file.ensures.registers
+    c.in_ok-graph.ensures.lifted c.in_ok-graph.ensures.fits c.in_ok-savings.ensures.rewritten c.in_ok-file.ensures.rules c.in_ok-file.ensures.registers
 
 pub returns-clause-packed : goal.returns-clause-packed
 returns-clause-packed c =
     let P : List ℕ → Type 0 = λ bytes. Packs bytes c.packed_of.result in
     subst P c.in_ok-elf.ensures.read
-    (packs c.in_ok-elf.elf c.in_ok-graph.graph.graph c.settle.new.graph.graph (words_saved c.in_ok-savings.savings)
+    (packs c.in_ok-elf.elf c.in_ok-graph.graph.graph c.settle.new.graph.graph c.in_ok-savings.savings
     (subst (AllByRecursion (λ b. b < 256)) (sym c.in_ok-elf.ensures.read) c.bytes_fit.ensures)
-    c.in_ok-graph.ensures.lifted c.in_ok-graph.ensures.fits c.in_ok-savings.ensures.settled c.in_ok-file.ensures.rules c.in_ok-file.ensures.registers c.packed_of.result
-    c.in_ok-savings.ensures.left
+    c.in_ok-graph.ensures.lifted c.in_ok-graph.ensures.fits c.in_ok-savings.ensures.rewritten c.in_ok-file.ensures.rules c.in_ok-file.ensures.registers
+    c.in_ok-savings.ensures.left c.packed_of.result
     (c.packed_of.ensures.output ∙ c.in_ok-file.ensures.file) c.packed_of.ensures.text_before c.packed_of.ensures.text_after c.packed_of.ensures.loaded_before c.packed_of.ensures.loaded_after c.packed_of.ensures.procedures
     (subst (λ n. 4 * (c.packed_of.result.unreached + n) ≡ text_size c.in_ok-elf.elf) c.words_of-reached.ensures c.packed_of.ensures.unreached)
-    (ap words_saved c.packed_of.ensures.savings) c.packed_of.ensures.balance)
+    c.packed_of.ensures.savings c.packed_of.ensures.balance)
 
 pub returns-clause-good : goal.returns-clause-good
 returns-clause-good c = (returns-clause-packed c).good

@@ -1,0 +1,172 @@
+//! Many rewrites by one look at the graph.
+
+ghost use Rattle.std.specs.Prelude.{◌≡◌, ◌≤◌, ◌+◌, IfOk, IfSome};
+ghost use Rattle.std.specs.List.{All};
+ghost use Rattle.sq_num.specs.Saved.{words_saved};
+ghost use Rattle.sq_graph.specs.Blocks.{HasBlock};
+ghost use Rattle.sq_graph.specs.Leaders.{IsCanonical};
+ghost use Rattle.sq_graph.specs.Parts.{names_of};
+ghost use Rattle.sq_graph.specs.Words.{words_of};
+ghost use Rattle.sq_follow.specs.Follows.{Follows};
+ghost use Rattle.sq_pass.specs.declared.cut.Row.{Row as RowName};
+ghost use Rattle.sq_pass.specs.Rewrites.{IsRewritten};
+ghost use Rattle.sq_jumps.specs.Candidates.{HasRow, IsCandidate, described};
+ghost use Rattle.sq_jumps.specs.Sweeps.{IsStillDead};
+
+use crate::blocks::{facts, is_block};
+use crate::find::jump_row;
+use crate::rewrites::{apply_row, shorten};
+use crate::rows::{jumps_by_dead_part, jumps_to_next};
+use crate::survey::survey_of;
+use sq_graph::Graph;
+use sq_live::{Liveness, block_names, live};
+use sq_num::{Memory, Savings};
+use sq_pass::{Rewrite, Row};
+use std::alloc::Global;
+
+/// Shortens the jump of a block by row C, where its upper half was dead when the registers were looked for.
+fn shorten_one(graph: &mut Graph, live: &Liveness, block: u32, savings: Savings) -> Savings
+    requires canonical { IsCanonical graph.old.graph }
+    requires block { HasBlock graph.old.graph block }
+    requires live { IsStillDead live.now graph.old.graph }
+    requires words { words_of graph.old.graph + words_saved savings ≤ 1048576 }
+    ensures rewritten { IsRewritten IsCandidate described savings result graph.old.graph graph.new.graph }
+    ensures live { IsStillDead live.now graph.new.graph }
+    ensures names { names_of graph.new.graph ≡ names_of graph.old.graph }
+{
+    facts(graph);
+    if !jumps_by_dead_part(graph, live, block) {
+        return savings;
+    }
+    shorten(graph, block);
+    let done = Rewrite {
+        row: Row::C,
+        saving: 1,
+    };
+    done.count(savings)
+}
+
+/// The same for each block. A rewrite of row C leaves the graph canonical, and what was dead at the start of a block is
+/// dead there still.
+fn shorten_each(graph: &mut Graph, live: &Liveness, names: &[u32], savings: Savings) -> Savings
+    requires canonical { IsCanonical graph.old.graph }
+    requires live { IsStillDead live.now graph.old.graph }
+    requires names { names.now ≡ names_of graph.old.graph }
+    requires words { words_of graph.old.graph + words_saved savings ≤ 1048576 }
+    ensures { IsRewritten IsCandidate described savings result graph.old.graph graph.new.graph }
+{
+    facts(graph);
+    let mut after = savings;
+    for name in names {
+        after = shorten_one(graph, live, *name, after);
+    }
+    after
+}
+
+/// Rewrites the graph by candidates of row C, in layout order. It looks for live registers once, and then at the end of
+/// each block.
+pub(crate) fn sweep_calls(
+    alloc: Global,
+    graph: &mut Graph,
+    savings: Savings,
+) -> Result<Savings, Memory>
+    requires canonical { IsCanonical graph.old.graph }
+    requires words { words_of graph.old.graph + words_saved savings ≤ 1048576 }
+    ensures rewritten { IfOk result (λ after. IsRewritten IsCandidate described savings after graph.old.graph graph.new.graph) }
+    ensures follows { Follows graph.old.graph graph.new.graph }
+{
+    facts(graph);
+    let live = live(alloc, graph)?;
+    let names = block_names(alloc, graph)?;
+    Ok(shorten_each(graph, &live, &names, savings))
+}
+
+/// The blocks that are candidates of J1, J2 and J3, in layout order. It surveys the graph once.
+fn jump_blocks(alloc: Global, graph: &Graph) -> Result<Vec<u32>, Memory>
+    ensures { IfOk result (λ blocks. All (λ block. (row : RowName) × HasRow row graph.now.graph block) blocks.items) }
+{
+    facts(graph);
+    let names = block_names(alloc, graph)?;
+    let survey = survey_of(alloc, graph, &names)?;
+    let mut blocks = Vec::new(alloc);
+    for name in &names {
+        if jump_row(graph, &survey, *name).is_some() {
+            blocks.push(*name)?;
+        }
+    }
+    Ok(blocks)
+}
+
+/// The row of J1, J2 and J3 for which a block is a candidate. It looks at the block alone, and then surveys the graph.
+fn jump_row_now(alloc: Global, graph: &Graph, block: u32) -> Result<Option<Row>, Memory>
+    requires { HasBlock graph.now.graph block }
+    ensures { IfOk result (λ found. IfSome found (λ row. HasRow row graph.now.graph block)) }
+{
+    facts(graph);
+    if jumps_to_next(graph, block) {
+        return Ok(Some(Row::J1));
+    }
+    let names = block_names(alloc, graph)?;
+    let survey = survey_of(alloc, graph, &names)?;
+    Ok(jump_row(graph, &survey, block))
+}
+
+/// Rewrites the graph by J1, J2 or J3 at a block, where that is there still and a candidate still.
+fn rewrite_one(
+    alloc: Global,
+    graph: &mut Graph,
+    block: u32,
+    savings: Savings,
+) -> Result<Savings, Memory>
+    requires canonical { IsCanonical graph.old.graph }
+    requires words { words_of graph.old.graph + words_saved savings ≤ 1048576 }
+    ensures rewritten { IfOk result (λ after. IsRewritten IsCandidate described savings after graph.old.graph graph.new.graph) }
+    ensures follows { Follows graph.old.graph graph.new.graph }
+{
+    if !is_block(graph, block) {
+        return Ok(savings);
+    }
+    let Some(row) = jump_row_now(alloc, graph, block)? else {
+        return Ok(savings);
+    };
+    apply_row(graph, row, block);
+    facts(graph);
+    graph.canonical();
+    let done = Rewrite { row, saving: 1 };
+    Ok(done.count(savings))
+}
+
+/// The same at each of these blocks.
+fn rewrite_each(
+    alloc: Global,
+    graph: &mut Graph,
+    blocks: &[u32],
+    savings: Savings,
+) -> Result<Savings, Memory>
+    requires canonical { IsCanonical graph.old.graph }
+    requires words { words_of graph.old.graph + words_saved savings ≤ 1048576 }
+    ensures rewritten { IfOk result (λ after. IsRewritten IsCandidate described savings after graph.old.graph graph.new.graph) }
+    ensures follows { Follows graph.old.graph graph.new.graph }
+{
+    let mut after = savings;
+    for block in blocks {
+        after = rewrite_one(alloc, graph, *block, after)?;
+    }
+    Ok(after)
+}
+
+/// Rewrites the graph at the blocks that are candidates of J1, J2 and J3 when it begins, in layout order. It looks at the
+/// whole graph once, and then for each of these blocks.
+pub(crate) fn sweep_jumps(
+    alloc: Global,
+    graph: &mut Graph,
+    savings: Savings,
+) -> Result<Savings, Memory>
+    requires canonical { IsCanonical graph.old.graph }
+    requires words { words_of graph.old.graph + words_saved savings ≤ 1048576 }
+    ensures rewritten { IfOk result (λ after. IsRewritten IsCandidate described savings after graph.old.graph graph.new.graph) }
+    ensures follows { Follows graph.old.graph graph.new.graph }
+{
+    let blocks = jump_blocks(alloc, graph)?;
+    rewrite_each(alloc, graph, &blocks, savings)
+}
