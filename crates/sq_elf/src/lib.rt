@@ -28,6 +28,3 @@ pub use refusing::LONGEST_FILE;
 pub use section::Section;
 pub use segment::Segment;
 pub use text::{Text, is_in_text, is_text_word};
-
-#[cfg(test)]
-mod tests;

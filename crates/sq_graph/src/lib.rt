@@ -19,8 +19,6 @@ mod pieces;
 mod rename;
 mod slot;
 mod slots;
-#[cfg(test)]
-mod tests;
 mod vectors;
 
 pub use graph::Graph;

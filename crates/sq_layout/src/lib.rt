@@ -8,8 +8,6 @@
 mod facts;
 mod places;
 mod reach;
-#[cfg(test)]
-mod tests;
 mod words;
 
 pub use places::{Places, place};

@@ -29,6 +29,3 @@ pub use readings::{Reading, reading_at, reading_of};
 pub use search::reached_words;
 pub use text::{Text, TextWord, read_text};
 pub use word_set::WordSet;
-
-#[cfg(test)]
-mod tests;

@@ -7,8 +7,6 @@ mod layout;
 mod liveness;
 mod places;
 mod search;
-#[cfg(test)]
-mod tests;
 
 pub use layout::block_names;
 pub use liveness::{Liveness, live};

@@ -18,8 +18,6 @@ mod registers;
 mod rows;
 mod start;
 mod steps;
-#[cfg(test)]
-mod tests;
 mod world;
 
 pub use machine::Machine;

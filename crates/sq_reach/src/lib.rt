@@ -8,8 +8,6 @@ mod exits;
 mod marks;
 mod reach;
 mod search;
-#[cfg(test)]
-mod tests;
 
 pub use marks::Marks;
 pub use reach::reachable;

@@ -8,3 +8,4 @@ pub mod CodeWordFacts
 pub mod Found
 pub mod MarkedInsns
 pub mod MarkFacts
+pub mod StalePages

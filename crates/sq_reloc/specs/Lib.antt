@@ -3,6 +3,7 @@ pub mod Entries
 pub mod Kinds
 pub mod Marks
 pub mod Outside
+pub mod Pages
 pub mod Reading
 pub mod Refusing
 pub mod Required

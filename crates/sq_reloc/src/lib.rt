@@ -22,6 +22,3 @@ mod words;
 
 pub use mark::{CodeWord, Mark};
 pub use relocs::{Relocs, read_relocs};
-
-#[cfg(test)]
-mod tests;

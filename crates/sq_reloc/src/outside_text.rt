@@ -1,11 +1,14 @@
 //! What the entries outside text say together.
 
-ghost use Rattle.std.specs.Prelude.{◌≡◌, IfOk};
+ghost use Rattle.std.specs.Prelude.{◌≡◌, ℕ, nat_eq, IfOk};
+ghost use Rattle.std.specs.List.{list_any};
 ghost use Rattle.std.specs.Ordering.{nat_cmp};
+ghost use Rattle.std.specs.HashSet as set;
 ghost use Rattle.std.specs.BTreeMap.{IsOrdered};
 ghost use Rattle.sq_reloc.specs.CodeWords.{unbeaten, AreCodeWords};
 ghost use Rattle.sq_reloc.specs.Entries.{entries_of};
 ghost use Rattle.sq_reloc.specs.Outside.{is_touched, is_beaten, is_stale, disagrees_outside, is_refused_outside};
+ghost use Rattle.sq_reloc.specs.Pages.{is_touched_in, AreStalePages};
 
 use crate::entry::Entry;
 use crate::kinds::is_data_kind;
@@ -17,6 +20,9 @@ use sq_num::Memory;
 use std::alloc::Global;
 use std::collections::{BTreeMap, HashSet};
 use std::marker::Model;
+
+/// How many bytes a page has.
+const PAGE: u64 = 4096;
 
 /// The bytes that entries make stale, and the targets of code entries. Contracts see it as the bytes
 /// of the file.
@@ -92,6 +98,14 @@ impl<'a> OutsideText<'a> {
             || self.targets.contains_key(&start) && self.is_beaten(start)
     }
 
+    /// The numbers of the pages that have a stale byte.
+    pub fn stale_pages(&self, alloc: Global) -> Result<HashSet<u64>, Memory>
+        ensures { IfOk result (AreStalePages self.now) }
+    {
+        let pages = touched_pages(alloc, self, &self.stale)?;
+        Ok(pages)
+    }
+
     /// Whether the word in the file is not the one that a code entry asks for, which counts.
     fn disagrees(&self, elf: &Elf<'_>, entry: Entry) -> bool
         requires { elf.now ≡ self.now }
@@ -127,4 +141,22 @@ fn unbeaten_words(
         }
     }
     Ok(words)
+}
+
+/// The pages of those addresses that are outside text. A beaten word needs no page of its own, since
+/// it is in the page of the byte that beats it.
+fn touched_pages(
+    alloc: Global,
+    outside: &OutsideText<'_>,
+    stale: &HashSet<u64>,
+) -> Result<HashSet<u64>, Memory>
+    ensures { IfOk result (λ pages. (page : ℕ) → set.contains nat_eq pages page ≡ list_any (is_touched_in outside.now page) stale.now.keys) }
+{
+    let mut pages = HashSet::new(alloc);
+    for address in stale {
+        if outside.is_touched(*address) {
+            pages.insert(*address / PAGE)?;
+        }
+    }
+    Ok(pages)
 }

@@ -6,6 +6,7 @@ ghost use Rattle.sq_elf.specs.Text.{text_of, is_text_word};
 ghost use Rattle.sq_reloc.specs.Outside.{code_word_at, is_stale};
 ghost use Rattle.sq_reloc.specs.CodeWords.{AreCodeWords, IsCodeWord};
 ghost use Rattle.sq_reloc.specs.Marks.{mark_of, IsMarked};
+ghost use Rattle.sq_reloc.specs.Pages.{AreStalePages};
 ghost use Rattle.sq_reloc.specs.Required.{insn_at};
 ghost use Rattle.sq_reloc.specs.Refusing.{reloc_refusal_of};
 
@@ -16,8 +17,9 @@ use crate::refusing::{entry_refusal, table_refusal};
 use crate::seen::Seen;
 use crate::words::words_of;
 use sq_elf::{Elf, Text};
-use sq_num::Denied;
+use sq_num::{Denied, Memory};
 use std::alloc::Global;
+use std::collections::HashSet;
 use std::marker::Model;
 
 /// What the relocations say of a file that is not refused.
@@ -93,5 +95,12 @@ impl<'a> Relocs<'a> {
         ensures { result ≡ is_stale self.now address }
     {
         self.outside.is_stale(address)
+    }
+    /// The numbers of the pages of 4 KiB that have a stale byte, each the quotient by 4096 of the
+    /// addresses in it. Where an entry goes past 2^32, so may the last page.
+    pub fn stale_pages(&self, alloc: Global) -> Result<HashSet<u64>, Memory>
+        ensures { IfOk result (AreStalePages self.now) }
+    {
+        self.outside.stale_pages(alloc)
     }
 }

@@ -21,6 +21,3 @@ pub use line::{end_line, event_lines};
 pub use log::Log;
 pub use piece::Piece;
 pub use start::{Extent, Start, is_bad_start, start_fits, start_pointer};
-
-#[cfg(test)]
-mod tests;

@@ -25,6 +25,3 @@ mod writing;
 pub use laws::{alike_graphs_fit, names_do_not_matter};
 pub use plain::{read_plain, word_at, write_plain};
 pub use writing::write_elf;
-
-#[cfg(test)]
-mod tests;

@@ -1,5 +1,6 @@
 //! The files of the tests, as texts of hexadecimal words.
 
+use super::columns_of;
 use sq_num::Memory;
 use std::alloc::Global;
 use std::test::Fail;
@@ -58,6 +59,24 @@ other-upper-half.out | 464c457f 10101 0 0 f30002 1 10000 34 d8 0 200034 280001 6
 trial-0-8.out | 464c457f 10101 0 0 f30002 1 10000 34 19c 0 200034 280001 60007 1 54 10000 10000 e8 e8 5 1 3150513 3258593 3360613 3468693 3570713 3678793 b0000ef 4150513 4258593 4360613 4468693 4570713 4678793 94000ef d150513 d258593 d360613 d468693 d570713 d678793 78000ef 78002ef 70000ef 6150513 6258593 6360613 6468693 6570713 6678793 54000ef 9150513 9258593 9360613 9468693 9570713 9678793 38000ef 5150513 5258593 5360613 5468693 5570713 5678793 1c000ef 1c002ef 14000ef 5d00893 513 73 6f 8067 a150513 a258593 a360613 a468693 a570713 a678793 28067 0 0 0 0 0 325a5153 1 100cc 5 6 65742e00 2e007478 746d7973 2e006261 74727473 2e006261 616c6572 7865742e 732e0074 65657571 2e00657a 74736873 62617472 0 0 0 0 0 0 0 0 0 0 0 1 1 6 10000 54 e8 0 0 4 0 7 2 0 0 13c 10 3 1 4 10 f 3 0 0 14c 1 0 0 1 0 17 4 0 0 150 0 2 1 4 c 22 80515a31 0 0 150 14 0 0 4 0 2b 3 0 0 164 35 0 0 1 0
 procedures-old-note | 464c457f 10101 0 0 f30002 1 10000 34 e4 0 200034 280001 60007 1 54 10000 10000 34 34 5 1 20002ef 18000ef 18002ef 10000ef 5d00893 73 6f 8067 158593 260613 368693 470713 28067 0 0 0 0 0 315a5153 1 10020 5 65742e00 2e007478 746d7973 2e006261 74727473 2e006261 616c6572 7865742e 732e0074 65657571 2e00657a 74736873 62617472 0 0 0 0 0 0 0 0 0 0 0 1 1 6 10000 54 34 0 0 4 0 7 2 0 0 88 10 3 1 4 10 f 3 0 0 98 1 0 0 1 0 17 4 0 0 9c 0 2 1 4 c 22 80515a31 0 0 9c 10 0 0 4 0 2b 3 0 0 ac 35 0 0 1 0";
 
+/// Where the text of a linked file stands.
+const TEXT: u32 = 0x0001_0000;
+
+/// The type of a section that is a note.
+pub const NOTE: u32 = 0x8051_5a31;
+
+/// Names, and the parts of a linked file: its text, the words behind text in its one segment, its entries of
+/// relocations (an offset, a type and an address each), and its note. `-` stands for no words.
+///
+/// `edited` is `lui a2,%hi(a); lui a3,7; beq a0,a1,b; a: jal t0,p; b: unimp; p: ecall; jr t0` with a word that holds
+/// `b`. `named` is `lui a3,7; jal t0,p; unimp; a: unimp; b: jalr a7,0(a0); unimp; p: addi a0,a0,%lo(a); jr t0` with
+/// one that holds `b`. `halves` is `jal a7,p; lui a0,%hi(b); addi a0,a0,%lo(b); jalr a7,%lo(b)(a0); b: ebreak;
+/// p: addi a0,a0,1; jr a7`.
+const LINKED: &str = "\
+edited | 10637 76b7 b50463 8002ef 0 73 28067 | 10010 | 10000 1a 1000c 1001c 1 10010 | 325a5153 1 10014 5 1
+named | 76b7 14002ef 0 0 508e7 0 c50513 28067 | 10010 | 10018 1b 1000c 10020 1 10010 | 325a5153 1 10018 5 1
+halves | 14008ef 10537 1050513 10508e7 100073 150513 88067 | - | 10004 1a 10010 10008 1b 10010 1000c 1b 10010 | 325a5153 1 10014 11 1";
+
 /// Numbers that are written in hexadecimal digits, apart by spaces.
 pub fn numbers_of(alloc: Global, text: &str) -> Result<Vec<u32>, Fail> {
     let mut numbers = Vec::new(alloc);
@@ -83,8 +102,29 @@ pub fn push_words(file: &mut Vec<u8>, words: &[u32]) -> Result<(), Memory> {
     Ok(())
 }
 
-/// `addi a1,a1,i` for i from 1 to `count`, behind these words, and then an exit.
-fn long_text(alloc: Global, head: &[u32], count: u32) -> Result<Vec<u8>, Fail> {
+/// Puts a word at an offset, its least byte first.
+fn put_word(file: &mut Vec<u8>, at: u32, word: u32) {
+    for (place, byte) in word.to_le_bytes().iter().enumerate() {
+        if let Some(old) = file.get_mut((at as usize).wrapping_add(place)) {
+            *old = *byte;
+        }
+    }
+}
+
+/// Puts words at offsets: the changes are pairs of an offset and a word, in hexadecimal digits.
+pub fn change(alloc: Global, file: &mut Vec<u8>, changes: &str) -> Result<(), Fail> {
+    let numbers = numbers_of(alloc, changes)?;
+    for pair in numbers.as_slice().chunks(2) {
+        let &[at, word] = pair else {
+            return Err(Fail::from("pairs are wanted"));
+        };
+        put_word(file, at, word);
+    }
+    Ok(())
+}
+
+/// `addi a1,a1,i` for the low 12 bits i of the numbers from 1 to `count`, behind these words, and then an exit.
+pub fn long_text(alloc: Global, head: &[u32], count: u32) -> Result<Vec<u8>, Fail> {
     let mut words = Vec::new(alloc);
     words.extend_from_slice(head)?;
     for number in 1..=count {
@@ -92,6 +132,56 @@ fn long_text(alloc: Global, head: &[u32], count: u32) -> Result<Vec<u8>, Fail> {
     }
     words.extend_from_slice(&[0x05d0_0893, 0x0000_0073, 0x0000_006f])?;
     Ok(plain_of(alloc, words.as_slice())?)
+}
+
+/// How many bytes so many words have.
+pub fn size_of(words: &[u32]) -> u32 {
+    u32::try_from(words.len()).unwrap_or(0).wrapping_mul(4)
+}
+
+/// The parts of a linked file, as texts of words.
+#[derive(Clone, Copy)]
+pub struct Linked<'t> {
+    pub text: &'t str,
+    pub behind: &'t str,
+    pub entries: &'t str,
+    pub note: &'t str,
+}
+
+/// The words of a part.
+fn part_of(alloc: Global, part: &str) -> Result<Vec<u32>, Fail> {
+    numbers_of(alloc, if part == "-" { "" } else { part })
+}
+
+/// The file of these parts, with a last section of this type over the bytes of its note.
+pub fn linked_of(alloc: Global, parts: &Linked<'_>, last: u32) -> Result<Vec<u8>, Fail> {
+    let text = part_of(alloc, parts.text)?;
+    let behind = part_of(alloc, parts.behind)?;
+    let entries = part_of(alloc, parts.entries)?;
+    let note = part_of(alloc, parts.note)?;
+    let (size, entries_size, note_size) = (size_of(&text), size_of(&entries), size_of(&note));
+    let loaded = size.wrapping_add(size_of(&behind));
+    let symbols = loaded.wrapping_add(84);
+    let relocs = symbols.wrapping_add(16);
+    let noted = relocs.wrapping_add(entries_size);
+    let sections = noted.wrapping_add(note_size);
+    let mut file = Vec::new(alloc);
+    push_words(&mut file, &[0x464c_457f, 0x0001_0101, 0, 0])?;
+    push_words(&mut file, &[0x00f3_0002, 1, TEXT, 52, sections, 0])?;
+    push_words(&mut file, &[0x0020_0034, 0x0028_0001, 6])?;
+    push_words(&mut file, &[1, 84, TEXT, TEXT, loaded, loaded, 5, 1])?;
+    push_words(&mut file, &text)?;
+    push_words(&mut file, &behind)?;
+    push_words(&mut file, &[0; 4])?;
+    push_words(&mut file, &entries)?;
+    push_words(&mut file, &note)?;
+    push_words(&mut file, &[0; 10])?;
+    push_words(&mut file, &[0, 1, 6, TEXT, 84, size, 0, 0, 4, 0])?;
+    push_words(&mut file, &[0, 2, 0, 0, symbols, 16, 0, 1, 4, 16])?;
+    push_words(&mut file, &[0, 4, 0, 0, relocs, entries_size, 2, 1, 4, 12])?;
+    push_words(&mut file, &[0, NOTE, 0, 0, noted, note_size, 0, 0, 4, 0])?;
+    push_words(&mut file, &[0, last, 0, 0, noted, note_size, 0, 0, 4, 0])?;
+    Ok(file)
 }
 
 /// The words behind a name in a table.
@@ -116,6 +206,19 @@ pub fn file_of(alloc: Global, name: &str) -> Result<Vec<u8>, Fail> {
     }
     if let Some(words) = words_in(PLAIN, name) {
         return Ok(plain_of(alloc, numbers_of(alloc, words)?.as_slice())?);
+    }
+    if let Some(parts) = words_in(LINKED, name) {
+        let columns = columns_of(alloc, parts)?;
+        let &[text, behind, entries, note] = columns.as_slice() else {
+            return Err(Fail::from("four parts are wanted"));
+        };
+        let parts = Linked {
+            text,
+            behind,
+            entries,
+            note,
+        };
+        return linked_of(alloc, &parts, 0);
     }
     let words = words_in(WHOLE, name).ok_or("no file of this name")?;
     let mut file = Vec::new(alloc);

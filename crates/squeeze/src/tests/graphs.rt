@@ -66,7 +66,7 @@ const CODE_WORD: &str = "\
 ";
 
 /// Whether the graph has a block of this name.
-fn is_block(graph: &Graph, name: u32) -> bool
+pub fn is_block(graph: &Graph, name: u32) -> bool
     ensures { IsTrue result → HasBlock graph.now.graph name }
 {
     graph.links().get(name).is_some()

@@ -53,7 +53,7 @@ fn noted_file(alloc: Global, words: &str) -> Result<Vec<u8>, Fail> {
 }
 
 /// The entry of the note that refuses a file.
-fn refused_entry(alloc: Global, file: &[u8]) -> Result<String, Fail> {
+pub fn refused_entry(alloc: Global, file: &[u8]) -> Result<String, Fail> {
     Ok(match graph_of(alloc, file) {
         Err(Denied::Refused(Refusal::BadNote { entry })) => format!(in alloc; "{entry}")?,
         Err(_) => format!(in alloc; "another refusal")?,

@@ -9,7 +9,7 @@
 //! relocations: an offset, a symbol and type, and an addend each. `%call_hi` and `%call_lo` are the two
 //! words of one entry for a call, `stale` is a word that an entry makes stale, and `far` is 0x00040000.
 
-use super::files::{numbers_of, plain_of, push_words};
+use super::files::{numbers_of, plain_of, push_words, size_of};
 use super::*;
 
 /// Where the text of a case stands.
@@ -229,6 +229,28 @@ jal ra,1f; 1: beq ra,x0,out | 4000ef 8263 |  |  | 5 | break arithmetic at 0x0000
 jal ra,1f; 1: bne x0,ra,out | 4000ef 101263 |  |  | 5 | break arithmetic at 0x00000004
 li a0,7; jal ra,f; j out; f: ret | 700513 8000ef 80006f 8067 |  |  | 0 | exit 7";
 
+/// Zeros behind the one word of the data: with the words and the entries of a case, how many bytes the data have in
+/// memory.
+///
+/// A read crosses a page of 4 KiB, and a load takes the last word of 402 MB. An entry that touches zeros is refused.
+const ZEROS: &str = "\
+lui t0,0x21; lw a0,0(t0) | 212b7 2a503 |  | 3010 | 0 | exit 0
+lui t0,0x23; lw a0,12(t0) | 232b7 c2a503 |  | 3010 | 0 | exit 0
+lui t0,0x23; lw a0,16(t0) | 232b7 102a503 |  | 3010 | 0 | load 0x00023010
+lui t0,0x22; addi a1,t0,-2; li a0,0; li a2,3; li a7,63; ecall; lbu a0,0(t0) | 222b7 ffe28593 513 300613 3f00893 73 2c503 |  | 3010 | 0 | read 68690a; exit 10
+li a0,7; jal ra,f; j out; f: lui t0,0x21; sw ra,0(t0); lw t1,0(t0); jr t1 | 700513 8000ef 140006f 212b7 12a023 2a303 30067 |  | 3010 | 0 | exit 7
+lui t0,0x21; lhu a0,4(t0) | 212b7 42d503 | 21004 26 10000 | 3010 | 3 | refused 15 3
+lui t0,0x18020; li a1,9; sw a1,-4(t0); lw a0,-4(t0) | 180202b7 900593 feb2ae23 ffc2a503 |  | 18000000 | 0 | exit 9
+lui t0,0x18020; lw a0,0(t0) | 180202b7 2a503 |  | 18000000 | 0 | load 0x18020000";
+
+/// Where data stand, where their load copy stands, and how many bytes they have in memory.
+#[derive(Clone, Copy)]
+struct Place {
+    address: u32,
+    copy: u32,
+    memory: u32,
+}
+
 /// The words of a case, and the exit behind them.
 fn text_of(alloc: Global, column: &str) -> Result<Vec<u32>, Fail> {
     let mut text = numbers_of(alloc, column)?;
@@ -236,17 +258,13 @@ fn text_of(alloc: Global, column: &str) -> Result<Vec<u32>, Fail> {
     Ok(text)
 }
 
-/// How many bytes so many words have.
-fn size_of(words: &[u32]) -> u32 {
-    u32::try_from(words.len()).unwrap_or(0).wrapping_mul(4)
-}
-
-/// A file with this text at `lo`, these data, and these entries of relocations. Symbol 1 is `lo`.
+/// A file with this text at `lo`, these data at their place, and these entries of relocations. Symbol 1 is `lo`.
 fn marked_file(
     alloc: Global,
     lo: u32,
     text: &[u32],
     data: &[u32],
+    place: Place,
     entries: &[u32],
 ) -> Result<Vec<u8>, Memory> {
     let (size, data_size, entries_size) = (size_of(text), size_of(data), size_of(entries));
@@ -260,10 +278,9 @@ fn marked_file(
     push_words(&mut file, &[0x00f3_0002, 1, lo, 52, sections, 0])?;
     push_words(&mut file, &[0x0020_0034, 0x0028_0002, 4])?;
     push_words(&mut file, &[1, 116, lo, lo, size, size, 5, 1])?;
-    push_words(
-        &mut file,
-        &[1, data_at, DATA, COPY, data_size, data_size, 7, 1],
-    )?;
+    let header = [1, data_at, place.address, place.copy, data_size];
+    push_words(&mut file, &header)?;
+    push_words(&mut file, &[place.memory, 7, 1])?;
     push_words(&mut file, text)?;
     push_words(&mut file, data)?;
     push_words(&mut file, &[0, 0, 0, 0, 0, lo, 0, 0])?;
@@ -314,8 +331,57 @@ fn check_marked(rt: &impl Abort, alloc: Global, lo: u32, table: &str) -> Result<
         let data = numbers_of(alloc, data)?;
         let entries = numbers_of(alloc, entries)?;
         let (text, data, entries) = (text.as_slice(), data.as_slice(), entries.as_slice());
-        let file = marked_file(alloc, lo, text, data, entries)?;
+        let place = Place {
+            address: DATA,
+            copy: COPY,
+            memory: size_of(data),
+        };
+        let file = marked_file(alloc, lo, text, data, place, entries)?;
         check_watched(rt, alloc, file.as_slice(), (status, told), assembly)?;
+    }
+    Ok(())
+}
+
+/// The file of a case with zeros: its words, its entries, and how many bytes its data have in memory.
+fn file_with_zeros(
+    alloc: Global,
+    words: &str,
+    entries: &str,
+    memory: &str,
+) -> Result<Vec<u8>, Fail> {
+    let text = text_of(alloc, words)?;
+    let entries = numbers_of(alloc, entries)?;
+    let place = Place {
+        address: DATA,
+        copy: DATA,
+        memory: u32::from_str_radix(memory, 16)?,
+    };
+    Ok(marked_file(alloc, TEXT, &text, &[0], place, &entries)?)
+}
+
+// RAM stands above the zeros. What ends under the monitor ends so when it is packed, too.
+#[test]
+fn zeros_behind_data(rt: HostRuntime) -> Result<(), Fail> {
+    let alloc = rt.alloc();
+    for case in ZEROS.lines() {
+        let columns = columns_of(alloc, case)?;
+        let &[assembly, words, entries, memory, status, told] = columns.as_slice() else {
+            return Err(Fail::from("six columns are wanted"));
+        };
+        let mut desk = MemoryDesk::new(alloc, &[])?;
+        desk.put("a", &file_with_zeros(alloc, words, entries, memory)?)?;
+        desk.put("e", b"hi\n")?;
+        let wanted = (status, told);
+        let line = "watch a e 100 2147483648 65536";
+        check_told(&rt, alloc, &mut desk, line, wanted, assembly)?;
+        if status == "0" {
+            assert_eq!(rt; command(alloc, &mut desk, "pack a b")?, 0, "{assembly}");
+            let mut packed = MemoryDesk::new(alloc, &[])?;
+            packed.put("b", desk.file("b").unwrap_or(&[]))?;
+            packed.put("e", b"hi\n")?;
+            let line = "watch b e 100 2147483648 65536";
+            check_told(&rt, alloc, &mut packed, line, wanted, assembly)?;
+        }
     }
     Ok(())
 }
