@@ -17,10 +17,10 @@ use Rattle.sq_jumps.specs.Surveys.{lifted}
 use Rattle.sq_jumps.proofs.Shrinking.{some_is}
 use Rattle.sq_jumps.proofs.Shrunk.{retargeted_words}
 
-above : (gone x : ℕ) → gone < x → lifted gone x ≡ x - 4
+pub above : (gone x : ℕ) → gone < x → lifted gone x ≡ x - 4
 above gone x h = let t : nat_lt gone x ≡ true = grind (arith, nat_tests) in rw t refl
 
-below : (gone x : ℕ) → x ≤ gone → lifted gone x ≡ x
+pub below : (gone x : ℕ) → x ≤ gone → lifted gone x ≡ x
 below gone x h = let t : nat_lt gone x ≡ false = grind (arith, nat_tests) in rw t refl
 
 least : (bs : List Block) (at n x : ℕ) → address_in bs at n ≡ Some x → at ≤ x

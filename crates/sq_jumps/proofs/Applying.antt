@@ -30,7 +30,8 @@ use Rattle.sq_pass.specs.Applied.{IsApplied}
 use Rattle.sq_jumps.specs.Branches.{BranchReaches}
 use Rattle.sq_jumps.specs.Rows.{JumpsToNext, IsDetour, BranchesOverJump, JumpsByDeadPart}
 use Rattle.sq_jumps.specs.Rewrites.{falling, passed_to, passed, inverted_to, target_of, inverted, hastened_by, hastened}
-use Rattle.sq_jumps.proofs.Shrinking.{IsBranch, Shrinks, LedThere, shrunk_in_reach}
+use Rattle.sq_jumps.specs.Shrinks.{IsBranch, Shrinks}
+use Rattle.sq_jumps.proofs.Shrinking.{LedThere, shrunk_in_reach}
 use Rattle.sq_jumps.proofs.Shrunk.{shrinks_twice, each_shrinks, one_shrinks, without_shrinks, retargeted_shrunk, term_shrunk, item_shrunk}
 use Rattle.sq_jumps.proofs.Addresses.{block_of-without, block_of-retargeted, block_of-changed, block_of-changed_here}
 use Rattle.sq_jumps.proofs.Rewriting.{fall_rules, redirected_rules_here, passed_rules, turned_rules, inverted_rules, shortened_rules}
@@ -43,7 +44,7 @@ same_term : (s t : Term) → Some s ≡ Some t → s ≡ t
 same_term s t e = cc
 
 -- the term of another block stays, and a block that went has none
-term_elsewhere : (g : Graph) (block n : ℕ) (f : Block → Block) → ((b : Block) → (f b).name ≡ b.name) → n ≢ block → block_term (value_of (named (with_blocks (λ b. f b ∷ []) g.blocks block)) n) ≡ term_of g n
+pub term_elsewhere : (g : Graph) (block n : ℕ) (f : Block → Block) → ((b : Block) → (f b).name ≡ b.name) → n ≢ block → block_term (value_of (named (with_blocks (λ b. f b ∷ []) g.blocks block)) n) ≡ term_of g n
 term_elsewhere g block n f names other = ap block_term (block_of-changed f g.blocks block n names other)
 
 mapped_term : (o : Option Block) (t : Term) → block_term (option_map (λ (b : Block). record b { term = t }) o) ≡ option_map (λ _. t) (block_term o)
@@ -53,7 +54,7 @@ mapped_term (Some b) t = refl
 term_here : (g : Graph) (block : ℕ) (old t : Term) → term_of g block ≡ Some old → term_of (with_term g block t) block ≡ Some t
 term_here g block old t e = ap block_term (block_of-changed_here (λ b. record b { term = t }) g.blocks block (λ b. refl)) ∙ mapped_term (block_of g block) t ∙ ap (option_map (λ _. t)) e
 
-gone_block : (bs : List Block) (n : ℕ) → HasDistinctKeys (named bs) → value_of (named (with_blocks (λ b. []) bs n)) n ≡ None
+pub gone_block : (bs : List Block) (n : ℕ) → HasDistinctKeys (named bs) → value_of (named (with_blocks (λ b. []) bs n)) n ≡ None
 gone_block [] n distinct = refl
 gone_block (b ∷ bs) n distinct =
     elim (cases_Bool (b.name == n)) [
@@ -104,14 +105,18 @@ branch_before f (PartJump link part n) cond a b to e = absurd (cc)
 branch_before f (Indirect link at offset) cond a b to e = absurd (cc)
 branch_before f (Stop word) cond a b to e = absurd (cc)
 
-retargeted_before : (f : ℕ → ℕ) (o : Option Block) (cond : Cond) (a b to : ℕ) → block_term (option_map (retargeted_block f) o) ≡ Some (Branch cond a b to) → (old : ℕ) × (block_term o ≡ Some (Branch cond a b old)) × (f old ≡ to)
+pub retargeted_before : (f : ℕ → ℕ) (o : Option Block) (cond : Cond) (a b to : ℕ) → block_term (option_map (retargeted_block f) o) ≡ Some (Branch cond a b to) → (old : ℕ) × (block_term o ≡ Some (Branch cond a b old)) × (f old ≡ to)
 retargeted_before f None cond a b to e = absurd (cc)
 retargeted_before f (Some c) cond a b to e =
     let before = branch_before f c.term cond a b to (same_term (retargeted_term f c.term) (Branch cond a b to) e) in
     (before.0, ap Some before.1, before.2)
 
-passing_is : (g : Graph) (block to : ℕ) → jump_from g block ≡ Some to → passed g block ≡ without_jump g block to
+pub passing_is : (g : Graph) (block to : ℕ) → jump_from g block ≡ Some to → passed g block ≡ without_jump g block to
 passing_is g block to jump = ap (passed_to g block) jump
+
+pub pass_shrinks : (g : Graph) (block to : ℕ) → Shrinks g.blocks (without_jump g block to).blocks
+pass_shrinks g block to =
+    shrinks_twice (each_shrinks (retargeted_block (swapped block to)) (retargeted_shrunk (swapped block to)) g.blocks) (without_shrinks (map (retargeted_block (swapped block to)) g.blocks) block)
 
 pub pass_applied : (g : Graph) (block : ℕ) → IsGraph g → IsDetour g block → IsApplied 1 (passed g block) g (passed g block)
 pass_applied g block rules d =
@@ -119,16 +124,13 @@ pass_applied g block rules d =
     (record {
       follows = jump_goes_follows g block d.to rules d.passable;
       sound = λ sound. jump_goes_sound g block d.to rules d.passable sound;
-      reach = λ reach. shrunk_in_reach g (without_jump g block d.to) rules.distinct (passed_rules g block d.to rules d.passable).distinct shrinks led reach;
+      reach = λ reach. shrunk_in_reach g (without_jump g block d.to) rules.distinct (passed_rules g block d.to rules d.passable).distinct (pass_shrinks g block d.to) led reach;
       words = jump_goes_saves g block d.to d.passable;
       described = alike_itself (canonical_of (without_jump g block d.to));
     })
   where
     f : ℕ → ℕ
     f = swapped block d.to
-
-    shrinks : Shrinks g.blocks (without_jump g block d.to).blocks
-    shrinks = shrinks_twice (each_shrinks (retargeted_block (swapped block d.to)) (retargeted_shrunk (swapped block d.to)) g.blocks) (without_shrinks (map (retargeted_block (swapped block d.to)) g.blocks) block)
 
     middle : HasDistinctKeys (named (map (retargeted_block (swapped block d.to)) g.blocks))
     middle = (redirected_rules_here g block d.to rules d.passable).distinct
@@ -155,11 +157,19 @@ pass_applied g block rules d =
 
 -- J3
 
-inverting_is : (g : Graph) (block : ℕ) (cond : Cond) (a b over behind to : ℕ) → IsJumpedOver g block cond a b over behind to → inverted g block ≡ inverted_over g block cond a b over to
+pub inverting_is : (g : Graph) (block : ℕ) (cond : Cond) (a b over behind to : ℕ) → IsJumpedOver g block cond a b over behind to → inverted g block ≡ inverted_over g block cond a b over to
 inverting_is g block cond a b over behind to j =
     ap (λ t. inverted_to g block t (next_of g block) (target_of g (next_of g block))) j.branch
     ∙ ap (λ o. inverted_to g block (Some (Branch cond a b behind)) o (target_of g o)) j.next
     ∙ ap (λ o. inverted_to g block (Some (Branch cond a b behind)) (Some over) o) j.jump
+
+pub invert_shrinks : (g : Graph) (block : ℕ) → (o : BranchesOverJump g block) → Shrinks g.blocks (inverted_over g block o.cond o.a o.b o.over o.to).blocks
+invert_shrinks g block o =
+    shrinks_twice
+    (one_shrinks (λ b. record b { term = Branch (inverse_of o.cond) o.a o.b o.to }) g.blocks block (λ b is.
+    let term : b.term ≡ Branch o.cond o.a o.b o.behind = same_term b.term (Branch o.cond o.a o.b o.behind) (sym (ap block_term is) ∙ o.jumped.branch) in
+    term_shrunk b (Branch (inverse_of o.cond) o.a o.b o.to) (omega (arith, ap term_words term)) (λ yes. subst IsBranch (sym term) tt)))
+    (without_shrinks (with_term g block (Branch (inverse_of o.cond) o.a o.b o.to)).blocks o.over)
 
 pub invert_applied : (g : Graph) (block : ℕ) → IsGraph g → BranchesOverJump g block → IsApplied 1 (inverted g block) g (inverted g block)
 invert_applied g block rules o =
@@ -167,21 +177,13 @@ invert_applied g block rules o =
     (record {
       follows = invert_follows g block o.cond o.a o.b o.over o.behind o.to rules o.jumped;
       sound = λ sound. invert_sound g block o.cond o.a o.b o.over o.behind o.to rules o.jumped sound;
-      reach = λ reach. shrunk_in_reach g (inverted_over g block o.cond o.a o.b o.over o.to) rules.distinct (inverted_rules g block o.cond o.a o.b o.over o.behind o.to (inverse_of o.cond) rules o.jumped).distinct shrinks led reach;
+      reach = λ reach. shrunk_in_reach g (inverted_over g block o.cond o.a o.b o.over o.to) rules.distinct (inverted_rules g block o.cond o.a o.b o.over o.behind o.to (inverse_of o.cond) rules o.jumped).distinct (invert_shrinks g block o) led reach;
       words = invert_saves g block o.cond o.a o.b o.over o.behind o.to rules o.jumped;
       described = alike_itself (canonical_of (inverted_over g block o.cond o.a o.b o.over o.to));
     })
   where
     t : Term
     t = Branch (inverse_of o.cond) o.a o.b o.to
-
-    shrinks : Shrinks g.blocks (inverted_over g block o.cond o.a o.b o.over o.to).blocks
-    shrinks =
-        shrinks_twice
-        (one_shrinks (λ b. record b { term = Branch (inverse_of o.cond) o.a o.b o.to }) g.blocks block (λ b is.
-        let term : b.term ≡ Branch o.cond o.a o.b o.behind = same_term b.term (Branch o.cond o.a o.b o.behind) (sym (ap block_term is) ∙ o.jumped.branch) in
-        term_shrunk b (Branch (inverse_of o.cond) o.a o.b o.to) (omega (arith, ap term_words term)) (λ yes. subst IsBranch (sym term) tt)))
-        (without_shrinks (with_term g block (Branch (inverse_of o.cond) o.a o.b o.to)).blocks o.over)
 
     turned : IsGraph (with_term g block (Branch (inverse_of o.cond) o.a o.b o.to))
     turned = turned_rules g block o.cond o.a o.b o.over o.behind o.to (inverse_of o.cond) rules o.jumped

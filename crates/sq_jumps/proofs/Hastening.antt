@@ -52,7 +52,7 @@ used_ahead (z ∷ zs) xs ys n same =
 without_half : (part to n : ℕ) (rest : List Item) → (to == n) ≡ false → is_among (items_uses (Hi part to ∷ rest)) n ≡ is_among (items_uses rest) n
 without_half part to n rest apart = ap (λ b. b || is_among (items_uses rest) n) apart
 
-three_uses : (words terms items : List ℕ) (n : ℕ) → is_among (words ++ (terms ++ items)) n ≡ (is_among words n || (is_among terms n || is_among items n))
+pub three_uses : (words terms items : List ℕ) (n : ℕ) → is_among (words ++ (terms ++ items)) n ≡ (is_among words n || (is_among terms n || is_among items n))
 three_uses words terms items n = is_among-append words (terms ++ items) n ∙ ap (λ b. is_among words n || b) (is_among-append terms items n)
 
 used_by_term : (entry : ℕ) (words terms items : List ℕ) (n : ℕ) → is_among terms n ≡ true → is_among (entry ∷ (words ++ (terms ++ items))) n ≡ true

@@ -11,6 +11,12 @@ pub mod Rewriting
 pub mod RowTests
 pub mod Applying
 pub mod Hastening
+pub mod Leading
+pub mod Inverted
+pub mod StillSafe
+pub mod Passed
+pub mod Detours
+pub mod Fallen
 pub mod StayingDead
 pub mod Sweeping
 pub mod Cutting

@@ -85,10 +85,10 @@ next-term g block n t = next_names (with_blocks (λ b. record b { term = t } ∷
 next-replaced : (g : Graph) (block at n : ℕ) → next_of (replaced g block at 1 []) n ≡ next_of g n
 next-replaced g block at n = next_names (with_blocks (λ b. record b { items = replaced_items b.items at 1 [] } ∷ []) g.blocks block) g.blocks n (names-changed (λ b. record b { items = replaced_items b.items at 1 [] }) g.blocks block (λ b. refl))
 
-next-redirected : (g : Graph) (from to n : ℕ) → next_of (redirected g from to) n ≡ next_of g n
+pub next-redirected : (g : Graph) (from to n : ℕ) → next_of (redirected g from to) n ≡ next_of g n
 next-redirected g from to n = next_names (map (retargeted_block (swapped from to)) g.blocks) g.blocks n (names-retargeted (swapped from to) g.blocks)
 
-goes_on-retargeted : (f : ℕ → ℕ) (t : Term) → goes_on (retargeted_term f t) ≡ goes_on t
+pub goes_on-retargeted : (f : ℕ → ℕ) (t : Term) → goes_on (retargeted_term f t) ≡ goes_on t
 goes_on-retargeted f Fall = refl
 goes_on-retargeted f (Jump to) = refl
 goes_on-retargeted f (Branch cond a b to) = refl
@@ -180,7 +180,7 @@ jumped_to g block cond cond' a a' b b' over over' behind behind' to to' jumped b
     }
 
 -- what isn't used isn't among the uses
-all_apart : (xs : List ℕ) (x : ℕ) → ¬ Contains xs x → All (λ n. n ≢ x) xs
+pub all_apart : (xs : List ℕ) (x : ℕ) → ¬ Contains xs x → All (λ n. n ≢ x) xs
 all_apart xs x none k d below same = none (k, below, same_item xs k x d below ∙ same)
   where
     same_item : (xs : List ℕ) (k d e : ℕ) → k < length xs → get_or xs k d ≡ get_or xs k e

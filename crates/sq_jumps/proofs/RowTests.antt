@@ -1,5 +1,5 @@
 -- What the tests of blocks find is what the rows say.
-use Rattle.std.proofs.Common.{◌≡◌, ◌≢◌, ◌⊎◌, ℕ, zero, suc, ℤ, pos, neg_ℤ, ◌-◌, ◌<◌, Bool, true, false, not, ◌||◌, nat_eq, List, [], ◌∷◌, length, slice_get, Option, None, Some, inl, inr, refl, sym, ap, ◌∙◌, subst, arith}
+use Rattle.std.proofs.Common.{◌≡◌, ◌≢◌, ◌⊎◌, ℕ, zero, suc, ℤ, pos, neg_ℤ, ◌-◌, ◌<◌, ◌^◌, Bool, true, false, not, ◌||◌, nat_eq, List, [], ◌∷◌, length, slice_get, Option, None, Some, inl, inr, refl, sym, ap, ◌∙◌, subst, arith}
 use Rattle.std.specs.List.{Contains}
 use Rattle.std.specs.Option.{option_eq}
 use Rattle.std.proofs.lemmas.Bool.{cases_Bool, eqb-true, eq-eqb}
@@ -20,13 +20,16 @@ use Rattle.sq_graph.specs.Rules.{IsGraph}
 use Rattle.sq_graph.specs.Terms.{goes_on}
 use Rattle.sq_graph.specs.Uses.{uses}
 use Rattle.sq_graph.specs.Walks.{IsLive}
+use Rattle.sq_graph.specs.Words.{words_of}
 use Rattle.sq_patch.specs.LoneJumps.{IsJumpedOver}
 use Rattle.sq_jumps.specs.Branches.{BranchReaches}
 use Rattle.sq_jumps.specs.Names.{is_listed}
 use Rattle.sq_jumps.specs.Surveys.{ReachesWithout, Needs, IsSurvey}
 use Rattle.sq_jumps.specs.Rows.{IsDetour, BranchesOverJump, JumpsByDeadPart}
+use Rattle.sq_jumps.specs.Sweeps.{IsStillSafe}
 use Rattle.sq_jumps.proofs.Distances.{passes, turns, jump_there}
 use Rattle.sq_jumps.proofs.Rewriting.{to_apart, shortable_to}
+use Rattle.sq_jumps.proofs.Shrunk.{all_stay}
 
 -- A LONE JUMP WITHOUT WHICH OTHERS CAN DO
 
@@ -99,23 +102,13 @@ module _ (g : Graph) (address : ℕ → Option ℕ) (used needed : List ℕ) (ru
         | inr apart ↦ let later = contains_if xs x (rw apart at e) in (suc later.0, omega (arith, later.1), later.2)
       ]
 
-  unused_if : (n : ℕ) → is_listed used n ≡ false → ¬ Contains (uses g) n
+  pub unused_if : (n : ℕ) → is_listed used n ≡ false → ¬ Contains (uses g) n
   unused_if n none c = let yes = survey.uses_are n ∙ listed_if (uses g) n c in cc
 
-  pub over_is : (block : ℕ) (cond : Cond) (a b over behind to : ℕ) → term_of g block ≡ Some (Branch cond a b behind) → next_of g block ≡ Some over → next_of g over ≡ Some behind → jump_from g over ≡ Some to → is_listed used over ≡ false → ReachesWithout g over block to → BranchesOverJump g block
-  over_is block cond a b over behind to branch next slot jump none reach =
-      let jumped : IsJumpedOver g block cond a b over behind to = record { branch = branch; next = next; slot = slot; jump = jump; unused = unused_if over none } in
-      let other = to_apart g block cond a b over behind to cond rules jumped in
-      record {
-        cond = cond;
-        a = a;
-        b = b;
-        over = over;
-        behind = behind;
-        to = to;
-        jumped = jumped;
-        near = (turns g over block to cond (inverse_of cond) a b behind a b jump branch (jump_there g over to rules jump) other).1 reach;
-      }
+  -- a survey is on the safe side of its own graph
+  pub survey_safe : words_of g < 2 ^ 31 → IsStillSafe address used g
+  survey_safe few =
+      record { before = g; distinct = rules.distinct; few = few; addresses = survey.addresses; shrinks = all_stay g.blocks; unused = unused_if }
 
   pub over_unused : (block over : ℕ) → next_of g block ≡ Some over → is_listed used over ≡ true → BranchesOverJump g block → ⊥
   over_unused block over next is o =
@@ -129,6 +122,21 @@ module _ (g : Graph) (address : ℕ → Option ℕ) (used needed : List ℕ) (ru
       let other = to_apart g block o.cond o.a o.b o.over o.behind o.to o.cond rules o.jumped in
       let reach = (turns g o.over block o.to o.cond (inverse_of o.cond) o.a o.b o.behind o.a o.b o.jumped.jump o.jumped.branch (jump_there g o.over o.to rules o.jumped.jump) other).0 o.near in
       subst (λ n. ReachesWithout g n block to) over_same (subst (λ n. ReachesWithout g o.over block n) to_same reach)
+
+pub over_is : (g : Graph) (block : ℕ) (cond : Cond) (a b over behind to : ℕ) → IsGraph g → term_of g block ≡ Some (Branch cond a b behind) → next_of g block ≡ Some over → next_of g over ≡ Some behind → jump_from g over ≡ Some to → ¬ Contains (uses g) over → ReachesWithout g over block to → BranchesOverJump g block
+over_is g block cond a b over behind to rules branch next slot jump none reach =
+    let jumped : IsJumpedOver g block cond a b over behind to = record { branch = branch; next = next; slot = slot; jump = jump; unused = none } in
+    let other = to_apart g block cond a b over behind to cond rules jumped in
+    record {
+      cond = cond;
+      a = a;
+      b = b;
+      over = over;
+      behind = behind;
+      to = to;
+      jumped = jumped;
+      near = (turns g over block to cond (inverse_of cond) a b behind a b jump branch (jump_there g over to rules jump) other).1 reach;
+    }
 
 -- a test of slots that doesn't fail
 pub slot_if : (o : Option ℕ) (n : ℕ) → false ≡ not (option_eq nat_eq o (Some n)) → o ≡ Some n

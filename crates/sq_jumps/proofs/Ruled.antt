@@ -67,7 +67,7 @@ abbrev pub IsEntered : Graph → ℕ → Type 0
 IsEntered g name = (before : ℕ) (t : Term) → next_of g before ≡ Some name → term_of g before ≡ Some t → goes_on t ≡ false
 
 -- so what stands in front of it doesn't go on past its end
-front_ends : (g : Graph) (b : Block) (back : List Block) → IsGraph g → IsEntered g b.name → (lead front : List Block) → lead ++ (front ++ (b ∷ back)) ≡ g.blocks → last_goes_on front ≡ false
+pub front_ends : (g : Graph) (b : Block) (back : List Block) → IsGraph g → IsEntered g b.name → (lead front : List Block) → lead ++ (front ++ (b ∷ back)) ≡ g.blocks → last_goes_on front ≡ false
 unfolding here
 front_ends g b back rules apart lead [] e = refl
 front_ends g b back rules apart lead (p ∷ []) e =
@@ -142,5 +142,25 @@ still_unused g block over t rules rules' has unused other fits =
           subst (λ (bs : List Block). All B bs) (sym parts)
           (All-append B at.front (new ∷ at.back) (All-left B at.front (at.block ∷ at.back) old)
           (All-cons B new at.back (record { items = own.items; names = other; fits = fits }) (All-tail B at.block at.back (All-right B at.front (at.block ∷ at.back) old))));
+      bodies = by.bodies;
+    })
+
+-- what holds of all names that are used holds of those that are used once a block is gone
+pub without_names : (P : ℕ → Type 0) (g : Graph) (name : ℕ) → IsGraph g → IsGraph (without_block g name) → HasBlock g name → All P (uses g) → All P (uses (without_block g name))
+without_names P g name rules rules' has used =
+    let C = HasProcedure g in
+    let B = BlockStands P C in
+    let at = located g.blocks name has in
+    let by = by_block P C g rules used rules.called_all in
+    let parts : with_blocks (λ b. []) g.blocks name ≡ at.front ++ at.back = with_blocks-at (λ b. []) g.blocks name at in
+    let old = subst (λ (bs : List Block). All B bs) at.whole by.blocks in
+    all_named P C (without_block g name)
+    (record {
+      distinct = rules'.distinct;
+      entry = by.entry;
+      words = by.words;
+      ends = rules'.ends;
+      ascending = by.ascending;
+      blocks = subst (λ (bs : List Block). All B bs) (sym parts) (All-append B at.front at.back (All-left B at.front (at.block ∷ at.back) old) (All-tail B at.block at.back (All-right B at.front (at.block ∷ at.back) old)));
       bodies = by.bodies;
     })

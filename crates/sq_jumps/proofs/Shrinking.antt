@@ -14,28 +14,7 @@ use Rattle.sq_graph.specs.Words.{block_words}
 use Rattle.sq_graph.specs.Places.{address_in, block_address, Reaches, TermReaches, BranchesReach, IsInReach}
 use Rattle.sq_graph.proofs.Kept.{absent_behind}
 use Rattle.sq_jumps.specs.Branches.{term_address, BranchReaches}
-
-abbrev pub IsBranch : Term → Type 0
-IsBranch Fall = ⊥
-IsBranch (Jump to) = ⊥
-IsBranch (Branch cond a b to) = Unit {0}
-IsBranch (Call link to) = ⊥
-IsBranch (PartJump link part to) = ⊥
-IsBranch (Indirect link at offset) = ⊥
-IsBranch (Stop word) = ⊥
-
--- A block in place of another: under its name, with no more words, and where it ends in a Branch the other did, behind
--- as many items
-pub record IsShrunk (b c : Block) : Type 0 where
-  pub name : c.name ≡ b.name
-  pub words : block_words c ≤ block_words b
-  pub branch : IsBranch c.term → IsBranch b.term × (length c.items ≡ length b.items)
-
--- some blocks are shrunk, and others are gone
-pub data Shrinks : List Block → List Block → Type 0 where
-  nothing : Shrinks [] []
-  kept : (b c : Block) {bs cs : List Block} → IsShrunk b c → Shrinks bs cs → Shrinks (b ∷ bs) (c ∷ cs)
-  gone : (b : Block) {bs cs : List Block} → Shrinks bs cs → Shrinks (b ∷ bs) cs
+use Rattle.sq_jumps.specs.Shrinks.{IsBranch, IsShrunk, Shrinks, nothing, kept, gone}
 
 same_name : (b c : Block) (n : ℕ) (t : Bool) → IsShrunk b c → (b.name == n) ≡ t → (c.name == n) ≡ t
 same_name b c n t p e = ap (λ k. k == n) p.name ∙ e

@@ -12,7 +12,7 @@ use Rattle.sq_graph.specs.Blocks.{named}
 use Rattle.sq_graph.specs.Words.{term_words}
 use Rattle.sq_graph.specs.Operations.{with_blocks, replaced_items}
 use Rattle.sq_graph.specs.Renames.{retargeted_item, retargeted_term, retargeted_block, recalled_item, recalled_block}
-use Rattle.sq_jumps.proofs.Shrinking.{IsBranch, IsShrunk, Shrinks, nothing, kept, gone}
+use Rattle.sq_jumps.specs.Shrinks.{IsBranch, IsShrunk, Shrinks, nothing, kept, gone}
 
 pub itself : (b : Block) → IsShrunk b b
 itself b = record { name = refl; words = omega arith; branch = λ is. (is, refl) }

@@ -1,4 +1,4 @@
--- A sweep: what one rewrite of a row for one block adds, and what row C keeps besides.
+-- A sweep: what one rewrite of a row for one block adds, and what is kept besides.
 use Rattle.std.proofs.Common.{Result, Ok, Err, ◌≡◌, ℕ, ◌<◌, List, [], ◌∷◌, ◌++◌, Option, None, Some, true, length, get_or, inr, is_some, refl, sym, ap, ◌∙◌, subst, arith}
 use Rattle.std.specs.Prelude.{IfOk, IfSome}
 use Rattle.std.specs.List.{All}
@@ -25,17 +25,20 @@ use Rattle.sq_live.proofs.Layouts.{block_at}
 use Rattle.sq_patch.specs.Operations.{hastened as short_jump}
 use Rattle.sq_patch.proofs.Joining.{canonical_follows, canonical_sound}
 use Rattle.sq_pass.specs.declared.cut.Row.{Row}
-use Rattle.sq_pass.specs.declared.cut.Row.TheVariants.{C}
+use Rattle.sq_pass.specs.declared.cut.Row.TheVariants.{J1, J2, J3, C}
 use Rattle.sq_pass.specs.Applied.{IsApplied}
 use Rattle.sq_pass.specs.Counted.{counted}
 use Rattle.sq_pass.specs.Rewrites.{IsSettled, IsRewritten}
 use Rattle.sq_pass.proofs.Rewriting.{settled_itself, rewrite_made, settled_made, rewritten_once, rewritten_through}
 use Rattle.sq_jumps.specs.Candidates.{HasRow, cut_at, IsCandidate, rewritten, described}
-use Rattle.sq_jumps.specs.Rewrites.{hastened}
-use Rattle.sq_jumps.specs.Rows.{JumpsByDeadPart}
-use Rattle.sq_jumps.specs.Sweeps.{IsStillDead}
-use Rattle.sq_jumps.proofs.Applying.{hastening_is, shorten_applied}
+use Rattle.sq_jumps.specs.Rewrites.{falling, passed, hastened, inverted}
+use Rattle.sq_jumps.specs.Rows.{BranchesOverJump, JumpsByDeadPart}
+use Rattle.sq_jumps.specs.Sweeps.{IsStillDead, IsPlainDetour, IsPlainFall}
+use Rattle.sq_jumps.proofs.Applying.{hastening_is, shorten_applied, inverting_is, invert_applied, passing_is, pass_applied, fall_applied}
+use Rattle.sq_jumps.proofs.Fallen.{falling_canonical}
 use Rattle.sq_jumps.proofs.Hastening.{shortened_canonical}
+use Rattle.sq_jumps.proofs.Inverted.{inverted_canonical}
+use Rattle.sq_jumps.proofs.Passed.{detour_canonical}
 use Rattle.sq_jumps.proofs.Rewriting.{names-changed, has_names}
 use Rattle.sq_jumps.proofs.StayingDead.{shortened_dead}
 
@@ -62,6 +65,14 @@ canonical_settled mid new rules made canonical words = record {
 pub row_rewritten : (row : Row) (block : ℕ) (before after : Savings) (g mid new : Graph) → HasRow row g block → IsApplied 1 (rewritten row g (block ∷ [])) g mid → IsGraph mid → new ≡ canonical_of mid → IsCanonical new → words_of new ≡ words_of mid → after ≡ counted before row 1 → IsRewritten IsCandidate described before after g new
 row_rewritten row block before after g mid new has applied rules made canonical words counts =
     subst (λ s. IsRewritten IsCandidate described before s g new) (sym counts) (block_rewritten row block before g mid new has applied made (canonical_settled mid new rules made canonical words))
+
+-- a row at a block that leaves the graph canonical
+kept_rewritten : (row : Row) (block : ℕ) (before after : Savings) (g h : Graph) → HasRow row g block → IsApplied 1 (rewritten row g (block ∷ [])) g (rewritten row g (block ∷ [])) → IsCanonical (rewritten row g (block ∷ [])) → h ≡ rewritten row g (block ∷ []) → after ≡ counted before row 1 → IsRewritten IsCandidate described before after g h
+kept_rewritten row block before after g h has applied still is counts =
+    let k = rewritten row g (block ∷ []) in
+    subst (λ s. IsRewritten IsCandidate described before s g h) (sym counts)
+    (subst (λ m. IsRewritten IsCandidate described before (counted before row 1) g m) (sym is)
+    (block_rewritten row block before g k k has applied (sym (canonical_again k still)) (settled_itself k still)))
 
 -- rewrites, and what comes of going on
 pub swept_on : (before at : Savings) (old mid new : Graph) (r : Result Savings Memory) → IsRewritten IsCandidate described before at old mid → IfOk r (λ after. IsRewritten IsCandidate described at after mid new) → IfOk r (λ after. IsRewritten IsCandidate described before after old new)
@@ -96,10 +107,7 @@ hastened_names g block d =
 
 pub hastened_rewritten : (g h : Graph) (block : ℕ) (before after : Savings) → IsGraph g → IsCanonical g → JumpsByDeadPart g block → h ≡ hastened g block → after ≡ counted before C 1 → IsRewritten IsCandidate described before after g h
 hastened_rewritten g h block before after rules canonical d is counts =
-    let still : IsCanonical (hastened g block) = hastened_canonical g block d canonical in
-    subst (λ s. IsRewritten IsCandidate described before s g h) (sym counts)
-    (subst (λ k. IsRewritten IsCandidate described before (counted before C 1) g k) (sym is)
-    (block_rewritten C block before g (hastened g block) (hastened g block) d (shorten_applied g block rules d) (sym (canonical_again (hastened g block) still)) (settled_itself (hastened g block) still)))
+    kept_rewritten C block before after g h d (shorten_applied g block rules d) (hastened_canonical g block d canonical) is counts
 
 pub hastened_still : (g h : Graph) (block : ℕ) (live : List (ℕ × List ℕ)) → IsGraph g → JumpsByDeadPart g block → h ≡ hastened g block → IsStillDead live g → IsStillDead live h
 hastened_still g h block live rules d is still = record {
@@ -119,3 +127,25 @@ pub listed_there : (g h : Graph) (names : List ℕ) (k : ℕ) → IsGraph g → 
 listed_there g h names k rules of_g of_h within =
     let b = block_at g names k rules of_g within in
     has_names g.blocks h.blocks (get_or names k 0) (sym of_g ∙ of_h) (ap is_some b.found)
+
+-- ROW J3
+
+pub inverted_rewritten : (g h : Graph) (block : ℕ) (before after : Savings) → IsGraph g → IsCanonical g → BranchesOverJump g block → h ≡ inverted g block → after ≡ counted before J3 1 → IsRewritten IsCandidate described before after g h
+inverted_rewritten g h block before after rules canonical o is counts =
+    kept_rewritten J3 block before after g h o (invert_applied g block rules o)
+    (subst IsCanonical (sym (inverting_is g block o.cond o.a o.b o.over o.behind o.to o.jumped)) (inverted_canonical g block o.cond o.a o.b o.over o.behind o.to rules o.jumped canonical)) is counts
+
+-- ROW J2
+
+pub detour_rewritten : (g h : Graph) (block : ℕ) (before after : Savings) → IsGraph g → IsCanonical g → IsPlainDetour g block → h ≡ passed g block → after ≡ counted before J2 1 → IsRewritten IsCandidate described before after g h
+detour_rewritten g h block before after rules canonical p is counts =
+    let to = p.detour.to in
+    let passable = p.detour.passable in
+    kept_rewritten J2 block before after g h p.detour (pass_applied g block rules p.detour)
+    (subst IsCanonical (sym (passing_is g block to passable.jump)) (detour_canonical g block to rules passable p.is_named canonical)) is counts
+
+-- ROW J1
+
+pub fall_rewritten : (g h : Graph) (block : ℕ) (before after : Savings) → IsGraph g → IsCanonical g → IsPlainFall g block → h ≡ falling g block → after ≡ counted before J1 1 → IsRewritten IsCandidate described before after g h
+fall_rewritten g h block before after rules canonical p is counts =
+    kept_rewritten J1 block before after g h p.jumps (fall_applied g block rules p.jumps) (falling_canonical g block p canonical) is counts

@@ -21,10 +21,18 @@ lifted gone x = if nat_lt gone x then x - 4 else x
 abbrev pub address_of : Graph → ℕ → ℕ
 address_of g n = unwrap_or (block_address g 0 n) 0
 
+-- the address under a name
+abbrev pub address_at : (ℕ → Option ℕ) → ℕ → ℕ
+address_at address n = unwrap_or (address n) 0
+
+-- by these addresses, once a block of one word is gone, a Branch behind so many items of a block reaches another one
+abbrev pub ReachesBy : (ℕ → ℕ) → ℕ → ℕ → ℕ → ℕ → Type 0
+ReachesBy address items gone from to =
+    Reaches (pos (lifted (address gone) (address to)) -ℤ pos (lifted (address gone) (address from) + 4 * items))
+
 -- once a block of one word is gone, the Branch at the end of a block reaches another one
 abbrev pub ReachesWithout : Graph → ℕ → ℕ → ℕ → Type 0
-ReachesWithout g gone from to =
-    Reaches (pos (lifted (address_of g gone) (address_of g to)) -ℤ pos (lifted (address_of g gone) (address_of g from) + 4 * length (items_of g from)))
+ReachesWithout g gone from to = ReachesBy (address_of g) (length (items_of g from)) gone from to
 
 -- the block goes on into the other one, in the slot behind it
 pub record GoesInto (g : Graph) (from n : ℕ) : Type 0 where

@@ -9,7 +9,7 @@ ghost use Rattle.sq_pass.specs.declared.cut.Row.TheVariants.{U as Unreached};
 ghost use Rattle.sq_pass.specs.Cuts.{IsCompleted};
 ghost use Rattle.sq_jumps.specs.Candidates.{HasRow, OneBlock, IsJumpCut, IsUnreachedCut};
 
-use crate::blocks::is_block;
+use crate::blocks::{facts, is_block};
 use crate::find::no_register;
 use crate::rows::{branches_over_jump, is_detour, jumps_by_dead_part, jumps_to_next};
 use crate::survey::survey_of;
@@ -33,6 +33,7 @@ fn has_row(
     requires live { IsLivenessOf graph.now.graph live.now }
     ensures { IfOk result (λ has. IsTrue has ↔ HasRow row graph.now.graph block) }
 {
+    facts(graph);
     match row {
         Row::J1 => Ok(jumps_to_next(graph, block)),
         Row::J2 => {

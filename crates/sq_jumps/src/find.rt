@@ -13,6 +13,7 @@ ghost use Rattle.sq_jumps.specs.Tables.{number_at};
 ghost use Rattle.sq_jumps.specs.Rows.{JumpsToNext, IsDetour, BranchesOverJump};
 ghost use Rattle.sq_jumps.specs.Candidates.{HasRow, cut_at, IsJumpCut};
 
+use crate::blocks::facts;
 use crate::rows::{branches_over_jump, is_detour, jumps_by_dead_part, jumps_to_next};
 use crate::survey::{Survey, survey_of};
 use sq_graph::Graph;
@@ -53,6 +54,7 @@ pub(crate) fn jump_row(graph: &Graph, survey: &Survey, block: u32) -> Option<Row
     ensures some { IfSome result (λ row. HasRow row graph.now.graph block) }
     ensures none { result ≡ None → ¬ JumpsToNext graph.now.graph block × ¬ IsDetour graph.now.graph block × ¬ BranchesOverJump graph.now.graph block }
 {
+    facts(graph);
     if jumps_to_next(graph, block) {
         return Some(Row::J1);
     }

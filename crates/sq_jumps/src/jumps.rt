@@ -5,7 +5,7 @@ use crate::blocks::facts;
 use crate::clear::drop_unreached;
 use crate::find::find_block;
 use crate::rewrites::apply_row;
-use crate::sweep::{sweep_calls, sweep_jumps};
+use crate::sweep::{sweep_branches, sweep_calls, sweep_detours, sweep_falls, sweep_jumps};
 use crate::unreached::find_unreached;
 use sq_graph::{Graph, Room};
 use sq_live::{Liveness, block_names};
@@ -29,6 +29,7 @@ impl Pass for Jumps {
 
     ghost saves = { λ _ graph cut. saves_a_word graph cut };
 
+    /// For J1 and C it looks at the block alone, for the others at each word a few times.
     fn admit(
         &self,
         alloc: Global,
@@ -43,6 +44,7 @@ impl Pass for Jumps {
         }
     }
 
+    /// It looks at each word a few times.
     fn find(&self, alloc: Global, graph: &Graph, live: &Liveness) -> Result<Option<Cut>, Memory> {
         facts(graph);
         let names = block_names(alloc, graph)?;
@@ -52,6 +54,7 @@ impl Pass for Jumps {
         }
     }
 
+    /// It looks at nothing.
     fn room(&self, _graph: &Graph, _cut: &Cut) -> Room {
         Room {
             blocks: 0,
@@ -60,6 +63,7 @@ impl Pass for Jumps {
         }
     }
 
+    /// A few calls of the graph; of U one look at the blocks for each procedure besides.
     fn apply(&self, graph: &mut Graph, cut: &Cut) {
         facts(graph);
         let blocks = cut.blocks.as_slice();
@@ -69,8 +73,13 @@ impl Pass for Jumps {
         }
     }
 
+    /// A few looks at the whole graph; for each rewrite of J2 one at all uses of names; and for each candidate of J1, J2 and
+    /// J3 that the first four walks leave, a look at each word a few times.
     fn sweep(&self, alloc: Global, graph: &mut Graph, savings: Savings) -> Result<Savings, Memory> {
-        let after = sweep_calls(alloc, graph, savings)?;
-        sweep_jumps(alloc, graph, after)
+        let after_calls = sweep_calls(alloc, graph, savings)?;
+        let after_detours = sweep_detours(alloc, graph, after_calls)?;
+        let after_branches = sweep_branches(alloc, graph, after_detours)?;
+        let after_falls = sweep_falls(alloc, graph, after_branches)?;
+        sweep_jumps(alloc, graph, after_falls)
     }
 }

@@ -5,7 +5,7 @@ ghost use Rattle.sq_graph.specs.Blocks.{HasBlock};
 ghost use Rattle.sq_live.specs.Liveness.{IsLivenessOf};
 ghost use Rattle.sq_jumps.specs.Surveys.{IsSurvey};
 ghost use Rattle.sq_jumps.specs.Tables.{number_at};
-ghost use Rattle.sq_jumps.specs.Sweeps.{IsStillDead};
+ghost use Rattle.sq_jumps.specs.Sweeps.{IsStillDead, IsStillSafe};
 ghost use Rattle.sq_jumps.specs.Rows.{JumpsToNext, IsDetour, BranchesOverJump, JumpsByDeadPart};
 
 use crate::blocks::{facts, jump_from};
@@ -37,11 +37,13 @@ pub(crate) fn is_detour(graph: &Graph, survey: &Survey, block: u32) -> bool
     to != block && !survey.needed.has(block)
 }
 
-/// Whether the block ends in a Branch over a lone Jump that can be inverted.
+/// Whether the block ends in a Branch over a lone Jump that can be inverted. The survey may be that of a graph before, and
+/// then a Jump that was named there counts as named, and a Branch that wouldn't have reached there as one that doesn't.
 pub(crate) fn branches_over_jump(graph: &Graph, survey: &Survey, block: u32) -> bool
     requires block { HasBlock graph.now.graph block }
-    requires survey { IsSurvey graph.now.graph (number_at survey.now.addresses) survey.now.used survey.now.needed }
-    ensures { IsTrue result ↔ BranchesOverJump graph.now.graph block }
+    requires survey { IsStillSafe (number_at survey.now.addresses) survey.now.used graph.now.graph }
+    ensures some { IsTrue result → BranchesOverJump graph.now.graph block }
+    ensures all { IsSurvey graph.now.graph (number_at survey.now.addresses) survey.now.used survey.now.needed → BranchesOverJump graph.now.graph block → IsTrue result }
 {
     facts(graph);
     let Term::Branch { to: behind, .. } = graph.term(block) else {

@@ -7,7 +7,7 @@ ghost use Rattle.sq_graph.specs.Places.{block_address};
 ghost use Rattle.sq_graph.specs.Rules.{IsGraph};
 ghost use Rattle.sq_graph.specs.Words.{words_of};
 ghost use Rattle.sq_jumps.specs.Names.{is_listed};
-ghost use Rattle.sq_jumps.specs.Surveys.{lifted, address_of, ReachesWithout, GoesInto, IsTooFar, Needs, IsSurvey};
+ghost use Rattle.sq_jumps.specs.Surveys.{lifted, address_at, ReachesBy, GoesInto, IsTooFar, Needs, IsSurvey};
 ghost use Rattle.sq_jumps.specs.Tables.{number_at};
 
 use crate::blocks::{block_words, facts, goes_on, jump_from};
@@ -45,11 +45,8 @@ fn block_addresses(alloc: Global, graph: &Graph, names: &[u32]) -> Result<Table,
 }
 
 /// The address of a block.
-fn address(graph: &Graph, addresses: &Table, block: u32) -> u64
-    requires few { words_of graph.now.graph < 2 ^ 31 }
-    requires addresses { (n : ℕ) → number_at addresses.now n ≡ block_address graph.now.graph 0 n }
-    ensures value { result ≡ address_of graph.now.graph block }
-    ensures small { result < 2 ^ 34 }
+fn address(addresses: &Table, block: u32) -> u64
+    ensures { result ≡ address_at (number_at addresses.now) block }
 {
     addresses.get(block).unwrap_or(0)
 }
@@ -70,7 +67,7 @@ fn distance(target: u64, at: u64) -> i64
     target as i64 - at as i64
 }
 
-/// Whether the Branch at the end of the block reaches another one, once a block of one word is gone.
+/// Whether, by these addresses, the Branch at the end of the block reaches another one, once a block of one word is gone.
 pub(crate) fn reaches_without(
     graph: &Graph,
     addresses: &Table,
@@ -80,13 +77,13 @@ pub(crate) fn reaches_without(
 ) -> bool
     requires few { words_of graph.now.graph < 2 ^ 31 }
     requires block { HasBlock graph.now.graph from }
-    requires addresses { (n : ℕ) → number_at addresses.now n ≡ block_address graph.now.graph 0 n }
-    ensures { IsTrue result ↔ ReachesWithout graph.now.graph gone from to }
+    requires small { (n : ℕ) → address_at (number_at addresses.now) n < 2 ^ 34 }
+    ensures { IsTrue result ↔ ReachesBy (address_at (number_at addresses.now)) (length (items_of graph.now.graph from)) gone from to }
 {
-    let word = address(graph, addresses, gone);
-    let start = lifted(word, address(graph, addresses, from));
+    let word = address(addresses, gone);
+    let start = lifted(word, address(addresses, from));
     let at = start + 4 * graph.items(from).len() as u64;
-    let target = lifted(word, address(graph, addresses, to));
+    let target = lifted(word, address(addresses, to));
     reaches(distance(target, at))
 }
 

@@ -14,7 +14,7 @@ use sq_num::Memory;
 use std::alloc::Global;
 
 /// The block that a term names.
-fn term_target(term: &Term) -> Option<u32>
+pub(crate) fn term_target(term: &Term) -> Option<u32>
     ensures { option_to_list result ≡ term_uses term.now }
 {
     match *term {

@@ -13,4 +13,5 @@ distance-requires-clause-at c =
     let few = items_few c.args.graph.now.graph c.args.from c.requires.few in
     let is = ap (λ (items : List Item). length items) c.items.ensures in
     let less = no_farther c.address-word.result c.address.result in
+    let small = c.requires.small c.args.from in
     omega arith
