@@ -10,3 +10,5 @@ pub mod SegmentFacts
 pub mod Headers
 pub mod FileStarts
 pub mod Telling
+mod ZeroCells
+mod Regions

@@ -20,12 +20,17 @@ module _ (bytes : List ℕ) (accepted : file_refusal_of bytes ≡ None) (index :
   pub record SegmentFits : Type 0 where
     pub whole : segment.filesz ≤ segment.memsz
     pub end : segment.address + segment.memsz ≤ 2 ^ 32
+    pub copy_end : segment.load_address + segment.filesz ≤ 2 ^ 32
 
   pub segment_fits : SegmentFits
   segment_fits =
       let good : is_bad_segment bytes index ≡ false = row_passes (bad_segment bytes) (segment_kind bytes ∷ segment_overlap bytes ∷ []) (segments_accepted bytes accepted) index within in
       let load = (both_true (is_load bytes index) (nat_lt 0 segment.memsz) has).0 in
       let shaped = second_false (is_load bytes index) (is_misshapen segment) good load in
-      let ends = (neither (nat_lt segment.memsz segment.filesz || nat_lt (2 ^ 32) (segment.address + segment.memsz)) (nat_lt (2 ^ 32) (segment.load_address + segment.filesz)) shaped).0 in
-      let sizes = neither (nat_lt segment.memsz segment.filesz) (nat_lt (2 ^ 32) (segment.address + segment.memsz)) ends in
-      record { whole = not_less segment.memsz segment.filesz sizes.0; end = not_less (2 ^ 32) (segment.address + segment.memsz) sizes.1 }
+      let ends = neither (nat_lt segment.memsz segment.filesz || nat_lt (2 ^ 32) (segment.address + segment.memsz)) (nat_lt (2 ^ 32) (segment.load_address + segment.filesz)) shaped in
+      let sizes = neither (nat_lt segment.memsz segment.filesz) (nat_lt (2 ^ 32) (segment.address + segment.memsz)) ends.0 in
+      record {
+        whole = not_less segment.memsz segment.filesz sizes.0;
+        end = not_less (2 ^ 32) (segment.address + segment.memsz) sizes.1;
+        copy_end = not_less (2 ^ 32) (segment.load_address + segment.filesz) ends.1;
+      }

@@ -55,7 +55,7 @@ fn stale_or(relocs: &Relocs<'_>, x: u32, byte: u8) -> Cell
 }
 
 /// The cell of the byte at a virtual address.
-fn file_cell(relocs: &Relocs<'_>, targets: &BTreeMap<u32, u32>, x: u32, byte: u8) -> Cell
+pub fn file_cell(relocs: &Relocs<'_>, targets: &BTreeMap<u32, u32>, x: u32, byte: u8) -> Cell
     requires { (address : ℕ) → tree.get nat_cmp targets.now address ≡ code_word_at relocs.now address }
     ensures { cell_of result ≡ file_cell relocs.now x byte }
 {

@@ -18,6 +18,7 @@ mod start;
 mod steps;
 mod transcript;
 mod watch;
+mod zeros;
 
 pub use fault::WatchFault;
 pub use moved::WatchOutcome;

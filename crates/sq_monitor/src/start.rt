@@ -3,9 +3,9 @@
 ghost use Rattle.std.specs.Prelude.{◌≡◌, ℕ, ◌++◌, ◌∷◌, [], map, None, Err, IfOk, OnOk, false};
 ghost use Rattle.std.specs.List.{flat_map};
 ghost use Rattle.sq_isa.specs.Registers.{written};
-ghost use Rattle.sq_memory.specs.Regions.{get, map_regions};
+ghost use Rattle.sq_memory.specs.Regions.{region_cell};
 ghost use Rattle.sq_memory.specs.Cells.{map_cells};
-ghost use Rattle.sq_memory.specs.Contents.{regions_of};
+ghost use Rattle.sq_pages.specs.Pages.{cells_of as contents, over};
 ghost use Rattle.sq_elf.specs.Memory.{segments_of};
 ghost use Rattle.sq_elf.specs.Headers.{entry_of};
 ghost use Rattle.sq_system.specs.Starts.{start_of, StartFits, HasRoom, IsBadStart, stack_pointer};
@@ -27,10 +27,10 @@ use crate::watch::Watch;
 use sq_elf::Elf;
 use sq_isa::Reg;
 use sq_lift::Text;
-use sq_memory::contents::{Contents, Region};
 use sq_num::Memory;
+use sq_pages::Pages;
 use sq_reloc::Relocs;
-use sq_system::{Extent, Piece, Start, is_bad_start, ram_at_start, start_pointer};
+use sq_system::{Extent, Piece, Start, argument_area, is_bad_start, start_pointer};
 use sq_tagged::{Cell, Registers, Setting, Store, Value, cells_of};
 use std::alloc::Global;
 
@@ -48,20 +48,23 @@ fn extents(alloc: Global, pieces: &[Piece]) -> Result<Vec<Extent>, Memory>
     Ok(extents)
 }
 
-/// The pieces, and RAM behind them.
-fn memory(
+/// Lays RAM behind the pieces: zeros up to the stack pointer, and the argument area.
+fn lay_ram(
     alloc: Global,
-    mut regions: Vec<Region<Cell>>,
+    memory: &mut Pages<Cell>,
     start: &Start<'_>,
-) -> Result<Contents<Cell>, Memory>
+    pointer: u32,
+) -> Result<(), Memory>
     requires fits { StartFits start.now.base start.now.size }
     requires room { HasRoom (start_of start.now) }
-    ensures { IfOk result (λ memory. map_regions cell_of memory ≡ map_regions cell_of (regions_of regions.items) ++ ram_region (start_of start.now) ∷ []) }
+    requires pointer { pointer ≡ stack_pointer (start_of start.now) }
+    ensures { OnOk result (map_cells cell_of (contents memory.new) ≡ over (map_cells cell_of (contents memory.old)) (region_cell (ram_region (start_of start.now)))) }
 {
-    let ram = ram_at_start(alloc, start)?;
-    let cells = cells_of(alloc, &ram)?;
-    regions.push(Region::new(start.base, cells))?;
-    Ok(Contents::new(regions))
+    let area = argument_area(alloc, start)?;
+    let cells = cells_of(alloc, &area)?;
+    memory.lay_same(u64::from(start.base), u64::from(pointer), Cell::Byte(0))?;
+    memory.lay_all(pointer, &cells)?;
+    Ok(())
 }
 
 /// All registers are the number 0, but for sp.
@@ -75,8 +78,8 @@ fn registers(pointer: u32) -> Registers
 
 /// A hart at an entry.
 #[tactic(auto, unfolding(crate::specs::Views::watched_of, sq_tagged::specs::Views::store_of))]
-fn hart(memory: Contents<Cell>, entry: u32, pointer: u32, input: Vec<u8>) -> Hart
-    ensures { watched_of result ≡ state_at entry pointer (map_cells cell_of (get memory)) input.items }
+fn hart(memory: Pages<Cell>, entry: u32, pointer: u32, input: Vec<u8>) -> Hart
+    ensures { watched_of result ≡ state_at entry pointer (map_cells cell_of (contents memory)) input.items }
 {
     Hart {
         pc: u64::from(entry),
@@ -118,10 +121,11 @@ fn watch(
     requires room { HasRoom (start_of start.now) }
     ensures layout { IfOk result (λ watch. watch_layout watch ≡ record { pieces = laid.pieces.items; base = start.now.base; size = start.now.size }) }
     ensures text { IfOk result (λ watch. watch_text watch ≡ text) }
-    ensures state { IfOk result (λ watch. watch_state watch ≡ state_at entry (stack_pointer (start_of start.now)) (get (map_regions cell_of (regions_of laid.regions.items) ++ ram_region (start_of start.now) ∷ [])) (start_of start.now).input) }
+    ensures state { IfOk result (λ watch. watch_state watch ≡ state_at entry (stack_pointer (start_of start.now)) (over (map_cells cell_of (contents laid.memory)) (region_cell (ram_region (start_of start.now)))) (start_of start.now).input) }
 {
-    let memory = memory(alloc, laid.regions, start)?;
     let pointer = start_pointer(start).unwrap();
+    let mut memory = laid.memory;
+    lay_ram(alloc, &mut memory, start, pointer)?;
     let input = Vec::from_slice(alloc, start.input)?;
     let hart = hart(memory, entry, pointer, input);
     Ok(Watch::from_parts(scene(laid.pieces, text, start), hart))

@@ -3,9 +3,8 @@ use Rattle.std.proofs.Common.{◌≡◌, ◌≢◌, ℕ, zero, suc, ◌<◌, len
 use Rattle.std.proofs.lemmas.Bool.{eqb-true, eqb-false}
 use Rattle.sq_isa.specs.Registers.{written}
 use Rattle.sq_memory.specs.Cells.{map_cells, with_cells}
-use Rattle.sq_memory.specs.Regions.{Region, get, put_all}
+use Rattle.sq_pages.specs.Pages.{Sheet, cells_of}
 use Rattle.sq_memory.proofs.RangeLaws.{map_cells-with_cells}
-use Rattle.sq_memory.proofs.RegionLaws.{get-put_all}
 use Rattle.sq_follow.specs.Values.{Num, Held, Holds}
 use Rattle.sq_tagged.specs.declared.values.Value.{Value}
 use Rattle.sq_tagged.specs.declared.values.Value.TheVariants.{Num as Number}
@@ -39,6 +38,5 @@ pub held-zeros : (n : ℕ) → held (replicate n (Number 0)) ≡ (λ r. Holds (N
 held-zeros n = λ i x. zero_at n x i
 
 -- cells in memory from x on
-pub cells-put : (old new : List (Region Cell)) (x : ℕ) (cells : List Cell) → new ≡ put_all old x cells → map_cells cell_of (get new) ≡ with_cells (map_cells cell_of (get old)) x (map cell_of cells)
-cells-put old new x cells e =
-    ap (λ rs. map_cells cell_of (get rs)) e ∙ (ap (map_cells cell_of) (get-put_all cells old x) ∙ map_cells-with_cells cell_of cells (get old) x)
+pub cells-put : (old new : List (Sheet Cell)) (x : ℕ) (cells : List Cell) → cells_of new ≡ with_cells (cells_of old) x cells → map_cells cell_of (cells_of new) ≡ with_cells (map_cells cell_of (cells_of old)) x (map cell_of cells)
+cells-put old new x cells e = ap (map_cells cell_of) e ∙ map_cells-with_cells cell_of cells (cells_of old) x

@@ -1,8 +1,10 @@
 -- What the answer of a row says, and parts of rows.
-use Rattle.std.specs.Prelude.{◌≡◌, ℕ, List, [], ◌++◌, map, Option, None, Result, Ok, Err, if◌then◌else◌}
+use Rattle.std.specs.Prelude.{◌≡◌, ℕ, Bool, true, false, List, [], ◌++◌, map, Option, None, Result, Ok, Err, if◌then◌else◌}
 use Rattle.std.specs.List.{list_any}
 use Rattle.sq_isa.specs.Accesses.{bytes_number, is_reserved}
 use Rattle.sq_isa.specs.declared.instructions.AtomicOp.{AtomicOp}
+use Rattle.sq_isa.specs.declared.instructions.Insn.{Insn}
+use Rattle.sq_isa.specs.declared.instructions.Insn.TheVariants.{Load, Store as StoreInsn, Atomic}
 use Rattle.sq_runs.specs.Runs.{Went, Ended, Broke, with_event}
 use Rattle.sq_system.specs.declared.event.Event.{Event}
 use Rattle.sq_system.specs.declared.event.Halt.TheVariants.{Store as StoreFault}
@@ -15,6 +17,13 @@ use Rattle.sq_tagged.specs.declared.values.Value.{Value as RustValue}
 use Rattle.sq_tagged.specs.declared.made.Made.{Made}
 use Rattle.sq_tagged.specs.declared.made.Made.TheVariants.{Gives, Ends, Breaks}
 use Rattle.sq_tagged.specs.Views.{value_of}
+
+-- a load, a store or an atomic operation
+abbrev pub is_access : Insn → Bool
+is_access (Load kind rd rs offset) = true
+is_access (StoreInsn kind rs src offset) = true
+is_access (Atomic op order rd rs src) = true
+is_access insn = false
 
 -- goes on with what was found; else the step breaks
 abbrev pub go_with : Result RustValue Kind → (Value → Step) → Step

@@ -1,7 +1,7 @@
 -- The values, the cells, the setting and the store that the Rust types stand for.
 use Rattle.std.specs.Prelude.{ℕ, ◌^◌, ◌&&◌, nat_le, nat_lt, List, [], ◌∷◌, slice_index_or, drop}
 use Rattle.sq_memory.specs.Cells.{map_cells}
-use Rattle.sq_memory.specs.Regions.{get}
+use Rattle.sq_pages.specs.Pages.{cells_of}
 use Rattle.sq_system.specs.World.{World}
 use Rattle.sq_graph.specs.Lines.{AddressHalf, Plain, Upper, Lower}
 use Rattle.sq_follow.specs.Values.{Tag, Code, Part, Value, Num, Tagged, Cell, Byte, Frag, Stale, Held, Holds}
@@ -53,7 +53,7 @@ unfoldable pub setting_of : RustSetting → Setting
 setting_of s = record { world = layout_of s; lo = s.lo; hi = s.hi; is_code = λ x. nat_le s.lo x && nat_lt x s.hi }
 
 unfoldable pub store_of : RustStore → Store
-store_of s = record { memory = map_cells cell_of (get s.memory); input = drop s.read s.input.items; reservation = s.reservation }
+store_of s = record { memory = map_cells cell_of (cells_of s.memory); input = drop s.read s.input.items; reservation = s.reservation }
 
 -- on a file no register is lost
 abbrev pub held : List RustValue → ℕ → Held

@@ -1,8 +1,9 @@
 //! Loads and stores of tagged values, once their address is known.
 
-ghost use Rattle.std.specs.Prelude.{◌≡◌, ◌+◌, ◌<◌, ◌≤◌, ◌^◌, ◌∷◌, [], ◌&&◌, not, false, None, IfOk};
+ghost use Rattle.std.specs.Prelude.{◌≡◌, ◌+◌, ◌<◌, ◌≤◌, ◌^◌, ◌∷◌, [], ◌&&◌, not, false, None, IfOk, OnErr};
 ghost use Rattle.sq_isa.specs.Accesses.{sign_extended, load_width, store_width};
 ghost use Rattle.sq_isa.specs.declared.instructions.LoadKind.TheVariants.{Lb, Lh, Lw, Lbu, Lhu};
+ghost use Rattle.sq_pages.specs.Pages.{AreReady};
 ghost use Rattle.sq_follow.specs.Accesses.{Step, with_tag_or_number, with_loaded, load_cells, aligned_cells, load_at, is_word, store_at, stored};
 ghost use Rattle.sq_follow.specs.Values.{Value as Watched, is_tagged};
 ghost use Rattle.sq_tagged.specs.Rows.{go_with, number_in, IsQuiet};
@@ -14,6 +15,7 @@ use crate::store::Store;
 use crate::values::{Cell, Value, WordCells};
 use sq_follow::Kind;
 use sq_isa::{LoadKind, StoreKind};
+use sq_num::Memory;
 use sq_system::Halt;
 
 /// The number of a byte, or why it can't be read.
@@ -84,8 +86,8 @@ fn extend_half(v: u32) -> u32
 
 impl Store {
     /// LB.
-    fn load_signed_byte(&mut self, x: u32) -> Made
-        ensures step { IsQuiet (load_cells Lb x (store_of self.old) (aligned_cells (store_of self.old) x 1)) result (store_of self.old) (store_of self.new) }
+    fn load_signed_byte(&self, x: u32) -> Made
+        ensures { IsQuiet (load_cells Lb x (store_of self.now) (aligned_cells (store_of self.now) x 1)) result (store_of self.now) (store_of self.now) }
     {
         match self.byte_cell(x) {
             None => Made::Ends(Halt::Load(x)),
@@ -97,8 +99,8 @@ impl Store {
     }
 
     /// LBU.
-    fn load_byte(&mut self, x: u32) -> Made
-        ensures step { IsQuiet (load_cells Lbu x (store_of self.old) (aligned_cells (store_of self.old) x 1)) result (store_of self.old) (store_of self.new) }
+    fn load_byte(&self, x: u32) -> Made
+        ensures { IsQuiet (load_cells Lbu x (store_of self.now) (aligned_cells (store_of self.now) x 1)) result (store_of self.now) (store_of self.now) }
     {
         match self.byte_cell(x) {
             None => Made::Ends(Halt::Load(x)),
@@ -110,8 +112,8 @@ impl Store {
     }
 
     /// LH.
-    fn load_signed_half(&mut self, x: u32) -> Made
-        ensures step { IsQuiet (load_cells Lh x (store_of self.old) (aligned_cells (store_of self.old) x 2)) result (store_of self.old) (store_of self.new) }
+    fn load_signed_half(&self, x: u32) -> Made
+        ensures { IsQuiet (load_cells Lh x (store_of self.now) (aligned_cells (store_of self.now) x 2)) result (store_of self.now) (store_of self.now) }
     {
         match self.half_cells(x) {
             None => Made::Ends(Halt::Load(x)),
@@ -123,8 +125,8 @@ impl Store {
     }
 
     /// LHU.
-    fn load_half(&mut self, x: u32) -> Made
-        ensures step { IsQuiet (load_cells Lhu x (store_of self.old) (aligned_cells (store_of self.old) x 2)) result (store_of self.old) (store_of self.new) }
+    fn load_half(&self, x: u32) -> Made
+        ensures { IsQuiet (load_cells Lhu x (store_of self.now) (aligned_cells (store_of self.now) x 2)) result (store_of self.now) (store_of self.now) }
     {
         match self.half_cells(x) {
             None => Made::Ends(Halt::Load(x)),
@@ -136,8 +138,8 @@ impl Store {
     }
 
     /// LW.
-    fn load_word(&mut self, x: u32) -> Made
-        ensures step { IsQuiet (load_cells Lw x (store_of self.old) (aligned_cells (store_of self.old) x 4)) result (store_of self.old) (store_of self.new) }
+    fn load_word(&self, x: u32) -> Made
+        ensures { IsQuiet (load_cells Lw x (store_of self.now) (aligned_cells (store_of self.now) x 4)) result (store_of self.now) (store_of self.now) }
     {
         match self.word_cells(x) {
             None => Made::Ends(Halt::Load(x)),
@@ -149,8 +151,8 @@ impl Store {
     }
 
     /// A load outside text.
-    fn load_outside(&mut self, kind: LoadKind, x: u32) -> Made
-        ensures step { IsQuiet (load_cells kind x (store_of self.old) (aligned_cells (store_of self.old) x (load_width kind))) result (store_of self.old) (store_of self.new) }
+    fn load_outside(&self, kind: LoadKind, x: u32) -> Made
+        ensures { IsQuiet (load_cells kind x (store_of self.now) (aligned_cells (store_of self.now) x (load_width kind))) result (store_of self.now) (store_of self.now) }
     {
         match kind {
             LoadKind::Lb => self.load_signed_byte(x),
@@ -162,8 +164,8 @@ impl Store {
     }
 
     /// A load at an address.
-    pub fn load(&mut self, setting: &Setting, kind: LoadKind, x: u32) -> Made
-        ensures step { IsQuiet (load_at (setting_of setting.now) kind x (store_of self.old)) result (store_of self.old) (store_of self.new) }
+    pub fn load(&self, setting: &Setting, kind: LoadKind, x: u32) -> Made
+        ensures { IsQuiet (load_at (setting_of setting.now) kind x (store_of self.now)) result (store_of self.now) (store_of self.now) }
     {
         if setting.meets_text(x, load_width(kind)) {
             Made::Breaks(Kind::Text)
@@ -175,6 +177,7 @@ impl Store {
     /// Writes a value; one that is tagged is written as a word.
     fn put_value(&mut self, kind: StoreKind, x: u32, value: Value)
         requires end { x + store_width kind ≤ 2 ^ 32 }
+        requires ready { AreReady self.old.memory x (store_width kind) }
         requires whole { (is_tagged (value_of value) && not (is_word kind)) ≡ false }
         ensures { store_of self.new ≡ stored x (store_width kind) (value_of value) (store_of self.old) }
     {
@@ -187,21 +190,29 @@ impl Store {
     }
 
     /// A store at an address.
-    pub fn store(&mut self, setting: &Setting, kind: StoreKind, value: Value, x: u32) -> Made
-        ensures step { IsQuiet (store_at (setting_of setting.now) kind (value_of value) x (store_of self.old)) result (store_of self.old) (store_of self.new) }
+    pub fn store(
+        &mut self,
+        setting: &Setting,
+        kind: StoreKind,
+        value: Value,
+        x: u32,
+    ) -> Result<Made, Memory>
+        ensures ok { IfOk result (λ made. IsQuiet (store_at (setting_of setting.now) kind (value_of value) x (store_of self.old)) made (store_of self.old) (store_of self.new)) }
+        ensures kept { OnErr result (store_of self.new ≡ store_of self.old) }
     {
         let width = store_width(kind);
         if value.is_tagged() && !is_word(kind) {
-            return Made::Breaks(Kind::Fragment);
+            return Ok(Made::Breaks(Kind::Fragment));
         }
         if setting.meets_text(x, width) {
-            return Made::Breaks(Kind::Text);
+            return Ok(Made::Breaks(Kind::Text));
         }
         if !setting.may_store(x, width) {
-            return Made::Ends(Halt::Store(x));
+            return Ok(Made::Ends(Halt::Store(x)));
         }
+        self.make_ready(x, width)?;
         self.put_value(kind, x, value);
-        Made::Gives(Value::Num(0))
+        Ok(Made::Gives(Value::Num(0)))
     }
 }
 

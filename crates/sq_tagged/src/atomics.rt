@@ -1,6 +1,6 @@
 //! Atomic operations on tagged values.
 
-ghost use Rattle.std.specs.Prelude.{◌≡◌, ◌+◌, ◌≤◌, ◌^◌};
+ghost use Rattle.std.specs.Prelude.{◌≡◌, ◌+◌, ◌≤◌, ◌^◌, IfOk, OnErr};
 ghost use Rattle.sq_follow.specs.Accesses.{aligned_cells, lr_cells, update, atomic_row, atomic_at};
 ghost use Rattle.sq_follow.specs.Arithmetic.{atomic_result};
 ghost use Rattle.sq_tagged.specs.Rows.{IsQuiet, sc_row, amo_row};
@@ -14,6 +14,7 @@ use crate::store::Store;
 use crate::values::Value;
 use sq_follow::Kind;
 use sq_isa::AtomicOp;
+use sq_num::Memory;
 use sq_system::Halt;
 
 impl Store {
@@ -34,59 +35,77 @@ impl Store {
     }
 
     /// SC.
-    fn store_conditional(&mut self, setting: &Setting, x: u32, src: Value) -> Made
-        ensures { IsQuiet (sc_row (setting_of setting.now) x (value_of src) (store_of self.old)) result (store_of self.old) (store_of self.new) }
+    fn store_conditional(&mut self, setting: &Setting, x: u32, src: Value) -> Result<Made, Memory>
+        ensures ok { IfOk result (λ made. IsQuiet (sc_row (setting_of setting.now) x (value_of src) (store_of self.old)) made (store_of self.old) (store_of self.new)) }
+        ensures kept { OnErr result (store_of self.new ≡ store_of self.old) }
     {
         if !setting.may_store(x, 4) {
-            return Made::Ends(Halt::Store(x));
+            return Ok(Made::Ends(Halt::Store(x)));
         }
         let reserved = self.is_reserved(x);
         if reserved {
+            self.make_ready(x, 4)?;
             self.put_word(x, src);
             self.reserve(None);
-            Made::Gives(Value::Num(0))
+            Ok(Made::Gives(Value::Num(0)))
         } else {
             self.reserve(None);
-            Made::Gives(Value::Num(1))
+            Ok(Made::Gives(Value::Num(1)))
         }
     }
 
     /// Stores the result of an operation on the old value.
-    fn update(&mut self, op: AtomicOp, x: u32, old: Value, src: Value) -> Made
+    fn update(&mut self, op: AtomicOp, x: u32, old: Value, src: Value) -> Result<Made, Memory>
         requires { x + 4 ≤ 2 ^ 32 }
-        ensures { IsQuiet (update x (value_of old) (store_of self.old) (atomic_result op (value_of old) (value_of src))) result (store_of self.old) (store_of self.new) }
+        ensures ok { IfOk result (λ made. IsQuiet (update x (value_of old) (store_of self.old) (atomic_result op (value_of old) (value_of src))) made (store_of self.old) (store_of self.new)) }
+        ensures kept { OnErr result (store_of self.new ≡ store_of self.old) }
     {
         match atomic_result(op, old, src) {
-            None => Made::Breaks(Kind::Arithmetic),
+            None => Ok(Made::Breaks(Kind::Arithmetic)),
             Some(new) => {
+                self.make_ready(x, 4)?;
                 self.put_word(x, new);
-                Made::Gives(old)
+                Ok(Made::Gives(old))
             }
         }
     }
 
     /// An operation that loads the old value and stores a result.
-    fn read_modify_write(&mut self, setting: &Setting, op: AtomicOp, x: u32, src: Value) -> Made
-        ensures { IsQuiet (amo_row (setting_of setting.now) op x (value_of src) (store_of self.old)) result (store_of self.old) (store_of self.new) }
+    fn read_modify_write(
+        &mut self,
+        setting: &Setting,
+        op: AtomicOp,
+        x: u32,
+        src: Value,
+    ) -> Result<Made, Memory>
+        ensures ok { IfOk result (λ made. IsQuiet (amo_row (setting_of setting.now) op x (value_of src) (store_of self.old)) made (store_of self.old) (store_of self.new)) }
+        ensures kept { OnErr result (store_of self.new ≡ store_of self.old) }
     {
         if !setting.may_store(x, 4) {
-            return Made::Ends(Halt::Store(x));
+            return Ok(Made::Ends(Halt::Store(x)));
         }
         match self.word_cells(x) {
-            None => Made::Ends(Halt::Store(x)),
+            None => Ok(Made::Ends(Halt::Store(x))),
             Some(cells) => match word_value(&cells) {
                 Ok(old) => self.update(op, x, old, src),
-                Err(kind) => Made::Breaks(kind),
+                Err(kind) => Ok(Made::Breaks(kind)),
             },
         }
     }
 
     /// An atomic operation outside text.
-    fn atomic_outside(&mut self, setting: &Setting, op: AtomicOp, x: u32, src: Value) -> Made
-        ensures { IsQuiet (atomic_row (setting_of setting.now) op x (value_of src) (store_of self.old)) result (store_of self.old) (store_of self.new) }
+    fn atomic_outside(
+        &mut self,
+        setting: &Setting,
+        op: AtomicOp,
+        x: u32,
+        src: Value,
+    ) -> Result<Made, Memory>
+        ensures ok { IfOk result (λ made. IsQuiet (atomic_row (setting_of setting.now) op x (value_of src) (store_of self.old)) made (store_of self.old) (store_of self.new)) }
+        ensures kept { OnErr result (store_of self.new ≡ store_of self.old) }
     {
         match op {
-            AtomicOp::Lr => self.load_reserved(x),
+            AtomicOp::Lr => Ok(self.load_reserved(x)),
             AtomicOp::Sc => self.store_conditional(setting, x, src),
             AtomicOp::Swap
             | AtomicOp::Add
@@ -101,11 +120,18 @@ impl Store {
     }
 
     /// An atomic operation at an address.
-    pub fn atomic(&mut self, setting: &Setting, op: AtomicOp, x: u32, src: Value) -> Made
-        ensures { IsQuiet (atomic_at (setting_of setting.now) op x (value_of src) (store_of self.old)) result (store_of self.old) (store_of self.new) }
+    pub fn atomic(
+        &mut self,
+        setting: &Setting,
+        op: AtomicOp,
+        x: u32,
+        src: Value,
+    ) -> Result<Made, Memory>
+        ensures ok { IfOk result (λ made. IsQuiet (atomic_at (setting_of setting.now) op x (value_of src) (store_of self.old)) made (store_of self.old) (store_of self.new)) }
+        ensures kept { OnErr result (store_of self.new ≡ store_of self.old) }
     {
         if setting.meets_text(x, 4) {
-            Made::Breaks(Kind::Text)
+            Ok(Made::Breaks(Kind::Text))
         } else {
             self.atomic_outside(setting, op, x, src)
         }

@@ -3,6 +3,7 @@
 ghost use Rattle.std.specs.Prelude.{◌≡◌, ◌+◌, ◌<◌, ◌≤◌, ◌^◌, ◌++◌, ◌∷◌, [], length, take, drop, map, min, true, unwrap_or, ◌-◌, IfOk, OnOk, OnErr};
 ghost use Rattle.std.specs.List.{list_any};
 ghost use Rattle.sq_memory.specs.Cells.{cells_from};
+ghost use Rattle.sq_pages.specs.Pages.{AreReady};
 ghost use Rattle.sq_system.specs.Calls.{effect_of, answer_of};
 ghost use Rattle.sq_machine.specs.Calls.{narrowed, IsAllowed};
 ghost use Rattle.sq_follow.specs.Values.{Byte, is_stale, is_fragment, byte_of};
@@ -163,12 +164,11 @@ impl Store {
 
     /// What a call finds. Its buffer is looked at only where its effect depends on it.
     #[tactic(auto, unfolding(crate::specs::Views::setting_of, crate::specs::Views::layout_of))]
-    fn call_args(&mut self, setting: &Setting, number: u32, r: &CallOperands) -> CallArgs
-        ensures value { result ≡ narrowed (call_of (setting_of setting.now) number (operands_of r.now) (store_of self.old)) }
-        ensures state { store_of self.new ≡ store_of self.old }
+    fn call_args(&self, setting: &Setting, number: u32, r: &CallOperands) -> CallArgs
+        ensures value { result ≡ narrowed (call_of (setting_of setting.now) number (operands_of r.now) (store_of self.now)) }
         ensures readable { result.readable ≡ true → result.a1 + result.a2 ≤ 2 ^ 32 }
         ensures writable { result.writable ≡ true → result.a1 + result.a2 ≤ 2 ^ 32 }
-        ensures left { result.left ≤ length (store_of self.old).input }
+        ensures left { result.left ≤ length (store_of self.now).input }
     {
         let a1 = number_in(r.a1);
         let a2 = number_in(r.a2);
@@ -189,10 +189,9 @@ impl Store {
 
     /// The n cells from `x` on, or none where they are not all in memory.
     #[tactic(auto, unfolding(crate::specs::Views::store_of))]
-    fn buffer(&mut self, x: u32, n: u32) -> Result<Vec<Cell>, Memory>
+    fn buffer(&self, x: u32, n: u32) -> Result<Vec<Cell>, Memory>
         requires { x + n ≤ 2 ^ 32 }
-        ensures value { IfOk result (λ cells. map cell_of cells.items ≡ unwrap_or (cells_from (store_of self.old).memory x n) []) }
-        ensures state { store_of self.new ≡ store_of self.old }
+        ensures { IfOk result (λ cells. map cell_of cells.items ≡ unwrap_or (cells_from (store_of self.now).memory x n) []) }
     {
         let alloc = *self.input.allocator();
         match self.memory.get_all(alloc, x, n)? {
@@ -203,10 +202,9 @@ impl Store {
 
     /// `write`.
     #[tactic(auto, using(crate::proofs::CellLists::any_mapped))]
-    fn write_call(&mut self, log: &mut Log, call: &CallArgs, fd: u32) -> Result<Made, Memory>
+    fn write_call(&self, log: &mut Log, call: &CallArgs, fd: u32) -> Result<Made, Memory>
         requires { call.now.a1 + call.now.a2 ≤ 2 ^ 32 }
-        ensures ok { IfOk result (λ made. IsMade (effect_row call.now (store_of self.old) (Effect.Write fd)) made (store_of self.old) (store_of self.new) log.old log.new) }
-        ensures state_kept { OnErr result (store_of self.new ≡ store_of self.old) }
+        ensures ok { IfOk result (λ made. IsMade (effect_row call.now (store_of self.now) (Effect.Write fd)) made (store_of self.now) (store_of self.now) log.old log.new) }
         ensures log_kept { OnErr result (log.new ≡ log.old) }
     {
         let alloc = *self.input.allocator();
@@ -231,6 +229,7 @@ impl Store {
         requires cells { map cell_of cells.now ≡ map Byte (take count (store_of self.old).input) }
         requires left { count ≤ length (store_of self.old).input }
         requires end { x + count ≤ 2 ^ 32 }
+        requires ready { AreReady self.old.memory x (length cells.now) }
         ensures { store_of self.new ≡ with_input x count (store_of self.old) }
     {
         if count > 0 {
@@ -251,6 +250,7 @@ impl Store {
         let input = &self.rest()[..count as usize];
         let bytes = Bytes::from_slice(alloc, input)?;
         let cells = cells_of(alloc, input)?;
+        self.make_ready(call.a1, count)?;
         log.push(Event::Read { bytes })?;
         self.take_input(call.a1, count, &cells);
         Ok(Made::Gives(answer(call, &Effect::Read { count })))

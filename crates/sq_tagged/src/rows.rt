@@ -1,12 +1,12 @@
 //! What each instruction does on tagged values, by its row in the table.
 
-ghost use Rattle.std.specs.Prelude.{◌≡◌, ◌+◌, ℕ, option_map, IfOk, OnErr};
+ghost use Rattle.std.specs.Prelude.{◌≡◌, ◌+◌, ℕ, option_map, true, IfOk, OnErr};
 ghost use Rattle.sq_isa.specs.Words.{wrapped, unsigned};
 ghost use Rattle.sq_follow.specs.Settings.{Store as Stored};
 ghost use Rattle.sq_follow.specs.Accesses.{gives_or_breaks, load_at, store_at, atomic_at};
 ghost use Rattle.sq_follow.specs.Rows.{Operands, address_value, at_number, at_upper_half, lower_row, plain_row, row_of};
 ghost use Rattle.sq_follow.specs.GraphRuns.{operands};
-ghost use Rattle.sq_tagged.specs.Rows.{IsQuiet, IsMade};
+ghost use Rattle.sq_tagged.specs.Rows.{is_access, IsQuiet, IsMade};
 ghost use Rattle.sq_tagged.specs.Views.{setting_of, store_of, registers_of, value_of, half_in};
 
 use crate::arithmetic::{imm_value, is_upper_half, op_value};
@@ -52,8 +52,8 @@ fn gives_or_breaks(kind: Kind, value: Option<Value>) -> Made
 }
 
 /// A load at what a register holds plus an offset.
-fn load_row(setting: &Setting, store: &mut Store, kind: LoadKind, base: Value, offset: i32) -> Made
-    ensures { IsQuiet (at_number (value_of base) (λ x. load_at (setting_of setting.now) kind (wrapped (x + unsigned offset)) (store_of store.old))) result (store_of store.old) (store_of store.new) }
+fn load_row(setting: &Setting, store: &Store, kind: LoadKind, base: Value, offset: i32) -> Made
+    ensures { IsQuiet (at_number (value_of base) (λ x. load_at (setting_of setting.now) kind (wrapped (x + unsigned offset)) (store_of store.now))) result (store_of store.now) (store_of store.now) }
 {
     match base {
         Value::Num(x) => store.load(setting, kind, x.wrapping_add(offset.cast_unsigned())),
@@ -69,22 +69,30 @@ fn store_row(
     base: Value,
     src: Value,
     offset: i32,
-) -> Made
-    ensures { IsQuiet (at_number (value_of base) (λ x. store_at (setting_of setting.now) kind (value_of src) (wrapped (x + unsigned offset)) (store_of store.old))) result (store_of store.old) (store_of store.new) }
+) -> Result<Made, Memory>
+    ensures ok { IfOk result (λ made. IsQuiet (at_number (value_of base) (λ x. store_at (setting_of setting.now) kind (value_of src) (wrapped (x + unsigned offset)) (store_of store.old))) made (store_of store.old) (store_of store.new)) }
+    ensures kept { OnErr result (store_of store.new ≡ store_of store.old) }
 {
     match base {
         Value::Num(x) => store.store(setting, kind, src, x.wrapping_add(offset.cast_unsigned())),
-        Value::Tagged(_) => Made::Breaks(Kind::Address),
+        Value::Tagged(_) => Ok(Made::Breaks(Kind::Address)),
     }
 }
 
 /// An atomic operation at what a register holds.
-fn atomic_row(setting: &Setting, store: &mut Store, op: AtomicOp, at: Value, src: Value) -> Made
-    ensures { IsQuiet (at_number (value_of at) (λ x. atomic_at (setting_of setting.now) op x (value_of src) (store_of store.old))) result (store_of store.old) (store_of store.new) }
+fn atomic_row(
+    setting: &Setting,
+    store: &mut Store,
+    op: AtomicOp,
+    at: Value,
+    src: Value,
+) -> Result<Made, Memory>
+    ensures ok { IfOk result (λ made. IsQuiet (at_number (value_of at) (λ x. atomic_at (setting_of setting.now) op x (value_of src) (store_of store.old))) made (store_of store.old) (store_of store.new)) }
+    ensures kept { OnErr result (store_of store.new ≡ store_of store.old) }
 {
     match at {
         Value::Num(x) => store.atomic(setting, op, x, src),
-        Value::Tagged(_) => Made::Breaks(Kind::Address),
+        Value::Tagged(_) => Ok(Made::Breaks(Kind::Address)),
     }
 }
 
@@ -114,13 +122,13 @@ fn lower_operation(setting: &Setting, to: u32, op: ImmOp, imm: i32, operand: Val
 /// A load whose immediate is the lower half of an address.
 fn lower_load(
     setting: &Setting,
-    store: &mut Store,
+    store: &Store,
     to: u32,
     kind: LoadKind,
     base: Value,
     imm: i32,
 ) -> Made
-    ensures { IsQuiet (at_upper_half to imm (value_of base) (load_at (setting_of setting.now) kind to (store_of store.old))) result (store_of store.old) (store_of store.new) }
+    ensures { IsQuiet (at_upper_half to imm (value_of base) (load_at (setting_of setting.now) kind to (store_of store.now))) result (store_of store.now) (store_of store.now) }
 {
     if is_upper_half(to, imm, base) {
         store.load(setting, kind, to)
@@ -138,13 +146,14 @@ fn lower_store(
     base: Value,
     src: Value,
     imm: i32,
-) -> Made
-    ensures { IsQuiet (at_upper_half to imm (value_of base) (store_at (setting_of setting.now) kind (value_of src) to (store_of store.old))) result (store_of store.old) (store_of store.new) }
+) -> Result<Made, Memory>
+    ensures ok { IfOk result (λ made. IsQuiet (at_upper_half to imm (value_of base) (store_at (setting_of setting.now) kind (value_of src) to (store_of store.old))) made (store_of store.old) (store_of store.new)) }
+    ensures kept { OnErr result (store_of store.new ≡ store_of store.old) }
 {
     if is_upper_half(to, imm, base) {
         store.store(setting, kind, src, to)
     } else {
-        Made::Breaks(Kind::Half)
+        Ok(Made::Breaks(Kind::Half))
     }
 }
 
@@ -155,19 +164,24 @@ fn lower_row(
     store: &mut Store,
     to: u32,
     insn: &Insn,
-) -> Made
-    ensures { IsQuiet (lower_row (setting_of setting.now) to insn.now (operands insn.now (registers_of registers.now)) (store_of store.old)) result (store_of store.old) (store_of store.new) }
+) -> Result<Made, Memory>
+    ensures ok { IfOk result (λ made. IsQuiet (lower_row (setting_of setting.now) to insn.now (operands insn.now (registers_of registers.now)) (store_of store.old)) made (store_of store.old) (store_of store.new)) }
+    ensures kept { OnErr result (store_of store.new ≡ store_of store.old) }
 {
     match *insn {
-        Insn::OpImm { op, rs, imm, .. } => {
-            lower_operation(setting, to, op, imm, registers.get(rs))
-        }
+        Insn::OpImm { op, rs, imm, .. } => Ok(lower_operation(
+            setting,
+            to,
+            op,
+            imm,
+            registers.get(rs),
+        )),
         Insn::Load {
             kind,
             rs,
             offset,
             ..
-        } => lower_load(setting, store, to, kind, registers.get(rs), offset),
+        } => Ok(lower_load(setting, store, to, kind, registers.get(rs), offset)),
         Insn::Store {
             kind,
             rs,
@@ -192,7 +206,7 @@ fn lower_row(
         | Insn::Ecall
         | Insn::Ebreak
         | Insn::Unimp { .. }
-        | Insn::Atomic { .. } => Made::Breaks(Kind::Half),
+        | Insn::Atomic { .. } => Ok(Made::Breaks(Kind::Half)),
     }
 }
 
@@ -214,6 +228,58 @@ fn call_row(
         a7: registers.get(Reg::A7),
     };
     store.call(setting, log, &operands)
+}
+
+/// A load, a store or an atomic operation without a half of an address.
+fn access_row(
+    setting: &Setting,
+    registers: &Registers,
+    store: &mut Store,
+    insn: &Insn,
+) -> Result<Made, Memory>
+    requires { is_access insn.now ≡ true }
+    ensures ok { IfOk result (λ made. IsQuiet (plain_row (setting_of setting.now) insn.now (operands insn.now (registers_of registers.now)) (store_of store.old)) made (store_of store.old) (store_of store.new)) }
+    ensures kept { OnErr result (store_of store.new ≡ store_of store.old) }
+{
+    match *insn {
+        Insn::Load {
+            kind,
+            rs,
+            offset,
+            ..
+        } => Ok(load_row(setting, store, kind, registers.get(rs), offset)),
+        Insn::Store {
+            kind,
+            rs,
+            src,
+            offset,
+        } => store_row(
+            setting,
+            store,
+            kind,
+            registers.get(rs),
+            registers.get(src),
+            offset,
+        ),
+        Insn::Atomic { op, rs, src, .. } => atomic_row(
+            setting,
+            store,
+            op,
+            registers.get(rs),
+            registers.get(src),
+        ),
+        Insn::Lui { .. }
+        | Insn::Auipc { .. }
+        | Insn::Jal { .. }
+        | Insn::Jalr { .. }
+        | Insn::Branch { .. }
+        | Insn::OpImm { .. }
+        | Insn::Op { .. }
+        | Insn::Fence { .. }
+        | Insn::Ecall
+        | Insn::Ebreak
+        | Insn::Unimp { .. } => Ok(Made::Breaks(Kind::Half)),
+    }
 }
 
 /// An instruction without a half of an address.
@@ -239,34 +305,12 @@ fn plain_row(
             Kind::Arithmetic,
             op_value(setting, op, a, registers.get(a), registers.get(b)),
         )),
-        Insn::Load {
-            kind,
-            rs,
-            offset,
-            ..
-        } => Ok(load_row(setting, store, kind, registers.get(rs), offset)),
-        Insn::Store {
-            kind,
-            rs,
-            src,
-            offset,
-        } => Ok(store_row(
-            setting,
-            store,
-            kind,
-            registers.get(rs),
-            registers.get(src),
-            offset,
-        )),
+        Insn::Load { .. } | Insn::Store { .. } | Insn::Atomic { .. } => {
+            let made = access_row(setting, registers, store, insn)?;
+            Ok(made)
+        }
         Insn::Fence { .. } => Ok(Made::Gives(Value::Num(0))),
         Insn::Ecall => call_row(setting, registers, store, log),
-        Insn::Atomic { op, rs, src, .. } => Ok(atomic_row(
-            setting,
-            store,
-            op,
-            registers.get(rs),
-            registers.get(src),
-        )),
         Insn::Auipc { .. }
         | Insn::Jal { .. }
         | Insn::Jalr { .. }
@@ -296,6 +340,9 @@ pub fn row(
         AddressHalf::Upper { to, word } => {
             Ok(Made::Gives(Value::Tagged(Tag::Part { to, word })))
         }
-        AddressHalf::Lower(to) => Ok(lower_row(setting, registers, store, to, insn)),
+        AddressHalf::Lower(to) => {
+            let made = lower_row(setting, registers, store, to, insn)?;
+            Ok(made)
+        }
     }
 }

@@ -1,15 +1,17 @@
 //! What instructions change beside registers: memory, the input and the reservation.
 
-ghost use Rattle.std.specs.Prelude.{◌≡◌, ◌+◌, ◌≤◌, ◌^◌, ◌∷◌, [], length, map, option_map, IsTrue};
+ghost use Rattle.std.specs.Prelude.{◌≡◌, ◌+◌, ◌≤◌, ◌^◌, ◌∷◌, [], length, map, option_map, IsTrue, OnOk};
 ghost use Rattle.sq_isa.specs.Accesses.{is_reserved};
 ghost use Rattle.sq_memory.specs.Cells.{is_in_memory, with_cells};
+ghost use Rattle.sq_pages.specs.Pages.{AreReady};
 ghost use Rattle.sq_system.specs.World.{is_range};
 ghost use Rattle.sq_follow.specs.Accesses.{aligned_cells, reserved, stored};
 ghost use Rattle.sq_follow.specs.Values.{Num};
 ghost use Rattle.sq_tagged.specs.Views.{value_of, cell_of, cells_in, store_of};
 
 use crate::values::{Cell, Value, WordCells};
-use sq_memory::contents::Contents;
+use sq_num::Memory;
+use sq_pages::Pages;
 
 /// The first number that is no address.
 const END: u64 = 1 << 32;
@@ -17,7 +19,7 @@ const END: u64 = 1 << 32;
 /// Memory, the whole input, of which the first `read` bytes were read, and the address that LR reserved.
 #[derive(Drop)]
 pub struct Store {
-    pub memory: Contents<Cell>,
+    pub memory: Pages<Cell>,
     pub input: Vec<u8>,
     pub read: usize,
     pub reservation: Option<u32>,
@@ -26,25 +28,22 @@ pub struct Store {
 impl Store {
     /// The byte at an address, where one is in memory.
     #[tactic(auto, unfolding(crate::specs::Views::store_of))]
-    fn cell(&mut self, x: u32) -> Option<Cell>
-        ensures value { option_map cell_of result ≡ (store_of self.old).memory x }
-        ensures state { store_of self.new ≡ store_of self.old }
+    fn cell(&self, x: u32) -> Option<Cell>
+        ensures { option_map cell_of result ≡ (store_of self.now).memory x }
     {
         self.memory.get(x)
     }
 
     /// The byte that a load takes.
-    pub fn byte_cell(&mut self, x: u32) -> Option<Cell>
-        ensures value { option_map (λ c. cell_of c ∷ []) result ≡ aligned_cells (store_of self.old) x 1 }
-        ensures state { store_of self.new ≡ store_of self.old }
+    pub fn byte_cell(&self, x: u32) -> Option<Cell>
+        ensures { option_map (λ c. cell_of c ∷ []) result ≡ aligned_cells (store_of self.now) x 1 }
     {
         self.cell(x)
     }
 
     /// The two bytes that a load takes, at a multiple of 2.
-    pub fn half_cells(&mut self, x: u32) -> Option<(Cell, Cell)>
-        ensures value { option_map (λ h. cell_of h.0 ∷ cell_of h.1 ∷ []) result ≡ aligned_cells (store_of self.old) x 2 }
-        ensures state { store_of self.new ≡ store_of self.old }
+    pub fn half_cells(&self, x: u32) -> Option<(Cell, Cell)>
+        ensures { option_map (λ h. cell_of h.0 ∷ cell_of h.1 ∷ []) result ≡ aligned_cells (store_of self.now) x 2 }
     {
         if x % 2 != 0 {
             return None;
@@ -55,9 +54,8 @@ impl Store {
     }
 
     /// The four bytes that a load takes, at a multiple of 4.
-    pub fn word_cells(&mut self, x: u32) -> Option<WordCells>
-        ensures value { option_map cells_in result ≡ aligned_cells (store_of self.old) x 4 }
-        ensures state { store_of self.new ≡ store_of self.old }
+    pub fn word_cells(&self, x: u32) -> Option<WordCells>
+        ensures { option_map cells_in result ≡ aligned_cells (store_of self.now) x 4 }
     {
         if x % 4 != 0 {
             return None;
@@ -74,10 +72,22 @@ impl Store {
         })
     }
 
+    /// Takes the memory that a write of n bytes from `x` on needs.
+    #[tactic(auto, unfolding(crate::specs::Views::store_of))]
+    pub fn make_ready(&mut self, x: u32, n: u32) -> Result<(), Memory>
+        requires { x + n ≤ 2 ^ 32 }
+        ensures ready { OnOk result (AreReady self.new.memory x n) }
+        ensures state { store_of self.new ≡ store_of self.old }
+    {
+        self.memory.make_ready(x, n)?;
+        Ok(())
+    }
+
     /// Writes cells from an address on.
     #[tactic(auto, unfolding(crate::specs::Views::store_of))]
     pub fn put(&mut self, x: u32, cells: &[Cell])
-        requires { x + length cells.now ≤ 2 ^ 32 }
+        requires end { x + length cells.now ≤ 2 ^ 32 }
+        requires ready { AreReady self.old.memory x (length cells.now) }
         ensures { store_of self.new ≡ record (store_of self.old) { memory = with_cells (store_of self.old).memory x (map cell_of cells.now) } }
     {
         self.memory.put_all(x, cells);
@@ -85,7 +95,8 @@ impl Store {
 
     /// Writes the lowest byte of a number.
     pub fn put_byte(&mut self, x: u32, number: u32)
-        requires { x + 1 ≤ 2 ^ 32 }
+        requires end { x + 1 ≤ 2 ^ 32 }
+        requires ready { AreReady self.old.memory x 1 }
         ensures { store_of self.new ≡ stored x 1 (Num number) (store_of self.old) }
     {
         let [first, _, _, _] = number.to_le_bytes();
@@ -94,7 +105,8 @@ impl Store {
 
     /// Writes the lower half of a number.
     pub fn put_half(&mut self, x: u32, number: u32)
-        requires { x + 2 ≤ 2 ^ 32 }
+        requires end { x + 2 ≤ 2 ^ 32 }
+        requires ready { AreReady self.old.memory x 2 }
         ensures { store_of self.new ≡ stored x 2 (Num number) (store_of self.old) }
     {
         let [first, second, _, _] = number.to_le_bytes();
@@ -103,7 +115,8 @@ impl Store {
 
     /// Writes a value as a word.
     pub fn put_word(&mut self, x: u32, value: Value)
-        requires { x + 4 ≤ 2 ^ 32 }
+        requires end { x + 4 ≤ 2 ^ 32 }
+        requires ready { AreReady self.old.memory x 4 }
         ensures { store_of self.new ≡ stored x 4 (value_of value) (store_of self.old) }
     {
         match value {
@@ -151,18 +164,16 @@ impl Store {
     }
 
     /// Whether a byte is in memory.
-    fn is_in_memory(&mut self, x: u32) -> bool
-        ensures value { result ≡ is_in_memory (store_of self.old).memory x }
-        ensures state { store_of self.new ≡ store_of self.old }
+    fn is_in_memory(&self, x: u32) -> bool
+        ensures { result ≡ is_in_memory (store_of self.now).memory x }
     {
         self.cell(x).is_some()
     }
 
     /// Whether the n bytes from `x` on are in memory.
-    pub fn are_in_memory(&mut self, x: u32, n: u32) -> bool
-        ensures value { result ≡ is_range (is_in_memory (store_of self.old).memory) x n }
+    pub fn are_in_memory(&self, x: u32, n: u32) -> bool
+        ensures value { result ≡ is_range (is_in_memory (store_of self.now).memory) x n }
         ensures end { IsTrue result → x + n ≤ 2 ^ 32 }
-        ensures state { store_of self.new ≡ store_of self.old }
     {
         if u64::from(x) + u64::from(n) > END {
             return false;

@@ -2,7 +2,7 @@
 
 use super::*;
 use sq_isa::{Insn, Reg};
-use sq_memory::contents::{Contents, Region};
+use sq_pages::Pages;
 use sq_system::{Log, event_lines};
 use std::alloc::Global;
 use std::test::Fail;
@@ -10,9 +10,10 @@ use std::test::Fail;
 /// Memory of the bytes `hi` at 16, without input.
 fn store(alloc: Global) -> Result<Store, Fail> {
     let cells = cells_of(alloc, b"hi")?;
-    let regions = vec![in alloc; Region::new(16, cells)]?;
+    let mut memory = Pages::new(alloc);
+    memory.lay_all(16, &cells)?;
     Ok(Store {
-        memory: Contents::new(regions),
+        memory,
         input: Vec::new(alloc),
         read: 0,
         reservation: None,

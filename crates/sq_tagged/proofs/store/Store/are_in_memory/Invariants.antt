@@ -5,7 +5,4 @@ use Rattle.sq_tagged.specs.Views.{store_of}
 use Rattle.sq_tagged.proofs.store.Store.are_in_memory.Given as goal
 
 abbrev pub invariant-loop-i : goal.invariant-loop-i
-invariant-loop-i l = record {
-  found : are_all (is_in_memory (store_of l.initial.self).memory) l.x l.i ≡ true;
-  state : store_of l.self ≡ store_of l.initial.self;
-}
+invariant-loop-i l = are_all (is_in_memory (store_of l.self).memory) l.x l.i ≡ true

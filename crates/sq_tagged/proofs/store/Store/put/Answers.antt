@@ -10,4 +10,4 @@ pub returns : goal.returns
 unfolding store_of
 returns c =
     let s : Store = store_of c.args.self.now in
-    ap (λ (memory : Cells Cell). record s { memory = memory }) (cells-put c.args.self.now.memory c.put_all.new.self c.args.x c.args.cells.now c.put_all.ensures)
+    ap (λ (memory : Cells Cell). record s { memory = memory }) (cells-put c.args.self.now.memory c.put_all.new.self c.args.x c.args.cells.now c.put_all.ensures.cells)

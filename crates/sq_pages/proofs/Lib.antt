@@ -1,0 +1,3 @@
+mod Sheets
+pub mod Laying
+mod Writing
