@@ -1,13 +1,16 @@
 //! The driver: rewrites a graph by the candidates of passes, until they have none.
 //!
 //! To the layers above it promises that the graph that is left follows the one before, is canonical, sound and in reach
-//! where that was, and has no candidate of any pass; and that the words that it lost are those that the rows saved.
+//! where that was, and has no candidate of any pass; that the words that it lost are those that the rows saved; and, of
+//! `settle_slotted`, that its blocks are named by their positions, so that no reading of it has a candidate.
 #![tactic(auto)]
 
 mod listed;
 mod once;
+mod rows;
 mod settling;
 
 pub use listed::settle_with;
 pub use once::rewrite_once;
-pub use settling::{settle, settle_by};
+pub use rows::AllRows;
+pub use settling::{settle, settle_by, settle_slotted};

@@ -1,47 +1,77 @@
 //! Rewriting by one pass until no candidate is left.
 
-ghost use Rattle.std.specs.Prelude.{◌≤◌, IfOk, OnOk};
+ghost use Rattle.std.specs.Prelude.{◌≤◌, ◌+◌, IfOk, OnOk};
+ghost use Rattle.sq_num.specs.Saved.{words_saved};
 ghost use Rattle.sq_graph.specs.Leaders.{IsCanonical};
+ghost use Rattle.sq_graph.specs.Slotted.{IsSlotted};
 ghost use Rattle.sq_graph.specs.Words.{words_of};
 ghost use Rattle.sq_follow.specs.Follows.{Follows};
 ghost use Rattle.sq_pass.specs.declared.cut.Cut.{Cut as Told};
 ghost use Rattle.sq_pass.specs.Rewrites.{IsRewritten};
-ghost use Rattle.sq_jumps.specs.Candidates.{IsCandidate, described};
+ghost use Rattle.sq_drive.specs.Rows.{IsCandidate, described, IsLeftoverFree};
 
 use crate::once::rewrite_once;
+use crate::rows::AllRows;
 use sq_graph::Graph;
-use sq_jumps::Jumps;
+use sq_layout::words_of;
 use sq_num::{Memory, Savings};
 use sq_pass::Pass;
 use std::alloc::Global;
 
-/// Rewrites the graph by candidates of the pass, one after another, until it has none, and answers what each row saved.
-/// Where it finds no memory, the graph is left as the rewrites made it so far. Each round is a sweep of the pass and one
-/// rewrite, for which it looks at the whole graph.
-pub fn settle_by<P: Pass>(alloc: Global, graph: &mut Graph, pass: &P) -> Result<Savings, Memory>
+/// Rewrites the graph by candidates of the pass, one after another, until it has none, and answers the savings with what
+/// each row saved. Where it finds no memory, the graph is left as the rewrites made it so far. Each round is a sweep of the
+/// pass and one rewrite, for which it looks at the whole graph.
+pub fn settle_by<P: Pass>(
+    alloc: Global,
+    graph: &mut Graph,
+    pass: &P,
+    savings: Savings,
+) -> Result<Savings, Memory>
     requires canonical { IsCanonical graph.old.graph }
-    requires words { words_of graph.old.graph ≤ 1048576 }
-    ensures rewritten { IfOk result (λ savings. IsRewritten (P.is_candidate pass.now) (P.described pass.now) Savings.NONE savings graph.old.graph graph.new.graph) }
+    requires words { words_of graph.old.graph + words_saved savings ≤ 1048576 }
+    ensures rewritten { IfOk result (λ after. IsRewritten (P.is_candidate pass.now) (P.described pass.now) savings after graph.old.graph graph.new.graph) }
     ensures left { OnOk result ((cut : Told) → ¬ P.is_candidate pass.now graph.new.graph cut) }
     ensures follows { Follows graph.old.graph graph.new.graph }
 {
-    let mut savings = Savings::NONE;
+    let mut saved = savings;
     loop {
-        savings = pass.sweep(alloc, graph, savings)?;
+        saved = pass.sweep(alloc, graph, saved)?;
         let Some(done) = rewrite_once(alloc, graph, pass)? else {
-            return Ok(savings);
+            return Ok(saved);
         };
-        savings = done.count(savings);
+        saved = done.count(saved);
     }
 }
 
-/// The same by the rows U, J1, J2, J3 and C.
+/// The same by all rows, from no savings on.
 pub fn settle(alloc: Global, graph: &mut Graph) -> Result<Savings, Memory>
     requires canonical { IsCanonical graph.old.graph }
     requires words { words_of graph.old.graph ≤ 1048576 }
     ensures rewritten { IfOk result (λ savings. IsRewritten IsCandidate described Savings.NONE savings graph.old.graph graph.new.graph) }
-    ensures left { OnOk result ((cut : Told) → ¬ IsCandidate graph.new.graph cut) }
+    ensures left { OnOk result (IsLeftoverFree graph.new.graph) }
     ensures follows { Follows graph.old.graph graph.new.graph }
 {
-    settle_by(alloc, graph, &Jumps)
+    settle_by(alloc, graph, &AllRows, Savings::NONE)
+}
+
+/// The same of a graph whose blocks are named by their positions, which it is in the end too. After each round that saved
+/// words the blocks are named anew, and all rows are asked once more.
+pub fn settle_slotted(alloc: Global, graph: &mut Graph) -> Result<Savings, Memory>
+    requires canonical { IsCanonical graph.old.graph }
+    requires slotted { IsSlotted graph.old.graph }
+    requires words { words_of graph.old.graph ≤ 1048576 }
+    ensures rewritten { IfOk result (λ savings. IsRewritten IsCandidate described Savings.NONE savings graph.old.graph graph.new.graph) }
+    ensures slotted { OnOk result (IsSlotted graph.new.graph) }
+    ensures left { OnOk result (IsLeftoverFree graph.new.graph) }
+    ensures follows { Follows graph.old.graph graph.new.graph }
+{
+    let mut savings = Savings::NONE;
+    loop {
+        let before = words_of(graph);
+        savings = settle_by(alloc, graph, &AllRows, savings)?;
+        if words_of(graph) == before {
+            return Ok(savings);
+        }
+        graph.name_by_slots(alloc)?;
+    }
 }

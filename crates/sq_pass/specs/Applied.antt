@@ -5,18 +5,17 @@ use Rattle.sq_graph.specs.Graph.{Graph}
 use Rattle.sq_graph.specs.Words.{words_of}
 use Rattle.sq_graph.specs.Places.{IsInReach}
 use Rattle.sq_graph.specs.Soundness.{IsSound}
-use Rattle.sq_graph.specs.Canonical.{canonical_of}
 use Rattle.sq_graph.specs.Alike.{AreAlike}
 use Rattle.sq_follow.specs.Follows.{Follows}
 
--- The new graph follows the old one, is sound and in reach where that was, has fewer words by the saving, and is,
--- made canonical and but for the names of blocks, the graph that the row describes, made canonical.
+-- The new graph follows the old one, is sound and in reach where that was, has fewer words by the saving, and is, but for
+-- the names of blocks, the graph that the row describes.
 pub record IsApplied (saving : ℕ) (rewritten old new : Graph) : Type 0 where
   pub follows : Follows old new
   pub sound : IsSound old → IsSound new
   pub reach : IsInReach old → IsInReach new
   pub words : words_of new + saving ≡ words_of old
-  pub described : AreAlike (canonical_of rewritten) (canonical_of new)
+  pub described : AreAlike new rewritten
 
 -- each number is at most this
 pub record IsWithin (limit : ℕ) (room : Room) : Type 0 where

@@ -1,5 +1,6 @@
--- Rewrites by candidates, one after another, each made canonical.
+-- Rewrites by candidates of passes, one after another, each made canonical.
 use Rattle.std.specs.Prelude.{◌≡◌, ℕ, ◌+◌, List, [], ◌∷◌}
+use Rattle.std.specs.List.{Contains}
 use Rattle.sq_num.specs.declared.packed.Savings.{Savings}
 use Rattle.sq_num.specs.Saved.{words_saved}
 use Rattle.sq_graph.specs.Graph.{Graph}
@@ -22,11 +23,10 @@ pub record IsRewrite (is_candidate : Graph → Cut → Type 0) (described : Grap
   pub saving : cut.saving ≡ done.saving
   pub is : AreAlike (canonical_of (described old cut)) new
 
--- there is a list of graphs from the old one to the new one: each next graph is the one before after one of the rewrites
-abbrev pub AreRewrites : (Graph → Cut → Type 0) → (Graph → Cut → Graph) → List Rewrite → Graph → Graph → Type 0
-AreRewrites is_candidate described [] old new = old ≡ new
-AreRewrites is_candidate described (done ∷ rest) old new =
-    (next : Graph) × IsRewrite is_candidate described done old next × AreRewrites is_candidate described rest next new
+-- there is a list of graphs from the old one to the new one: each next graph is the one before after one step of the list
+abbrev pub AreSteps : (Rewrite → Graph → Graph → Type 0) → List Rewrite → Graph → Graph → Type 0
+AreSteps step [] old new = old ≡ new
+AreSteps step (done ∷ rest) old new = (next : Graph) × step done old next × AreSteps step rest next new
 
 -- The new graph follows the old one, is sound and in reach where that was, is canonical, and has fewer words by what was
 -- saved.
@@ -37,11 +37,25 @@ pub record IsSettled (saved : ℕ) (old new : Graph) : Type 0 where
   pub canonical : IsCanonical new
   pub words : words_of new + saved ≡ words_of old
 
--- By some rewrites the old graph became the new one, and each is counted in the savings.
-pub record IsRewritten (is_candidate : Graph → Cut → Type 0) (described : Graph → Cut → Graph) (before after : Savings) (old new : Graph) : Type 0 where
+-- By some steps the old graph became the new one, and each is counted in the savings.
+pub record IsRewrittenBy (step : Rewrite → Graph → Graph → Type 0) (before after : Savings) (old new : Graph) : Type 0 where
   pub rewrites : List Rewrite
-  pub are : AreRewrites is_candidate described rewrites old new
+  pub are : AreSteps step rewrites old new
   pub counted : after ≡ counted_all before rewrites
   pub saved : ℕ
   pub total : words_saved after ≡ words_saved before + saved
   pub settled : IsSettled saved old new
+
+-- So by rewrites of the candidates of one pass.
+abbrev pub IsRewritten : (Graph → Cut → Type 0) → (Graph → Cut → Graph) → Savings → Savings → Graph → Graph → Type 0
+IsRewritten is_candidate described = IsRewrittenBy (IsRewrite is_candidate described)
+
+-- a rewrite by a candidate of one of these passes
+pub record IsRewriteOfOne {P : Type 0} (is_candidate : P → Graph → Cut → Type 0) (described : P → Graph → Cut → Graph) (passes : List P) (done : Rewrite) (old new : Graph) : Type 0 where
+  pub pass : P
+  pub listed : Contains passes pass
+  pub rewrite : IsRewrite (is_candidate pass) (described pass) done old new
+
+-- So by rewrites of the candidates of these passes.
+abbrev pub IsRewrittenByAll : {P : Type 0} → (P → Graph → Cut → Type 0) → (P → Graph → Cut → Graph) → List P → Savings → Savings → Graph → Graph → Type 0
+IsRewrittenByAll is_candidate described passes = IsRewrittenBy (IsRewriteOfOne is_candidate described passes)

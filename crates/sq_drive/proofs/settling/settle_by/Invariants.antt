@@ -1,10 +1,9 @@
-use Rattle.sq_num.specs.declared.packed.TheConstants.Savings.{NONE}
 use Rattle.sq_graph.specs.Words.{words_of}
 use Rattle.sq_pass.specs.Rewrites.{IsRewritten}
 use Rattle.sq_drive.proofs.settling.settle_by.Given as goal
 
-abbrev pub invariant-loop-savings : goal.invariant-loop-savings
-invariant-loop-savings g l = IsRewritten (g.P.Pass.is_candidate l.pass) (g.P.Pass.described l.pass) NONE l.savings l.fn.graph.graph l.graph.graph
+abbrev pub invariant-loop-saved : goal.invariant-loop-saved
+invariant-loop-saved g l = IsRewritten (g.P.Pass.is_candidate l.pass) (g.P.Pass.described l.pass) l.savings l.saved l.fn.graph.graph l.graph.graph
 
-abbrev pub decreases-loop-savings : goal.decreases-loop-savings
-decreases-loop-savings g l = words_of l.graph.graph
+abbrev pub decreases-loop-saved : goal.decreases-loop-saved
+decreases-loop-saved g l = words_of l.graph.graph
