@@ -39,3 +39,6 @@ pub mod Kept
 pub mod Joined
 pub mod CanonicalLaws
 pub mod CanonicalReach
+pub mod Renamed
+pub mod AlikeGraphs
+pub mod AlikeCanonical
