@@ -74,11 +74,12 @@ pub fall_applied : (g : Graph) (block : ℕ) → IsGraph g → JumpsToNext g blo
 fall_applied g block rules j =
     let h = with_term g block Fall in
     record {
+      rules = fall_rules g block j.to rules j.jump j.next;
       follows = fall_follows g block j.to rules j.jump j.next;
       sound = λ sound. fall_sound g block j.to rules j.jump j.next sound;
       reach = λ reach. shrunk_in_reach g (with_term g block Fall) rules.distinct (fall_rules g block j.to rules j.jump j.next).distinct (fall_shrinks g block j.to j.jump) led reach;
       words = fall_saves g block j.to j.jump;
-      described = alike_itself (canonical_of (with_term g block Fall));
+      described = alike_itself (with_term g block Fall);
     }
   where
     led : LedThere g (with_term g block Fall)
@@ -122,11 +123,12 @@ pub pass_applied : (g : Graph) (block : ℕ) → IsGraph g → IsDetour g block 
 pass_applied g block rules d =
     subst (λ h. IsApplied 1 h g h) (sym (passing_is g block d.to d.passable.jump))
     (record {
+      rules = passed_rules g block d.to rules d.passable;
       follows = jump_goes_follows g block d.to rules d.passable;
       sound = λ sound. jump_goes_sound g block d.to rules d.passable sound;
       reach = λ reach. shrunk_in_reach g (without_jump g block d.to) rules.distinct (passed_rules g block d.to rules d.passable).distinct (pass_shrinks g block d.to) led reach;
       words = jump_goes_saves g block d.to d.passable;
-      described = alike_itself (canonical_of (without_jump g block d.to));
+      described = alike_itself (without_jump g block d.to);
     })
   where
     f : ℕ → ℕ
@@ -175,11 +177,12 @@ pub invert_applied : (g : Graph) (block : ℕ) → IsGraph g → BranchesOverJum
 invert_applied g block rules o =
     subst (λ h. IsApplied 1 h g h) (sym (inverting_is g block o.cond o.a o.b o.over o.behind o.to o.jumped))
     (record {
+      rules = inverted_rules g block o.cond o.a o.b o.over o.behind o.to (inverse_of o.cond) rules o.jumped;
       follows = invert_follows g block o.cond o.a o.b o.over o.behind o.to rules o.jumped;
       sound = λ sound. invert_sound g block o.cond o.a o.b o.over o.behind o.to rules o.jumped sound;
       reach = λ reach. shrunk_in_reach g (inverted_over g block o.cond o.a o.b o.over o.to) rules.distinct (inverted_rules g block o.cond o.a o.b o.over o.behind o.to (inverse_of o.cond) rules o.jumped).distinct (invert_shrinks g block o) led reach;
       words = invert_saves g block o.cond o.a o.b o.over o.behind o.to rules o.jumped;
-      described = alike_itself (canonical_of (inverted_over g block o.cond o.a o.b o.over o.to));
+      described = alike_itself (inverted_over g block o.cond o.a o.b o.over o.to);
     })
   where
     t : Term
@@ -228,11 +231,12 @@ pub shorten_applied : (g : Graph) (block : ℕ) → IsGraph g → JumpsByDeadPar
 shorten_applied g block rules d =
     subst (λ h. IsApplied 1 h g h) (sym (hastening_is g block d.at d.link d.part d.to d.shortable))
     (record {
+      rules = shortened_rules g block d.at d.link d.part d.to rules d.shortable;
       follows = shorten_follows g block d.at d.link d.part d.to rules d.shortable;
       sound = λ sound. shorten_sound g block d.at d.link d.part d.to rules d.shortable sound;
       reach = λ reach. shrunk_in_reach g (shortened g block d.at d.link d.to) rules.distinct (shortened_rules g block d.at d.link d.part d.to rules d.shortable).distinct shrinks led reach;
       words = omega (arith, drop_saves g block d.at d.part d.to d.shortable.half, hasten_saves (replaced g block d.at 1 []) block d.link d.part d.to still);
-      described = alike_itself (canonical_of (shortened g block d.at d.link d.to));
+      described = alike_itself (shortened g block d.at d.link d.to);
     })
   where
     k : Graph

@@ -272,9 +272,10 @@ module _ (g : Graph) (gone : List ℕ) (rules : IsGraph g) (are : AreUnreached g
 
   pub unreached_applied : IsGraph (without_all g gone) → IsApplied (words_gone g gone) (without_all g gone) g (without_all g gone)
   unreached_applied rules' = record {
+    rules = rules';
     follows = restrict_follows g (stays g gone) (is_held g gone) rules (reached_closed g (stays g gone) (is_held g gone) holds);
     sound = λ sound. restrict_sound g (stays g gone) (is_held g gone) rules (reached_closed g (stays g gone) (is_held g gone) holds) sound;
     reach = λ reach. shrunk_in_reach g (without_all g gone) rules.distinct rules'.distinct shrinks led reach;
     words = words_fall;
-    described = alike_itself (canonical_of (without_all g gone));
+    described = alike_itself (without_all g gone);
   }

@@ -6,7 +6,6 @@ use Rattle.sq_graph.specs.Graph.{Graph}
 use Rattle.sq_graph.specs.Alike.{AreAlike}
 use Rattle.sq_graph.specs.Canonical.{canonical_of}
 use Rattle.sq_graph.specs.Leaders.{IsCanonical}
-use Rattle.sq_graph.specs.Rules.{IsGraph}
 use Rattle.sq_graph.specs.Words.{words_of}
 use Rattle.sq_graph.proofs.AlikeGraphs.{alike_back, alike_through}
 use Rattle.sq_graph.proofs.AlikeCanonical.{alike_canonical}
@@ -38,13 +37,13 @@ settled_through first second old mid new a b = record {
 -- ONE REWRITE
 
 -- a candidate is applied, and what is left is made canonical (which saves nothing)
-pub rewrite_made : (is_candidate : Graph → Cut → Type 0) (described : Graph → Cut → Graph) (cut : Cut) (old mid new : Graph) → is_candidate old cut → IsApplied cut.saving (described old cut) old mid → IsGraph mid → new ≡ canonical_of mid → IsRewrite is_candidate described (record { row = cut.row; saving = cut.saving }) old new
-rewrite_made is_candidate described cut old mid new candidate applied rules made = record {
+pub rewrite_made : (is_candidate : Graph → Cut → Type 0) (described : Graph → Cut → Graph) (cut : Cut) (old mid new : Graph) → is_candidate old cut → IsApplied cut.saving (described old cut) old mid → new ≡ canonical_of mid → IsRewrite is_candidate described (record { row = cut.row; saving = cut.saving }) old new
+rewrite_made is_candidate described cut old mid new candidate applied made = record {
   cut = cut;
   candidate = candidate;
   row = refl;
   saving = refl;
-  is = subst (AreAlike (canonical_of (described old cut))) (sym made) (alike_back (canonical_of mid) (canonical_of (described old cut)) (canonical_is_graph mid rules) (alike_canonical mid (described old cut) rules applied.described));
+  is = subst (AreAlike (canonical_of (described old cut))) (sym made) (alike_back (canonical_of mid) (canonical_of (described old cut)) (canonical_is_graph mid applied.rules) (alike_canonical mid (described old cut) applied.rules applied.described));
 }
 
 pub settled_made : (saving : ℕ) (described old mid new : Graph) → IsApplied saving described old mid → IsSettled 0 mid new → IsSettled saving old new

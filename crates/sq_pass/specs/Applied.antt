@@ -2,15 +2,17 @@
 use Rattle.std.specs.Prelude.{◌≡◌, ℕ, ◌+◌, ◌≤◌}
 use Rattle.sq_graph.specs.declared.parts.Room.{Room}
 use Rattle.sq_graph.specs.Graph.{Graph}
+use Rattle.sq_graph.specs.Rules.{IsGraph}
 use Rattle.sq_graph.specs.Words.{words_of}
 use Rattle.sq_graph.specs.Places.{IsInReach}
 use Rattle.sq_graph.specs.Soundness.{IsSound}
 use Rattle.sq_graph.specs.Alike.{AreAlike}
 use Rattle.sq_follow.specs.Follows.{Follows}
 
--- The new graph follows the old one, is sound and in reach where that was, has fewer words by the saving, and is, but for
+-- The new graph keeps the rules, follows the old one, is sound and in reach where that was, has fewer words by the saving, and is, but for
 -- the names of blocks, the graph that the row describes.
 pub record IsApplied (saving : ℕ) (rewritten old new : Graph) : Type 0 where
+  pub rules : IsGraph new
   pub follows : Follows old new
   pub sound : IsSound old → IsSound new
   pub reach : IsInReach old → IsInReach new

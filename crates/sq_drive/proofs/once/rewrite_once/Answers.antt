@@ -14,7 +14,7 @@ returns-clause-some g c =
     let described = g.P.Pass.described c.args.pass.now in
     let candidate = rw c.in-Some.is at c.in_ok-cut.ensures.some in
     let applied = subst (λ same. IsApplied c.in-Some.cut.saving (described same c.in-Some.cut) same mid) c.reserve.ensures.graph c.apply.ensures.applied in
-    rewrite_made (g.P.Pass.is_candidate c.args.pass.now) described c.in-Some.cut old mid c.canonical.new.self.graph candidate applied c.entry-entry.ensures.rules c.canonical.ensures.graph
+    rewrite_made (g.P.Pass.is_candidate c.args.pass.now) described c.in-Some.cut old mid c.canonical.new.self.graph candidate applied c.canonical.ensures.graph
 
 pub returns-clause-settled : goal.returns-clause-settled
 returns-clause-settled g c =
