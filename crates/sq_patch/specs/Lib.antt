@@ -5,7 +5,6 @@ pub mod Changes
 pub mod Operations
 pub mod Restrictions
 pub mod LoneJumps
-pub mod Matches
 pub mod Calls
 pub mod Merges
 pub mod Recalls
