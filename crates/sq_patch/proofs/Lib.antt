@@ -35,6 +35,7 @@ pub mod OneBlock
 mod Leading
 mod Meeting
 pub mod Merging
+pub mod MatchedBodies
 pub mod Tailing
 pub mod Recalling
 pub mod Inserting

@@ -7,6 +7,7 @@ pub mod Restrictions
 pub mod LoneJumps
 pub mod Calls
 pub mod Merges
+pub mod Bodies
 pub mod Recalls
 pub mod Inserts
 pub mod Savings
