@@ -36,6 +36,7 @@ mod Leading
 mod Meeting
 pub mod Merging
 pub mod MatchedBodies
+mod MergeExamples
 pub mod Tailing
 pub mod Recalling
 pub mod Inserting
