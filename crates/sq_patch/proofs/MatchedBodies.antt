@@ -21,15 +21,15 @@ use Rattle.sq_patch.proofs.Meeting.{Joint, MayHold}
 use Rattle.sq_patch.proofs.Matching.{Matched, StandsMatched, CallsStay, calls_stay, zero_register, at as in_mode, matched_some, at_first, at_last}
 use Rattle.sq_patch.proofs.Merging.{HaveEnds, joint_terms, h as merged_graph, k, out, end, kept_items, x_items, some_out, lines_are, C as merging, may_hold, may_go, in_out, merged_follows, merged_sound, merged_saves}
 
-same_count : (items others : List Item) → AreSameForms items others → length items ≡ length others
-same_count [] [] e = refl
-same_count [] (j ∷ others) e = absurd e
-same_count (i ∷ items) [] e = absurd e
-same_count (i ∷ items) (j ∷ others) e = let n = same_count items others e.1 in omega (arith, n)
+equally_many : (items others : List Item) → AreSameForms items others → length items ≡ length others
+equally_many [] [] e = refl
+equally_many [] (j ∷ others) e = absurd e
+equally_many (i ∷ items) [] e = absurd e
+equally_many (i ∷ items) (j ∷ others) e = let n = equally_many items others e.1 in omega (arith, n)
 
 module _ (g : Graph) (dropped kept : ℕ) (rules : IsGraph g) (bodies : HaveBodies g dropped kept) where
   ends : HaveEnds g dropped 0 kept
-  ends = record { other = bodies.other; many = same_count (items_of g dropped) (items_of g kept) bodies.match.forms; some = bodies.some; terms = joint_terms g dropped kept bodies.terms }
+  ends = record { other = bodies.other; many = equally_many (items_of g dropped) (items_of g kept) bodies.match.forms; some = bodies.some; terms = joint_terms g dropped kept bodies.terms }
 
   abbrev h : Graph
   h = merged_graph g dropped 0 kept rules ends
