@@ -3,6 +3,7 @@ pub mod SlotReads
 pub mod BodyReads
 pub mod Sizes
 pub mod Held
+mod MatchExamples
 pub mod Eachs
 pub mod Mapped
 pub mod CursorLaws

@@ -35,6 +35,8 @@ pub mod OneBlock
 mod Leading
 mod Meeting
 pub mod Merging
+pub mod MatchedBodies
+mod MergeExamples
 pub mod Tailing
 pub mod Recalling
 pub mod Inserting
