@@ -36,8 +36,9 @@ use Rattle.sq_patch.proofs.Carrying.{same_some, slot_same, AreOf, ItemGoes, carr
 use Rattle.sq_patch.proofs.Layouts.{Turn, carries_lines, choose}
 use Rattle.sq_patch.proofs.Restricting.{own, block_target, procedure_target, slot_targets, target_from, flat_from}
 use Rattle.sq_patch.proofs.Standing.{stands_at, distinct_at, block_at, there_by_term, there_by_item}
-use Rattle.sq_patch.proofs.Placing.{C as placing, block_stays, block_goes, all_stay, items_stay, bodies_stay, placed_follows, placed_sound, placed_live, body_itself}
-use Rattle.sq_patch.proofs.Ending.{all_of, one_slot, term_turn}
+use Rattle.sq_patch.proofs.Placing.{C as placing, block_stays, block_goes, all_stay, items_stay, bodies_stay, placed_follows, placed_sound, placed_live, placed_place, body_itself}
+use Rattle.sq_patch.proofs.Ending.{all_of, one_slot, term_turn, term_at}
+use Rattle.sq_patch.proofs.Remaining.{fits_at}
 use Rattle.sq_patch.proofs.Replacing.{behind_items, own_items, C as replacing, place, out, behind, replaced_sound, replaced_follows}
 use Rattle.sq_patch.proofs.Calls.{items_dead, is_other}
 use Rattle.sq_patch.proofs.Used.{contains_first, contains_later, flat_contains, from_slice, from_all, slice_there, item_called, block_item, not_new}
@@ -89,6 +90,12 @@ module _ (g : Graph) (block n : ℕ) (rules : IsGraph g) (jumps : term_of g bloc
   pub fall_sound : IsSound g → IsSound h
   fall_sound sound =
       placed_sound every all_matter (Unit {0}) g h rules (λ m c. tt) refl refl (λ m c. tt) (at.block ∷ []) (record at.block { term = Fall } ∷ []) at.back refl turn at.front whole after refl (every_carrier g) (λ xs r l. tt) tt sound
+
+  -- no more is live at a place than before
+  pub fall_live : (m place r : ℕ) → place ≤ length (items_of g m) → IsLive h r (place_lines h m place) → IsLive g r (place_lines g m place)
+  fall_live m place r l live =
+      placed_place every all_matter (Unit {0}) g h rules (λ m c. tt) refl refl (λ m c. tt) (at.block ∷ []) (record at.block { term = Fall } ∷ []) at.back refl turn at.front whole after refl (every_carrier g) (λ xs r l. tt) tt m place r l
+      (term_at every all_matter (Unit {0}) g h rules (λ m c. tt) refl refl (λ m c. tt) at.block [] at.back Fall (stands_at g rules at.front at.block at.back whole) m place (ended true) refl (fits_at g rules m place l at.front at.block at.back whole)) live
 
 module _ (g : Graph) (block link part to : ℕ) (rules : IsGraph g) (jumps : term_of g block ≡ Some (PartJump link part to)) where
   abbrev hat : IsAt g.blocks block
@@ -142,6 +149,11 @@ module _ (g : Graph) (block link part to : ℕ) (rules : IsGraph g) (jumps : ter
 
   pub hasten_sound : IsSound g → IsSound hh
   hasten_sound sound = placed_sound every all_matter (Unit {0}) g hh rules (λ m c. tt) refl refl (λ m c. tt) (hat.block ∷ []) (shorter ∷ []) hat.back refl hturn hat.front hwhole hafter refl (every_carrier g) (λ xs r l. tt) tt sound
+
+  pub hasten_place : (m place r : ℕ) → place ≤ length (items_of g m) → IsLive hh r (place_lines hh m place) → IsLive g r (place_lines g m place)
+  hasten_place m place r l live =
+      placed_place every all_matter (Unit {0}) g hh rules (λ m c. tt) refl refl (λ m c. tt) (hat.block ∷ []) (shorter ∷ []) hat.back refl hturn hat.front hwhole hafter refl (every_carrier g) (λ xs r l. tt) tt m place r l
+      (term_at every all_matter (Unit {0}) g hh rules (λ m c. tt) refl refl (λ m c. tt) hat.block [] hat.back (hastened link to) (stands_at g rules hat.front hat.block hat.back hwhole) m place (hended true) refl (fits_at g rules m place l hat.front hat.block hat.back hwhole)) live
 
   -- what is live at a name is so before
   pub hasten_live : (r n : ℕ) → IsLive hh r (block_lines hh n) → IsLive g r (block_lines g n)

@@ -1,0 +1,46 @@
+-- What is dead at a place that stays is dead there when a graph is changed by one of the operations.
+use Rattle.std.specs.Prelude.{◌≡◌, ◌≢◌, ℕ, ◌≤◌, length, Some}
+use Rattle.sq_isa.specs.declared.instructions.Cond.{Cond}
+use Rattle.sq_graph.specs.declared.item.Term.TheVariants.{Fall, Jump, PartJump}
+use Rattle.sq_graph.specs.Graph.{Graph}
+use Rattle.sq_graph.specs.Blocks.{HasBlock, items_of, next_of, term_of}
+use Rattle.sq_graph.specs.Rules.{IsGraph}
+use Rattle.sq_graph.specs.Operations.{with_term}
+use Rattle.sq_graph.specs.Lines.{place_lines}
+use Rattle.sq_graph.specs.Walks.{IsLive}
+use Rattle.sq_patch.specs.LoneJumps.{IsPassable, without_jump, IsJumpedOver, inverted_over}
+use Rattle.sq_patch.specs.Operations.{hastened}
+
+-- What is dead at a place of the first graph is dead at that place of the second, where the place stays.
+abbrev pub KeepsDead : Graph → Graph → (ℕ → ℕ → Type 0) → Type 0
+KeepsDead g h Stays =
+    (block place r : ℕ) → HasBlock g block → place ≤ length (items_of g block) → Stays block place → ¬ IsLive g r (place_lines g block place) → ¬ IsLive h r (place_lines h block place)
+
+-- all places
+abbrev pub Anywhere : ℕ → ℕ → Type 0
+Anywhere block place = Unit {0}
+
+-- the places of all blocks but this one
+abbrev pub Elsewhere : ℕ → ℕ → ℕ → Type 0
+Elsewhere gone block place = block ≢ gone
+
+-- the places of other blocks, and those of this one that aren't behind this place
+abbrev pub UpTo : ℕ → ℕ → ℕ → ℕ → Type 0
+UpTo changed at block place = block ≡ changed → place ≤ at
+
+-- A Jump to the next slot becomes Fall.
+abbrev pub FallKeepsDead : Type 0
+FallKeepsDead = (g : Graph) (block n : ℕ) → IsGraph g → term_of g block ≡ Some (Jump n) → next_of g block ≡ Some n → KeepsDead g (with_term g block Fall) Anywhere
+
+-- A jump by an upper half becomes one of a single word.
+abbrev pub HastenKeepsDead : Type 0
+HastenKeepsDead = (g : Graph) (block link part to : ℕ) → IsGraph g → term_of g block ≡ Some (PartJump link part to) → KeepsDead g (with_term g block (hastened link to)) Anywhere
+
+-- A lone Jump gives its name to its target, and goes.
+abbrev pub JumpGoesKeepsDead : Type 0
+JumpGoesKeepsDead = (g : Graph) (block to : ℕ) → IsGraph g → IsPassable g block to → KeepsDead g (without_jump g block to) (Elsewhere block)
+
+-- A Branch over a lone Jump becomes the inverted one to its target.
+abbrev pub InvertKeepsDead : Type 0
+InvertKeepsDead =
+    (g : Graph) (block : ℕ) (cond : Cond) (a b over behind to : ℕ) → IsGraph g → IsJumpedOver g block cond a b over behind to → KeepsDead g (inverted_over g block cond a b over to) (Elsewhere over)
