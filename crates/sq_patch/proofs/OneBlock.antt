@@ -39,7 +39,7 @@ use Rattle.sq_patch.proofs.Standing.{stands_at, distinct_at, block_at, there_by_
 use Rattle.sq_patch.proofs.Placing.{C as placing, block_stays, block_goes, all_stay, items_stay, bodies_stay, placed_follows, placed_sound, placed_live, placed_place, body_itself}
 use Rattle.sq_patch.proofs.Ending.{all_of, one_slot, term_turn, term_at}
 use Rattle.sq_patch.proofs.Remaining.{fits_at}
-use Rattle.sq_patch.proofs.Replacing.{behind_items, own_items, C as replacing, place, out, behind, replaced_sound, replaced_follows}
+use Rattle.sq_patch.proofs.Replacing.{behind_items, own_items, C as replacing, place, out, behind, replaced_sound, replaced_follows, replaced_live}
 use Rattle.sq_patch.proofs.Calls.{items_dead, is_other}
 use Rattle.sq_patch.proofs.Used.{contains_first, contains_later, flat_contains, from_slice, from_all, slice_there, item_called, block_item, not_new}
 
@@ -225,6 +225,12 @@ module _ (g : Graph) (block at rd to : ℕ) (rules : IsGraph g) (there : slice_g
   pub drop_sound : IsSound g → IsSound dh
   drop_sound sound = replaced_sound NoMode no_stands (live g) (Unit {0}) g (live_carrier g) rules block at 1 [] drop_there drops no_lowers (λ backs k die die'. die') (λ xs r l. l) tt sound
 
+  -- no more is live in other blocks, and in this one up to the half
+  pub drop_live : (other spot r : ℕ) → HasBlock g other → spot ≤ length (items_of g other) → (other ≡ block → spot ≤ at) → IsLive dh r (place_lines dh other spot) → IsLive g r (place_lines g other spot)
+  drop_live other spot r has l ahead_of lives =
+      let within = item_within dspot.block.items at (Hi rd to) hi_there in
+      replaced_live NoMode no_stands (live g) (Unit {0}) g (live_carrier g) rules block at 1 [] drop_there drops no_lowers (λ backs k die die'. die') (λ xs r l. l) tt (omega (arith, within)) other spot r has l ahead_of lives
+
 -- a register that is dead behind a return is dead at it
 return_dead : (g : Graph) (link r : ℕ) (rest : List Line) → ¬ IsLive g r rest → ¬ IsLive g r (Return link ∷ rest)
 return_dead g link r rest dead (read_here e) = absurd (cc)
@@ -323,6 +329,12 @@ module _ (g : Graph) (block at q : ℕ) (rules : IsGraph g) (there : slice_get (
 
   pub inline_follows : Follows g ih
   inline_follows = replaced_follows NoMode no_stands (live g) (IsSound g) g (live_carrier g) rules block at 1 by inline_there inlines by_lowers by_dies
+
+  -- no more is live in other blocks, and in this one up to the call
+  pub inline_live : IsSound g → (other spot r : ℕ) → HasBlock g other → spot ≤ length (items_of g other) → (other ≡ block → spot ≤ at) → IsLive ih r (place_lines ih other spot) → IsLive g r (place_lines g other spot)
+  inline_live sound other spot r has l ahead_of lives =
+      let within = item_within ispot.block.items at (Out q) out_there in
+      replaced_live NoMode no_stands (live g) (IsSound g) g (live_carrier g) rules block at 1 by inline_there inlines by_lowers by_dies (λ xs r l. l) sound (omega (arith, within)) other spot r has l ahead_of lives
 
   pub inline_sound : IsSound g → IsSound ih
   inline_sound sound = replaced_sound NoMode no_stands (live g) (IsSound g) g (live_carrier g) rules block at 1 by inline_there inlines by_lowers by_dies (λ xs r l. l) sound sound

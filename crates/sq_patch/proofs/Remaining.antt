@@ -1,23 +1,26 @@
 -- Places that a change leaves: what is live at one in the second graph was live at it in the first.
 use Rattle.std.proofs.Common.{◌≡◌, ℕ, zero, suc, ◌≤◌, Bool, true, false, ◌==◌, if◌then◌else◌, List, [], ◌∷◌, ◌++◌, Some, None, map, drop, length, refl, sym, ap, subst, arith}
 use Rattle.std.proofs.lemmas.Bool.{eqb-true}
+use Rattle.sq_arena.specs.Entries.{value_of, HasDistinctKeys}
 use Rattle.sq_graph.specs.declared.item.Item.{Item}
 use Rattle.sq_graph.specs.Graph.{Block, Graph}
-use Rattle.sq_graph.specs.Blocks.{block_of, block_items, items_of}
+use Rattle.sq_graph.specs.Blocks.{named, block_of, block_items, items_of}
 use Rattle.sq_graph.specs.Lines.{Line, line_of, term_lines, body_lines, lines_of, behind_name, block_lines, place_lines}
 use Rattle.sq_graph.specs.Renames.{retargeted_term}
 use Rattle.sq_graph.specs.Rules.{IsGraph}
 use Rattle.sq_graph.specs.Walks.{IsLive}
 use Rattle.sq_patch.specs.Changes.{Change, Alike, ends, falls}
 use Rattle.sq_patch.proofs.Lines.{body_unnamed}
+use Rattle.sq_patch.proofs.Places.{absent_from, found_at}
 use Rattle.sq_patch.proofs.Carrying.{carried_items, carried_block, AreOf, ItemGoes, later_items, BlockGoes, carry_items, carry_term, Backs}
 use Rattle.sq_patch.proofs.Layouts.{passed}
-use Rattle.sq_patch.proofs.Standing.{block_at}
 
 -- a place of a block by its name is one by where it stands
 pub fits_at : (g : Graph) → IsGraph g → (n place : ℕ) → place ≤ length (items_of g n) → (front : List Block) (x : Block) (bs : List Block) → front ++ (x ∷ bs) ≡ g.blocks → (x.name == n) ≡ true → place ≤ length x.items
 fits_at g rules n place l front x bs e same =
-    let found : block_of g n ≡ Some x = subst (λ m. block_of g m ≡ Some x) (eqb-true x.name n same) (block_at g rules front x bs e) in
+    let absent = absent_from front x bs (subst (λ blocks. HasDistinctKeys (named blocks)) (sym e) rules.distinct) in
+    let here : block_of g x.name ≡ Some x = subst (λ blocks. value_of (named blocks) x.name ≡ Some x) e (found_at front x bs absent) in
+    let found : block_of g n ≡ Some x = subst (λ m. block_of g m ≡ Some x) (eqb-true x.name n same) here in
     subst (λ items. place ≤ length items) (ap block_items found) l
 
 module _ (C : Change) (number : ℕ → ℕ) where

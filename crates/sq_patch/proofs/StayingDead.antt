@@ -1,6 +1,8 @@
 -- What is dead at a place that stays is dead there when a graph is changed by one of the operations.
-use Rattle.sq_patch.specs.Liveness.{FallKeepsDead, HastenKeepsDead, JumpGoesKeepsDead, InvertKeepsDead}
-use Rattle.sq_patch.proofs.OneBlock.{fall_live, hasten_place}
+use Rattle.sq_patch.specs.Liveness.{FallKeepsDead, HastenKeepsDead, DropKeepsDead, ShortenKeepsDead, RestrictKeepsDead, JumpGoesKeepsDead, InvertKeepsDead}
+use Rattle.sq_patch.proofs.OneBlock.{fall_live, hasten_place, drop_live}
+use Rattle.sq_patch.proofs.Shortening.{shorten_live}
+use Rattle.sq_patch.proofs.Restricting.{restrict_live}
 use Rattle.sq_patch.proofs.Passing.{jump_goes_live}
 use Rattle.sq_patch.proofs.Inverting.{invert_live}
 
@@ -15,3 +17,12 @@ jump_goes_dead g block to rules passable other place r has l stays gone live = g
 
 pub invert_dead : InvertKeepsDead
 invert_dead g block cond a b over behind to rules jumped other place r has l stays gone live = gone (invert_live g block cond a b over behind to rules jumped other place r stays l live)
+
+pub drop_dead : DropKeepsDead
+drop_dead g block at rd to rules there dead other place r has l stays gone live = gone (drop_live g block at rd to rules there dead other place r has l stays live)
+
+pub shorten_dead : ShortenKeepsDead
+shorten_dead g block at link part to rules can other place r has l stays gone live = gone (shorten_live g block at link part to rules can other place r has l stays live)
+
+pub restrict_dead : RestrictKeepsDead
+restrict_dead g keep held rules closed other place r has l stays gone live = gone (restrict_live g keep held rules closed other place r stays l live)

@@ -1,15 +1,17 @@
 -- What is dead at a place that stays is dead there when a graph is changed by one of the operations.
-use Rattle.std.specs.Prelude.{◌≡◌, ◌≢◌, ℕ, ◌≤◌, length, Some}
+use Rattle.std.specs.Prelude.{◌≡◌, ◌≢◌, ℕ, Bool, true, ◌+◌, ◌≤◌, length, [], Some, slice_get}
 use Rattle.sq_isa.specs.declared.instructions.Cond.{Cond}
+use Rattle.sq_graph.specs.declared.item.Item.TheVariants.{Hi}
 use Rattle.sq_graph.specs.declared.item.Term.TheVariants.{Fall, Jump, PartJump}
 use Rattle.sq_graph.specs.Graph.{Graph}
 use Rattle.sq_graph.specs.Blocks.{HasBlock, items_of, next_of, term_of}
 use Rattle.sq_graph.specs.Rules.{IsGraph}
-use Rattle.sq_graph.specs.Operations.{with_term}
+use Rattle.sq_graph.specs.Operations.{with_term, replaced}
 use Rattle.sq_graph.specs.Lines.{place_lines}
 use Rattle.sq_graph.specs.Walks.{IsLive}
 use Rattle.sq_patch.specs.LoneJumps.{IsPassable, without_jump, IsJumpedOver, inverted_over}
-use Rattle.sq_patch.specs.Operations.{hastened}
+use Rattle.sq_patch.specs.Restrictions.{restricted, IsClosed}
+use Rattle.sq_patch.specs.Operations.{hastened, IsShortable, shortened}
 
 -- What is dead at a place of the first graph is dead at that place of the second, where the place stays.
 abbrev pub KeepsDead : Graph → Graph → (ℕ → ℕ → Type 0) → Type 0
@@ -36,6 +38,15 @@ FallKeepsDead = (g : Graph) (block n : ℕ) → IsGraph g → term_of g block �
 abbrev pub HastenKeepsDead : Type 0
 HastenKeepsDead = (g : Graph) (block link part to : ℕ) → IsGraph g → term_of g block ≡ Some (PartJump link part to) → KeepsDead g (with_term g block (hastened link to)) Anywhere
 
+-- An upper half goes whose register is dead behind it.
+abbrev pub DropKeepsDead : Type 0
+DropKeepsDead =
+    (g : Graph) (block at rd to : ℕ) → IsGraph g → slice_get (items_of g block) at ≡ Some (Hi rd to) → ¬ IsLive g rd (place_lines g block (at + 1)) → KeepsDead g (replaced g block at 1 []) (UpTo block at)
+
+-- A jump by an upper half becomes one of a single word, and the half goes.
+abbrev pub ShortenKeepsDead : Type 0
+ShortenKeepsDead = (g : Graph) (block at link part to : ℕ) → IsGraph g → IsShortable g block at link part to → KeepsDead g (shortened g block at link to) (UpTo block at)
+
 -- A lone Jump gives its name to its target, and goes.
 abbrev pub JumpGoesKeepsDead : Type 0
 JumpGoesKeepsDead = (g : Graph) (block to : ℕ) → IsGraph g → IsPassable g block to → KeepsDead g (without_jump g block to) (Elsewhere block)
@@ -44,3 +55,7 @@ JumpGoesKeepsDead = (g : Graph) (block to : ℕ) → IsGraph g → IsPassable g 
 abbrev pub InvertKeepsDead : Type 0
 InvertKeepsDead =
     (g : Graph) (block : ℕ) (cond : Cond) (a b over behind to : ℕ) → IsGraph g → IsJumpedOver g block cond a b over behind to → KeepsDead g (inverted_over g block cond a b over to) (Elsewhere over)
+
+-- The blocks of a closed set stay alone, with the procedures that these call.
+abbrev pub RestrictKeepsDead : Type 0
+RestrictKeepsDead = (g : Graph) (keep held : ℕ → Bool) → IsGraph g → IsClosed g keep held → KeepsDead g (restricted keep held g) (λ block place. keep block ≡ true)
