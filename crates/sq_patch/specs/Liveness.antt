@@ -1,15 +1,20 @@
 -- What is dead at a place that stays is dead there when a graph is changed by one of the operations.
-use Rattle.std.specs.Prelude.{◌≡◌, ◌≢◌, ℕ, Bool, true, ◌+◌, ◌≤◌, length, [], Some, slice_get}
+use Rattle.std.specs.Prelude.{◌≡◌, ◌≢◌, ℕ, Bool, true, ◌+◌, ◌≤◌, length, List, [], Some, slice_get}
+use Rattle.std.specs.List.{Contains}
 use Rattle.sq_isa.specs.declared.instructions.Cond.{Cond}
-use Rattle.sq_graph.specs.declared.item.Item.TheVariants.{Hi}
+use Rattle.sq_graph.specs.declared.item.Item.TheVariants.{Hi, Out}
 use Rattle.sq_graph.specs.declared.item.Term.TheVariants.{Fall, Jump, PartJump}
-use Rattle.sq_graph.specs.Graph.{Graph}
+use Rattle.sq_graph.specs.Graph.{Block, Graph}
 use Rattle.sq_graph.specs.Blocks.{HasBlock, items_of, next_of, term_of}
 use Rattle.sq_graph.specs.Rules.{IsGraph}
-use Rattle.sq_graph.specs.Operations.{with_term, replaced}
+use Rattle.sq_graph.specs.Operations.{IsNew, with_term, replaced, split_at, inlined, inserted_after, redirected_calls, without_procedure}
 use Rattle.sq_graph.specs.Lines.{place_lines}
 use Rattle.sq_graph.specs.Walks.{IsLive}
-use Rattle.sq_patch.specs.LoneJumps.{IsPassable, without_jump, IsJumpedOver, inverted_over}
+use Rattle.sq_graph.specs.Soundness.{IsSound}
+use Rattle.sq_graph.specs.Uses.{calls}
+use Rattle.sq_patch.specs.LoneJumps.{IsPassable, without_jump, IsJumpedOver, inverted_over, IsOverJump, exchanged}
+use Rattle.sq_patch.specs.Inserts.{AreReordered}
+use Rattle.sq_patch.specs.Recalls.{AreEqual}
 use Rattle.sq_patch.specs.Restrictions.{restricted, IsClosed}
 use Rattle.sq_patch.specs.Operations.{hastened, IsShortable, shortened}
 
@@ -59,3 +64,36 @@ InvertKeepsDead =
 -- The blocks of a closed set stay alone, with the procedures that these call.
 abbrev pub RestrictKeepsDead : Type 0
 RestrictKeepsDead = (g : Graph) (keep held : ℕ → Bool) → IsGraph g → IsClosed g keep held → KeepsDead g (restricted keep held g) (λ block place. keep block ≡ true)
+
+-- A block is split. What is dead at a place of its second half is dead at that of the new block.
+abbrev pub SplitKeepsDead : Type 0
+SplitKeepsDead = (g : Graph) (new block at : ℕ) → IsGraph g → IsNew g new → HasBlock g block → KeepsDead g (split_at g new block at) (UpTo block at)
+
+abbrev pub SplitMovesDead : Type 0
+SplitMovesDead =
+    (g : Graph) (new block at : ℕ) → IsGraph g → IsNew g new → HasBlock g block → (place r : ℕ) → at + place ≤ length (items_of g block) → ¬ IsLive g r (place_lines g block (at + place)) → ¬ IsLive (split_at g new block at) r (place_lines (split_at g new block at) new place)
+
+-- The body of a procedure stands in place of a call of it, in a sound graph.
+abbrev pub InlineKeepsDead : Type 0
+InlineKeepsDead = (g : Graph) (block at procedure : ℕ) → IsGraph g → IsSound g → slice_get (items_of g block) at ≡ Some (Out procedure) → KeepsDead g (inlined g block at) (UpTo block at)
+
+-- A procedure is called in place of an equal one.
+abbrev pub RecallKeepsDead : Type 0
+RecallKeepsDead = (g : Graph) (from to : ℕ) → IsGraph g → AreEqual g from to → KeepsDead g (redirected_calls g from to) Anywhere
+
+-- A procedure goes that nothing calls.
+abbrev pub UncalledGoesKeepsDead : Type 0
+UncalledGoesKeepsDead = (g : Graph) (procedure : ℕ) → IsGraph g → ¬ Contains (calls g) procedure → KeepsDead g (without_procedure g procedure) Anywhere
+
+-- A lone Jump to the next slot comes behind a block.
+abbrev pub InsertKeepsDead : Type 0
+InsertKeepsDead = (g : Graph) (new block next : ℕ) → IsGraph g → IsNew g new → HasBlock g block → next_of g block ≡ Some next → KeepsDead g (inserted_after g new block (Jump next)) Anywhere
+
+-- A Branch and the lone Jump behind it exchange their targets.
+abbrev pub ExchangeKeepsDead : Type 0
+ExchangeKeepsDead =
+    (g : Graph) (block : ℕ) (cond : Cond) (a b over away to : ℕ) → IsGraph g → IsOverJump g block cond a b over away to → KeepsDead g (exchanged g block cond a b over away to) (Elsewhere over)
+
+-- The blocks stand in an order in which each that goes on keeps its next slot.
+abbrev pub ReorderKeepsDead : Type 0
+ReorderKeepsDead = (g : Graph) (blocks : List Block) → IsGraph g → AreReordered g blocks → KeepsDead g (record g { blocks = blocks }) Anywhere

@@ -1,14 +1,22 @@
 //! Registers that are dead stay dead under the operations.
 
-ghost use Rattle.sq_patch.specs.Liveness.{FallKeepsDead, HastenKeepsDead, DropKeepsDead, ShortenKeepsDead, RestrictKeepsDead, JumpGoesKeepsDead, InvertKeepsDead};
+ghost use Rattle.sq_patch.specs.Liveness.{FallKeepsDead, JumpGoesKeepsDead, InvertKeepsDead, ShortenKeepsDead, HastenKeepsDead, DropKeepsDead, RestrictKeepsDead, SplitKeepsDead, SplitMovesDead, InlineKeepsDead, RecallKeepsDead, UncalledGoesKeepsDead, InsertKeepsDead, ExchangeKeepsDead, ReorderKeepsDead};
 
-/// Registers that are dead at a place stay dead there, for each of these operations and each place that it leaves.
+/// Registers that are dead at a place are dead there still, for each of these operations and each place that it leaves.
 pub fn operations_keep_dead()
     ensures fall { FallKeepsDead }
-    ensures hasten { HastenKeepsDead }
-    ensures drop { DropKeepsDead }
-    ensures shorten { ShortenKeepsDead }
-    ensures restrict { RestrictKeepsDead }
     ensures jump_goes { JumpGoesKeepsDead }
     ensures invert { InvertKeepsDead }
+    ensures shorten { ShortenKeepsDead }
+    ensures hasten { HastenKeepsDead }
+    ensures drop { DropKeepsDead }
+    ensures restrict { RestrictKeepsDead }
+    ensures split { SplitKeepsDead }
+    ensures split_moves { SplitMovesDead }
+    ensures inline { InlineKeepsDead }
+    ensures recall { RecallKeepsDead }
+    ensures uncalled_goes { UncalledGoesKeepsDead }
+    ensures insert { InsertKeepsDead }
+    ensures exchange { ExchangeKeepsDead }
+    ensures reorder { ReorderKeepsDead }
 {}
