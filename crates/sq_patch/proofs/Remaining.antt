@@ -34,21 +34,24 @@ module _ (C : Change) (number : ℕ → ℕ) where
   items_at (suc place) [] xs ys each l p = absurd (omega (arith, l))
   items_at (suc place) (item ∷ items) xs ys each l p = items_at place items xs ys (later_items C number (ItemGoes C number) item items each) (omega (arith, l)) p
 
-  choose_at : (t : Bool) (place : ℕ) (xs ys us vs : List Line) → (t ≡ true → Alike C true None (drop place xs) (drop place us)) → Alike C true None (drop place ys) (drop place vs) → Alike C true None (drop place (if t then xs else ys)) (drop place (if t then us else vs))
+  choose_at : (t : Bool) (place : ℕ) (xs ys us vs : List Line) → (t ≡ true → Alike C true None (drop place xs) (drop place us)) → (t ≡ false → Alike C true None (drop place ys) (drop place vs)) → Alike C true None (drop place (if t then xs else ys)) (drop place (if t then us else vs))
   choose_at true place xs ys us vs p q = p refl
-  choose_at false place xs ys us vs p q = q
+  choose_at false place xs ys us vs p q = q refl
 
   pub nothing_at : (n place : ℕ) → AlikeAt n place [] []
   nothing_at n zero = ends
   nothing_at n (suc place) = ends
 
   -- a block in place of one of its name
-  pub first_at : (n place : ℕ) (x y : Block) (bs cs : List Block) → y.name ≡ x.name → ((x.name == n) ≡ true → Alike C true None (drop place (body_lines x (lines_of bs))) (drop place (body_lines y (lines_of cs)))) → AlikeAt n place bs cs → AlikeAt n place (x ∷ bs) (y ∷ cs)
-  first_at n place x y bs cs name p q =
+  pub first_or_later_at : (n place : ℕ) (x y : Block) (bs cs : List Block) → y.name ≡ x.name → ((x.name == n) ≡ true → Alike C true None (drop place (body_lines x (lines_of bs))) (drop place (body_lines y (lines_of cs)))) → ((x.name == n) ≡ false → AlikeAt n place bs cs) → AlikeAt n place (x ∷ bs) (y ∷ cs)
+  first_or_later_at n place x y bs cs name p q =
       subst (λ m. Alike C true None (drop place (behind_name n (lines_of (x ∷ bs)))) (drop place (if m == n then body_lines y (lines_of cs) else behind_name n (body_lines y (lines_of cs))))) (sym name)
       (choose_at (x.name == n) place (body_lines x (lines_of bs)) (behind_name n (body_lines x (lines_of bs))) (body_lines y (lines_of cs)) (behind_name n (body_lines y (lines_of cs))) p
-      (subst (λ xs. Alike C true None (drop place xs) (drop place (behind_name n (body_lines y (lines_of cs))))) (sym (body_unnamed n x (lines_of bs)))
-      (subst (λ ys. Alike C true None (drop place (behind_name n (lines_of bs))) (drop place ys)) (sym (body_unnamed n y (lines_of cs))) q)))
+      (λ t. subst (λ xs. Alike C true None (drop place xs) (drop place (behind_name n (body_lines y (lines_of cs))))) (sym (body_unnamed n x (lines_of bs)))
+      (subst (λ ys. Alike C true None (drop place (behind_name n (lines_of bs))) (drop place ys)) (sym (body_unnamed n y (lines_of cs))) (q t))))
+
+  pub first_at : (n place : ℕ) (x y : Block) (bs cs : List Block) → y.name ≡ x.name → ((x.name == n) ≡ true → Alike C true None (drop place (body_lines x (lines_of bs))) (drop place (body_lines y (lines_of cs)))) → AlikeAt n place bs cs → AlikeAt n place (x ∷ bs) (y ∷ cs)
+  first_at n place x y bs cs name p q = first_or_later_at n place x y bs cs name p (λ t. q)
 
   -- a block that stays
   pub stays_at : (n place : ℕ) (x y : Block) (bs cs : List Block) → y ≡ carried_block C number x → BlockGoes C number x (lines_of bs) (lines_of cs) → ((x.name == n) ≡ true → place ≤ length x.items) → (falls x.term ≡ true → Alike C true None (lines_of bs) (lines_of cs)) → AlikeAt n place bs cs → AlikeAt n place (x ∷ bs) (y ∷ cs)

@@ -1,6 +1,7 @@
 -- What is dead at a place that stays is dead there when a graph is changed by one of the operations.
-use Rattle.sq_patch.specs.Liveness.{FallKeepsDead, HastenKeepsDead, DropKeepsDead, ShortenKeepsDead, RestrictKeepsDead, JumpGoesKeepsDead, InvertKeepsDead, SplitKeepsDead, SplitMovesDead, InlineKeepsDead, RecallKeepsDead, UncalledGoesKeepsDead, InsertKeepsDead, ExchangeKeepsDead, ReorderKeepsDead}
+use Rattle.sq_patch.specs.Liveness.{FallKeepsDead, HastenKeepsDead, DropKeepsDead, ShortenKeepsDead, RestrictKeepsDead, JumpGoesKeepsDead, InvertKeepsDead, SplitKeepsDead, SplitMovesDead, CanonicalKeepsDead, InlineKeepsDead, RecallKeepsDead, UncalledGoesKeepsDead, InsertKeepsDead, ExchangeKeepsDead, ReorderKeepsDead}
 use Rattle.sq_patch.proofs.OneBlock.{fall_live, hasten_place, drop_live, inline_live, split_live, split_moves}
+use Rattle.sq_patch.proofs.Joining.{canonical_live}
 use Rattle.sq_patch.proofs.Recalling.{recall_live, uncalled_goes_live}
 use Rattle.sq_patch.proofs.Inserting.{insert_live}
 use Rattle.sq_patch.proofs.Exchanging.{exchange_live}
@@ -54,3 +55,6 @@ exchange_dead g block cond a b over away to rules over_jump other place r has l 
 
 pub reorder_dead : ReorderKeepsDead
 reorder_dead g blocks rules order other place r has l stays gone live = gone (reorder_live g blocks rules order other place r has l live)
+
+pub canonical_dead : CanonicalKeepsDead
+canonical_dead g rules other place r has l stays gone live = gone (canonical_live g rules other place r has stays l live)

@@ -8,6 +8,7 @@ use Rattle.sq_graph.specs.Graph.{Block, Graph}
 use Rattle.sq_graph.specs.Blocks.{HasBlock, items_of, next_of, term_of}
 use Rattle.sq_graph.specs.Rules.{IsGraph}
 use Rattle.sq_graph.specs.Operations.{IsNew, with_term, replaced, split_at, inlined, inserted_after, redirected_calls, without_procedure}
+use Rattle.sq_graph.specs.Canonical.{canonical_of}
 use Rattle.sq_graph.specs.Lines.{place_lines}
 use Rattle.sq_graph.specs.Walks.{IsLive}
 use Rattle.sq_graph.specs.Soundness.{IsSound}
@@ -97,3 +98,7 @@ ExchangeKeepsDead =
 -- The blocks stand in an order in which each that goes on keeps its next slot.
 abbrev pub ReorderKeepsDead : Type 0
 ReorderKeepsDead = (g : Graph) (blocks : List Block) → IsGraph g → AreReordered g blocks → KeepsDead g (record g { blocks = blocks }) Anywhere
+
+-- Blocks that are empty with Fall go, and others are joined to those before.
+abbrev pub CanonicalKeepsDead : Type 0
+CanonicalKeepsDead = (g : Graph) → IsGraph g → KeepsDead g (canonical_of g) (λ block place. HasBlock (canonical_of g) block)

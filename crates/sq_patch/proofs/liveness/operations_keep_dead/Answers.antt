@@ -1,4 +1,4 @@
-use Rattle.sq_patch.proofs.StayingDead.{fall_dead, jump_goes_dead, invert_dead, shorten_dead, hasten_dead, drop_dead, restrict_dead, split_dead, split_moves_dead, inline_dead, recall_dead, uncalled_goes_dead, insert_dead, exchange_dead, reorder_dead}
+use Rattle.sq_patch.proofs.StayingDead.{fall_dead, jump_goes_dead, invert_dead, shorten_dead, hasten_dead, drop_dead, restrict_dead, split_dead, split_moves_dead, canonical_dead, inline_dead, recall_dead, uncalled_goes_dead, insert_dead, exchange_dead, reorder_dead}
 use Rattle.sq_patch.proofs.liveness.operations_keep_dead.Goals as goal
 
 pub returns-clause-fall : goal.returns-clause-fall
@@ -27,6 +27,9 @@ returns-clause-split c = split_dead
 
 pub returns-clause-split_moves : goal.returns-clause-split_moves
 returns-clause-split_moves c = split_moves_dead
+
+pub returns-clause-canonical : goal.returns-clause-canonical
+returns-clause-canonical c = canonical_dead
 
 pub returns-clause-inline : goal.returns-clause-inline
 returns-clause-inline c = inline_dead
