@@ -21,6 +21,7 @@ mod Carrying
 mod Layouts
 pub mod Restricting
 mod Standing
+mod Remaining
 pub mod Passing
 mod Relating
 mod Placing
@@ -46,3 +47,4 @@ pub mod Shortening
 mod Bypassing
 pub mod Joining
 pub mod Renaming
+pub mod StayingDead

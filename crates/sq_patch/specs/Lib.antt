@@ -11,3 +11,4 @@ pub mod Bodies
 pub mod Recalls
 pub mod Inserts
 pub mod Savings
+pub mod Liveness

@@ -7,6 +7,8 @@
 //! names, other orders, and the canonical form. It says how many words they save.
 #![tactic(auto)]
 
+mod liveness;
+
 ghost use Rattle.sq_patch.specs.LiveAgreement.{StepsAgree, PlacesMakeTargets};
 ghost use Rattle.sq_patch.specs.Restrictions.{RestrictFollows, RestrictIsSound, ReachedAreClosed};
 ghost use Rattle.sq_patch.specs.LoneJumps.{JumpGoesFollows, JumpGoesIsSound, InvertFollows, InvertIsSound, ExchangeFollows, ExchangeIsSound};
@@ -17,6 +19,8 @@ ghost use Rattle.sq_patch.specs.Bodies.{BodyFollows, BodyIsSound};
 ghost use Rattle.sq_patch.specs.Recalls.{RecallFollows, RecallIsSound, UncalledGoesFollows, UncalledGoesIsSound};
 ghost use Rattle.sq_patch.specs.Savings.{SaveWords};
 ghost use Rattle.sq_patch.specs.Inserts.{InsertFollows, InsertIsSound, ReorderFollows, ReorderIsSound};
+
+pub use liveness::operations_keep_dead;
 
 /// From states that agree on what is live, a graph steps to such states again, with the same event or to the
 /// same end.
