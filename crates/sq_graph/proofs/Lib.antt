@@ -42,3 +42,6 @@ pub mod CanonicalReach
 pub mod Renamed
 pub mod AlikeGraphs
 pub mod AlikeCanonical
+pub mod RenamedLives
+pub mod RenamedReach
+pub mod RenamedSound
