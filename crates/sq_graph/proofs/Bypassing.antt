@@ -24,14 +24,14 @@ use Rattle.sq_graph.proofs.Changes.{with_blocks-at}
 use Rattle.sq_graph.proofs.Held.{same_graph}
 
 module _ (f h : ℕ → ℕ) where
-  items_twice : (is : List Item) → retargeted_items h (retargeted_items f is) ≡ retargeted_items (λ n. h (f n)) is
+  pub items_twice : (is : List Item) → retargeted_items h (retargeted_items f is) ≡ retargeted_items (λ n. h (f n)) is
   items_twice [] = refl
   items_twice (Op insn ∷ is) = ap (λ js. Op insn ∷ js) (items_twice is)
   items_twice (Hi rd to ∷ is) = ap (λ js. Hi rd (h (f to)) ∷ js) (items_twice is)
   items_twice (Lo rd rs to ∷ is) = ap (λ js. Lo rd rs (h (f to)) ∷ js) (items_twice is)
   items_twice (Out p ∷ is) = ap (λ js. Out p ∷ js) (items_twice is)
 
-  term_twice : (t : Term) → retargeted_term h (retargeted_term f t) ≡ retargeted_term (λ n. h (f n)) t
+  pub term_twice : (t : Term) → retargeted_term h (retargeted_term f t) ≡ retargeted_term (λ n. h (f n)) t
   term_twice Fall = refl
   term_twice (Jump to) = refl
   term_twice (Branch c a b to) = refl
@@ -51,11 +51,11 @@ module _ (f h : ℕ → ℕ) where
       ap (λ c. c ∷ map (retargeted_block h) (map (retargeted_block f) bs)) (block_twice b)
       ∙ ap (λ cs. retargeted_block (λ n. h (f n)) b ∷ cs) (blocks_twice bs)
 
-  words_twice : (ws : List CodeRef) → retargeted_words h (retargeted_words f ws) ≡ retargeted_words (λ n. h (f n)) ws
+  pub words_twice : (ws : List CodeRef) → retargeted_words h (retargeted_words f ws) ≡ retargeted_words (λ n. h (f n)) ws
   words_twice [] = refl
   words_twice (w ∷ ws) = ap (λ us. record w { block = h (f w.block) } ∷ us) (words_twice ws)
 
-  procedures_twice : (ps : List Procedure) → map (retargeted_procedure h) (map (retargeted_procedure f) ps) ≡ map (retargeted_procedure (λ n. h (f n))) ps
+  pub procedures_twice : (ps : List Procedure) → map (retargeted_procedure h) (map (retargeted_procedure f) ps) ≡ map (retargeted_procedure (λ n. h (f n))) ps
   procedures_twice [] = refl
   procedures_twice (p ∷ ps) =
       ap (λ is. record { link = p.link; body = is } ∷ map (retargeted_procedure h) (map (retargeted_procedure f) ps)) (items_twice p.body)

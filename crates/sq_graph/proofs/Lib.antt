@@ -40,3 +40,9 @@ pub mod Kept
 pub mod Joined
 pub mod CanonicalLaws
 pub mod CanonicalReach
+pub mod Renamed
+pub mod AlikeGraphs
+pub mod AlikeCanonical
+pub mod RenamedLives
+pub mod RenamedReach
+pub mod RenamedSound

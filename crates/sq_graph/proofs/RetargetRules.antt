@@ -103,7 +103,7 @@ module _ (f : ℕ → ℕ) (nm : Block → ℕ) where
   mentions-other (Lo rd rs to) r = refl
   mentions-other (Out p) r = refl
 
-  goes_on-other : (t : Term) → goes_on (retargeted_term f t) ≡ goes_on t
+  pub goes_on-other : (t : Term) → goes_on (retargeted_term f t) ≡ goes_on t
   goes_on-other Fall = refl
   goes_on-other (Jump to) = refl
   goes_on-other (Branch c a b to) = refl
@@ -117,7 +117,7 @@ module _ (f : ℕ → ℕ) (nm : Block → ℕ) where
   ends-other (b ∷ []) = goes_on-other b.term
   ends-other (b ∷ next ∷ bs) = ends-other (next ∷ bs)
 
-  addresses-other : (ws : List CodeRef) → map (λ w. w.at) (retargeted_words f ws) ≡ map (λ w. w.at) ws
+  pub addresses-other : (ws : List CodeRef) → map (λ w. w.at) (retargeted_words f ws) ≡ map (λ w. w.at) ws
   addresses-other [] = refl
   addresses-other (w ∷ ws) = ap (λ ats. w.at ∷ ats) (addresses-other ws)
 

@@ -4,6 +4,7 @@ ghost use Rattle.std.specs.Prelude.{◌≡◌};
 ghost use Rattle.sq_graph.specs.Graph.{Graph};
 ghost use Rattle.sq_graph.specs.Rules.{IsGraph};
 ghost use Rattle.sq_graph.specs.Leaders.{IsCanonical};
+ghost use Rattle.sq_graph.specs.Alike.{AreAlike};
 ghost use Rattle.sq_graph.specs.Canonical.{canonical_of};
 ghost use Rattle.sq_graph.specs.Places.{IsInReach};
 
@@ -12,4 +13,15 @@ ghost use Rattle.sq_graph.specs.Places.{IsInReach};
 pub fn canonical_laws()
     ensures again { (g : Graph) → IsCanonical g → canonical_of g ≡ g }
     ensures in_reach { (g : Graph) → IsGraph g → IsInReach g → IsInReach (canonical_of g) }
+{}
+
+/// That graphs differ in the names of their blocks alone goes back and through, and they keep the rules alike; then their
+/// canonical graphs differ in these names alone too.
+#[tactic(auto, using(crate::proofs::AlikeGraphs::alike_itself, crate::proofs::AlikeGraphs::alike_back, crate::proofs::AlikeGraphs::alike_through, crate::proofs::AlikeCanonical::alike_canonical))]
+pub fn alike_laws()
+    ensures itself { (g : Graph) → AreAlike g g }
+    ensures back { (g h : Graph) → IsGraph g → AreAlike g h → AreAlike h g }
+    ensures through { (g h k : Graph) → AreAlike g h → AreAlike h k → AreAlike g k }
+    ensures rules { (g h : Graph) → IsGraph g → AreAlike g h → IsGraph h }
+    ensures canonical { (g h : Graph) → IsGraph g → AreAlike g h → AreAlike (canonical_of g) (canonical_of h) }
 {}
