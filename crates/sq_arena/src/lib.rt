@@ -13,8 +13,6 @@ ghost use Rattle.sq_arena.specs.Entries.{HasDistinctKeys, value_of, ContainsKey,
 
 mod links;
 mod memory;
-#[cfg(test)]
-mod tests;
 
 use links::Links;
 pub use memory::ArenaMemory;

@@ -3,6 +3,7 @@ pub mod SlotReads
 pub mod BodyReads
 pub mod Sizes
 pub mod Held
+mod MatchExamples
 pub mod Eachs
 pub mod Mapped
 pub mod CursorLaws
@@ -42,3 +43,6 @@ pub mod CanonicalReach
 pub mod Renamed
 pub mod AlikeGraphs
 pub mod AlikeCanonical
+pub mod RenamedLives
+pub mod RenamedReach
+pub mod RenamedSound

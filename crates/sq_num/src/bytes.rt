@@ -60,11 +60,4 @@ impl Bytes {
     {
         self.held.as_slice()
     }
-
-    /// The bytes as a vector. It takes no memory.
-    pub fn into_vec(self) -> Vec<u8>
-        ensures { result.items ≡ self }
-    {
-        self.held
-    }
 }

@@ -11,8 +11,6 @@ mod boxed;
 mod cut;
 mod pass;
 mod rewrite;
-#[cfg(test)]
-mod tests;
 
 pub use blocks::Blocks;
 pub use cut::{Cut, Row};

@@ -1,6 +1,6 @@
 -- A graph in which every block that is empty with Fall is bypassed follows it.
-use Rattle.std.proofs.Common.{◌≡◌, ℕ, zero, suc, ◌<◌, ◌⊎◌, ◌==◌, if◌then◌else◌, arith, Bool, true, false, not, List, [], ◌∷◌, ◌++◌, Some, None, IsSome, map, refl, sym, ap, ◌∙◌, subst, inl, inr}
-use Rattle.std.proofs.lemmas.Bool.{cases_Bool, eq-eqb}
+use Rattle.std.proofs.Common.{◌≡◌, ℕ, zero, suc, ◌<◌, ◌≤◌, drop, length, Option, ◌⊎◌, ◌==◌, if◌then◌else◌, arith, Bool, true, false, not, List, [], ◌∷◌, ◌++◌, Some, None, IsSome, map, refl, sym, ap, ◌∙◌, subst, inl, inr}
+use Rattle.std.proofs.lemmas.Bool.{cases_Bool, eq-eqb, eqb-true}
 use Rattle.std.proofs.lemmas.List.{map-append}
 use Rattle.std.proofs.lemmas.List.Elements.{filter-append, Contains-append_left, Contains-append_right, Contains-append_cases}
 use Rattle.std.specs.List.{Contains}
@@ -9,32 +9,34 @@ use Rattle.sq_arena.proofs.EntriesLaws.{distinct_back}
 use Rattle.sq_graph.specs.declared.item.Term.{Term}
 use Rattle.sq_graph.specs.declared.item.Term.TheVariants.{Fall, Jump, Branch, Call, PartJump, Indirect, Stop}
 use Rattle.sq_graph.specs.Graph.{Block, Graph}
-use Rattle.sq_graph.specs.Blocks.{named, HasBlock, items_of_blocks}
+use Rattle.sq_graph.specs.Blocks.{named, HasBlock, block_of, block_items, items_of, items_of_blocks}
 use Rattle.sq_graph.specs.Uses.{uses}
 use Rattle.sq_graph.specs.Rules.{IsGraph, last_goes_on}
 use Rattle.sq_graph.specs.Terms.{links}
 use Rattle.sq_graph.specs.Renames.{retargeted_item, retargeted_items, retargeted_term, retargeted_block}
 use Rattle.sq_graph.specs.Leaders.{is_fall, is_bare}
 use Rattle.sq_graph.specs.Bypasses.{kept, passed, all_bypassed}
-use Rattle.sq_graph.specs.Lines.{Line, line_of, term_lines, body_lines, lines_of, behind_name, slot_name, block_lines}
-use Rattle.sq_graph.specs.Walks.{first_name, link_names}
+use Rattle.sq_graph.specs.Lines.{Line, line_of, term_lines, body_lines, lines_of, behind_name, slot_name, block_lines, place_lines}
+use Rattle.sq_graph.specs.Walks.{IsLive, first_name, link_names}
 use Rattle.sq_graph.specs.Soundness.{LinksDieIn, IsSound}
 use Rattle.sq_graph.proofs.MapWrites.{items_of_bodies-mapped}
 use Rattle.sq_graph.proofs.RetargetRules.{items_of_blocks-other}
 use Rattle.sq_graph.proofs.Located.{located}
 use Rattle.sq_graph.proofs.SplitRules.{last_goes_on-append}
-use Rattle.sq_graph.proofs.Bypassing.{falls_on, bare_falls, bare_items, passed-bare, passed-kept, passed-behind}
+use Rattle.sq_graph.proofs.Bypassing.{falls_on, bare_falls, bare_items, passed-bare, passed-kept, passed-behind, absent-other}
 use Rattle.sq_graph.proofs.Kept.{absent_behind, has_name-cons, items_of_blocks-kept}
 use Rattle.sq_graph.proofs.CanonicalLaws.{all_bypassed_is_graph}
 use Rattle.sq_follow.specs.Follows.{Follows}
 use Rattle.sq_patch.specs.LiveAgreement.{MakeTargets}
 use Rattle.sq_patch.specs.Changes.{Change, Alike, ends, name_before, name_after}
 use Rattle.sq_patch.proofs.LiveTargets.{lines_make}
-use Rattle.sq_patch.proofs.Places.{absent_from, found_at, name_at, named_split}
+use Rattle.sq_patch.proofs.Places.{absent_from, found_at, name_at, named_split, other_name}
 use Rattle.sq_patch.proofs.Changing.{ahead, in_tail, tail_made}
-use Rattle.sq_patch.proofs.Moving.{M, SlotMoves, move_body, moved_follows, procedure_moved}
+use Rattle.sq_patch.proofs.Moving.{M, SlotMoves, move_body, body_at, moved_follows, procedure_moved}
 use Rattle.sq_patch.proofs.Dying.{Backs, backs, links-moved, body_rest, body_dies, moved_sound}
-use Rattle.sq_patch.proofs.Used.{contains_first, from_all}
+use Rattle.sq_patch.proofs.Carrying.{same_some}
+use Rattle.sq_patch.proofs.Remaining.{AlikeAt, fits_at, nothing_at, gone_at, first_at, live_at}
+use Rattle.sq_patch.proofs.Used.{contains_first, from_all, none_is_none}
 
 -- a Fall is no line
 pub fall_lines : (t : Term) (rest : List Line) → is_fall t ≡ true → term_lines t rest ≡ rest
@@ -53,6 +55,54 @@ bare_lines b rest bare =
 
 items_of_blocks-moved : (f : ℕ → ℕ) (bs : List Block) → items_of_blocks (map (retargeted_block f) bs) ≡ retargeted_items f (items_of_blocks bs)
 items_of_blocks-moved f bs = items_of_blocks-other f (λ b. b.name) bs
+
+absent-kept : (bs : List Block) (n : ℕ) → value_of (named bs) n ≡ None → value_of (named (kept bs)) n ≡ None
+absent-kept [] n e = refl
+absent-kept (x ∷ bs) n e =
+    let o = other_name (x.name == n) x (value_of (named bs) n) e in
+    elim (cases_Bool (is_bare x)) [
+      | inl bare ↦ rw bare (absent-kept bs n o.1)
+      | inr solid ↦ rw solid (rw o.0 (absent-kept bs n o.1))
+    ]
+
+-- a block that is left is not empty with Fall
+left_solid : (f : ℕ → ℕ) (bs : List Block) (n : ℕ) (b : Block) → HasDistinctKeys (named bs) → value_of (named bs) n ≡ Some b → IsSome (value_of (named (map (retargeted_block f) (kept bs))) n) → is_bare b ≡ false
+left_solid f [] n b d e some = absurd (cc)
+left_solid f (x ∷ bs) n b d e some =
+    elim (cases_Bool (x.name == n)) [
+      | inl here ↦
+          let is : x ≡ b = same_some x b (rw here at e) in
+          elim (cases_Bool (is_bare x)) [
+            | inl bare ↦
+                let absent : value_of (named bs) n ≡ None = subst (λ m. value_of (named bs) m ≡ None) (eqb-true x.name n here) (absent_behind (x.name, x) (named bs) d) in
+                absurd (none_is_none (value_of (named (map (retargeted_block f) (kept bs))) n) (absent-other f (kept bs) n (absent-kept bs n absent)) (rw bare at some))
+            | inr solid ↦ subst (λ c. is_bare c ≡ false) is solid
+          ]
+      | inr apart ↦
+          let later : value_of (named bs) n ≡ Some b = rw apart at e in
+          let d' = distinct_back ((x.name, x) ∷ []) (named bs) d in
+          elim (cases_Bool (is_bare x)) [
+            | inl bare ↦ left_solid f bs n b d' later (rw bare at some)
+            | inr solid ↦ left_solid f bs n b d' later (rw apart at (rw solid at some))
+          ]
+    ]
+
+-- and is there under its name
+left_found : (f : ℕ → ℕ) (bs : List Block) (n : ℕ) (b : Block) → value_of (named bs) n ≡ Some b → is_bare b ≡ false → value_of (named (map (retargeted_block f) (kept bs))) n ≡ Some (retargeted_block f b)
+left_found f [] n b e solid = absurd (cc)
+left_found f (x ∷ bs) n b e solid =
+    elim (cases_Bool (x.name == n)) [
+      | inl here ↦
+          let is : x ≡ b = same_some x b (rw here at e) in
+          let t : is_bare x ≡ false = subst (λ c. is_bare c ≡ false) (sym is) solid in
+          rw t (rw here (ap (λ c. Some (retargeted_block f c)) is))
+      | inr apart ↦
+          let later : value_of (named bs) n ≡ Some b = rw apart at e in
+          elim (cases_Bool (is_bare x)) [
+            | inl bare ↦ rw bare (left_found f bs n b later solid)
+            | inr t ↦ rw t (rw apart (left_found f bs n b later solid))
+          ]
+    ]
 
 module _ (g : Graph) (rules : IsGraph g) where
   abbrev f : ℕ → ℕ
@@ -264,3 +314,49 @@ module _ (g : Graph) (rules : IsGraph g) where
       (items_of_blocks-moved f (kept g.blocks) ∙ ap (retargeted_items f) (items_of_blocks-kept g.blocks))
       (items_of_bodies-mapped (retargeted_item f) (λ t. t) g.procedures)
       (slots [] g.blocks refl) (slot_known g.blocks) sound (die [] g.blocks refl sound.links_die)
+
+  -- PLACES of the blocks that are left
+  abbrev Solid : ℕ → Type 0
+  Solid n = (b : Block) → block_of g n ≡ Some b → is_bare b ≡ false
+
+  places : (n place : ℕ) → Solid n → place ≤ length (items_of g n) → (front bs : List Block) → front ++ bs ≡ g.blocks → AlikeAt C f n place bs (moved (kept bs))
+  places n place still l front [] e = nothing_at C f n place
+  places n place still l front (x ∷ bs) e =
+      let e' = ahead front x bs ∙ e in
+      let later = places n place still l (front ++ x ∷ []) bs e' in
+      let found : block_of g x.name ≡ Some x = subst (λ blocks. value_of (named blocks) x.name ≡ Some x) e (found_at front x bs (absent_from front x bs (distinct_at front x bs e))) in
+      elim (cases_Bool (is_bare x)) [
+        | inl bare ↦ rw bare (gone_at C f n place x bs (moved (kept bs)) (apart x found bare (cases_Bool (x.name == n))) later)
+        | inr solid ↦
+            let c : Contains g.blocks x = subst (λ blocks. Contains blocks x) e (in_tail front (x ∷ bs) x (contains_first x bs)) in
+            let m : MakeTargets g (lines_of (x ∷ bs)) = tail_made g front (x ∷ bs) (subst (λ blocks. MakeTargets g (lines_of blocks)) (sym e) (lines_make g)) in
+            rw solid
+            (first_at C f n place x (retargeted_block f x) bs (moved (kept bs)) refl
+            (λ t. body_at (HasBlock g) f g h rules used (procedure_moved f g.procedures) place x (lines_of bs) (lines_of (moved (kept bs))) c m (λ k. rest_slot (front ++ x ∷ []) bs e') (fits_at g rules n place l front x bs e t) (rest_alike (front ++ x ∷ []) bs e')) later)
+      ]
+    where
+      apart : (x : Block) → block_of g x.name ≡ Some x → is_bare x ≡ true → ((x.name == n) ≡ true) ⊎ ((x.name == n) ≡ false) → (x.name == n) ≡ false
+      apart x found bare (inl here) = let t : is_bare x ≡ false = still x (subst (λ m. block_of g m ≡ Some x) (eqb-true x.name n here) found) in cc
+      apart x found bare (inr other) = other
+
+  solid_if : (n : ℕ) → HasBlock h n → Solid n
+  solid_if n has b e = left_solid f g.blocks n b rules.distinct e has
+
+  -- no more is live at them
+  pub bypassed_live : (n place r : ℕ) → HasBlock h n → place ≤ length (items_of g n) → IsLive h r (place_lines h n place) → IsLive g r (place_lines g n place)
+  bypassed_live n place r has l live = live_at C f backed n place r (places n place (solid_if n has) l [] g.blocks refl) live
+
+  -- they are as many as before
+  pub bypassed_fits : (n place : ℕ) → HasBlock g n → HasBlock h n → place ≤ length (items_of g n) → place ≤ length (items_of h n)
+  bypassed_fits n place has left l = by_block (block_of g n) refl
+    where
+      as_many : (items : List _) → length (retargeted_items f items) ≡ length items
+      as_many [] = refl
+      as_many (item ∷ items) = ap suc (as_many items)
+
+      by_block : (o : Option Block) → block_of g n ≡ o → place ≤ length (items_of h n)
+      by_block None e = absurd (none_is_none (block_of g n) e has)
+      by_block (Some b) e =
+          let found : block_of h n ≡ Some (retargeted_block f b) = left_found f g.blocks n b e (solid_if n left b e) in
+          let same : length (items_of h n) ≡ length (items_of g n) = ap (λ o. length (block_items o)) found ∙ as_many b.items ∙ sym (ap (λ o. length (block_items o)) e) in
+          subst (λ k. place ≤ k) (sym same) l

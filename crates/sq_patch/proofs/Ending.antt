@@ -1,5 +1,5 @@
 -- A block with another term in a place of a graph.
-use Rattle.std.proofs.Common.{◌≡◌, ℕ, Bool, true, false, ◌==◌, if◌then◌else◌, ◌⊎◌, inl, inr, List, [], ◌∷◌, ◌++◌, None, map, refl, sym, ap, ◌∙◌, subst}
+use Rattle.std.proofs.Common.{◌≡◌, ℕ, ◌≤◌, drop, length, Bool, true, false, ◌==◌, if◌then◌else◌, ◌⊎◌, inl, inr, List, [], ◌∷◌, ◌++◌, None, map, refl, sym, ap, ◌∙◌, subst}
 use Rattle.std.proofs.lemmas.List.Elements.{Contains-append_cases}
 use Rattle.std.specs.List.{Contains, flat_map}
 use Rattle.sq_graph.specs.declared.item.Item.{Item}
@@ -16,6 +16,7 @@ use Rattle.sq_patch.proofs.Lines.{body_unnamed}
 use Rattle.sq_patch.proofs.Dying.{term_dies}
 use Rattle.sq_patch.proofs.Carrying.{AreOf, ItemGoes, carried_items, carry_items, items_die}
 use Rattle.sq_patch.proofs.Layouts.{IsHeld, Turn, choose}
+use Rattle.sq_patch.proofs.Remaining.{AlikeAt, items_at, first_at}
 use Rattle.sq_patch.proofs.Restricting.{own, block_target}
 use Rattle.sq_patch.proofs.Placing.{C as placing, block_stays, items_stay}
 
@@ -71,3 +72,10 @@ module _ (K : ℕ → Type 0) (X : List Line → ℕ → Type 0) (Z : Type 0) (g
           subst (λ (is : List Item). LinksDieIn h (map line_of is ++ term_lines t (lines_of back))) items_same
           (items_die C own backs x.items (term_lines x.term rest) (term_lines t (lines_of back)) items (ended true) die (term_dies h t (lines_of back) die'));
     }
+
+    -- and places of it
+    pub term_at : (n place : ℕ) → Alike C true None (term_lines x.term rest) (term_lines t (lines_of back)) → behind_name n rest ≡ behind_name n (lines_of back) → ((x.name == n) ≡ true → place ≤ length x.items) → AlikeAt C own n place back back → AlikeAt C own n place (x ∷ (mid ++ back)) (y ∷ back)
+    term_at n place ended skip fits q =
+        first_at C own n place x y (mid ++ back) back refl
+        (λ e. subst (λ is. Alike C true None (drop place (body_lines x rest)) (drop place (map line_of is ++ term_lines t (lines_of back)))) items_same (items_at C own place x.items (term_lines x.term rest) (term_lines t (lines_of back)) items (fits e) ended))
+        (subst (λ xs. Alike C true None (drop place xs) (drop place (behind_name n (lines_of back)))) (sym skip) q)

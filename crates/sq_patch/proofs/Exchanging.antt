@@ -10,17 +10,17 @@ use Rattle.sq_graph.specs.declared.item.Item.{Item}
 use Rattle.sq_graph.specs.declared.item.Term.{Term}
 use Rattle.sq_graph.specs.declared.item.Term.TheVariants.{Jump, Branch}
 use Rattle.sq_graph.specs.Graph.{Block, Graph}
-use Rattle.sq_graph.specs.Blocks.{named, block_of, block_term}
+use Rattle.sq_graph.specs.Blocks.{named, block_of, block_term, items_of}
 use Rattle.sq_graph.specs.Uses.{term_uses, uses}
 use Rattle.sq_graph.specs.Rules.{IsGraph}
 use Rattle.sq_graph.specs.Operations.{with_term}
 use Rattle.sq_graph.specs.Resolve.{lone_jump}
-use Rattle.sq_graph.specs.Lines.{Name, End, line_of, body_lines, lines_of, behind_name, term_lines, block_lines}
-use Rattle.sq_graph.specs.Walks.{lower_names, link_names, code_targets}
+use Rattle.sq_graph.specs.Lines.{Name, End, line_of, body_lines, lines_of, behind_name, term_lines, block_lines, place_lines}
+use Rattle.sq_graph.specs.Walks.{IsLive, lower_names, link_names, code_targets}
 use Rattle.sq_graph.specs.Soundness.{LinksDieIn, IsSound}
 use Rattle.sq_graph.specs.Words.{term_words, block_words, words_of}
 use Rattle.std.proofs.lemmas.List.Sums.{sum_by-cons, sum_by-append}
-use Rattle.std.proofs.Common.{arith, sum_by}
+use Rattle.std.proofs.Common.{arith, sum_by, ◌≤◌, drop, length}
 use Rattle.sq_graph.proofs.Located.{IsAt, located}
 use Rattle.sq_graph.proofs.Kept.{absent_behind}
 use Rattle.sq_follow.specs.Follows.{Follows}
@@ -37,7 +37,8 @@ use Rattle.sq_patch.proofs.Standing.{stands_at, distinct_at, block_at, there_by_
 use Rattle.sq_patch.proofs.Passing.{lone_block, lone_lines}
 use Rattle.sq_patch.proofs.Moving.{term_use}
 use Rattle.sq_patch.proofs.Used.{contains_first}
-use Rattle.sq_patch.proofs.Placing.{C as placing, items_stay, placed_follows, placed_sound}
+use Rattle.sq_patch.proofs.Placing.{C as placing, items_stay, placed_follows, placed_sound, placed_place}
+use Rattle.sq_patch.proofs.Remaining.{AlikeAt, fits_at, items_at, first_at}
 use Rattle.sq_patch.proofs.Ending.{all_of}
 use Rattle.sq_patch.proofs.Replacing.{own_items}
 use Rattle.sq_patch.proofs.Inverting.{neither, no_slot_at, first_is, branch_unlinked, same_names, placed_by}
@@ -227,3 +228,19 @@ module _ (g : Graph) (block : ℕ) (cond : Cond) (a b over away to : ℕ) (rules
         branch_word,
         jump_word,
       )
+
+  -- places of the block that branches, and of others
+  first_at_exchange : (k place : ℕ) → Other k → ((x.name == k) ≡ true → place ≤ length x.items) → AlikeAt C own k place back back → AlikeAt C own k place (x ∷ n ∷ back) (y ∷ m ∷ back)
+  first_at_exchange k place j fits q =
+      first_at C own k place x y (n ∷ back) (m ∷ back) refl
+      (λ t.
+      subst (λ is. Alike C true None (drop place (body_lines x (lines_of (n ∷ back)))) (drop place (map line_of is ++ (End turned ∷ lines_of (m ∷ back))))) (own_items x.items)
+      (items_at C own place x.items (term_lines x.term (lines_of (n ∷ back))) (End turned ∷ lines_of (m ∷ back)) each (fits t) (ended true)))
+      (subst (λ xs. Alike C true None (drop place xs) (drop place (behind_name k (lines_of (m ∷ back))))) (sym (passed n k back (other_than k j)))
+      (subst (λ ys. Alike C true None (drop place (behind_name k (lines_of back))) (drop place ys)) (sym (passed m k back (other_than k j))) q))
+
+  -- no more is live at a place of a block that isn't the Jump
+  pub exchange_live : (k place r : ℕ) → Other k → place ≤ length (items_of g k) → IsLive h r (place_lines h k place) → IsLive g r (place_lines g k place)
+  exchange_live k place r j l live =
+      placed_place Other all_matter (Unit {0}) g h rules known refl refl holds (x ∷ n ∷ []) (y ∷ m ∷ []) back refl turn front two after refl (every_carrier g) (λ xs r l. tt) tt k place r l
+      (first_at_exchange k place j (fits_at g rules k place l front x (n ∷ back) two)) live

@@ -1,18 +1,18 @@
 -- A graph with a lone Jump to the next slot behind a block follows it.
-use Rattle.std.proofs.Common.{◌≡◌, ◌≢◌, ℕ, zero, suc, ◌⊎◌, arith, Bool, true, false, ◌==◌, inl, inr, List, [], ◌∷◌, ◌++◌, Some, None, IsSome, refl, sym, ap, ◌∙◌, subst}
+use Rattle.std.proofs.Common.{◌≡◌, ◌≢◌, ◌≤◌, drop, length, ℕ, zero, suc, ◌⊎◌, arith, Bool, true, false, ◌==◌, inl, inr, List, [], ◌∷◌, ◌++◌, Some, None, IsSome, refl, sym, ap, ◌∙◌, subst}
 use Rattle.std.proofs.lemmas.Bool.{ne_eqb}
 use Rattle.std.proofs.lemmas.List.Elements.{All-nil, All-cons}
 use Rattle.std.specs.List.{Contains, flat_map}
 use Rattle.sq_arena.specs.Entries.{value_of, first_key, behind as entries_behind}
 use Rattle.sq_graph.specs.declared.item.Term.TheVariants.{Jump}
 use Rattle.sq_graph.specs.Graph.{Block, Graph}
-use Rattle.sq_graph.specs.Blocks.{named, HasBlock, next_of}
+use Rattle.sq_graph.specs.Blocks.{named, HasBlock, items_of, next_of}
 use Rattle.sq_graph.specs.Terms.{links}
 use Rattle.sq_graph.specs.Uses.{uses}
 use Rattle.sq_graph.specs.Rules.{IsGraph}
 use Rattle.sq_graph.specs.Operations.{IsNew, inserted_after}
-use Rattle.sq_graph.specs.Lines.{Line, End, term_lines, body_lines, lines_of, behind_name, block_lines}
-use Rattle.sq_graph.specs.Walks.{lower_names, link_names, code_targets}
+use Rattle.sq_graph.specs.Lines.{Line, End, term_lines, body_lines, lines_of, behind_name, block_lines, place_lines}
+use Rattle.sq_graph.specs.Walks.{IsLive, lower_names, link_names, code_targets}
 use Rattle.sq_graph.specs.Soundness.{LinksDieIn, IsSound}
 use Rattle.sq_graph.proofs.Located.{IsAt, located}
 use Rattle.sq_graph.proofs.Changes.{with_blocks-at}
@@ -29,7 +29,8 @@ use Rattle.sq_patch.proofs.Carrying.{same_some, BlockGoes, carry_body, carry_ter
 use Rattle.sq_patch.proofs.Layouts.{IsHeld, Turn, carries_lines, choose}
 use Rattle.sq_patch.proofs.Restricting.{own, block_target, slot_target, target_from}
 use Rattle.sq_patch.proofs.Standing.{stands_at, distinct_at, block_at}
-use Rattle.sq_patch.proofs.Relating.{relating, block_stays, block_goes, all_stay, same_names, placed_follows, placed_sound}
+use Rattle.sq_patch.proofs.Relating.{relating, block_stays, block_goes, all_stay, same_names, placed_follows, placed_sound, placed_place}
+use Rattle.sq_patch.proofs.Remaining.{AlikeAt, fits_at, items_at, first_at}
 use Rattle.sq_patch.proofs.Ending.{all_of, one_slot}
 use Rattle.sq_patch.proofs.Used.{not_new, from_all}
 
@@ -224,3 +225,19 @@ module _ (g : Graph) (new block next : ℕ) (rules : IsGraph g) (fresh : IsNew g
 
   pub insert_sound : IsSound g → IsSound h
   insert_sound sound = placed_sound NoMode no_stands MayHold MayGo Old all_matter (Unit {0}) g h rules refl refl may_hold may_go (x ∷ []) (x ∷ jump ∷ []) (w ∷ rest) refl turn front two after refl (every_carrier g) values names (λ xs r l. tt) tt sound
+
+  -- places of the block, and of others
+  first_at_insert : (m place : ℕ) → Old m → ((x.name == m) ≡ true → place ≤ length x.items) → AlikeAt C own m place (w ∷ rest) (w ∷ rest) → AlikeAt C own m place (x ∷ w ∷ rest) (x ∷ jump ∷ w ∷ rest)
+  first_at_insert m place k fits q =
+      first_at C own m place x x (w ∷ rest) (jump ∷ w ∷ rest) refl
+      (λ t.
+      subst (λ (z : Block). Alike C true None (drop place (body_lines x back)) (drop place (body_lines z (lines_of (jump ∷ w ∷ rest))))) x_is
+      (items_at C own place x.items (term_lines x.term back) (term_lines (carried_block C own x).term (lines_of (jump ∷ w ∷ rest))) goes.items (fits t)
+      (carry_term C own x.term back (lines_of (jump ∷ w ∷ rest)) goes.term goes.slot (λ f. jump_goes true))))
+      (subst (λ ys. Alike C true None (drop place (behind_name m back)) (drop place ys)) (sym (jump_passed m k)) q)
+
+  -- no more is live at a place of a block that was there
+  pub insert_live : (m place r : ℕ) → HasBlock g m → place ≤ length (items_of g m) → IsLive h r (place_lines h m place) → IsLive g r (place_lines g m place)
+  insert_live m place r there l live =
+      placed_place NoMode no_stands MayHold MayGo Old all_matter (Unit {0}) g h rules refl refl may_hold may_go (x ∷ []) (x ∷ jump ∷ []) (w ∷ rest) refl turn front two after refl (every_carrier g) values names (λ xs r l. tt) tt m place r l
+      (first_at_insert m place (old m there) (fits_at g rules m place l front x (w ∷ rest) two)) live

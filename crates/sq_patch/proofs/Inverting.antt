@@ -10,19 +10,19 @@ use Rattle.sq_isa.specs.declared.instructions.Cond.{Cond}
 use Rattle.sq_graph.specs.declared.item.Term.{Term}
 use Rattle.sq_graph.specs.declared.item.Term.TheVariants.{Jump, Branch}
 use Rattle.sq_graph.specs.Graph.{Block, Graph}
-use Rattle.sq_graph.specs.Blocks.{named, block_of, block_term, next_of}
+use Rattle.sq_graph.specs.Blocks.{named, block_of, block_term, next_of, items_of}
 use Rattle.sq_graph.specs.Terms.{links}
 use Rattle.sq_graph.specs.Uses.{uses}
 use Rattle.sq_graph.specs.Rules.{IsGraph}
 use Rattle.sq_graph.specs.Operations.{with_blocks, with_term}
 use Rattle.sq_graph.specs.Resolve.{lone_jump}
-use Rattle.sq_graph.specs.Lines.{Name, End, body_lines, lines_of, behind_name, term_lines, block_lines}
-use Rattle.sq_graph.specs.Walks.{link_names, first_name, code_targets}
+use Rattle.sq_graph.specs.Lines.{Name, End, body_lines, lines_of, behind_name, term_lines, block_lines, place_lines}
+use Rattle.sq_graph.specs.Walks.{IsLive, link_names, first_name, code_targets}
 use Rattle.sq_graph.specs.Soundness.{IsSound}
 use Rattle.sq_graph.specs.Words.{term_words, block_words, words_of}
 use Rattle.sq_graph.specs.declared.item.Item.{Item}
 use Rattle.std.proofs.lemmas.List.Sums.{sum_by-cons, sum_by-append}
-use Rattle.std.proofs.Common.{◌+◌, length, sum_by}
+use Rattle.std.proofs.Common.{◌+◌, ◌≤◌, length, sum_by}
 use Rattle.sq_graph.proofs.Located.{IsAt, located}
 use Rattle.sq_graph.proofs.Changes.{with_blocks-at}
 use Rattle.sq_graph.proofs.Kept.{absent_behind}
@@ -40,8 +40,9 @@ use Rattle.sq_patch.proofs.Passing.{lone_block, lone_lines}
 use Rattle.sq_patch.proofs.Moving.{term_use}
 use Rattle.sq_patch.proofs.Used.{contains_first}
 use Rattle.sq_graph.specs.Uses.{term_uses}
-use Rattle.sq_patch.proofs.Placing.{C as placing, block_stays, block_goes, all_stay, placed_follows, placed_sound}
-use Rattle.sq_patch.proofs.Ending.{term_turn}
+use Rattle.sq_patch.proofs.Placing.{C as placing, block_stays, block_goes, all_stay, placed_follows, placed_sound, placed_place}
+use Rattle.sq_patch.proofs.Ending.{term_turn, term_at}
+use Rattle.sq_patch.proofs.Remaining.{fits_at}
 
 -- a name that no block has is no slot behind a link
 absent_first : (b : Block) (bs : List Block) (m : ℕ) → value_of (named (b ∷ bs)) m ≡ None → (b.name ≡ m → ⊥) × (value_of (named bs) m ≡ None)
@@ -272,6 +273,12 @@ module _ (g : Graph) (block : ℕ) (cond : Cond) (a b over behind to : ℕ) (rul
 
   pub invert_sound : IsSound g → IsSound h
   invert_sound sound = placed_sound Other all_matter (Unit {0}) g h rules known refl refl holds (stand.x ∷ n ∷ []) (y ∷ []) back refl turn front two after refl (every_carrier g) (λ xs r l. tt) tt sound
+
+  -- no more is live at a place of a block that stays
+  pub invert_live : (m place r : ℕ) → m ≢ over → place ≤ length (items_of g m) → IsLive h r (place_lines h m place) → IsLive g r (place_lines g m place)
+  invert_live m place r other l live =
+      placed_place Other all_matter (Unit {0}) g h rules known refl refl holds (stand.x ∷ n ∷ []) (y ∷ []) back refl turn front two after refl (every_carrier g) (λ xs r l. tt) tt m place r l
+      (term_at Other all_matter (Unit {0}) g h rules known refl refl holds stand.x (n ∷ []) back turned (stands_at g rules front stand.x (n ∷ back) two) m place (ended true) (skip m other) (fits_at g rules m place l front stand.x (n ∷ back) two)) live
 
   -- the Jump's word
   lone_word : block_words n ≡ 1

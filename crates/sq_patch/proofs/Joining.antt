@@ -1,5 +1,5 @@
 -- A graph in which every block that is fallen into and is no leader is joined to the one before follows it.
-use Rattle.std.proofs.Common.{◌≡◌, ℕ, Bool, true, false, not, ◌&&◌, ◌==◌, if◌then◌else◌, List, [], ◌∷◌, ◌++◌, None, map, refl, sym, ap, ◌∙◌, subst, inl, inr, zero, suc, ◌<◌, ◌⊎◌, arith}
+use Rattle.std.proofs.Common.{◌≡◌, ℕ, ◌≤◌, drop, length, Option, Some, IsSome, Bool, true, false, not, ◌&&◌, ◌==◌, if◌then◌else◌, List, [], ◌∷◌, ◌++◌, None, map, refl, sym, ap, ◌∙◌, subst, inl, inr, zero, suc, ◌<◌, ◌⊎◌, arith}
 use Rattle.std.proofs.lemmas.Bool.{cases_Bool, eq-eqb, ne_eqb, or_left, or_right}
 use Rattle.std.proofs.lemmas.List.Elements.{Contains-append_left, Contains-append_right, Contains-append_cases}
 use Rattle.std.specs.List.{Contains}
@@ -15,9 +15,9 @@ use Rattle.sq_graph.specs.Renames.{retargeted_item, retargeted_items, retargeted
 use Rattle.sq_graph.specs.Leaders.{is_fall, is_leader, follows_a_term}
 use Rattle.sq_graph.specs.Canonical.{joined_onto, joined_blocks, joined, canonical_of}
 use Rattle.sq_graph.specs.Bypasses.{all_bypassed}
-use Rattle.sq_graph.specs.Lines.{Line, line_of, term_lines, body_lines, lines_of, behind_name, slot_name, block_lines}
-use Rattle.sq_graph.specs.Blocks.{items_of_blocks, items_of_bodies}
-use Rattle.sq_graph.specs.Walks.{link_names}
+use Rattle.sq_graph.specs.Lines.{Line, line_of, term_lines, body_lines, lines_of, behind_name, slot_name, block_lines, place_lines}
+use Rattle.sq_graph.specs.Blocks.{named, HasBlock, items_of, items_of_blocks, items_of_bodies}
+use Rattle.sq_graph.specs.Walks.{IsLive, link_names}
 use Rattle.sq_graph.specs.Soundness.{LinksDieIn, IsSound}
 use Rattle.sq_graph.proofs.MapWrites.{items_of_bodies-mapped}
 use Rattle.sq_graph.proofs.RetargetRules.{items_of_blocks-other}
@@ -32,10 +32,16 @@ use Rattle.sq_patch.specs.Changes.{Change, Alike, ends, name_before, name_after}
 use Rattle.sq_patch.proofs.LiveTargets.{lines_make}
 use Rattle.sq_patch.proofs.Lines.{body_unnamed}
 use Rattle.sq_patch.proofs.Changing.{ahead, in_tail, tail_made}
-use Rattle.sq_patch.proofs.Moving.{M, SlotMoves, move_front, move_body, moved_follows, procedure_moved}
-use Rattle.sq_patch.proofs.Bypassing.{fall_lines, bypassed_sound, bypassed_follows}
+use Rattle.sq_patch.proofs.Moving.{M, SlotMoves, move_front, move_body, front_at, body_at, moved_follows, procedure_moved}
+use Rattle.sq_patch.proofs.Bypassing.{fall_lines, bypassed_sound, bypassed_follows, bypassed_live, bypassed_fits}
+use Rattle.sq_patch.proofs.Places.{named_split}
+use Rattle.sq_patch.proofs.Layouts.{passed}
+use Rattle.sq_patch.proofs.Remaining.{AlikeAt, fits_at, nothing_at, first_at, first_or_later_at, live_at}
+use Rattle.sq_graph.proofs.Kept.{absent_behind, has_name-cons}
+use Rattle.sq_arena.specs.Entries.{value_of, HasDistinctKeys}
+use Rattle.sq_arena.proofs.EntriesLaws.{distinct_back}
 use Rattle.sq_patch.proofs.Dying.{Backs, backs as all_backed, links-moved, body_rest, front_dies, body_dies, moved_sound}
-use Rattle.sq_patch.proofs.Used.{contains_first, from_all}
+use Rattle.sq_patch.proofs.Used.{contains_first, from_all, none_is_none}
 
 abbrev same : ℕ → ℕ
 same n = n
@@ -117,6 +123,8 @@ module _ (g : Graph) (rules : IsGraph g) where
     name : first.name ≡ b.name
     alike : (t : Bool) → Alike C t None (body_lines b (lines_of bs)) (body_lines (retargeted_block same first) (lines_of (moved rest)))
     behind : (n : ℕ) → Leads n → Alike C false None (behind_name n (lines_of bs)) (behind_name n (lines_of (moved rest)))
+    names_in : (n : ℕ) → IsSome (value_of (named rest) n) → IsSome (value_of (named bs) n)
+    places : (n place : ℕ) → IsSome (value_of (named (first ∷ rest)) n) → place ≤ length (items_of g n) → AlikeAt C same n place (b ∷ bs) (moved (first ∷ rest))
     linked : (n : ℕ) → Contains (link_names (moved (first ∷ rest))) n → Contains (link_names (b ∷ bs)) n
     dies : BacksHere → LinksDieIn g (body_lines b (lines_of bs)) → LinksDieIn h (body_lines (retargeted_block same first) (lines_of (moved rest)))
 
@@ -157,6 +165,23 @@ module _ (g : Graph) (rules : IsGraph g) where
       in_either (inl d) = Contains-append_left (if t then k ∷ [] else []) ks n (subst (λ o. Contains (if t then o ∷ [] else []) n) e d)
       in_either (inr d) = Contains-append_right (if t then k ∷ [] else []) ks n (later d)
 
+  -- a name among the blocks behind one isn't its own
+  not_behind : (front : List Block) (x : Block) (bs : List Block) (n : ℕ) → front ++ (x ∷ bs) ≡ g.blocks → IsSome (value_of (named bs) n) → (x.name == n) ≡ false
+  not_behind front x bs n e some =
+      let d = distinct_back (named front) (named (x ∷ bs)) (subst HasDistinctKeys (named_split front x bs) (subst (λ blocks. HasDistinctKeys (named blocks)) (sym e) rules.distinct)) in
+      let absent = absent_behind (x.name, x) (named bs) d in
+      ne_eqb x.name n (λ i. none_is_none (value_of (named bs) n) (subst (λ m. value_of (named bs) m ≡ None) i absent) some)
+
+  -- a name of a block or of one behind it
+  in_first : (x y : Block) (bs cs : List Block) (n : ℕ) → y.name ≡ x.name → (IsSome (value_of (named cs) n) → IsSome (value_of (named bs) n)) → IsSome (value_of (named (y ∷ cs)) n) → IsSome (value_of (named (x ∷ bs)) n)
+  in_first x y bs cs n name later some =
+      elim (cases_Bool (x.name == n)) [
+        | inl here ↦ rw here refl
+        | inr apart ↦
+            let t : (y.name == n) ≡ false = ap (λ m. m == n) name ∙ apart in
+            rw apart (later (rw t at some))
+      ]
+
   joins : (front : List Block) (b : Block) (bs : List Block) → front ++ (b ∷ bs) ≡ g.blocks → Joins b bs
   joins front b [] e = record {
     first = b;
@@ -165,6 +190,11 @@ module _ (g : Graph) (rules : IsGraph g) where
     name = refl;
     alike = λ t. body_goes front b [] [] e (λ l. tt) ends;
     behind = λ n lead. ends;
+    names_in = λ n some. some;
+    places = λ n place some l.
+        first_at C same n place b (retargeted_block same b) [] [] refl
+        (λ t. body_at Leads same g h rules used (procedure_moved same g.procedures) place b [] [] (stands front b [] e) (makes front b [] e) (λ k. tt) (fits_at g rules n place l front b [] e t) ends)
+        (nothing_at C same n place);
     linked = λ n c. subst (λ t. Contains ((if t then [] else []) ++ []) n) (links-moved same b.term) c;
     dies = λ backs die. body_dies Leads same g h rules used refl backs b [] [] (stands front b [] e) (makes front b [] e) (λ l. tt) ends die tt;
   }
@@ -187,6 +217,19 @@ module _ (g : Graph) (rules : IsGraph g) where
                   subst (λ xs. Alike C false None xs (behind_name n (lines_of (moved later.rest))))
                   (sym (passed_by next.name n bs next refl (λ is. let l : leads n ≡ false = subst (λ m. leads m ≡ false) is no_leader in cc)))
                   (later.behind n lead);
+              names_in = λ n some. has_name-cons next bs n (later.names_in n some);
+              places = λ n place some l.
+                  first_or_later_at C same n place b (retargeted_block same (with_next leads b later.first)) (next ∷ bs) (moved later.rest) refl
+                  (λ t.
+                  subst (λ xs. Alike C true None (drop place (map line_of b.items ++ xs)) (drop place (body_lines (retargeted_block same (with_next leads b later.first)) (lines_of (moved later.rest))))) (sym (fall_lines b.term (lines_of (next ∷ bs)) fall))
+                  (subst (λ ys. Alike C true None (drop place (map line_of b.items ++ lines_of (next ∷ bs))) (drop place ys)) (sym (items_apart b.items later.first.items (term_lines (retargeted_term same later.first.term) (lines_of (moved later.rest)))))
+                  (front_at Leads same g h rules used (procedure_moved same g.procedures) place b (term_lines b.term (lines_of (next ∷ bs))) (lines_of (next ∷ bs)) (body_lines (retargeted_block same later.first) (lines_of (moved later.rest))) (stands front b (next ∷ bs) e) (makes front b (next ∷ bs) e) (fits_at g rules n place l front b (next ∷ bs) e t) (name_before (later.alike true)))))
+                  (λ t.
+                  let some' : IsSome (value_of (named later.rest) n) = rw t at some in
+                  let differs = not_behind (front ++ b ∷ []) next bs n (ahead front b (next ∷ bs) ∙ e) (later.names_in n some') in
+                  let apart : (later.first.name == n) ≡ false = ap (λ m. m == n) later.name ∙ differs in
+                  subst (λ ys. Alike C true None (drop place (behind_name n (lines_of (next ∷ bs)))) (drop place ys)) (passed (retargeted_block same later.first) n (moved later.rest) apart)
+                  (later.places n place (has_name-cons later.first later.rest n some') l));
               linked = λ n c. Contains-append_right (if links b.term then next.name ∷ [] else []) (link_names (next ∷ bs)) n (later.linked n c);
               dies = λ backs die.
                   let die' : LinksDieIn g (map line_of b.items ++ lines_of (next ∷ bs)) = subst (λ xs. LinksDieIn g (map line_of b.items ++ xs)) (fall_lines b.term (lines_of (next ∷ bs)) fall) die in
@@ -201,6 +244,11 @@ module _ (g : Graph) (rules : IsGraph g) where
           name = refl;
           alike = λ t. body_goes front b (next ∷ bs) (lines_of (moved (later.first ∷ later.rest))) e (λ l. (later.name, slot_leads front b next bs e l)) (name_before (name_after (later.alike t)));
           behind = λ n lead. behind_both n next (retargeted_block same later.first) bs (moved later.rest) later.name (later.alike false) (later.behind n lead);
+          names_in = λ n some. in_first next later.first bs later.rest n later.name (later.names_in n) some;
+          places = λ n place some l.
+              first_or_later_at C same n place b (retargeted_block same b) (next ∷ bs) (moved (later.first ∷ later.rest)) refl
+              (λ t. body_at Leads same g h rules used (procedure_moved same g.procedures) place b (lines_of (next ∷ bs)) (lines_of (moved (later.first ∷ later.rest))) (stands front b (next ∷ bs) e) (makes front b (next ∷ bs) e) (λ k. (later.name, slot_leads front b next bs e k)) (fits_at g rules n place l front b (next ∷ bs) e t) (name_before (name_after (later.alike true))))
+              (λ t. later.places n place (rw t at some) l);
           linked = λ n c.
               slot_or_later (links b.term) later.first.name next.name (link_names (moved (later.first ∷ later.rest))) (link_names (next ∷ bs)) n later.name (later.linked n)
               (subst (λ t. Contains ((if t then later.first.name ∷ [] else []) ++ link_names (moved (later.first ∷ later.rest))) n) (links-moved same b.term) c);
@@ -256,6 +304,28 @@ module _ (g : Graph) (rules : IsGraph g) where
       subst IsSound (retargeted_same (joined g))
       (moved_sound Leads same g h rules used refl leaders_alike refl items_are bodies_are slots slot_known sound (dies_all backed g.blocks refl sound.links_die))
 
+  -- PLACES of the blocks that are left
+  places_all : (blocks : List Block) → blocks ≡ g.blocks → (n place : ℕ) → IsSome (value_of (named (joined_blocks leads blocks)) n) → place ≤ length (items_of g n) → AlikeAt C same n place blocks (moved (joined_blocks leads blocks))
+  places_all [] e n place some l = nothing_at C same n place
+  places_all (b ∷ bs) e n place some l =
+      let all = joins [] b bs e in
+      subst (λ blocks. AlikeAt C same n place (b ∷ bs) (moved blocks)) (sym all.are) (all.places n place (subst (λ blocks. IsSome (value_of (named blocks) n)) all.are some) l)
+
+  -- no more is live at them
+  pub joined_live : (n place r : ℕ) → HasBlock (joined g) n → place ≤ length (items_of g n) → IsLive (joined g) r (place_lines (joined g) n place) → IsLive g r (place_lines g n place)
+  joined_live n place r has l live =
+      live_at C same backed n place r (places_all g.blocks refl n place has l)
+      (subst (λ (k : Graph). IsLive k r (place_lines k n place)) (sym (retargeted_same (joined g))) live)
+
+  -- they were there
+  joined_from : (blocks : List Block) → blocks ≡ g.blocks → (n : ℕ) → IsSome (value_of (named (joined_blocks leads blocks)) n) → IsSome (value_of (named blocks) n)
+  joined_from [] e n some = some
+  joined_from (b ∷ bs) e n some =
+      let all = joins [] b bs e in in_first b all.first bs all.rest n all.name (all.names_in n) (subst (λ blocks. IsSome (value_of (named blocks) n)) all.are some)
+
+  pub joined_there : (n : ℕ) → HasBlock (joined g) n → HasBlock g n
+  joined_there n has = joined_from g.blocks refl n has
+
 -- the canonical graph follows
 pub canonical_follows : (g : Graph) → IsGraph g → Follows g (canonical_of g)
 canonical_follows g rules =
@@ -267,3 +337,15 @@ pub canonical_sound : (g : Graph) → IsGraph g → IsSound g → IsSound (canon
 canonical_sound g rules sound =
     subst IsSound (sym (canonical_is_joined g rules))
     (joined_sound (all_bypassed g) (all_bypassed_is_graph g rules) (bypassed_sound g rules sound))
+
+-- no more is live at a place of a block that is left
+pub canonical_live : (g : Graph) → IsGraph g → (n place r : ℕ) → HasBlock g n → HasBlock (canonical_of g) n → place ≤ length (items_of g n) → IsLive (canonical_of g) r (place_lines (canonical_of g) n place) → IsLive g r (place_lines g n place)
+canonical_live g rules n place r has left l live =
+    let b : Graph = all_bypassed g in
+    let b_rules = all_bypassed_is_graph g rules in
+    let is = canonical_is_joined g rules in
+    let in_joined : HasBlock (joined b) n = subst (λ (k : Graph). HasBlock k n) is left in
+    let between = joined_there b b_rules n in_joined in
+    bypassed_live g rules n place r between l
+    (joined_live b b_rules n place r in_joined (bypassed_fits g rules n place has between l)
+    (subst (λ (k : Graph). IsLive k r (place_lines k n place)) is live))

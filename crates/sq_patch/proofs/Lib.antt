@@ -21,6 +21,7 @@ mod Carrying
 mod Layouts
 pub mod Restricting
 mod Standing
+mod Remaining
 pub mod Passing
 mod Relating
 mod Placing
@@ -35,6 +36,8 @@ pub mod OneBlock
 mod Leading
 mod Meeting
 pub mod Merging
+pub mod MatchedBodies
+mod MergeExamples
 pub mod Tailing
 pub mod Recalling
 pub mod Inserting
@@ -44,3 +47,4 @@ pub mod Shortening
 mod Bypassing
 pub mod Joining
 pub mod Renaming
+pub mod StayingDead

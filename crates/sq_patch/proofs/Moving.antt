@@ -1,11 +1,11 @@
 -- A graph whose lines have other names, and whose blocks may be cut in other ways, follows another where each name
 -- that is used leads to lines that go on like those of its other name.
-use Rattle.std.proofs.Common.{◌≡◌, ℕ, Bool, true, false, List, [], ◌∷◌, ◌++◌, Option, Some, None, pos, map, slice_get, refl, sym, ap, ◌∙◌, subst}
+use Rattle.std.proofs.Common.{◌≡◌, ℕ, zero, suc, ◌≤◌, drop, length, arith, Bool, true, false, List, [], ◌∷◌, ◌++◌, Option, Some, None, pos, map, slice_get, refl, sym, ap, ◌∙◌, subst}
 use Rattle.std.proofs.lemmas.Option.{slice_get-map}
 use Rattle.std.specs.Option.{option_map}
 use Rattle.std.proofs.lemmas.List.Elements.{Contains-append_left, Contains-append_right}
 use Rattle.std.specs.List.{Contains}
-use Rattle.sq_isa.specs.Forms.{first_of, second_of}
+use Rattle.sq_isa.specs.Forms.{first_of, second_of, with_registers}
 use Rattle.sq_isa.specs.Uses.{sources_of, destination_of}
 use Rattle.sq_isa.specs.declared.instructions.Insn.{Insn}
 use Rattle.sq_isa.specs.declared.instructions.Insn.TheVariants.{Lui, OpImm}
@@ -24,7 +24,7 @@ use Rattle.sq_graph.specs.Renames.{retargeted_items, retargeted_term, retargeted
 use Rattle.sq_graph.specs.Lines.{AddressHalf, Plain, Upper, Lower, Line, Do, Enter, Return, inside, line_of, term_lines, body_lines, slot_name, block_lines}
 use Rattle.sq_graph.specs.Walks.{code_targets, is_register, word_name}
 use Rattle.sq_follow.specs.Follows.{Follows, word_address}
-use Rattle.sq_patch.specs.Registers.{with_registers, AreSources}
+use Rattle.sq_patch.specs.Registers.{AreSources}
 use Rattle.sq_patch.specs.LiveAgreement.{SlotIsTarget, MakeTargets}
 use Rattle.sq_patch.specs.Changes.{Change, IsNamedHalf, SameSlot, Alike, IsSteady, both_do, both_enter, both_return, both_end, guarded}
 use Rattle.sq_patch.proofs.LiveSteps.{own_registers, own_sources}
@@ -194,6 +194,19 @@ module _ (K : ℕ → Type 0) (f : ℕ → ℕ) (g h : Graph) (rules : IsGraph g
   pub move_body : {b : Bool} (x : Block) (xs ys : List Line) → Contains g.blocks x → MakeTargets g (body_lines x xs) → (links x.term ≡ true → SlotMoves (slot_name xs) (slot_name ys)) → Alike M b None xs ys → Alike M b None (body_lines x xs) (body_lines (retargeted_block f x) ys)
   move_body x xs ys c m s p =
       move_front x (term_lines x.term xs) (term_lines x.term xs) (term_lines (retargeted_term f x.term) ys) c m (term_moves x xs ys c m s p)
+
+  -- from a place of it on
+  move_at : (place : ℕ) (items : List Item) (xs ys : List Line) → AreOf ItemMoves items → place ≤ length items → Alike M true None xs ys → Alike M true None (drop place (map line_of items ++ xs)) (drop place (map line_of (retargeted_items f items) ++ ys))
+  move_at zero items xs ys each l p = move_items items xs ys each p
+  move_at (suc place) [] xs ys each l p = absurd (omega (arith, l))
+  move_at (suc place) (item ∷ items) xs ys each l p = move_at place items xs ys (later_items item items each) (omega (arith, l)) p
+
+  pub front_at : (place : ℕ) (x : Block) (rest xs ys : List Line) → Contains g.blocks x → MakeTargets g (map line_of x.items ++ rest) → place ≤ length x.items → Alike M true None xs ys → Alike M true None (drop place (map line_of x.items ++ xs)) (drop place (map line_of (retargeted_items f x.items) ++ ys))
+  front_at place x rest xs ys c m l p = move_at place x.items xs ys (items_move x rest c m) l p
+
+  pub body_at : (place : ℕ) (x : Block) (xs ys : List Line) → Contains g.blocks x → MakeTargets g (body_lines x xs) → (links x.term ≡ true → SlotMoves (slot_name xs) (slot_name ys)) → place ≤ length x.items → Alike M true None xs ys → Alike M true None (drop place (body_lines x xs)) (drop place (body_lines (retargeted_block f x) ys))
+  body_at place x xs ys c m s l p =
+      front_at place x (term_lines x.term xs) (term_lines x.term xs) (term_lines (retargeted_term f x.term) ys) c m l (term_moves x xs ys c m s p)
 
   module _ (names : (n : ℕ) → K n → Alike M false None (block_lines g n) (block_lines h (f n))) where
     pub steady : IsSteady M

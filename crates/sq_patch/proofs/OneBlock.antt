@@ -18,6 +18,9 @@ use Rattle.sq_graph.specs.Walks.{IsLive, read_here, live_behind, lower_names, li
 use Rattle.sq_graph.specs.Soundness.{LinksDieIn, IsSound}
 use Rattle.sq_graph.proofs.Located.{IsAt, located}
 use Rattle.sq_graph.proofs.Changes.{with_blocks-at}
+use Rattle.sq_graph.proofs.SplitRules.{split_rules}
+use Rattle.std.proofs.Common.{drop-drop, length-drop}
+use Rattle.std.proofs.lemmas.Bool.{eqb-true, ne_eqb}
 use Rattle.sq_follow.specs.Follows.{Follows}
 use Rattle.sq_follow.proofs.Following.{graph_follows_itself}
 use Rattle.sq_patch.specs.Changes.{Change, Alike, name_before, name_after, jump_before, enter_before, return_before, dead_before}
@@ -33,12 +36,13 @@ use Rattle.sq_patch.proofs.Dead.{live, live_carrier, unwritten}
 use Rattle.sq_patch.proofs.Bypassing.{slot_known}
 use Rattle.sq_patch.proofs.Dying.{body_rest, items_rest, term_dies}
 use Rattle.sq_patch.proofs.Carrying.{same_some, slot_same, AreOf, ItemGoes, carry_items, carry_term, Backs, items_die}
-use Rattle.sq_patch.proofs.Layouts.{Turn, carries_lines, choose}
+use Rattle.sq_patch.proofs.Layouts.{passed, Turn, carries_lines, choose}
 use Rattle.sq_patch.proofs.Restricting.{own, block_target, procedure_target, slot_targets, target_from, flat_from}
 use Rattle.sq_patch.proofs.Standing.{stands_at, distinct_at, block_at, there_by_term, there_by_item}
-use Rattle.sq_patch.proofs.Placing.{C as placing, block_stays, block_goes, all_stay, items_stay, bodies_stay, placed_follows, placed_sound, placed_live, body_itself}
-use Rattle.sq_patch.proofs.Ending.{all_of, one_slot, term_turn}
-use Rattle.sq_patch.proofs.Replacing.{behind_items, own_items, C as replacing, place, out, behind, replaced_sound, replaced_follows}
+use Rattle.sq_patch.proofs.Placing.{C as placing, block_stays, block_goes, all_stay, items_stay, bodies_stay, placed_follows, placed_sound, placed_live, placed_place, placed_backs, body_itself}
+use Rattle.sq_patch.proofs.Ending.{all_of, one_slot, term_turn, term_at}
+use Rattle.sq_patch.proofs.Remaining.{fits_at, AlikeAt, items_at, first_at}
+use Rattle.sq_patch.proofs.Replacing.{behind_items, own_items, C as replacing, place, out, behind, replaced_sound, replaced_follows, replaced_live}
 use Rattle.sq_patch.proofs.Calls.{items_dead, is_other}
 use Rattle.sq_patch.proofs.Used.{contains_first, contains_later, flat_contains, from_slice, from_all, slice_there, item_called, block_item, not_new}
 
@@ -89,6 +93,12 @@ module _ (g : Graph) (block n : ℕ) (rules : IsGraph g) (jumps : term_of g bloc
   pub fall_sound : IsSound g → IsSound h
   fall_sound sound =
       placed_sound every all_matter (Unit {0}) g h rules (λ m c. tt) refl refl (λ m c. tt) (at.block ∷ []) (record at.block { term = Fall } ∷ []) at.back refl turn at.front whole after refl (every_carrier g) (λ xs r l. tt) tt sound
+
+  -- no more is live at a place than before
+  pub fall_live : (m place r : ℕ) → place ≤ length (items_of g m) → IsLive h r (place_lines h m place) → IsLive g r (place_lines g m place)
+  fall_live m place r l live =
+      placed_place every all_matter (Unit {0}) g h rules (λ m c. tt) refl refl (λ m c. tt) (at.block ∷ []) (record at.block { term = Fall } ∷ []) at.back refl turn at.front whole after refl (every_carrier g) (λ xs r l. tt) tt m place r l
+      (term_at every all_matter (Unit {0}) g h rules (λ m c. tt) refl refl (λ m c. tt) at.block [] at.back Fall (stands_at g rules at.front at.block at.back whole) m place (ended true) refl (fits_at g rules m place l at.front at.block at.back whole)) live
 
 module _ (g : Graph) (block link part to : ℕ) (rules : IsGraph g) (jumps : term_of g block ≡ Some (PartJump link part to)) where
   abbrev hat : IsAt g.blocks block
@@ -143,6 +153,11 @@ module _ (g : Graph) (block link part to : ℕ) (rules : IsGraph g) (jumps : ter
   pub hasten_sound : IsSound g → IsSound hh
   hasten_sound sound = placed_sound every all_matter (Unit {0}) g hh rules (λ m c. tt) refl refl (λ m c. tt) (hat.block ∷ []) (shorter ∷ []) hat.back refl hturn hat.front hwhole hafter refl (every_carrier g) (λ xs r l. tt) tt sound
 
+  pub hasten_place : (m place r : ℕ) → place ≤ length (items_of g m) → IsLive hh r (place_lines hh m place) → IsLive g r (place_lines g m place)
+  hasten_place m place r l live =
+      placed_place every all_matter (Unit {0}) g hh rules (λ m c. tt) refl refl (λ m c. tt) (hat.block ∷ []) (shorter ∷ []) hat.back refl hturn hat.front hwhole hafter refl (every_carrier g) (λ xs r l. tt) tt m place r l
+      (term_at every all_matter (Unit {0}) g hh rules (λ m c. tt) refl refl (λ m c. tt) hat.block [] hat.back (hastened link to) (stands_at g rules hat.front hat.block hat.back hwhole) m place (hended true) refl (fits_at g rules m place l hat.front hat.block hat.back hwhole)) live
+
   -- what is live at a name is so before
   pub hasten_live : (r n : ℕ) → IsLive hh r (block_lines hh n) → IsLive g r (block_lines g n)
   hasten_live r n lives = placed_live every all_matter (Unit {0}) g hh rules (λ m c. tt) refl refl (λ m c. tt) (hat.block ∷ []) (shorter ∷ []) hat.back refl hturn hat.front hwhole hafter refl (every_carrier g) (λ xs r l. tt) tt r n tt lives
@@ -163,8 +178,8 @@ module _ (g : Graph) (rules : IsGraph g) (block : ℕ) (spot : IsAt g.blocks blo
   stood : spot.front ++ (spot.block ∷ spot.back) ≡ g.blocks
   stood = sym spot.whole
 
-  items_at : items_of g block ≡ spot.block.items
-  items_at = ap block_items (subst (λ k. value_of (named g.blocks) k ≡ Some spot.block) spot.has_name (block_at g rules spot.front spot.block spot.back stood))
+  items_at_block : items_of g block ≡ spot.block.items
+  items_at_block = ap block_items (subst (λ k. value_of (named g.blocks) k ≡ Some spot.block) spot.has_name (block_at g rules spot.front spot.block spot.back stood))
 
   lines_at : block_lines g block ≡ body_lines spot.block (lines_of spot.back)
   lines_at =
@@ -194,7 +209,7 @@ module _ (g : Graph) (block at rd to : ℕ) (rules : IsGraph g) (there : slice_g
   dbefore = out NoMode no_stands (live g) (Unit {0}) g (live_carrier g) rules block at 1 [] drop_there
 
   hi_there : slice_get dspot.block.items at ≡ Some (Hi rd to)
-  hi_there = subst (λ items. slice_get items at ≡ Some (Hi rd to)) (items_at g rules block dspot) there
+  hi_there = subst (λ items. slice_get items at ≡ Some (Hi rd to)) (items_at_block g rules block dspot) there
 
   dead_there : ¬ IsLive g rd dlater
   dead_there = subst (λ lines. ¬ IsLive g rd lines) (behind_at g rules block dspot (at + 1) (item_within dspot.block.items at (Hi rd to) hi_there)) dead
@@ -212,6 +227,12 @@ module _ (g : Graph) (block at rd to : ℕ) (rules : IsGraph g) (there : slice_g
 
   pub drop_sound : IsSound g → IsSound dh
   drop_sound sound = replaced_sound NoMode no_stands (live g) (Unit {0}) g (live_carrier g) rules block at 1 [] drop_there drops no_lowers (λ backs k die die'. die') (λ xs r l. l) tt sound
+
+  -- no more is live in other blocks, and in this one up to the half
+  pub drop_live : (other spot r : ℕ) → HasBlock g other → spot ≤ length (items_of g other) → (other ≡ block → spot ≤ at) → IsLive dh r (place_lines dh other spot) → IsLive g r (place_lines g other spot)
+  drop_live other spot r has l ahead_of lives =
+      let within = item_within dspot.block.items at (Hi rd to) hi_there in
+      replaced_live NoMode no_stands (live g) (Unit {0}) g (live_carrier g) rules block at 1 [] drop_there drops no_lowers (λ backs k die die'. die') (λ xs r l. l) tt (omega (arith, within)) other spot r has l ahead_of lives
 
 -- a register that is dead behind a return is dead at it
 return_dead : (g : Graph) (link r : ℕ) (rest : List Line) → ¬ IsLive g r rest → ¬ IsLive g r (Return link ∷ rest)
@@ -256,7 +277,7 @@ module _ (g : Graph) (block at q : ℕ) (rules : IsGraph g) (there : slice_get (
   ibefore = out NoMode no_stands (live g) (IsSound g) g (live_carrier g) rules block at 1 by inline_there
 
   out_there : slice_get ispot.block.items at ≡ Some (Out q)
-  out_there = subst (λ items. slice_get items at ≡ Some (Out q)) (items_at g rules block ispot) there
+  out_there = subst (λ items. slice_get items at ≡ Some (Out q)) (items_at_block g rules block ispot) there
 
   in_block : Contains g.blocks ispot.block
   in_block = stands_at g rules ispot.front ispot.block ispot.back (stood g rules block ispot)
@@ -312,8 +333,21 @@ module _ (g : Graph) (block at q : ℕ) (rules : IsGraph g) (there : slice_get (
   pub inline_follows : Follows g ih
   inline_follows = replaced_follows NoMode no_stands (live g) (IsSound g) g (live_carrier g) rules block at 1 by inline_there inlines by_lowers by_dies
 
+  -- no more is live in other blocks, and in this one up to the call
+  pub inline_live : IsSound g → (other spot r : ℕ) → HasBlock g other → spot ≤ length (items_of g other) → (other ≡ block → spot ≤ at) → IsLive ih r (place_lines ih other spot) → IsLive g r (place_lines g other spot)
+  inline_live sound other spot r has l ahead_of lives =
+      let within = item_within ispot.block.items at (Out q) out_there in
+      replaced_live NoMode no_stands (live g) (IsSound g) g (live_carrier g) rules block at 1 by inline_there inlines by_lowers by_dies (λ xs r l. l) sound (omega (arith, within)) other spot r has l ahead_of lives
+
   pub inline_sound : IsSound g → IsSound ih
   inline_sound sound = replaced_sound NoMode no_stands (live g) (IsSound g) g (live_carrier g) rules block at 1 by inline_there inlines by_lowers by_dies (λ xs r l. l) sound sound
+
+-- a place up to another is among the items up to that
+fits_take : (place at : ℕ) (items : List Item) → place ≤ at → place ≤ length items → place ≤ length (take at items)
+fits_take zero at items up l = omega arith
+fits_take (suc place) zero items up l = absurd (omega (arith, up))
+fits_take (suc place) (suc at) [] up l = absurd (omega (arith, l))
+fits_take (suc place) (suc at) (item ∷ items) up l = let k = fits_take place at items (omega (arith, up)) (omega (arith, l)) in omega (arith, k)
 
 module _ (g : Graph) (new block at : ℕ) (rules : IsGraph g) (fresh : IsNew g new) where
   abbrev sh : Graph
@@ -419,6 +453,38 @@ module _ (g : Graph) (new block at : ℕ) (rules : IsGraph g) (fresh : IsNew g n
     split_at_sound after sound =
         placed_sound N all_matter (Unit {0}) g sh rules used_old refl refl target_old (x ∷ []) parts back refl split_turn front e after refl (every_carrier g) (λ xs r l. tt) tt sound
 
+    -- places of the first half, and of other blocks
+    first_at_split : (m place : ℕ) → N m → ((x.name == m) ≡ true → place ≤ length x.items) → (m ≡ block → place ≤ at) → AlikeAt SC own m place back back → AlikeAt SC own m place (x ∷ back) (parts ++ back)
+    first_at_split m place k fits up q =
+        first_at SC own m place x (record x { items = one; term = Fall }) back (record x { name = new; items = two } ∷ back) refl
+        (λ t.
+        let within : place ≤ length one = fits_take place at x.items (up (sym (eqb-true x.name m t) ∙ is)) (fits t) in
+        subst (λ xs. Alike SC true None (drop place xs) (drop place (halved new at x (lines_of back)))) (sym (map_parts x.items at ending))
+        (subst (λ items. Alike SC true None (drop place (map line_of one ++ (map line_of two ++ ending))) (drop place (map line_of items ++ (Name new ∷ (map line_of two ++ ending))))) (own_items one)
+        (items_at SC own place one (map line_of two ++ ending) (Name new ∷ (map line_of two ++ ending)) in_one within (second true))))
+        (subst (λ ys. Alike SC true None (drop place (behind_name m (lines_of back))) (drop place ys)) (sym (passed (record x { name = new; items = two }) m back (ne_eqb new m (λ i. k (sym i))))) q)
+
+    split_at_live : sh.blocks ≡ front ++ (parts ++ back) → (m place r : ℕ) → HasBlock g m → place ≤ length (items_of g m) → (m ≡ block → place ≤ at) → IsLive sh r (place_lines sh m place) → IsLive g r (place_lines g m place)
+    split_at_live after m place r has l up live =
+        placed_place N all_matter (Unit {0}) g sh rules used_old refl refl target_old (x ∷ []) parts back refl split_turn front e after refl (every_carrier g) (λ xs r l. tt) tt m place r l
+        (first_at_split m place (not_new g new m fresh has) (fits_at g rules m place l front x back e) up) live
+
+    -- places of the second half
+    split_at_moves : sh.blocks ≡ front ++ (parts ++ back) → HasBlock g block → (place r : ℕ) → at + place ≤ length x.items → IsLive sh r (place_lines sh new place) → IsLive g r (map line_of (drop (at + place) x.items) ++ ending)
+    split_at_moves after has place r l live =
+        let there : (front ++ record x { items = one; term = Fall } ∷ []) ++ (record x { name = new; items = two } ∷ back) ≡ sh.blocks = ahead front (record x { items = one; term = Fall }) (record x { name = new; items = two } ∷ back) ∙ sym after in
+        let lines : block_lines sh new ≡ map line_of two ++ ending =
+        subst (λ blocks. behind_name new (lines_of blocks) ≡ map line_of two ++ ending) there
+        (name_at (front ++ record x { items = one; term = Fall } ∷ []) (record x { name = new; items = two }) back (absent_from (front ++ record x { items = one; term = Fall } ∷ []) (record x { name = new; items = two }) back (distinct_at sh (split_rules g new block at rules fresh has) (front ++ record x { items = one; term = Fall } ∷ []) (record x { name = new; items = two }) back there))) in
+        let within : place ≤ length two = (let n = length-drop at x.items in omega (arith, l, n)) in
+        let place_is : place_lines sh new place ≡ map line_of (drop (at + place) x.items) ++ ending =
+        ap (drop place) lines ∙ behind_items two place ending within ∙ ap (λ is. map line_of is ++ ending) (drop-drop place at x.items) in
+        let later = map line_of (drop (at + place) x.items) ++ ending in
+        let o = placed_backs N all_matter (Unit {0}) g sh rules used_old refl refl target_old (x ∷ []) parts back refl split_turn front e after refl (every_carrier g) (λ xs r l. tt) tt r later
+        (subst (λ ys. IsLive sh r ys) place_is live) true None later (keep true (drop (at + place) x.items) ending ending (λ item c. each item (drop_in x.items (at + place) item c)) (ended_same true)) in
+        let same : r ≡ o.0 = o.1.0 in
+        subst (λ q. IsLive g q later) (sym same) o.1.1
+
 -- the same graph, where no block has the name
 no_block : (f : Block → List Block) (bs : List Block) (name : ℕ) → value_of (named bs) name ≡ None → with_blocks f bs name ≡ bs
 no_block f [] name e = refl
@@ -442,3 +508,17 @@ split_follows g new block at rules fresh = (split_by g new block at rules fresh 
 
 pub split_sound : (g : Graph) (new block at : ℕ) → IsGraph g → IsNew g new → IsSound g → IsSound (split_at g new block at)
 split_sound g new block at rules fresh sound = (split_by g new block at rules fresh (value_of (named g.blocks) block) refl).1 sound
+
+-- no more is live in other blocks, and in this one up to where it is split
+pub split_live : (g : Graph) (new block at : ℕ) → IsGraph g → IsNew g new → HasBlock g block → (m place r : ℕ) → HasBlock g m → place ≤ length (items_of g m) → (m ≡ block → place ≤ at) → IsLive (split_at g new block at) r (place_lines (split_at g new block at) m place) → IsLive g r (place_lines g m place)
+split_live g new block at rules fresh has m place r there l up live =
+    let spot = located g.blocks block has in
+    split_at_live g new block at rules fresh spot.block spot.front spot.back (sym spot.whole) spot.has_name (with_blocks-at (halves new at) g.blocks block spot) m place r there l up live
+
+-- and behind that in the new block
+pub split_moves : (g : Graph) (new block at : ℕ) → IsGraph g → IsNew g new → HasBlock g block → (place r : ℕ) → at + place ≤ length (items_of g block) → IsLive (split_at g new block at) r (place_lines (split_at g new block at) new place) → IsLive g r (place_lines g block (at + place))
+split_moves g new block at rules fresh has place r l live =
+    let spot = located g.blocks block has in
+    let within : at + place ≤ length spot.block.items = subst (λ items. at + place ≤ length items) (items_at_block g rules block spot) l in
+    subst (λ lines. IsLive g r lines) (sym (behind_at g rules block spot (at + place) within))
+    (split_at_moves g new block at rules fresh spot.block spot.front spot.back (sym spot.whole) spot.has_name (with_blocks-at (halves new at) g.blocks block spot) has place r within live)

@@ -1,5 +1,5 @@
 -- A graph in which a lone Jump block gave its name to its target, and went, follows it.
-use Rattle.std.proofs.Common.{◌≡◌, ◌≢◌, ℕ, Bool, true, false, ◌==◌, List, [], ◌∷◌, ◌++◌, Option, Some, None, IsSome, map, slice_get, refl, sym, ap, ◌∙◌, subst, inl, inr}
+use Rattle.std.proofs.Common.{◌≡◌, ◌≢◌, ℕ, ◌≤◌, length, Bool, true, false, ◌==◌, List, [], ◌∷◌, ◌++◌, Option, Some, None, IsSome, map, slice_get, refl, sym, ap, ◌∙◌, subst, inl, inr}
 use Rattle.std.proofs.lemmas.Bool.{cases_Bool, eq-eqb, ne_eqb, eqb-true, eqb-false}
 use Rattle.std.specs.List.{Contains}
 use Rattle.sq_arena.specs.Entries.{value_of, behind, first_key}
@@ -7,15 +7,15 @@ use Rattle.sq_graph.specs.declared.item.Item.{Item}
 use Rattle.sq_graph.specs.declared.item.Term.{Term}
 use Rattle.sq_graph.specs.declared.item.Term.TheVariants.{Fall, Jump, Branch, Call, PartJump, Indirect, Stop}
 use Rattle.sq_graph.specs.Graph.{Block, Graph}
-use Rattle.sq_graph.specs.Blocks.{named, block_of, block_term, next_of}
+use Rattle.sq_graph.specs.Blocks.{named, block_of, block_term, items_of, next_of}
 use Rattle.sq_graph.specs.Terms.{links, goes_on}
 use Rattle.sq_graph.specs.Uses.{uses}
 use Rattle.sq_graph.specs.Rules.{IsGraph}
 use Rattle.sq_graph.specs.Operations.{with_blocks}
 use Rattle.sq_graph.specs.Renames.{swapped, retargeted_block}
 use Rattle.sq_graph.specs.Resolve.{jump_of, lone_jump, jump_from}
-use Rattle.sq_graph.specs.Lines.{End, Line, body_lines, lines_of, behind_name, slot_name, block_lines}
-use Rattle.sq_graph.specs.Walks.{word_name, code_targets}
+use Rattle.sq_graph.specs.Lines.{End, Line, body_lines, lines_of, behind_name, slot_name, block_lines, place_lines}
+use Rattle.sq_graph.specs.Walks.{IsLive, word_name, code_targets}
 use Rattle.sq_graph.specs.Soundness.{IsSound}
 use Rattle.sq_graph.proofs.Located.{located}
 use Rattle.sq_follow.specs.Follows.{Follows}
@@ -28,9 +28,10 @@ use Rattle.sq_patch.proofs.Changing.{ahead}
 use Rattle.sq_patch.proofs.Places.{every, absent_from, next_at, name_at}
 use Rattle.sq_patch.proofs.Moving.{moving, other_names, same_addresses}
 use Rattle.sq_patch.proofs.Carrying.{same_some, SlotGoes, BlockGoes, carried_block}
-use Rattle.sq_patch.proofs.Layouts.{Carries, done, stays, turns, gone, carries_behind, carried_sound}
+use Rattle.sq_patch.proofs.Layouts.{Carries, done, stays, turns, gone, carries_lines, carries_behind, carries_back, carried_sound}
 use Rattle.sq_patch.proofs.Restricting.{own, slot_target, links_goes_on, falls_goes_on}
 use Rattle.sq_patch.proofs.Standing.{stands_at, distinct_at, block_at, items_go, term_goes, carried_is, words_held, bodies_held, procedures_sound}
+use Rattle.sq_patch.proofs.Remaining.{fits_at, AlikeAt, nothing_at, stays_at, gone_at, live_at}
 use Rattle.sq_patch.proofs.Used.{from_slice}
 
 -- a lone Jump block has no items, and ends in the Jump
@@ -182,6 +183,27 @@ module _ (g : Graph) (block to : ℕ) (rules : IsGraph g) (passable : IsPassable
     values = λ n m v. (v.1.1, (v.0, tt));
   }
 
+  -- places of blocks that stay
+  rest_at : (n place : ℕ) → place ≤ length (items_of g n) → (front bs : List Block) → front ++ bs ≡ g.blocks → AlikeAt C own n place bs (moved bs)
+  rest_at n place l front [] e = nothing_at C own n place
+  rest_at n place l front (x ∷ bs) e =
+      let further = ahead front x bs ∙ e in
+      stays_at C own n place x (retargeted_block f x) bs (moved bs) (is_moved x) (goes front x bs (moved bs) e (slot_moved front x bs e)) (fits_at g rules n place l front x bs e)
+      (λ k. carries_lines C own Other true refl (rest true (front ++ x ∷ []) bs further)) (rest_at n place l (front ++ x ∷ []) bs further)
+
+  all_at : (n place : ℕ) → Other n → place ≤ length (items_of g n) → (front bs : List Block) → front ++ bs ≡ g.blocks → AlikeAt C own n place bs (left bs)
+  all_at n place other l front [] e = nothing_at C own n place
+  all_at n place other l front (x ∷ bs) e =
+      let further = ahead front x bs ∙ e in
+      elim (cases_Bool (x.name == block)) [
+        | inl here ↦
+            let same : x.name ≡ block = eqb-true x.name block here in
+            rw here (gone_at C own n place x bs (moved bs) (ne_eqb x.name n (λ i. other (sym i ∙ same))) (rest_at n place l (front ++ x ∷ []) bs further))
+        | inr apart ↦
+            rw apart (stays_at C own n place x (retargeted_block f x) bs (left bs) (is_moved x) (goes front x bs (left bs) e (slot_left front x bs e)) (fits_at g rules n place l front x bs e)
+            (λ k. carries_lines C own Other true refl (all true (front ++ x ∷ []) bs further (λ i. next_first front x bs e k))) (all_at n place other l (front ++ x ∷ []) bs further))
+      ]
+
   word_held : (i n : ℕ) → slice_get (map word_name g.code_words) i ≡ Some n → (f n ≡ f n) × (every n × Contains (code_targets g) n)
   word_held i n e = (refl, (tt, word_target g n (from_slice (map word_name g.code_words) i n e)))
 
@@ -192,3 +214,9 @@ module _ (g : Graph) (block to : ℕ) (rules : IsGraph g) (passable : IsPassable
   jump_goes_sound sound =
       carried_sound C own Other steady (λ xs r l. tt) tt every_block
       (words_held C rules holds may_go refl refl) (bodies_held C rules holds may_go refl refl) sound (procedures_sound C rules holds may_go refl refl sound)
+
+  -- no more is live at a place of a block that stays
+  pub jump_goes_live : (n place r : ℕ) → Other n → place ≤ length (items_of g n) → IsLive h r (place_lines h n place) → IsLive g r (place_lines g n place)
+  jump_goes_live n place r other l live =
+      live_at C own (carries_back C own Other steady (λ xs r l. tt) tt every_block (words_held C rules holds may_go refl refl) (bodies_held C rules holds may_go refl refl)) n place r
+      (all_at n place other l [] g.blocks refl) live

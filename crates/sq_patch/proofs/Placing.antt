@@ -1,20 +1,22 @@
 -- A graph in which other blocks stand in one place follows it, and is sound where it is.
-use Rattle.std.proofs.Common.{◌≡◌, ℕ, Bool, false, true, List, ◌∷◌, ◌++◌, None, sym, refl, subst}
+use Rattle.std.proofs.Common.{◌≡◌, ℕ, ◌≤◌, length, Bool, false, true, List, ◌∷◌, ◌++◌, None, sym, refl, subst}
 use Rattle.std.specs.List.{Contains}
 use Rattle.sq_graph.specs.declared.item.Item.{Item}
 use Rattle.sq_graph.specs.Graph.{Block, Procedure, Graph}
+use Rattle.sq_graph.specs.Blocks.{items_of}
 use Rattle.sq_graph.specs.Uses.{uses}
 use Rattle.sq_graph.specs.Rules.{IsGraph}
-use Rattle.sq_graph.specs.Lines.{Line, body_lines, lines_of, slot_name, block_lines}
+use Rattle.sq_graph.specs.Lines.{Line, body_lines, lines_of, slot_name, block_lines, place_lines}
 use Rattle.sq_graph.specs.Walks.{IsLive, code_targets}
 use Rattle.sq_graph.specs.Soundness.{IsSound}
 use Rattle.sq_follow.specs.Follows.{Follows}
 use Rattle.sq_patch.specs.Changes.{Change, Alike, IsCarrier}
 use Rattle.sq_patch.proofs.Keeping.{NoMode, no_stands, staying}
-use Rattle.sq_patch.proofs.Carrying.{ItemGoes, BlockGoes, carried_block}
+use Rattle.sq_patch.proofs.Carrying.{ItemGoes, BlockGoes, carried_block, Backs}
 use Rattle.sq_patch.proofs.Layouts.{Turn, Carries}
 use Rattle.sq_patch.proofs.Restricting.{own}
-use Rattle.sq_patch.proofs.Relating.{block_stays as block_stays_in, items_stay as items_stay_in, bodies_stay as bodies_stay_in, block_goes as block_goes_in, all_stay as all_stay_in, body_itself as body_itself_in, same_names, placed_follows as placed_follows_in, placed_sound as placed_sound_in, placed_live as placed_live_in}
+use Rattle.sq_patch.proofs.Remaining.{AlikeAt}
+use Rattle.sq_patch.proofs.Relating.{block_stays as block_stays_in, items_stay as items_stay_in, bodies_stay as bodies_stay_in, block_goes as block_goes_in, all_stay as all_stay_in, body_itself as body_itself_in, same_names, placed_follows as placed_follows_in, placed_sound as placed_sound_in, placed_live as placed_live_in, placed_place as placed_place_in, placed_backs as placed_backs_in}
 
 module _ (K : ℕ → Type 0) (X : List Line → ℕ → Type 0) (Z : Type 0) (g h : Graph) (rules : IsGraph g) (known : (n : ℕ) → Contains (uses g) n → K n) (procedures : h.procedures ≡ g.procedures) (words : h.code_words ≡ g.code_words) where
   abbrev pub C : Change
@@ -62,3 +64,9 @@ module _ (K : ℕ → Type 0) (X : List Line → ℕ → Type 0) (Z : Type 0) (g
 
       pub placed_live : ((xs : List Line) (r : ℕ) → IsLive g r xs → X xs r) → Z → (q n : ℕ) → K n → IsLive h q (block_lines h n) → IsLive g q (block_lines g n)
       placed_live matters safe q n k live = placed_live_in NoMode no_stands C.MayHold C.MayGo K X Z g h rules procedures words may_hold may_go us vs back first turn front whole after entry carrier values names matters safe q n n (refl, k) live
+
+      pub placed_place : ((xs : List Line) (r : ℕ) → IsLive g r xs → X xs r) → Z → (n place r : ℕ) → place ≤ length (items_of g n) → (AlikeAt C own n place back back → AlikeAt C own n place (us ++ back) (vs ++ back)) → IsLive h r (place_lines h n place) → IsLive g r (place_lines g n place)
+      placed_place matters safe n place r l here live = placed_place_in NoMode no_stands C.MayHold C.MayGo K X Z g h rules procedures words may_hold may_go us vs back first turn front whole after entry carrier values names matters safe n place r l here live
+
+      pub placed_backs : ((xs : List Line) (r : ℕ) → IsLive g r xs → X xs r) → Z → Backs C own
+      placed_backs matters safe = placed_backs_in NoMode no_stands C.MayHold C.MayGo K X Z g h rules procedures words may_hold may_go us vs back first turn front whole after entry carrier values names matters safe

@@ -34,16 +34,13 @@ use Rattle.sq_patch.proofs.Restricting.{own, own_block, own_procedure, flat_from
 use Rattle.sq_patch.proofs.Standing.{stands_at, block_at, own_called_block, own_called_procedure}
 use Rattle.sq_patch.proofs.Parts.{take_in, drop_in}
 use Rattle.sq_patch.proofs.Calls.{range_is}
-use Rattle.sq_patch.proofs.Replacing.{behind_items}
+use Rattle.sq_patch.proofs.Remaining.{AlikeAt, nothing_at, fits_at, stays_at, live_at}
 use Rattle.std.proofs.Common.{◌≤◌, length as size_of}
 use Rattle.sq_graph.specs.Blocks.{HasBlock}
-use Rattle.sq_graph.specs.Renames.{recalled_items}
-use Rattle.sq_graph.specs.Lines.{line_of, term_lines, body_lines, behind_name, place_lines}
+use Rattle.sq_graph.specs.Lines.{place_lines}
 use Rattle.sq_graph.specs.Walks.{IsLive}
-use Rattle.sq_patch.proofs.Carrying.{carry_body, Backs}
+use Rattle.sq_patch.proofs.Carrying.{Backs}
 use Rattle.sq_patch.proofs.Layouts.{carries_lines, carries_back}
-use Rattle.sq_patch.proofs.Places.{absent_from, name_at}
-use Rattle.sq_patch.proofs.Standing.{distinct_at, own_calls}
 use Rattle.sq_patch.proofs.Used.{contains_first, contains_later, flat_contains, from_slice, slice_there, from_all, item_called, block_item, body_calls_none}
 
 -- The second graph has the same blocks with other numbers of procedures, under which those that are called are there.
@@ -135,21 +132,17 @@ module _ (g h : Graph) (number : ℕ → ℕ) (rules : IsGraph g) (same : IsRenu
       carries_back C number every steady (λ xs r l. tt) tt every_block
       (λ m c. (m, may_hold m (word_target g m (subst (λ ws. Contains (map word_name ws) m) same.words c)))) bodies_held
 
-  -- a place of a block goes on like itself
-  place_alike : (front : List Block) (x : Block) (bs : List Block) → front ++ (x ∷ bs) ≡ g.blocks → (spot : ℕ) → Alike C true None (map line_of (drop spot x.items) ++ term_lines x.term (lines_of bs)) (map line_of (recalled_items number (drop spot x.items)) ++ term_lines x.term (lines_of (moved bs)))
-  place_alike front x bs e spot =
-      let go = block_goes front x bs e in
-      let later = λ (f : falls x.term ≡ true). carries_lines C number every true refl (all true (front ++ x ∷ []) bs (ahead front x bs ∙ e)) in
-      let b : Block = record x { items = drop spot x.items } in
-      subst (λ w. Alike C true None (body_lines b (lines_of bs)) (body_lines w (lines_of (moved bs)))) (ap (recalled_block number) (own_block b))
-      (carry_body C number b (lines_of bs) (lines_of (moved bs)) (record { items = λ item c. go.items item (drop_in x.items spot item c); term = go.term; slot = go.slot }) later)
+  -- places go on alike
+  all_at : (n place : ℕ) → place ≤ size_of (items_of g n) → (front bs : List Block) → front ++ bs ≡ g.blocks → AlikeAt C number n place bs (moved bs)
+  all_at n place l front [] e = nothing_at C number n place
+  all_at n place l front (x ∷ bs) e =
+      let further = ahead front x bs ∙ e in
+      stays_at C number n place x (recalled_block number x) bs (moved bs) (sym (ap (recalled_block number) (own_block x))) (block_goes front x bs e) (fits_at g rules n place l front x bs e)
+      (λ f. carries_lines C number every true refl (all true (front ++ x ∷ []) bs further)) (all_at n place l (front ++ x ∷ []) bs further)
 
-  pub place_live : (front : List Block) (x : Block) (bs : List Block) → front ++ (x ∷ bs) ≡ g.blocks → (spot r : ℕ) → IsLive h r (map line_of (recalled_items number (drop spot x.items)) ++ term_lines x.term (lines_of (moved bs))) → IsLive g r (map line_of (drop spot x.items) ++ term_lines x.term (lines_of bs))
-  place_live front x bs e spot r lives =
-      let before = map line_of (drop spot x.items) ++ term_lines x.term (lines_of bs) in
-      let o = backs r (map line_of (recalled_items number (drop spot x.items)) ++ term_lines x.term (lines_of (moved bs))) lives true None before (place_alike front x bs e spot) in
-      let is : r ≡ o.0 = o.1.0 in
-      subst (λ q. IsLive g q before) (sym is) o.1.1
+  -- no more is live at them
+  pub renumbered_live : (n place r : ℕ) → place ≤ size_of (items_of g n) → IsLive h r (place_lines h n place) → IsLive g r (place_lines g n place)
+  renumbered_live n place r l live = live_at C number backs n place r (subst (λ bs. AlikeAt C number n place g.blocks bs) (sym same.blocks) (all_at n place l [] g.blocks refl)) live
 
 -- procedures that were those of the graph under other numbers
 abbrev Were : Graph → Graph → (ℕ → ℕ) → Type 0
@@ -202,6 +195,9 @@ module _ (g : Graph) (from to : ℕ) (rules : IsGraph g) (equal : AreEqual g fro
 
   pub recall_follows : Follows g (redirected_calls g from to)
   recall_follows = renumbered_follows g (redirected_calls g from to) r rules renumbered
+
+  pub recall_live : (n place q : ℕ) → place ≤ size_of (items_of g n) → IsLive (redirected_calls g from to) q (place_lines (redirected_calls g from to) n place) → IsLive g q (place_lines g n place)
+  recall_live n place q l live = renumbered_live g (redirected_calls g from to) r rules renumbered n place q l live
 
   pub recall_sound : IsSound g → IsSound (redirected_calls g from to)
   recall_sound sound = renumbered_sound g (redirected_calls g from to) r rules renumbered sound (sound_were g (redirected_calls g from to) r were sound)
@@ -264,6 +260,9 @@ module _ (g : Graph) (gone : ℕ) (rules : IsGraph g) (unused : ¬ Contains (cal
   pub uncalled_goes_follows : Follows g (without_procedure g gone)
   uncalled_goes_follows = renumbered_follows g (without_procedure g gone) (lowered gone) rules fewer
 
+  pub uncalled_goes_live : (n place q : ℕ) → place ≤ size_of (items_of g n) → IsLive (without_procedure g gone) q (place_lines (without_procedure g gone) n place) → IsLive g q (place_lines g n place)
+  uncalled_goes_live n place q l live = renumbered_live g (without_procedure g gone) (lowered gone) rules fewer n place q l live
+
   pub uncalled_goes_sound : IsSound g → IsSound (without_procedure g gone)
   uncalled_goes_sound sound = renumbered_sound g (without_procedure g gone) (lowered gone) rules fewer sound (sound_were g (without_procedure g gone) (lowered gone) left sound)
 
@@ -321,16 +320,4 @@ module _ (g : Graph) (block at length link : ℕ) (rules : IsGraph g) where
 
   -- what is dead at a place stays dead
   pub outline_dead : (other spot r : ℕ) → HasBlock g other → spot ≤ size_of (items_of g other) → ¬ IsLive g r (place_lines g other spot) → ¬ IsLive oh r (place_lines oh other spot)
-  outline_dead other spot r has l gone lives =
-      let z = located g.blocks other has in
-      let e : z.front ++ (z.block ∷ z.back) ≡ g.blocks = sym z.whole in
-      let items_are : items_of g other ≡ z.block.items = ap block_items (subst (λ k. value_of (named g.blocks) k ≡ Some z.block) z.has_name (block_at g rules z.front z.block z.back e)) in
-      let lines_are : block_lines g other ≡ body_lines z.block (lines_of z.back) =
-      subst (λ k. behind_name k (lines_of g.blocks) ≡ body_lines z.block (lines_of z.back)) z.has_name
-      (subst (λ cs. behind_name z.block.name (lines_of cs) ≡ body_lines z.block (lines_of z.back)) e (name_at z.front z.block z.back (absent_from z.front z.block z.back (distinct_at g rules z.front z.block z.back e)))) in
-      let place_is : place_lines g other spot ≡ map line_of (drop spot z.block.items) ++ term_lines z.block.term (lines_of z.back) =
-      ap (drop spot) lines_are ∙ behind_items z.block.items spot (term_lines z.block.term (lines_of z.back)) (subst (λ items. spot ≤ size_of items) items_are l) in
-      let there : IsLive oh r (map line_of (recalled_items own (drop spot z.block.items)) ++ term_lines z.block.term (lines_of (map (recalled_block own) z.back))) =
-      subst (λ is. IsLive oh r (map line_of is ++ term_lines z.block.term (lines_of (map (recalled_block own) z.back)))) (sym (own_calls (drop spot z.block.items)))
-      (subst (λ bs. IsLive oh r (map line_of (drop spot z.block.items) ++ term_lines z.block.term (lines_of bs))) (same_blocks z.back) (subst (λ lines. IsLive oh r lines) place_is lives)) in
-      gone (subst (λ lines. IsLive g r lines) (sym place_is) (place_live g oh own rules more z.front z.block z.back e spot r there))
+  outline_dead other spot r has l gone lives = gone (renumbered_live g oh own rules more other spot r l lives)

@@ -1,13 +1,13 @@
 -- A graph in which other blocks stand in one place, and names may stand for others, follows it and is sound where it is.
-use Rattle.std.proofs.Common.{◌≡◌, ℕ, Bool, true, false, List, [], ◌∷◌, ◌++◌, Option, Some, None, map, slice_get, refl, sym, ap, ◌∙◌, subst}
+use Rattle.std.proofs.Common.{◌≡◌, ℕ, ◌≤◌, length, Bool, true, false, List, [], ◌∷◌, ◌++◌, Option, Some, None, map, slice_get, refl, sym, ap, ◌∙◌, subst}
 use Rattle.std.specs.List.{Contains}
 use Rattle.sq_graph.specs.Graph.{Block, Procedure, Graph}
 use Rattle.sq_graph.specs.Terms.{links}
 use Rattle.sq_graph.specs.Uses.{uses, code_word_uses, terms_uses, items_uses}
-use Rattle.sq_graph.specs.Blocks.{all_items}
+use Rattle.sq_graph.specs.Blocks.{all_items, items_of}
 use Rattle.sq_graph.specs.Rules.{IsGraph}
 use Rattle.sq_graph.specs.Renames.{retargeted_procedure, retargeted_words, recalled_block}
-use Rattle.sq_graph.specs.Lines.{Line, body_lines, lines_of, slot_name, block_lines}
+use Rattle.sq_graph.specs.Lines.{Line, body_lines, lines_of, slot_name, block_lines, place_lines}
 use Rattle.sq_graph.specs.Walks.{IsLive, word_name, code_targets}
 use Rattle.sq_graph.specs.Soundness.{IsSound}
 use Rattle.sq_graph.proofs.Bypassing.{retargeted_same}
@@ -20,6 +20,7 @@ use Rattle.sq_patch.proofs.Carrying.{same_some, SlotGoes, BlockGoes, ItemGoes, c
 use Rattle.sq_patch.proofs.Layouts.{Turn, Carries, done, stays, turns, carries_behind, carries_back, carried_sound, carries_lines}
 use Rattle.sq_patch.proofs.Restricting.{own, own_block, slot_target}
 use Rattle.sq_patch.proofs.Standing.{stands_at, own_called_block, items_go, body_goes, term_goes, words_held, bodies_held, procedures_sound}
+use Rattle.sq_patch.proofs.Remaining.{fits_at, AlikeAt, nothing_at, stays_at, live_at}
 use Rattle.sq_patch.proofs.Used.{contains_first, from_slice}
 
 -- A change in which names stay, but some may be held for others, or gone to for others.
@@ -80,6 +81,14 @@ module _ (Mode : Type 0) (StandsIn : Mode → ℕ → ℕ → Type 0) (MayHold M
     all_stay into front (x ∷ bs) e =
         stays x x (block_stays x) (block_goes front x bs bs e refl) (all_stay (falls x.term) (front ++ x ∷ []) bs (ahead front x bs ∙ e))
 
+    -- places of theirs
+    all_at : (n place : ℕ) → place ≤ length (items_of g n) → (front bs : List Block) → front ++ bs ≡ g.blocks → AlikeAt C own n place bs bs
+    all_at n place l front [] e = nothing_at C own n place
+    all_at n place l front (x ∷ bs) e =
+        let further = ahead front x bs ∙ e in
+        stays_at C own n place x x bs bs (block_stays x) (block_goes front x bs bs e refl) (fits_at g rules n place l front x bs e)
+        (λ f. carries_lines C own K true refl (all_stay true (front ++ x ∷ []) bs further)) (all_at n place l (front ++ x ∷ []) bs further)
+
     -- and the lines of one of them
     pub body_itself : (b : Bool) (front : List Block) (x : Block) (bs : List Block) → front ++ (x ∷ bs) ≡ g.blocks → Alike C b None (body_lines x (lines_of bs)) (body_lines x (lines_of bs))
     body_itself b front x bs e =
@@ -105,6 +114,15 @@ module _ (Mode : Type 0) (StandsIn : Mode → ℕ → ℕ → Type 0) (MayHold M
       placed into front [] e all a = turns us vs (wide into) (all_stay true all back a)
       placed into front (x ∷ bs) e all a =
           stays x x (block_stays x) (block_goes front x (bs ++ (us ++ back)) (bs ++ (vs ++ back)) e (first_stays bs)) (placed (falls x.term) (front ++ x ∷ []) bs (ahead front x (bs ++ (us ++ back)) ∙ e) all a)
+
+      -- a place of theirs, where one of the blocks in the place goes on alike
+      placed_at : (n place : ℕ) → place ≤ length (items_of g n) → (AlikeAt C own n place back back → AlikeAt C own n place (us ++ back) (vs ++ back)) → (front bs : List Block) → front ++ (bs ++ (us ++ back)) ≡ g.blocks → (all : List Block) → all ++ back ≡ g.blocks → AlikeAt C own n place (bs ++ (us ++ back)) (bs ++ (vs ++ back))
+      placed_at n place l here front [] e all a = here (all_at n place l all back a)
+      placed_at n place l here front (x ∷ bs) e all a =
+          let further = ahead front x (bs ++ (us ++ back)) ∙ e in
+          stays_at C own n place x x (bs ++ (us ++ back)) (bs ++ (vs ++ back)) (block_stays x) (block_goes front x (bs ++ (us ++ back)) (bs ++ (vs ++ back)) e (first_stays bs))
+          (fits_at g rules n place l front x (bs ++ (us ++ back)) e)
+          (λ f. carries_lines C own K true refl (placed true (front ++ x ∷ []) bs further all a)) (placed_at n place l here (front ++ x ∷ []) bs further all a)
 
       three : (xs ys zs : List Block) → (xs ++ ys) ++ zs ≡ xs ++ (ys ++ zs)
       three [] ys zs = refl
@@ -144,6 +162,13 @@ module _ (Mode : Type 0) (StandsIn : Mode → ℕ → ℕ → Type 0) (MayHold M
           placed_backs matters safe =
               carries_back C own K steady matters safe every
               (words_held C rules may_hold may_go procedures_stay words_stay) (bodies_held C rules may_hold may_go procedures_stay words_stay)
+
+          -- and so at places of blocks that stay
+          pub placed_place : ((xs : List Line) (r : ℕ) → IsLive g r xs → X xs r) → Z → (n place r : ℕ) → place ≤ length (items_of g n) → (AlikeAt C own n place back back → AlikeAt C own n place (us ++ back) (vs ++ back)) → IsLive h r (place_lines h n place) → IsLive g r (place_lines g n place)
+          placed_place matters safe n place r l here live =
+              live_at C own (placed_backs matters safe) n place r
+              (subst (λ bs. AlikeAt C own n place bs h.blocks) whole
+              (subst (λ cs. AlikeAt C own n place (front ++ (us ++ back)) cs) (sym after) (placed_at n place l here [] front whole (front ++ us) (three front us back ∙ whole)))) live
 
           pub placed_live : ((xs : List Line) (r : ℕ) → IsLive g r xs → X xs r) → Z → (q n m : ℕ) → MayGo n m → IsLive h q (block_lines h m) → IsLive g q (block_lines g n)
           placed_live matters safe q n m j live =

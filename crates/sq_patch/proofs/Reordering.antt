@@ -1,20 +1,20 @@
 -- A graph with its blocks in an order in which each that goes on keeps its next slot follows it.
-use Rattle.std.proofs.Common.{◌≡◌, ℕ, zero, suc, ◌<◌, ◌⊎◌, arith, Bool, true, false, if◌then◌else◌, inl, inr, List, [], ◌∷◌, ◌++◌, Some, None, IsSome, map, refl, sym, ap, ◌∙◌, subst}
+use Rattle.std.proofs.Common.{◌≡◌, ◌≤◌, drop, length, ℕ, zero, suc, ◌<◌, ◌⊎◌, arith, Bool, true, false, if◌then◌else◌, inl, inr, List, [], ◌∷◌, ◌++◌, Some, None, IsSome, map, refl, sym, ap, ◌∙◌, subst}
 use Rattle.std.proofs.lemmas.List.Elements.{Contains-append_cases}
 use Rattle.std.specs.List.{Contains, flat_map}
 use Rattle.sq_arena.specs.Entries.{value_of, first_key, behind as entries_behind, HasDistinctKeys}
 use Rattle.sq_graph.specs.Graph.{Block, Procedure, Graph}
-use Rattle.sq_graph.specs.Blocks.{named, HasBlock, block_of, next_of}
+use Rattle.sq_graph.specs.Blocks.{named, HasBlock, items_of, block_of, next_of}
 use Rattle.sq_graph.specs.Terms.{links, goes_on}
 use Rattle.sq_graph.specs.Uses.{uses, code_word_uses, terms_uses, items_uses}
 use Rattle.sq_graph.specs.Blocks.{all_items}
 use Rattle.sq_graph.specs.Rules.{IsGraph}
-use Rattle.sq_graph.specs.Lines.{Line, term_lines, body_lines, lines_of, behind_name, slot_name, block_lines}
-use Rattle.sq_graph.specs.Walks.{word_name, lower_names, link_names, first_name, code_targets}
+use Rattle.sq_graph.specs.Lines.{Line, term_lines, body_lines, lines_of, behind_name, slot_name, block_lines, place_lines}
+use Rattle.sq_graph.specs.Walks.{IsLive, word_name, lower_names, link_names, first_name, code_targets}
 use Rattle.sq_graph.specs.Soundness.{LinksDieIn, IsSound}
 use Rattle.sq_graph.proofs.Located.{located}
 use Rattle.sq_follow.specs.Follows.{Follows}
-use Rattle.sq_patch.specs.Changes.{Change, Alike, ends, name_before, name_after, IsSteady}
+use Rattle.sq_patch.specs.Changes.{Change, Alike, falls, ends, name_before, name_after, IsSteady}
 use Rattle.sq_patch.specs.Inserts.{AreReordered}
 use Rattle.sq_patch.proofs.Layouts.{none_in}
 use Rattle.sq_patch.proofs.LiveTargets.{word_target}
@@ -30,6 +30,8 @@ use Rattle.sq_patch.proofs.Restricting.{own, flat_from, block_target, procedure_
 use Rattle.sq_patch.proofs.Standing.{stands_at, distinct_at, block_at}
 use Rattle.sq_patch.proofs.Placing.{C as placing, block_stays, block_goes as block_was}
 use Rattle.sq_patch.proofs.OneBlock.{die_in}
+use Rattle.sq_patch.proofs.Remaining.{fits_at, items_at, live_at}
+use Rattle.std.proofs.lemmas.Bool.{eq-eqb}
 use Rattle.sq_patch.proofs.Leading.{slot_lines, slot_lines_name, first_slot, leads}
 use Rattle.sq_patch.proofs.Used.{contains_first, from_slice, from_all}
 
@@ -236,3 +238,22 @@ module _ (g : Graph) (blocks : List Block) (rules : IsGraph g) (order : AreReord
 
   pub reorder_sound : IsSound g → IsSound h
   reorder_sound sound = record { bodies = sound.bodies; links_die = dies sound [] blocks refl }
+
+  -- no more is live at a place
+  pub reorder_live : (n place r : ℕ) → K n → place ≤ length (items_of g n) → IsLive h r (place_lines h n place) → IsLive g r (place_lines g n place)
+  reorder_live n place r k l live =
+      let at = located g.blocks n k in
+      let x = at.block in
+      let e : at.front ++ (x ∷ at.back) ≡ g.blocks = sym at.whole in
+      let before : block_lines g x.name ≡ body_lines x (lines_of at.back) = subst (λ cs. behind_name x.name (lines_of cs) ≡ body_lines x (lines_of at.back)) e (name_at at.front x at.back (absent_from at.front x at.back (distinct_at g rules at.front x at.back e))) in
+      let go = block_goes at.front x at.back e in
+      let later : falls x.term ≡ true → Alike C true None (lines_of at.back) (slot x) =
+      λ f. subst (λ o. Alike C true None (lines_of at.back) (slot_lines blocks o)) (sym (next_kept at.front x at.back e (falls_goes_on x.term f))) (lines true (at.front ++ x ∷ []) at.back (ahead at.front x at.back ∙ e)) in
+      let fits : place ≤ length x.items = fits_at g rules n place l at.front x at.back e (eq-eqb x.name n at.has_name) in
+      let body : Alike C true None (drop place (body_lines x (lines_of at.back))) (drop place (body_lines x (slot x))) =
+      subst (λ (z : Block). Alike C true None (drop place (body_lines x (lines_of at.back))) (drop place (body_lines z (slot x)))) (is_own x)
+      (items_at C own place x.items (term_lines x.term (lines_of at.back)) (term_lines (carried_block C own x).term (slot x)) go.items fits (carry_term C own x.term (lines_of at.back) (slot x) go.term go.slot later)) in
+      live_at C own backs n place r
+      (subst (λ m. Alike C true None (place_lines g m place) (place_lines h m place)) at.has_name
+      (subst (λ xs. Alike C true None (drop place xs) (place_lines h x.name place)) (sym before)
+      (subst (λ ys. Alike C true None (drop place (body_lines x (lines_of at.back))) (drop place ys)) (sym (x_lines at.front x at.back e)) body))) live

@@ -1,5 +1,5 @@
 -- A graph with the blocks of a closed set alone, and the procedures that these call, follows it.
-use Rattle.std.proofs.Common.{◌≡◌, ◌≢◌, ◌⊎◌, ℕ, zero, suc, ◌<◌, Bool, true, false, ◌==◌, if◌then◌else◌, List, [], ◌∷◌, ◌++◌, Some, None, map, slice_get, refl, sym, ap, ◌∙◌, subst, inl, inr, arith}
+use Rattle.std.proofs.Common.{◌≡◌, ◌≢◌, ◌⊎◌, ℕ, zero, suc, ◌<◌, ◌≤◌, length, Bool, true, false, ◌==◌, if◌then◌else◌, List, [], ◌∷◌, ◌++◌, Some, None, map, slice_get, refl, sym, ap, ◌∙◌, subst, inl, inr, arith}
 use Rattle.std.proofs.lemmas.Bool.{cases_Bool, eq-eqb, ne_eqb}
 use Rattle.std.proofs.lemmas.List.Elements.{All-nil, All-cons, All-map, All-weaker, Contains-append_left, Contains-append_right, Contains-append_cases}
 use Rattle.std.proofs.lemmas.Option.{slice_get-map}
@@ -16,8 +16,8 @@ use Rattle.sq_graph.specs.Terms.{links, goes_on}
 use Rattle.sq_graph.specs.Uses.{item_uses, item_calls, items_uses, term_uses, uses}
 use Rattle.sq_graph.specs.Rules.{IsGraph}
 use Rattle.sq_graph.specs.Renames.{retargeted_block, retargeted_procedure, recalled_item, recalled_items, recalled_block, recalled_procedure}
-use Rattle.sq_graph.specs.Lines.{lines_of, line_of, slot_name, block_lines}
-use Rattle.sq_graph.specs.Walks.{entry, code_word, walk, procedure_names, called_names, first_name, block_successors, successors_in, word_name, lower_names, link_names, code_targets}
+use Rattle.sq_graph.specs.Lines.{lines_of, line_of, slot_name, block_lines, place_lines}
+use Rattle.sq_graph.specs.Walks.{IsLive, entry, code_word, walk, procedure_names, called_names, first_name, block_successors, successors_in, word_name, lower_names, link_names, code_targets}
 use Rattle.sq_graph.specs.Soundness.{IsFreeOf, IsSoundBody, IsSound}
 use Rattle.sq_graph.proofs.Bypassing.{retargeted_same}
 use Rattle.sq_follow.specs.Follows.{Follows}
@@ -31,7 +31,8 @@ use Rattle.sq_patch.proofs.Places.{absent_from, found_at, other_name}
 use Rattle.sq_patch.proofs.Moving.{moving, item_use, word_use}
 use Rattle.sq_patch.proofs.Dying.{lower_use}
 use Rattle.sq_patch.proofs.Carrying.{CallGoes, ItemGoes, SlotGoes, BlockGoes, carried_procedure, carry_inside}
-use Rattle.sq_patch.proofs.Layouts.{IsHeld, gone, Carries, done, stays, turns, carries_behind, carried_sound}
+use Rattle.sq_patch.proofs.Layouts.{IsHeld, gone, Carries, done, stays, turns, carries_lines, carries_behind, carries_back, carried_sound}
+use Rattle.sq_patch.proofs.Remaining.{AlikeAt, fits_at, nothing_at, stays_at, gone_at, live_at}
 use Rattle.sq_patch.proofs.Used.{contains_first, contains_later, flat_contains, from_slice, slice_there, from_all, item_called, block_item, body_calls_none}
 
 abbrev pub own : ℕ → ℕ
@@ -414,11 +415,31 @@ module _ (g : Graph) (keep held : ℕ → Bool) (rules : IsGraph g) (closed : Is
       (each_has (λ (p : Procedure). IsSoundBody (recalled_procedure number p)) (procedures_held held g.procedures)
       (λ p c. let was = held_was held g.procedures p c in body_recalled number p (from_all IsSoundBody g.procedures p sound.bodies (from_slice g.procedures was.0 p was.1.1))))
 
+  -- places of blocks that are kept
+  left_at : (n place : ℕ) → Kept n → place ≤ length (items_of g n) → (front bs : List Block) → front ++ bs ≡ g.blocks → AlikeAt C number n place bs (left bs)
+  left_at n place k l front [] e = nothing_at C number n place
+  left_at n place k l front (x ∷ bs) e =
+      let further = ahead front x bs ∙ e in
+      let rest = left_at n place k l (front ++ x ∷ []) bs further in
+      elim (cases_Bool (keep x.name)) [
+        | inl kept ↦
+            rw kept (stays_at C number n place x (recalled_block number x) bs (left bs) (sym (ap (recalled_block number) (own_block x))) (block_goes front x bs e kept) (fits_at g rules n place l front x bs e)
+            (λ f. carries_lines C number Kept true refl (all true (front ++ x ∷ []) bs further (λ i. next_first front x bs e kept f))) rest)
+        | inr goes ↦ rw goes (gone_at C number n place x bs (left bs) (differs x n goes k) rest)
+      ]
+
+  words_held : (m : ℕ) → Contains (map word_name g.code_words) m → IsHeld C number Kept m
+  words_held m c = (m, (refl, (closed.code_words m c, word_target g m c)))
+
+  -- no more is live at a place of a block that is kept
+  pub restrict_live : (n place r : ℕ) → Kept n → place ≤ length (items_of g n) → IsLive h r (place_lines h n place) → IsLive g r (place_lines g n place)
+  restrict_live n place r k l live =
+      live_at C number (carries_back C number Kept steady (λ xs r l. tt) tt every words_held bodies_held) n place r (left_at n place k l [] g.blocks refl) live
+
   pub restrict_sound : IsSound g → IsSound h
   restrict_sound sound =
       carried_sound C number Kept steady (λ xs r l. tt) tt every
-      (λ m c. (m, (refl, (closed.code_words m c, word_target g m c))))
-      bodies_held sound (procedures_sound sound)
+      words_held bodies_held sound (procedures_sound sound)
 
 pub reached_closed : (g : Graph) (keep held : ℕ → Bool) → HoldsReached g keep held → IsClosed g keep held
 reached_closed g keep held exact = record {

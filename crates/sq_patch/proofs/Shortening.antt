@@ -1,6 +1,6 @@
 -- A graph in which a jump by an upper half became a shorter one, and the upper half went, follows it.
-use Rattle.std.proofs.Common.{◌≡◌, ℕ, zero, suc, ◌+◌, true, false, ◌==◌, inl, inr, List, [], ◌∷◌, ◌++◌, Some, None, IsSome, map, drop, length, slice_get, refl, sym, ap, ◌∙◌, subst, arith}
-use Rattle.std.proofs.lemmas.Bool.{cases_Bool, ne_eqb}
+use Rattle.std.proofs.Common.{◌≡◌, ℕ, zero, suc, ◌+◌, ◌≤◌, true, false, ◌==◌, inl, inr, List, [], ◌∷◌, ◌++◌, Some, None, IsSome, map, drop, length, slice_get, refl, sym, ap, ◌∙◌, subst, arith}
+use Rattle.std.proofs.lemmas.Bool.{cases_Bool, cases_eq, ne_eqb}
 use Rattle.std.proofs.lemmas.List.{drop_all}
 use Rattle.std.proofs.lemmas.List.Elements.{All-nil, All-cons}
 use Rattle.std.specs.List.{All, Contains}
@@ -26,11 +26,12 @@ use Rattle.sq_follow.proofs.Following.{graph_follows_through}
 use Rattle.sq_patch.specs.Operations.{hastened, IsShortable, shortened}
 use Rattle.sq_patch.proofs.Shrink.{no_sources}
 use Rattle.sq_patch.proofs.Places.{absent_from, found_at, next_at, name_at}
+use Rattle.sq_patch.proofs.Leading.{others_same}
 use Rattle.sq_patch.proofs.Carrying.{same_some}
 use Rattle.sq_patch.proofs.Replacing.{behind_items}
 use Rattle.sq_patch.proofs.Standing.{stands_at, distinct_at, block_at, there_by_term}
 use Rattle.sq_patch.proofs.Matching.{is_itself, zero_register}
-use Rattle.sq_patch.proofs.OneBlock.{hasten_live, hasten_sound, drop_sound, hasten_follows, drop_follows}
+use Rattle.sq_patch.proofs.OneBlock.{hasten_live, hasten_place, drop_live, hasten_sound, drop_sound, hasten_follows, drop_follows}
 use Rattle.sq_patch.proofs.Used.{contains_first, term_used}
 
 -- x0 is nowhere live
@@ -179,3 +180,24 @@ module _ (g : Graph) (block at link part to : ℕ) (rules : IsGraph g) (can : Is
   pub shorten_sound : IsSound g → IsSound (shortened g block at link to)
   shorten_sound sound =
       subst IsSound same_graph (drop_sound h block at part to h_rules half_there dead (hasten_sound g block link part to rules can.jump sound))
+
+  -- a block of the graph is one of that with the shorter jump, with as many items
+  other_items : (other : ℕ) → HasBlock g other → HasBlock h other × (items_of h other ≡ items_of g other)
+  other_items other has =
+      elim (cases_eq other block) [
+        | inl here ↦
+            let is : block_of h block ≡ Some y = subst (λ k. value_of (named h.blocks) k ≡ Some y) spot.has_name (subst (λ cs. value_of (named cs) x.name ≡ Some y) after (found_at spot.front y back absent)) in
+            (subst (λ k. HasBlock h k) (sym here) (subst IsSome (sym is) refl), ap (items_of h) here ∙ items_same ∙ sym (ap block_items found) ∙ sym (ap (items_of g) here))
+        | inr differs ↦
+            let same : block_of h other ≡ block_of g other =
+            ap (λ bs. value_of (named bs) other) (sym after) ∙ others_same spot.front x y back other refl (λ e. differs (e ∙ spot.has_name)) ∙ ap (λ bs. value_of (named bs) other) whole in
+            (subst IsSome (sym same) has, ap block_items same)
+      ]
+
+  -- no more is live in other blocks, and in this one up to the half
+  pub shorten_live : (other place r : ℕ) → HasBlock g other → place ≤ length (items_of g other) → (other ≡ block → place ≤ at) → IsLive (shortened g block at link to) r (place_lines (shortened g block at link to) other place) → IsLive g r (place_lines g other place)
+  shorten_live other place r has l ahead_of live =
+      let there = other_items other has in
+      hasten_place g block link part to rules can.jump other place r l
+      (drop_live h block at part to h_rules half_there dead other place r there.0 (subst (λ items. place ≤ length items) (sym there.1) l) ahead_of
+      (subst (λ (k : Graph). IsLive k r (place_lines k other place)) (sym same_graph) live))

@@ -61,7 +61,7 @@ slice_there [] i l = absurd (omega arith)
 slice_there (x ∷ xs) zero l = (x, refl)
 slice_there (x ∷ xs) (suc i) l = slice_there xs i (omega arith)
 
-none_is_none : (o : Option Block) → o ≡ None → IsSome o → ⊥
+pub none_is_none : (o : Option Block) → o ≡ None → IsSome o → ⊥
 none_is_none None e s = absurd (cc)
 none_is_none (Some b) e s = absurd (cc)
 

@@ -1,0 +1,50 @@
+use Rattle.sq_patch.proofs.StayingDead.{fall_dead, jump_goes_dead, invert_dead, shorten_dead, hasten_dead, drop_dead, restrict_dead, split_dead, split_moves_dead, canonical_dead, inline_dead, recall_dead, uncalled_goes_dead, insert_dead, exchange_dead, reorder_dead}
+use Rattle.sq_patch.proofs.liveness.operations_keep_dead.Goals as goal
+
+pub returns-clause-fall : goal.returns-clause-fall
+returns-clause-fall c = fall_dead
+
+pub returns-clause-jump_goes : goal.returns-clause-jump_goes
+returns-clause-jump_goes c = jump_goes_dead
+
+pub returns-clause-invert : goal.returns-clause-invert
+returns-clause-invert c = invert_dead
+
+pub returns-clause-shorten : goal.returns-clause-shorten
+returns-clause-shorten c = shorten_dead
+
+pub returns-clause-hasten : goal.returns-clause-hasten
+returns-clause-hasten c = hasten_dead
+
+pub returns-clause-drop : goal.returns-clause-drop
+returns-clause-drop c = drop_dead
+
+pub returns-clause-restrict : goal.returns-clause-restrict
+returns-clause-restrict c = restrict_dead
+
+pub returns-clause-split : goal.returns-clause-split
+returns-clause-split c = split_dead
+
+pub returns-clause-split_moves : goal.returns-clause-split_moves
+returns-clause-split_moves c = split_moves_dead
+
+pub returns-clause-canonical : goal.returns-clause-canonical
+returns-clause-canonical c = canonical_dead
+
+pub returns-clause-inline : goal.returns-clause-inline
+returns-clause-inline c = inline_dead
+
+pub returns-clause-recall : goal.returns-clause-recall
+returns-clause-recall c = recall_dead
+
+pub returns-clause-uncalled_goes : goal.returns-clause-uncalled_goes
+returns-clause-uncalled_goes c = uncalled_goes_dead
+
+pub returns-clause-insert : goal.returns-clause-insert
+returns-clause-insert c = insert_dead
+
+pub returns-clause-exchange : goal.returns-clause-exchange
+returns-clause-exchange c = exchange_dead
+
+pub returns-clause-reorder : goal.returns-clause-reorder
+returns-clause-reorder c = reorder_dead

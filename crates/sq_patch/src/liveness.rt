@@ -1,0 +1,23 @@
+//! Registers that are dead stay dead under the operations.
+
+ghost use Rattle.sq_patch.specs.Liveness.{FallKeepsDead, JumpGoesKeepsDead, InvertKeepsDead, ShortenKeepsDead, HastenKeepsDead, DropKeepsDead, RestrictKeepsDead, SplitKeepsDead, SplitMovesDead, CanonicalKeepsDead, InlineKeepsDead, RecallKeepsDead, UncalledGoesKeepsDead, InsertKeepsDead, ExchangeKeepsDead, ReorderKeepsDead};
+
+/// Registers that are dead at a place are dead there still, for each of these operations and each place that it leaves.
+pub fn operations_keep_dead()
+    ensures fall { FallKeepsDead }
+    ensures jump_goes { JumpGoesKeepsDead }
+    ensures invert { InvertKeepsDead }
+    ensures shorten { ShortenKeepsDead }
+    ensures hasten { HastenKeepsDead }
+    ensures drop { DropKeepsDead }
+    ensures restrict { RestrictKeepsDead }
+    ensures split { SplitKeepsDead }
+    ensures split_moves { SplitMovesDead }
+    ensures canonical { CanonicalKeepsDead }
+    ensures inline { InlineKeepsDead }
+    ensures recall { RecallKeepsDead }
+    ensures uncalled_goes { UncalledGoesKeepsDead }
+    ensures insert { InsertKeepsDead }
+    ensures exchange { ExchangeKeepsDead }
+    ensures reorder { ReorderKeepsDead }
+{}
