@@ -20,3 +20,4 @@ pub mod SameFiles
 pub mod Accepting
 pub mod GoodGraphs
 pub mod SoundNotes
+pub mod OneReading

@@ -36,6 +36,9 @@ module _ (bytes : List ℕ) (is too : ℕ → Bool) (p q : Program) (a : IsReadA
   tests : (x : ℕ) → is x ≡ too x
   tests = same_test p is too a.reached (subst (λ p. Decides p too) (sym programs) b.reached)
 
+  pub same_lifted : lifted is p ≡ lifted too q
+  same_lifted = λ i. lifted (λ x. tests x i) (programs i)
+
   pub early_same : early_refusal bytes is p ≡ early_refusal bytes too q
   early_same = λ i. early_refusal bytes (λ x. tests x i) (programs i)
 

@@ -1,6 +1,6 @@
 -- What `lift` gives for a file.
-use Rattle.std.specs.Prelude.{◌≡◌, ℕ, ◌+◌, ◌*◌, ◌≤◌, Bool, List, length, IsSome}
-use Rattle.std.specs.List.{All}
+use Rattle.std.specs.Prelude.{◌≡◌, ℕ, ◌+◌, ◌*◌, ◌<◌, ◌≤◌, Bool, List, length, IsSome}
+use Rattle.std.specs.List.{All, AllByRecursion}
 use Rattle.sq_runs.specs.Runs.{IsUnbroken}
 use Rattle.sq_runs.specs.Follows.{LeadsTo}
 use Rattle.sq_num.specs.declared.refusal.Refusal.{Refusal}
@@ -14,6 +14,7 @@ use Rattle.sq_graph.specs.Leaders.{IsCanonical}
 use Rattle.sq_graph.specs.Soundness.{IsSound}
 use Rattle.sq_graph.specs.Words.{words_of}
 use Rattle.sq_graph.specs.Places.{IsInReach}
+use Rattle.sq_graph.specs.Slotted.{slotted}
 use Rattle.sq_write.specs.Registers.{HasRegisters}
 use Rattle.sq_program.specs.Programs.{Text, Program}
 use Rattle.sq_follow.specs.Follows.{graph_run}
@@ -75,3 +76,13 @@ room_for t = record { blocks = length t.words; items = length t.words; procedure
 -- A file of which nothing is refused has no refusal.
 abbrev pub AcceptedIsNotRefused : Type 0
 AcceptedIsNotRefused = (bytes : List ℕ) → IsAcceptedFile bytes → (refusal : Refusal) → ¬ IsRefusalOf bytes refusal
+
+-- A file has one lifted graph, but for the names of blocks: named by their positions, its lifted graphs are one.
+abbrev pub LiftedGraphsAreOne : Type 0
+LiftedGraphsAreOne =
+    (bytes : List ℕ) (g h : Graph) → AllByRecursion (λ b. b < 256) bytes → IsLiftedFile bytes g → IsLiftedFile bytes h
+    → slotted g ≡ slotted h
+
+-- A file has at most one refusal.
+abbrev pub RefusalsAreOne : Type 0
+RefusalsAreOne = (bytes : List ℕ) (r s : Refusal) → IsRefusalOf bytes r → IsRefusalOf bytes s → r ≡ s

@@ -14,7 +14,7 @@ mod live_links;
 
 ghost use Rattle.sq_lifted.specs.Lifted.{LiftedIsGood};
 ghost use Rattle.sq_lifted.specs.Files.{FilesAreLinked, FileWorldsFit, LiftedFilesAreGood, LiftedFilesKeepRuns, LiftedFilesFollow, FilesAreLaidOut, FilesStartPlain, FilesShowPlain};
-ghost use Rattle.sq_lifted.specs.LiftedFiles.{AcceptedIsNotRefused};
+ghost use Rattle.sq_lifted.specs.LiftedFiles.{AcceptedIsNotRefused, LiftedGraphsAreOne, RefusalsAreOne};
 ghost use Rattle.sq_lifted.specs.Same.{ShownGraphsAreSame, FilesAreWorlds};
 
 pub use lifts::lift;
@@ -86,4 +86,14 @@ pub fn shown_graphs_are_same()
 /// A file of which nothing is refused has no refusal.
 pub fn accepted_is_not_refused()
     ensures { AcceptedIsNotRefused }
+{}
+
+/// A file has at most one refusal.
+pub fn refusals_are_one()
+    ensures { RefusalsAreOne }
+{}
+
+/// A file has one lifted graph, but for the names of blocks.
+pub fn lifted_graphs_are_one()
+    ensures { LiftedGraphsAreOne }
 {}

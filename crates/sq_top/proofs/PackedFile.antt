@@ -14,6 +14,7 @@ use Rattle.sq_reloc.specs.Outside.{code_word_at}
 use Rattle.sq_graph.specs.declared.parts.CodeRef.{CodeRef}
 use Rattle.sq_graph.specs.Graph.{Graph}
 use Rattle.sq_graph.specs.Rules.{IsGraph}
+use Rattle.sq_graph.specs.Slotted.{IsSlotted, slotted as slotted_of}
 use Rattle.sq_graph.specs.Words.{words_of}
 use Rattle.sq_follow.specs.Follows.{word_address}
 use Rattle.sq_program.specs.FilePrograms.{IsAcceptedFile}
@@ -23,19 +24,20 @@ use Rattle.sq_write.specs.Written.{written}
 use Rattle.sq_write.proofs.AlikeGraphs.{alike_fit}
 use Rattle.sq_write.proofs.SegmentFacts.{few_text}
 use Rattle.sq_outputs.specs.Writing.{IsWritable, HasSizes}
+use Rattle.sq_outputs.proofs.Bytes.{written_is_bytes}
 use Rattle.sq_outputs.proofs.Writing.{written_sizes}
 use Rattle.sq_writing.specs.Files.{code_word_address, IsWritableInto}
 use Rattle.sq_writing.proofs.FileStarts.{written_files_show_graphs}
 use Rattle.sq_lifted.specs.LiftedFiles.{IsLiftedFile, FitsFile}
 use Rattle.sq_lifted.specs.Same.{Same}
 use Rattle.sq_lifted.proofs.FileWorlds.{files_good}
+use Rattle.sq_lifted.proofs.OneReading.{lifted_one}
 use Rattle.sq_lifted.proofs.SameFiles.{same_through}
-use Rattle.sq_pass.specs.declared.cut.Cut.{Cut}
 use Rattle.sq_num.specs.declared.packed.TheConstants.Savings.{NONE}
 use Rattle.sq_pass.specs.Rewrites.{IsSettled, IsRewritten}
-use Rattle.sq_jumps.specs.Candidates.{IsCandidate, described}
+use Rattle.sq_drive.specs.Rows.{IsCandidate, described, IsLeftoverFree}
 use Rattle.sq_readback.specs.Whole.{IsWhole}
-use Rattle.sq_top.specs.Packing.{CanBeWritten, GoodOutput, Packs}
+use Rattle.sq_top.specs.Packing.{CanBeWritten, IsReachedFile, GoodOutput, Packs}
 use Rattle.sq_top.proofs.ReadBack.{reads_back}
 use Rattle.sq_top.proofs.WholeGraphs.{whole_without_candidates}
 
@@ -117,9 +119,15 @@ module _ (bytes : List ℕ) (first g : Graph) (savings : Savings) (fit : AllByRe
   pub enough_loaded : text_size bytes ≤ loaded_of bytes + 4 * words_of g
   enough_loaded = omega (arith, sizes.size)
 
-  module _ (none : (cut : Cut) → ¬ IsCandidate g cut) where
+  module _ (none : IsLeftoverFree g) (slotted : IsSlotted g) where
     whole : IsWhole g
     whole = whole_without_candidates g rules settled.canonical none
+
+    back : IsReachedFile (written bytes g) g
+    back = reads_back bytes g writable registers settled.canonical (settled.sound f.sound) whole
+
+    left : (h : Graph) → IsLiftedFile (written bytes g) h → IsLeftoverFree (slotted_of h)
+    left h lifted = subst IsLeftoverFree (sym (lifted_one (written bytes g) h g (written_is_bytes bytes g writable) lifted back.lifted ∙ slotted)) none
 
     abbrev good : GoodOutput bytes (written bytes g)
     good = record {
@@ -129,10 +137,11 @@ module _ (bytes : List ℕ) (first g : Graph) (savings : Savings) (fit : AllByRe
       first = first;
       lifted = l;
       graph = g;
-      read_back = reads_back bytes g writable registers settled.canonical (settled.sound f.sound) whole;
+      read_back = back;
       savings = savings;
       rewritten = r;
-      left = none;
+      slotted = slotted;
+      left = left;
       output_is = refl;
     }
 

@@ -18,12 +18,11 @@ use Rattle.sq_graph.specs.Words.{block_words, procedure_words}
 use Rattle.sq_patch.specs.Restrictions.{procedures_held}
 use Rattle.sq_reach.proofs.Deciding.{reached_marks}
 use Rattle.sq_reach.proofs.Searches.{contains_from_marked}
-use Rattle.sq_pass.specs.declared.cut.Cut.{Cut}
 use Rattle.sq_pass.specs.declared.cut.Row.TheVariants.{U}
 use Rattle.sq_drive.proofs.Rewrites.{some_word}
 use Rattle.sq_jumps.specs.Names.{is_listed}
 use Rattle.sq_jumps.specs.Unreached.{stays, is_called_in, is_held, words_gone, AreUnreached}
-use Rattle.sq_jumps.specs.Candidates.{IsCandidate}
+use Rattle.sq_drive.specs.Rows.{IsLeftoverFree}
 use Rattle.sq_jumps.proofs.Counting.{are_unreached}
 use Rattle.sq_readback.specs.Whole.{IsWhole}
 
@@ -65,7 +64,7 @@ called_by_items keep (b ∷ bs) q called =
     either true false c d e f = f e
     either false false c d e f = f e
 
-module _ (g : Graph) (rules : IsGraph g) (canonical : IsCanonical g) (none : (cut : Cut) → ¬ IsCandidate g cut) where
+module _ (g : Graph) (rules : IsGraph g) (canonical : IsCanonical g) (none : IsLeftoverFree g) where
   abbrev marks : List ℕ
   marks = (reached_marks g rules).0
 

@@ -11,12 +11,12 @@ use Rattle.sq_reloc.specs.Outside.{code_word_at}
 use Rattle.sq_graph.specs.Graph.{Graph}
 use Rattle.sq_graph.specs.Leaders.{IsCanonical}
 use Rattle.sq_graph.specs.Places.{IsInReach}
+use Rattle.sq_graph.specs.Slotted.{IsSlotted, slotted as slotted_of}
 use Rattle.sq_graph.specs.Soundness.{IsSound}
 use Rattle.sq_graph.specs.Words.{words_of}
-use Rattle.sq_pass.specs.declared.cut.Cut.{Cut}
 use Rattle.sq_num.specs.declared.packed.TheConstants.Savings.{NONE}
 use Rattle.sq_pass.specs.Rewrites.{IsRewritten}
-use Rattle.sq_jumps.specs.Candidates.{IsCandidate, described}
+use Rattle.sq_drive.specs.Rows.{IsCandidate, described, IsLeftoverFree}
 use Rattle.sq_program.specs.Programs.{IsWord}
 use Rattle.sq_program.specs.Reached.{IsReached}
 use Rattle.sq_program.specs.FilePrograms.{IsAcceptedFile}
@@ -73,8 +73,11 @@ pub record GoodOutput (given output : List ℕ) : Type 0 where
   -- rewriting made it of the first graph, by one candidate after another, and each is counted in the savings of its row
   pub savings : Savings
   pub rewritten : IsRewritten IsCandidate described NONE savings first graph
-  -- no row on jumps, and nothing that isn't reached, is left over
-  pub left : (cut : Cut) → ¬ IsCandidate graph cut
+  -- its blocks are named by their positions
+  pub slotted : IsSlotted graph
+  -- Nothing is left over: whatever graph the output is read back as, no row has a candidate in it, its blocks named by their
+  -- positions.
+  pub left : (reading : Graph) → IsLiftedFile output reading → IsLeftoverFree (slotted_of reading)
   -- the output is made of the data of the given file and of the words of that graph
   pub output_is : output ≡ written given graph
 

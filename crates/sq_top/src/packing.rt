@@ -14,7 +14,7 @@ ghost use Rattle.sq_write.specs.Written.{written};
 ghost use Rattle.sq_write.specs.Registers.{HasRegisters};
 ghost use Rattle.sq_top.specs.Packing.{Packs, GoodOutput, CanBeWritten};
 
-use sq_drive::settle;
+use sq_drive::settle_slotted;
 use sq_elf::{Elf, read_elf};
 use sq_graph::Graph;
 use sq_layout::{place, words_of};
@@ -38,7 +38,7 @@ pub fn pack_bytes(alloc: Global, bytes: &[u8]) -> Result<Packed, Denied>
     let relocs = read_relocs(alloc, &elf)?;
     let mut graph = lift(alloc, &elf, &relocs)?;
     let reached = words_of(&graph);
-    let savings = settle(alloc, &mut graph)?;
+    let savings = settle_slotted(alloc, &mut graph)?;
     let file = write_graph(alloc, &elf, &relocs, &graph)?;
     Ok(packed_of(&elf, &graph, reached, savings, file))
 }

@@ -56,18 +56,18 @@ returns-in_err-graph-clause-exact c = λ refusal refused.
     (λ r e. elim (c.in_err-graph.ensures.exact r e) [ inl same ↦ inl (cc) | inr same ↦ inr (cc) ]) refusal given in
     elim either [ inl same ↦ inl (result ∙ ap Err same) | inr same ↦ inr (result ∙ ap Err same) ]
 
-pub settle-requires-clause-words : goal.settle-requires-clause-words
-settle-requires-clause-words c = small_text c.in_ok-elf.elf c.in_ok-graph.graph.graph (ap file_refusal_of c.in_ok-elf.ensures.read ∙ c.in_ok-elf.ensures.accepted) c.in_ok-graph.ensures.fits
+pub settle_slotted-requires-clause-words : goal.settle_slotted-requires-clause-words
+settle_slotted-requires-clause-words c = small_text c.in_ok-elf.elf c.in_ok-graph.graph.graph (ap file_refusal_of c.in_ok-elf.ensures.read ∙ c.in_ok-elf.ensures.accepted) c.in_ok-graph.ensures.fits
 
 pub write_graph-requires-clause-fits : goal.write_graph-requires-clause-fits
-write_graph-requires-clause-fits c = rewritten_fits c.in_ok-elf.elf c.in_ok-graph.graph.graph c.settle.new.graph.graph c.in_ok-savings.savings c.in_ok-graph.ensures.fits c.in_ok-savings.ensures.rewritten
+write_graph-requires-clause-fits c = rewritten_fits c.in_ok-elf.elf c.in_ok-graph.graph.graph c.settle_slotted.new.graph.graph c.in_ok-savings.savings c.in_ok-graph.ensures.fits c.in_ok-savings.ensures.rewritten
 
 pub packed_of-requires-clause-short : goal.packed_of-requires-clause-short
 packed_of-requires-clause-short c = few_bytes c.in_ok-elf.elf (ap file_refusal_of c.in_ok-elf.ensures.read ∙ c.in_ok-elf.ensures.accepted)
 
 pub packed_of-requires-clause-loads : goal.packed_of-requires-clause-loads
 packed_of-requires-clause-loads c =
-    enough_loaded c.in_ok-elf.elf c.in_ok-graph.graph.graph c.settle.new.graph.graph c.in_ok-savings.savings
+    enough_loaded c.in_ok-elf.elf c.in_ok-graph.graph.graph c.settle_slotted.new.graph.graph c.in_ok-savings.savings
     (subst (AllByRecursion (λ b. b < 256)) (sym c.in_ok-elf.ensures.read) c.bytes_fit.ensures)
     c.in_ok-graph.ensures.lifted c.in_ok-graph.ensures.fits c.in_ok-savings.ensures.rewritten c.in_ok-file.ensures.rules c.in_ok-file.ensures.registers
 
@@ -75,10 +75,10 @@ pub returns-clause-packed : goal.returns-clause-packed
 returns-clause-packed c =
     let P : List ℕ → Type 0 = λ bytes. Packs bytes c.packed_of.result in
     subst P c.in_ok-elf.ensures.read
-    (packs c.in_ok-elf.elf c.in_ok-graph.graph.graph c.settle.new.graph.graph c.in_ok-savings.savings
+    (packs c.in_ok-elf.elf c.in_ok-graph.graph.graph c.settle_slotted.new.graph.graph c.in_ok-savings.savings
     (subst (AllByRecursion (λ b. b < 256)) (sym c.in_ok-elf.ensures.read) c.bytes_fit.ensures)
     c.in_ok-graph.ensures.lifted c.in_ok-graph.ensures.fits c.in_ok-savings.ensures.rewritten c.in_ok-file.ensures.rules c.in_ok-file.ensures.registers
-    c.in_ok-savings.ensures.left c.packed_of.result
+    c.in_ok-savings.ensures.left c.in_ok-savings.ensures.slotted c.packed_of.result
     (c.packed_of.ensures.output ∙ c.in_ok-file.ensures.file) c.packed_of.ensures.text_before c.packed_of.ensures.text_after c.packed_of.ensures.loaded_before c.packed_of.ensures.loaded_after c.packed_of.ensures.procedures
     (subst (λ n. 4 * (c.packed_of.result.unreached + n) ≡ text_size c.in_ok-elf.elf) c.words_of-reached.ensures c.packed_of.ensures.unreached)
     c.packed_of.ensures.savings c.packed_of.ensures.balance)
