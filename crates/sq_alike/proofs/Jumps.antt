@@ -18,7 +18,7 @@ use Rattle.sq_graph.specs.Terms.{goes_on}
 use Rattle.sq_graph.specs.Uses.{uses}
 use Rattle.sq_graph.proofs.RetargetRules.{uses-other}
 use Rattle.sq_patch.specs.LoneJumps.{IsApart, IsPassable, without_jump, IsJumpedOver, inverted_over}
-use Rattle.sq_jumps.specs.Branches.{BranchReaches}
+use Rattle.sq_layout.specs.Branches.{BranchReaches}
 use Rattle.sq_jumps.specs.Rows.{JumpsToNext, IsDetour, BranchesOverJump}
 use Rattle.sq_jumps.proofs.Distances.{has_term, jump_there}
 use Rattle.sq_jumps.proofs.Ruled.{next_there}

@@ -12,7 +12,7 @@ use Rattle.sq_graph.specs.Operations.{with_blocks}
 use Rattle.sq_graph.specs.Places.{address_in}
 use Rattle.sq_graph.specs.Renames.{retargeted_term, retargeted_block, renamed_block}
 use Rattle.sq_graph.specs.Words.{term_words, block_words}
-use Rattle.sq_jumps.specs.Branches.{BranchReaches}
+use Rattle.sq_layout.specs.Branches.{BranchReaches}
 use Rattle.sq_alike.proofs.Names.{same_test, AreNamed}
 
 module _ (f : ℕ → ℕ) where

@@ -27,13 +27,14 @@ use Rattle.sq_patch.proofs.Inverting.{invert_follows, invert_sound, invert_saves
 use Rattle.sq_patch.proofs.Shortening.{shorten_follows, shorten_sound}
 use Rattle.sq_patch.proofs.Saving.{fall_saves, jump_goes_saves, drop_saves, hasten_saves}
 use Rattle.sq_pass.specs.Applied.{IsApplied}
-use Rattle.sq_jumps.specs.Branches.{BranchReaches}
+use Rattle.sq_layout.specs.Branches.{BranchReaches}
 use Rattle.sq_jumps.specs.Rows.{JumpsToNext, IsDetour, BranchesOverJump, JumpsByDeadPart}
 use Rattle.sq_jumps.specs.Rewrites.{falling, passed_to, passed, inverted_to, target_of, inverted, hastened_by, hastened}
-use Rattle.sq_jumps.specs.Shrinks.{IsBranch, Shrinks}
-use Rattle.sq_jumps.proofs.Shrinking.{LedThere, shrunk_in_reach}
-use Rattle.sq_jumps.proofs.Shrunk.{shrinks_twice, each_shrinks, one_shrinks, without_shrinks, retargeted_shrunk, term_shrunk, item_shrunk}
-use Rattle.sq_jumps.proofs.Addresses.{block_of-without, block_of-retargeted, block_of-changed, block_of-changed_here}
+use Rattle.sq_layout.specs.Shrinks.{IsBranch, Shrinks}
+use Rattle.sq_layout.specs.Reach.{LedThere}
+use Rattle.sq_layout.proofs.Shrinking.{shrunk_in_reach}
+use Rattle.sq_layout.proofs.Shrunk.{shrinks_twice, each_shrinks, one_shrinks, without_shrinks, retargeted_shrunk, term_shrunk, without_item_shrunk}
+use Rattle.sq_layout.proofs.Standing.{block_of-without, block_of-retargeted, block_of-changed, block_of-changed_here}
 use Rattle.sq_jumps.proofs.Rewriting.{fall_rules, redirected_rules_here, passed_rules, turned_rules, inverted_rules, shortened_rules}
 
 -- a graph is alike itself
@@ -248,9 +249,7 @@ shorten_applied g block rules d =
     shrinks : Shrinks g.blocks (shortened g block d.at d.link d.to).blocks
     shrinks =
         shrinks_twice
-        (one_shrinks (λ b. record b { items = replaced_items b.items d.at 1 [] }) g.blocks block (λ b is.
-        let term : b.term ≡ PartJump d.link d.part d.to = same_term b.term (PartJump d.link d.part d.to) (sym (ap block_term is) ∙ d.shortable.jump) in
-        item_shrunk b d.at (λ yes. subst IsBranch term yes)))
+        (one_shrinks (λ b. record b { items = replaced_items b.items d.at 1 [] }) g.blocks block (λ b is. without_item_shrunk b d.at))
         (one_shrinks (λ b. record b { term = short_jump d.link d.to }) (replaced g block d.at 1 []).blocks block (λ b is.
         let term : b.term ≡ PartJump d.link d.part d.to = same_term b.term (PartJump d.link d.part d.to) (sym (ap block_term is) ∙ still) in
         term_shrunk b (short_jump d.link d.to) (omega (arith, ap term_words term, one_word d.link d.to)) (λ yes. absurd (no_branch d.link d.to yes))))

@@ -18,13 +18,13 @@ use Rattle.sq_graph.specs.Rules.{IsGraph}
 use Rattle.sq_graph.specs.Terms.{goes_on}
 use Rattle.sq_graph.specs.Uses.{uses}
 use Rattle.sq_patch.specs.LoneJumps.{without_jump}
-use Rattle.sq_jumps.specs.Branches.{BranchReaches}
+use Rattle.sq_layout.specs.Branches.{BranchReaches}
 use Rattle.sq_jumps.specs.Names.{is_listed}
 use Rattle.sq_jumps.specs.Rewrites.{passed}
 use Rattle.sq_jumps.specs.Rows.{IsDetour}
 use Rattle.sq_jumps.specs.Surveys.{address_of, ReachesBy, ReachesWithout}
 use Rattle.sq_jumps.specs.Sweeps.{IsPlainDetour, IsStillDetour}
-use Rattle.sq_jumps.proofs.Addresses.{block_of-without, block_of-retargeted}
+use Rattle.sq_layout.proofs.Standing.{block_of-without, block_of-retargeted}
 use Rattle.sq_jumps.proofs.Applying.{passing_is, pass_shrinks, retargeted_before, gone_block}
 use Rattle.sq_jumps.proofs.Distances.{has_term, jump_there, passes}
 use Rattle.sq_jumps.proofs.Leading.{or_cases}

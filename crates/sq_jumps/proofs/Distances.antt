@@ -11,9 +11,9 @@ use Rattle.sq_graph.specs.Resolve.{jump_of, lone_jump, jump_from}
 use Rattle.sq_graph.specs.Rules.{IsGraph}
 use Rattle.sq_graph.specs.Words.{term_words, block_words}
 use Rattle.sq_graph.specs.Places.{block_address}
-use Rattle.sq_jumps.specs.Branches.{BranchReaches}
+use Rattle.sq_layout.specs.Branches.{BranchReaches}
 use Rattle.sq_jumps.specs.Surveys.{address_of, ReachesWithout, IsTooFar, Needs}
-use Rattle.sq_jumps.proofs.Shrinking.{placed, block_with}
+use Rattle.sq_layout.proofs.Shrinking.{placed, block_with}
 use Rattle.sq_jumps.proofs.Addresses.{IsRemovable, detour_reaches, other_term_reaches}
 use Rattle.sq_jumps.proofs.Surveying.{targets_there}
 use Rattle.std.proofs.lemmas.List.Elements.{All-head}

@@ -28,9 +28,10 @@ use Rattle.sq_pass.specs.Applied.{IsApplied}
 use Rattle.sq_jumps.specs.Names.{is_listed}
 use Rattle.sq_jumps.specs.Unreached.{stays, is_called_in, is_held, without_all, words_gone, AreUnreached}
 use Rattle.sq_jumps.specs.Clearings.{is_called, without_each}
-use Rattle.sq_jumps.specs.Shrinks.{Shrinks}
-use Rattle.sq_jumps.proofs.Shrinking.{LedThere, shrunk_in_reach, block_with}
-use Rattle.sq_jumps.proofs.Shrunk.{shrinks_twice, each_shrinks, filter_shrinks, recalled_shrunk}
+use Rattle.sq_layout.specs.Shrinks.{Shrinks}
+use Rattle.sq_layout.specs.Reach.{LedThere}
+use Rattle.sq_layout.proofs.Shrinking.{shrunk_in_reach, block_with}
+use Rattle.sq_layout.proofs.Shrunk.{shrinks_twice, each_shrinks, filter_shrinks, recalled_shrunk}
 use Rattle.sq_jumps.proofs.Ruled.{block_found}
 use Rattle.sq_jumps.proofs.Applying.{alike_itself}
 use Rattle.sq_jumps.proofs.Clearing.{cleared_if, all_cleared}

@@ -1,5 +1,3 @@
-pub mod Shrinking
-pub mod Shrunk
 pub mod Ruled
 pub mod Totals
 pub mod Addresses

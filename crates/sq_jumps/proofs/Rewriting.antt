@@ -28,7 +28,7 @@ use Rattle.sq_patch.specs.Operations.{IsShortable, hastened}
 use Rattle.sq_patch.specs.LoneJumps.{IsPassable, IsJumpedOver}
 use Rattle.sq_jumps.proofs.Ruled.{IsEntered, behind_it, ends_without, without_rules, still_unused}
 use Rattle.sq_jumps.proofs.Totals.{term_total, without_total, redirected_total, replaced_total}
-use Rattle.sq_jumps.proofs.Addresses.{block_of-retargeted, block_of-changed, block_of-changed_here}
+use Rattle.sq_layout.proofs.Standing.{block_of-retargeted, block_of-changed, block_of-changed_here}
 use Rattle.sq_jumps.proofs.Surveying.{targets_are}
 use Rattle.sq_jumps.proofs.Distances.{has_term, jump_there, lone, lone_term}
 

@@ -19,16 +19,17 @@ use Rattle.sq_graph.specs.Words.{term_words, block_words, words_of}
 use Rattle.sq_patch.specs.LoneJumps.{inverted_over}
 use Rattle.sq_jumps.specs.Rewrites.{inverted}
 use Rattle.sq_jumps.specs.Rows.{BranchesOverJump}
-use Rattle.sq_jumps.specs.Shrinks.{Shrinks}
-use Rattle.sq_jumps.specs.Surveys.{lifted, address_of, address_at, ReachesBy, ReachesWithout}
+use Rattle.sq_layout.specs.Shrinks.{Shrinks}
+use Rattle.sq_layout.specs.Branches.{lifted}
+use Rattle.sq_jumps.specs.Surveys.{address_of, address_at, ReachesBy, ReachesWithout}
 use Rattle.sq_jumps.specs.Sweeps.{IsStillSafe}
-use Rattle.sq_jumps.proofs.Addresses.{above, below}
+use Rattle.sq_layout.proofs.Standing.{above, below}
 use Rattle.sq_jumps.proofs.Applying.{inverting_is, invert_shrinks}
 use Rattle.sq_jumps.proofs.Distances.{has_term, lone, lone_term, jump_there}
 use Rattle.sq_jumps.proofs.Rewriting.{all_apart, turned_rules, over_there, inverted_rules}
 use Rattle.sq_jumps.proofs.Ruled.{still_unused, without_names}
-use Rattle.sq_jumps.proofs.Shrinking.{IsNoFurther, no_further, placed, source_of}
-use Rattle.sq_jumps.proofs.Shrunk.{shrinks_twice}
+use Rattle.sq_layout.proofs.Shrinking.{IsNoFurther, no_further, placed, source_of}
+use Rattle.sq_layout.proofs.Shrunk.{shrinks_twice}
 use Rattle.sq_jumps.proofs.Surveying.{address_small, targets_are}
 
 -- ADDRESSES OF A TABLE
@@ -49,31 +50,31 @@ abbrev IsLifted : ℕ → ℕ → ℕ → ℕ → ℕ → ℕ → Type 0
 IsLifted o o' x x' l l' =
     ((l ≡ x) × (l' ≡ x') × (x ≤ o) × (x' ≤ o')) ⊎ ((l + 4 ≡ x) × (l' + 4 ≡ x') × (o + 4 ≤ x) × (o' + 4 ≤ x'))
 
-lifts : (size o o' x x' : ℕ) → 4 ≤ size → IsNoFurther size o o' x x' → IsLifted o o' x x' (lifted o x) (lifted o' x')
-lifts size o o' x x' four (inl h) = inl (below o x h.0, below o' x' h.1, h.0, h.1)
-lifts size o o' x x' four (inr h) =
+lifts : (size size' o o' x x' : ℕ) → 4 ≤ size → 4 ≤ size' → IsNoFurther size size' o o' x x' → IsLifted o o' x x' (lifted o x) (lifted o' x')
+lifts size size' o o' x x' four four' (inl h) = inl (below o x h.0, below o' x' h.1, h.0, h.1)
+lifts size size' o o' x x' four four' (inr h) =
     let p = h.0 in
     let q = h.1 in
     let was : o + 4 ≤ x = omega arith in
     let is : o' + 4 ≤ x' = omega arith in
     inr (omega (arith, above o x (omega arith)), omega (arith, above o' x' (omega arith)), was, is)
 
-nearer : (size items o o' f f' t t' lf lf' lt lt' : ℕ) → 4 * items ≤ size → IsLifted o o' f f' lf lf' → IsLifted o o' t t' lt lt' → IsNoFurther size f f' t t' → Reaches (pos lt -ℤ pos (lf + 4 * items)) → Reaches (pos lt' -ℤ pos (lf' + 4 * items))
-nearer size items o o' f f' t t' lf lf' lt lt' within (inl a) (inl b) (inl h) r =
+nearer : (size size' items o o' f f' t t' lf lf' lt lt' : ℕ) → 4 * items ≤ size' → size' ≤ size → IsLifted o o' f f' lf lf' → IsLifted o o' t t' lt lt' → IsNoFurther size size' f f' t t' → Reaches (pos lt -ℤ pos (lf + 4 * items)) → Reaches (pos lt' -ℤ pos (lf' + 4 * items))
+nearer size size' items o o' f f' t t' lf lf' lt lt' within fewer (inl a) (inl b) (inl h) r =
     record { least = omega (arith, ints); most = omega (arith, ints) }
-nearer size items o o' f f' t t' lf lf' lt lt' within (inl a) (inl b) (inr h) r =
+nearer size size' items o o' f f' t t' lf lf' lt lt' within fewer (inl a) (inl b) (inr h) r =
     record { least = omega (arith, ints); most = omega (arith, ints) }
-nearer size items o o' f f' t t' lf lf' lt lt' within (inl a) (inr b) (inl h) r =
+nearer size size' items o o' f f' t t' lf lf' lt lt' within fewer (inl a) (inr b) (inl h) r =
     record { least = omega (arith, ints); most = omega (arith, ints) }
-nearer size items o o' f f' t t' lf lf' lt lt' within (inl a) (inr b) (inr h) r =
+nearer size size' items o o' f f' t t' lf lf' lt lt' within fewer (inl a) (inr b) (inr h) r =
     record { least = omega (arith, ints); most = omega (arith, ints) }
-nearer size items o o' f f' t t' lf lf' lt lt' within (inr a) (inl b) (inl h) r =
+nearer size size' items o o' f f' t t' lf lf' lt lt' within fewer (inr a) (inl b) (inl h) r =
     record { least = omega (arith, ints); most = omega (arith, ints) }
-nearer size items o o' f f' t t' lf lf' lt lt' within (inr a) (inl b) (inr h) r =
+nearer size size' items o o' f f' t t' lf lf' lt lt' within fewer (inr a) (inl b) (inr h) r =
     record { least = omega (arith, ints); most = omega (arith, ints) }
-nearer size items o o' f f' t t' lf lf' lt lt' within (inr a) (inr b) (inl h) r =
+nearer size size' items o o' f f' t t' lf lf' lt lt' within fewer (inr a) (inr b) (inl h) r =
     record { least = omega (arith, ints); most = omega (arith, ints) }
-nearer size items o o' f f' t t' lf lf' lt lt' within (inr a) (inr b) (inr h) r =
+nearer size size' items o o' f f' t t' lf lf' lt lt' within fewer (inr a) (inr b) (inr h) r =
     record { least = omega (arith, ints); most = omega (arith, ints) }
 
 by_places : (p q : ℕ → ℕ) (items gone from to o o' f f' t t' : ℕ) → p gone ≡ o → q gone ≡ o' → p from ≡ f → q from ≡ f' → p to ≡ t → q to ≡ t'
@@ -104,15 +105,21 @@ reaches_still g h gone from to o f t distinct shrinks at_gone some at_from at_to
     let go = has_places g h gone o distinct shrinks at_gone in
     let fr = has_places g h from f distinct shrinks at_from in
     let ta = has_places g h to t distinct shrinks at_to in
-    let word : 4 ≤ 4 * block_words o = omega (arith, some) in
+    let was_gone = source_of gone o shrinks distinct at_gone in
+    let was_from = source_of from f shrinks distinct at_from in
+    let gone_words = was_gone.shrunk.words in
+    let from_words = was_from.shrunk.words in
+    let word : 4 ≤ 4 * block_words was_gone.block = omega (arith, some, gone_words) in
+    let word' : 4 ≤ 4 * block_words o = omega (arith, some) in
     let within : 4 * length f.items ≤ 4 * block_words f = omega arith in
-    let first = no_further 0 0 gone from o go.old go.new fr.old fr.new shrinks distinct at_gone go.placed_old go.placed_new fr.placed_old fr.placed_new in
-    let second = no_further 0 0 gone to o go.old go.new ta.old ta.new shrinks distinct at_gone go.placed_old go.placed_new ta.placed_old ta.placed_new in
-    let third = no_further 0 0 from to f fr.old fr.new ta.old ta.new shrinks distinct at_from fr.placed_old fr.placed_new ta.placed_old ta.placed_new in
+    let fewer : 4 * block_words f ≤ 4 * block_words was_from.block = omega (arith, from_words) in
+    let first = no_further 0 0 gone from was_gone.block o go.old go.new fr.old fr.new shrinks distinct was_gone.found at_gone go.placed_old go.placed_new fr.placed_old fr.placed_new in
+    let second = no_further 0 0 gone to was_gone.block o go.old go.new ta.old ta.new shrinks distinct was_gone.found at_gone go.placed_old go.placed_new ta.placed_old ta.placed_new in
+    let third = no_further 0 0 from to was_from.block f fr.old fr.new ta.old ta.new shrinks distinct was_from.found at_from fr.placed_old fr.placed_new ta.placed_old ta.placed_new in
     by_places (address_of g) (address_of h) (length f.items) gone from to go.old go.new fr.old fr.new ta.old ta.new
     (address_is g gone go.old go.placed_old) (address_is h gone go.new go.placed_new) (address_is g from fr.old fr.placed_old) (address_is h from fr.new fr.placed_new) (address_is g to ta.old ta.placed_old) (address_is h to ta.new ta.placed_new)
-    (nearer (4 * block_words f) (length f.items) go.old go.new fr.old fr.new ta.old ta.new (lifted go.old fr.old) (lifted go.new fr.new) (lifted go.old ta.old) (lifted go.new ta.new) within
-    (lifts (4 * block_words o) go.old go.new fr.old fr.new word first) (lifts (4 * block_words o) go.old go.new ta.old ta.new word second) third)
+    (nearer (4 * block_words was_from.block) (4 * block_words f) (length f.items) go.old go.new fr.old fr.new ta.old ta.new (lifted go.old fr.old) (lifted go.new fr.new) (lifted go.old ta.old) (lifted go.new ta.new) within fewer
+    (lifts (4 * block_words was_gone.block) (4 * block_words o) go.old go.new fr.old fr.new word word' first) (lifts (4 * block_words was_gone.block) (4 * block_words o) go.old go.new ta.old ta.new word word' second) third)
 
 -- ROW J3
 

@@ -23,7 +23,7 @@ use Rattle.sq_graph.proofs.Eachs.{All-right}
 use Rattle.sq_graph.proofs.RulesByBlock.{BlockStands, by_block}
 use Rattle.sq_jumps.specs.Names.{is_listed, Adds}
 use Rattle.sq_jumps.specs.Surveys.{address_of, Needs}
-use Rattle.sq_jumps.proofs.Shrinking.{some_is, block_with}
+use Rattle.sq_layout.proofs.Shrinking.{some_is, block_with}
 
 -- the blocks from a position on have different names
 pub drop_distinct : (g : Graph) (k : ℕ) (b : Block) (rest : List Block) → IsGraph g → drop k g.blocks ≡ b ∷ rest → HasDistinctKeys (named (b ∷ rest))

@@ -1,7 +1,5 @@
-pub mod Branches
 pub mod Names
 pub mod Tables
-pub mod Shrinks
 pub mod Surveys
 pub mod Rows
 pub mod Rewrites

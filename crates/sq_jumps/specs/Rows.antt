@@ -6,7 +6,7 @@ use Rattle.sq_graph.specs.Graph.{Graph}
 use Rattle.sq_graph.specs.Blocks.{next_of, term_of}
 use Rattle.sq_patch.specs.Operations.{IsShortable}
 use Rattle.sq_patch.specs.LoneJumps.{IsPassable, without_jump, IsJumpedOver, inverted_over}
-use Rattle.sq_jumps.specs.Branches.{BranchReaches}
+use Rattle.sq_layout.specs.Branches.{BranchReaches}
 
 -- J1: a Jump to the next slot
 pub record JumpsToNext (g : Graph) (block : ℕ) : Type 0 where

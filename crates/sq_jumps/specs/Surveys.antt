@@ -1,5 +1,5 @@
 -- What is gathered of a graph before its blocks are tested. No public clause cites this module.
-use Rattle.std.specs.Prelude.{◌≡◌, ◌≢◌, ◌↔◌, ◌⊎◌, ℕ, pos, ◌-ℤ◌, ◌+◌, ◌-◌, ◌*◌, true, List, length, Option, Some, unwrap_or, nat_lt, if◌then◌else◌}
+use Rattle.std.specs.Prelude.{◌≡◌, ◌≢◌, ◌↔◌, ◌⊎◌, ℕ, pos, ◌-ℤ◌, ◌+◌, ◌*◌, true, List, length, Option, Some, unwrap_or}
 use Rattle.sq_isa.specs.declared.instructions.Cond.{Cond}
 use Rattle.sq_graph.specs.declared.item.Term.{Term}
 use Rattle.sq_graph.specs.declared.item.Term.TheVariants.{Branch}
@@ -10,12 +10,8 @@ use Rattle.sq_graph.specs.Uses.{uses}
 use Rattle.sq_graph.specs.Operations.{redirected, without_block}
 use Rattle.sq_graph.specs.Resolve.{jump_from}
 use Rattle.sq_graph.specs.Places.{block_address, Reaches}
-use Rattle.sq_jumps.specs.Branches.{BranchReaches}
+use Rattle.sq_layout.specs.Branches.{BranchReaches, lifted}
 use Rattle.sq_jumps.specs.Names.{is_listed}
-
--- where a place stands once a word is gone
-abbrev pub lifted : ℕ → ℕ → ℕ
-lifted gone x = if nat_lt gone x then x - 4 else x
 
 -- where a block stands in a text that starts at 0
 abbrev pub address_of : Graph → ℕ → ℕ

@@ -16,7 +16,7 @@ use Rattle.sq_graph.specs.Words.{words_of}
 use Rattle.sq_live.specs.Liveness.{IsLivenessOf}
 use Rattle.sq_jumps.specs.Names.{is_listed}
 use Rattle.sq_jumps.specs.Rows.{JumpsToNext, IsDetour}
-use Rattle.sq_jumps.specs.Shrinks.{Shrinks}
+use Rattle.sq_layout.specs.Shrinks.{Shrinks}
 
 -- These sets are the live registers of a graph before this one, and what was dead there at the start of a block is dead
 -- at that block's start still.

@@ -7,7 +7,8 @@ ghost use Rattle.sq_graph.specs.Places.{block_address};
 ghost use Rattle.sq_graph.specs.Rules.{IsGraph};
 ghost use Rattle.sq_graph.specs.Words.{words_of};
 ghost use Rattle.sq_jumps.specs.Names.{is_listed};
-ghost use Rattle.sq_jumps.specs.Surveys.{lifted, address_at, ReachesBy, GoesInto, IsTooFar, Needs, IsSurvey};
+ghost use Rattle.sq_layout.specs.Branches.{lifted};
+ghost use Rattle.sq_jumps.specs.Surveys.{address_at, ReachesBy, GoesInto, IsTooFar, Needs, IsSurvey};
 ghost use Rattle.sq_jumps.specs.Tables.{number_at};
 
 use crate::blocks::{block_words, facts, goes_on, jump_from};

@@ -1,3 +1,9 @@
 pub mod Counts
 pub mod Placed
 pub mod Walks
+pub mod Shrinking
+pub mod Shrunk
+pub mod Standing
+pub mod Splitting
+pub mod Weighing
+pub mod Keeping

@@ -2,10 +2,11 @@
 //!
 //! To the layers above it promises that `words_of` counts the words of a graph, that `place` gives each block and each
 //! procedure its address (blocks in layout order, and procedures behind them), and that `reaches` is the reach of a
-//! branch.
+//! branch; and that a graph in reach stays so where blocks go, lose words or are split in two.
 #![tactic(auto)]
 
 mod facts;
+pub mod laws;
 mod places;
 mod reach;
 mod words;

@@ -1,7 +1,7 @@
 use Rattle.std.proofs.Common.{ℕ, ◌≤◌, nat_lt, inl, inr, List, length, ap, arith}
 use Rattle.std.proofs.lemmas.Bool.{cases_Bool}
 use Rattle.sq_graph.specs.declared.item.Item.{Item}
-use Rattle.sq_jumps.specs.Surveys.{lifted}
+use Rattle.sq_layout.specs.Branches.{lifted}
 use Rattle.sq_jumps.proofs.Surveying.{items_few}
 use Rattle.sq_jumps.proofs.survey.reaches_without.Goals as goal
 

@@ -10,11 +10,12 @@ use Rattle.sq_graph.specs.declared.item.Term.{Term}
 use Rattle.sq_graph.specs.declared.item.Term.TheVariants.{Fall, Jump, Branch, Call, PartJump, Indirect, Stop}
 use Rattle.sq_graph.specs.Graph.{Block, Graph}
 use Rattle.sq_graph.specs.Blocks.{named, block_of, block_items, block_term, term_of}
-use Rattle.sq_graph.specs.Words.{block_words}
+use Rattle.sq_graph.specs.Words.{term_words, block_words}
 use Rattle.sq_graph.specs.Places.{address_in, block_address, Reaches, TermReaches, BranchesReach, IsInReach}
 use Rattle.sq_graph.proofs.Kept.{absent_behind}
-use Rattle.sq_jumps.specs.Branches.{term_address, BranchReaches}
-use Rattle.sq_jumps.specs.Shrinks.{IsBranch, IsShrunk, Shrinks, nothing, kept, gone}
+use Rattle.sq_layout.specs.Branches.{term_address, BranchReaches}
+use Rattle.sq_layout.specs.Reach.{LedThere}
+use Rattle.sq_layout.specs.Shrinks.{IsBranch, IsShrunk, Shrinks, nothing, kept, gone}
 
 same_name : (b c : Block) (n : ℕ) (t : Bool) → IsShrunk b c → (b.name == n) ≡ t → (c.name == n) ≡ t
 same_name b c n t p e = ap (λ k. k == n) p.name ∙ e
@@ -72,13 +73,13 @@ pub record IsNearer (at new x y : ℕ) : Type 0 where
 pub some_is : (a b : ℕ) → Some a ≡ Some b → a ≡ b
 some_is a b e = cc
 
-nearer_on : (at new w v x y : ℕ) → v ≤ w → IsNearer (at + 4 * w) (new + 4 * v) x y → IsNearer at new x y
+pub nearer_on : (at new w v x y : ℕ) → v ≤ w → IsNearer (at + 4 * w) (new + 4 * v) x y → IsNearer at new x y
 nearer_on at new w v x y le h = let p = h.behind in let q = h.behind_new in let r = h.nearer in record { behind = omega arith; behind_new = omega arith; nearer = omega arith }
 
 nearer_gone : (at new w x y : ℕ) → IsNearer (at + 4 * w) new x y → IsNearer at new x y
 nearer_gone at new w x y h = let p = h.behind in let q = h.behind_new in let r = h.nearer in record { behind = omega arith; behind_new = omega arith; nearer = omega arith }
 
-nearer_here : (at new x y : ℕ) → Some at ≡ Some x → Some new ≡ Some y → IsNearer at new x y
+pub nearer_here : (at new x y : ℕ) → Some at ≡ Some x → Some new ≡ Some y → IsNearer at new x y
 nearer_here at new x y e f = let p = some_is at x e in let q = some_is new y f in record { behind = omega arith; behind_new = omega arith; nearer = omega arith }
 
 pub comes_nearer : {bs cs : List Block} (at new n x y : ℕ) → Shrinks bs cs → HasDistinctKeys (named bs) → address_in bs at n ≡ Some x → address_in cs new n ≡ Some y → IsNearer at new x y
@@ -95,30 +96,34 @@ comes_nearer at new n x y (gone b {bs = bs} rest) distinct old found =
     let apart = gone_elsewhere b new n y distinct rest found in
     nearer_gone at new (block_words b) x y (comes_nearer (at + 4 * block_words b) new n x y rest (tail_distinct b bs distinct) (rw apart at old) found)
 
--- Of a block, which stood at x and stands at x' with so many bytes, another that stood at y and stands at y' is no
--- further away, on the same side.
-abbrev pub IsNoFurther : ℕ → ℕ → ℕ → ℕ → ℕ → Type 0
-IsNoFurther size x x' y y' = ((y ≤ x) × (y' ≤ x') × (x' + y ≤ x + y')) ⊎ ((x' + size ≤ y') × (y' + x ≤ y + x'))
+-- Of a block, which stood at x with the one size in bytes and stands at x' with the other, another that stood at y and
+-- stands at y' is no further away, on the same side.
+abbrev pub IsNoFurther : ℕ → ℕ → ℕ → ℕ → ℕ → ℕ → Type 0
+IsNoFurther size size' x x' y y' =
+    ((y ≤ x) × (y' ≤ x') × (x' + y ≤ x + y')) ⊎ ((x' + size' ≤ y') × (y' + (x + size) ≤ y + (x' + size')))
 
-ahead_of : (size x x' y y' : ℕ) → IsNearer y y' x x' → IsNoFurther size x x' y y'
-ahead_of size x x' y y' h = let p = h.behind in let q = h.behind_new in let r = h.nearer in inl (p, q, omega arith)
+pub ahead_of : (size size' x x' y y' : ℕ) → IsNearer y y' x x' → IsNoFurther size size' x x' y y'
+ahead_of size size' x x' y y' h = let p = h.behind in let q = h.behind_new in let r = h.nearer in inl (p, q, omega arith)
 
-behind_it : (w v x x' y y' : ℕ) → v ≤ w → IsNearer (x + 4 * w) (x' + 4 * v) y y' → IsNoFurther (4 * v) x x' y y'
-behind_it w v x x' y y' le h = let p = h.behind in let q = h.behind_new in let r = h.nearer in inr (q, omega arith)
+pub behind_it : (size size' x x' y y' : ℕ) → IsNearer (x + size) (x' + size') y y' → IsNoFurther size size' x x' y y'
+behind_it size size' x x' y y' h = let p = h.behind in let q = h.behind_new in let r = h.nearer in inr (q, omega arith)
 
-pub no_further : {bs cs : List Block} (at new n m : ℕ) (c : Block) (x x' y y' : ℕ) → Shrinks bs cs → HasDistinctKeys (named bs) → value_of (named cs) n ≡ Some c
-    → address_in bs at n ≡ Some x → address_in cs new n ≡ Some x' → address_in bs at m ≡ Some y → address_in cs new m ≡ Some y' → IsNoFurther (4 * block_words c) x x' y y'
-no_further at new n m c x x' y y' nothing distinct is e e' f f' = absurd (cc)
-no_further at new n m c x x' y y' (kept b d {bs = bs} {cs = cs} p rest) distinct is e e' f f' =
-    let W = at + 4 * block_words b in
-    let V = new + 4 * block_words d in
+pub same_block : (b c : Block) → Some b ≡ Some c → b ≡ c
+same_block b c e = cc
+
+-- of a block that is left, which was the one and is the other
+pub no_further : {bs cs : List Block} (at new n m : ℕ) (was is : Block) (x x' y y' : ℕ) → Shrinks bs cs → HasDistinctKeys (named bs) → value_of (named bs) n ≡ Some was → value_of (named cs) n ≡ Some is
+    → address_in bs at n ≡ Some x → address_in cs new n ≡ Some x' → address_in bs at m ≡ Some y → address_in cs new m ≡ Some y' → IsNoFurther (4 * block_words was) (4 * block_words is) x x' y y'
+no_further at new n m was is x x' y y' nothing distinct w i e e' f f' = absurd (cc)
+no_further at new n m was is x x' y y' (kept b d {bs = bs} {cs = cs} p rest) distinct w i e e' f f' =
     let tail = tail_distinct b bs distinct in
     elim (cases_Bool (b.name == n)) [
       | inl here ↦
           let here' = same_name b d n true p here in
           let x_is = some_is at x (rw here at e) in
           let x'_is = some_is new x' (rw here' at e') in
-          let c_is : d ≡ c = same_block d c (rw here' at is) in
+          let was_is : b ≡ was = same_block b was (rw here at w) in
+          let is_is : d ≡ is = same_block d is (rw here' at i) in
           elim (cases_Bool (b.name == m)) [
             | inl too ↦
                 let too' = same_name b d m true p too in
@@ -131,7 +136,9 @@ no_further at new n m c x x' y y' (kept b d {bs = bs} {cs = cs} p rest) distinct
                 subst (λ k. IsNearer (k + 4 * block_words b) (x' + 4 * block_words d) y y') x_is
                 (subst (λ k. IsNearer (at + 4 * block_words b) (k + 4 * block_words d) y y') x'_is
                 (comes_nearer (at + 4 * block_words b) (new + 4 * block_words d) m y y' rest tail (rw apart at f) (rw apart' at f'))) in
-                subst (λ k. IsNoFurther (4 * block_words k) x x' y y') c_is (behind_it (block_words b) (block_words d) x x' y y' p.words near)
+                subst (λ k. IsNoFurther (4 * block_words k) (4 * block_words is) x x' y y') was_is
+                (subst (λ k. IsNoFurther (4 * block_words b) (4 * block_words k) x x' y y') is_is
+                (behind_it (4 * block_words b) (4 * block_words d) x x' y y' near))
           ]
       | inr other ↦
           let other' = same_name b d n false p other in
@@ -140,31 +147,28 @@ no_further at new n m c x x' y y' (kept b d {bs = bs} {cs = cs} p rest) distinct
                 let here' = same_name b d m true p here in
                 let near : IsNearer at new x x' = nearer_on at new (block_words b) (block_words d) x x' p.words
                 (comes_nearer (at + 4 * block_words b) (new + 4 * block_words d) n x x' rest tail (rw other at e) (rw other' at e')) in
-                ahead_of (4 * block_words c) x x' y y'
+                ahead_of (4 * block_words was) (4 * block_words is) x x' y y'
                 (subst (λ k. IsNearer k y' x x') (some_is at y (rw here at f)) (subst (λ k. IsNearer at k x x') (some_is new y' (rw here' at f')) near))
             | inr apart ↦
                 let apart' = same_name b d m false p apart in
-                no_further (at + 4 * block_words b) (new + 4 * block_words d) n m c x x' y y' rest tail (rw other' at is) (rw other at e) (rw other' at e') (rw apart at f) (rw apart' at f')
+                no_further (at + 4 * block_words b) (new + 4 * block_words d) n m was is x x' y y' rest tail (rw other at w) (rw other' at i) (rw other at e) (rw other' at e') (rw apart at f) (rw apart' at f')
           ]
     ]
-  where
-    same_block : (b c : Block) → Some b ≡ Some c → b ≡ c
-    same_block b c e = cc
-no_further at new n m c x x' y y' (gone b {bs = bs} rest) distinct is e e' f f' =
+no_further at new n m was is x x' y y' (gone b {bs = bs} rest) distinct w i e e' f f' =
     let tail = tail_distinct b bs distinct in
     let n_apart = gone_elsewhere b new n x' distinct rest e' in
     let m_apart = gone_elsewhere b new m y' distinct rest f' in
-    no_further (at + 4 * block_words b) new n m c x x' y y' rest tail is (rw n_apart at e) e' (rw m_apart at f) f'
+    no_further (at + 4 * block_words b) new n m was is x x' y y' rest tail (rw n_apart at w) i (rw n_apart at e) e' (rw m_apart at f) f'
 
--- a branch whose word stands behind so many bytes of items
-reaches_on : (size x x' y y' items : ℕ) → items ≤ size → IsNoFurther size x x' y y' → Reaches (pos y -ℤ pos (x + items)) → Reaches (pos y' -ℤ pos (x' + items))
-reaches_on size x x' y y' items within (inl h) r =
+-- a branch whose word stood behind so many bytes of items, and stands behind no more, with no more of the block behind it
+pub reaches_on : (size size' x x' y y' items items' : ℕ) → items' ≤ size' → items' ≤ items → size' + items ≤ size + items' → IsNoFurther size size' x x' y y' → Reaches (pos y -ℤ pos (x + items)) → Reaches (pos y' -ℤ pos (x' + items'))
+reaches_on size size' x x' y y' items items' within fewer left (inl h) r =
     let p = h.0 in
     let q = h.1 in
     let s = h.2 in
     let least = r.least in
     record { least = omega (arith, ints); most = omega (arith, ints) }
-reaches_on size x x' y y' items within (inr h) r =
+reaches_on size size' x x' y y' items items' within fewer left (inr h) r =
     let p = h.0 in
     let q = h.1 in
     let most = r.most in
@@ -264,16 +268,20 @@ in_reach g distinct h =
     h n cond a b to (ap block_term is ∙ ap Some e) (x + 4 * length c.items) target
     (ap (λ (k : Option Block). option_map (λ z. z + 4 * length (block_items k)) (block_address g 0 n)) is ∙ ap (option_map (λ z. z + 4 * length c.items)) place) found))
 
--- where the block of the term stands
-item_words : (b : Block) → length b.items ≤ block_words b
-item_words b = omega arith
+-- a Branch is one word behind the items
+branch_words : (b : Block) → IsBranch b.term → block_words b ≡ length b.items + 1
+branch_words b is = by_term b.term is refl
+  where
+    by_term : (t : Term) → IsBranch t → b.term ≡ t → block_words b ≡ length b.items + 1
+    by_term Fall none e = absurd none
+    by_term (Jump to) none e = absurd none
+    by_term (Branch cond x y to) one e = ap (λ t. length b.items + term_words t) e
+    by_term (Call link to) none e = absurd none
+    by_term (PartJump link part to) none e = absurd none
+    by_term (Indirect link at offset) none e = absurd none
+    by_term (Stop word) none e = absurd none
 
 -- what is left of a graph in reach is in reach, where each branch of it led where it leads or is known to reach
-abbrev pub LedThere : Graph → Graph → Type 0
-LedThere g h =
-    (n : ℕ) (cond : Cond) (a b to : ℕ) → term_of h n ≡ Some (Branch cond a b to)
-    → ((old : Cond) × (x : ℕ) × (y : ℕ) × (term_of g n ≡ Some (Branch old x y to))) ⊎ BranchReaches h n to
-
 pub shrunk_in_reach : (g h : Graph) → HasDistinctKeys (named g.blocks) → HasDistinctKeys (named h.blocks) → Shrinks g.blocks h.blocks → LedThere g h → IsInReach g → IsInReach h
 shrunk_in_reach g h distinct distinct' shrinks led reach =
     in_reach h distinct' (λ n cond a b to e. elim (led n cond a b to e) [
@@ -295,15 +303,17 @@ shrunk_in_reach g h distinct distinct' shrinks led reach =
         let new_place = placed h.blocks 0 n (rw o.1 refl) in
         let old_place = placed g.blocks 0 n (rw source.found refl) in
         let old_target = known_there to target there in
-        let items : length o.0.items ≡ length source.block.items = (source.shrunk.branch (subst IsBranch (sym o.2) tt)).1 in
+        let branch = source.shrunk.branch (subst IsBranch (sym o.2) tt) in
+        let items : length o.0.items ≤ length source.block.items = branch.1 in
         let at_is : new_place.0 + 4 * length o.0.items ≡ at =
         some_is (new_place.0 + 4 * length o.0.items) at (sym (ap (λ (k : Option Block). option_map (λ z. z + 4 * length (block_items k)) (block_address h 0 n)) o.1 ∙ ap (option_map (λ z. z + 4 * length o.0.items)) new_place.1) ∙ here) in
         let was_at : term_address g n ≡ Some (old_place.0 + 4 * length source.block.items) =
         ap (λ (k : Option Block). option_map (λ z. z + 4 * length (block_items k)) (block_address g 0 n)) source.found ∙ ap (option_map (λ z. z + 4 * length source.block.items)) old_place.1 in
         let reached : Reaches (pos old_target.0 -ℤ pos (old_place.0 + 4 * length source.block.items)) =
         branch_reaches g reach n old x y to was (old_place.0 + 4 * length source.block.items) old_target.0 was_at old_target.1 in
-        let nearer = no_further 0 0 n to o.0 old_place.0 new_place.0 old_target.0 target shrinks distinct o.1 old_place.1 new_place.1 old_target.1 there in
-        let small : 4 * length o.0.items ≤ 4 * block_words o.0 = let l = item_words o.0 in omega arith in
+        let nearer = no_further 0 0 n to source.block o.0 old_place.0 new_place.0 old_target.0 target shrinks distinct source.found o.1 old_place.1 new_place.1 old_target.1 there in
+        let is_words = branch_words o.0 (subst IsBranch (sym o.2) tt) in
+        let was_words = branch_words source.block branch.0 in
         subst (λ k. Reaches (pos target -ℤ pos k)) at_is
-        (reaches_on (4 * block_words o.0) old_place.0 new_place.0 old_target.0 target (4 * length o.0.items) small nearer
-        (subst (λ k. Reaches (pos old_target.0 -ℤ pos (old_place.0 + 4 * k))) (sym items) reached))
+        (reaches_on (4 * block_words source.block) (4 * block_words o.0) old_place.0 new_place.0 old_target.0 target (4 * length source.block.items) (4 * length o.0.items)
+        (omega (arith, is_words)) (omega (arith, items)) (omega (arith, is_words, was_words)) nearer reached)

@@ -1,4 +1,4 @@
--- Blocks of which some went and others lost words. No public clause cites this module.
+-- Blocks of which some went and others lost words.
 use Rattle.std.specs.Prelude.{◌≡◌, ◌≤◌, List, [], ◌∷◌, length}
 use Rattle.sq_graph.specs.declared.item.Term.{Term}
 use Rattle.sq_graph.specs.declared.item.Term.TheVariants.{Fall, Jump, Branch, Call, PartJump, Indirect, Stop}
@@ -15,11 +15,11 @@ IsBranch (Indirect link at offset) = ⊥
 IsBranch (Stop word) = ⊥
 
 -- A block in place of another: under its name, with no more words, and where it ends in a Branch the other did, behind
--- as many items
+-- no fewer items
 pub record IsShrunk (b c : Block) : Type 0 where
   pub name : c.name ≡ b.name
   pub words : block_words c ≤ block_words b
-  pub branch : IsBranch c.term → IsBranch b.term × (length c.items ≡ length b.items)
+  pub branch : IsBranch c.term → IsBranch b.term × (length c.items ≤ length b.items)
 
 -- some blocks are shrunk, and others are gone
 pub data Shrinks : List Block → List Block → Type 0 where

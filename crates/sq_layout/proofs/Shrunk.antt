@@ -1,5 +1,5 @@
 -- What operations leave of the blocks.
-use Rattle.std.proofs.Common.{◌≡◌, ℕ, ◌+◌, ◌≤◌, ◌==◌, Bool, List, [], ◌∷◌, map, take, drop, length, Some, inl, inr, refl, ◌∙◌, arith, length-append}
+use Rattle.std.proofs.Common.{◌≡◌, ℕ, ◌+◌, ◌≤◌, ◌==◌, Bool, List, [], ◌∷◌, ◌++◌, map, take, drop, length, Some, inl, inr, refl, ◌∙◌, arith, length-append}
 use Rattle.std.specs.List.{filter}
 use Rattle.std.proofs.lemmas.Bool.{cases_Bool}
 use Rattle.std.proofs.lemmas.List.{length-map, length-drop, length-take}
@@ -12,16 +12,16 @@ use Rattle.sq_graph.specs.Blocks.{named}
 use Rattle.sq_graph.specs.Words.{term_words}
 use Rattle.sq_graph.specs.Operations.{with_blocks, replaced_items}
 use Rattle.sq_graph.specs.Renames.{retargeted_item, retargeted_term, retargeted_block, recalled_item, recalled_block}
-use Rattle.sq_jumps.specs.Shrinks.{IsBranch, IsShrunk, Shrinks, nothing, kept, gone}
+use Rattle.sq_layout.specs.Shrinks.{IsBranch, IsShrunk, Shrinks, nothing, kept, gone}
 
 pub itself : (b : Block) → IsShrunk b b
-itself b = record { name = refl; words = omega arith; branch = λ is. (is, refl) }
+itself b = record { name = refl; words = omega arith; branch = λ is. (is, omega arith) }
 
 twice : (a b c : Block) → IsShrunk a b → IsShrunk b c → IsShrunk a c
 twice a b c p q = record {
   name = q.name ∙ p.name;
   words = let l = p.words in let m = q.words in omega arith;
-  branch = λ is. let m = q.branch is in let l = p.branch m.0 in (l.0, m.1 ∙ l.1);
+  branch = λ is. let m = q.branch is in let l = p.branch m.0 in (l.0, let p = l.1 in let q = m.1 in omega arith);
 }
 
 pub all_stay : (bs : List Block) → Shrinks bs bs
@@ -90,23 +90,37 @@ pub retargeted_shrunk : (f : ℕ → ℕ) (b : Block) → IsShrunk b (retargeted
 retargeted_shrunk f b = record {
   name = refl;
   words = omega (arith, length-map b.items (retargeted_item f), retargeted_words f b.term);
-  branch = λ is. (retargeted_branch f b.term is, length-map b.items (retargeted_item f));
+  branch = λ is. (retargeted_branch f b.term is, omega (arith, length-map b.items (retargeted_item f)));
 }
 
 pub recalled_shrunk : (f : ℕ → ℕ) (b : Block) → IsShrunk b (recalled_block f b)
 recalled_shrunk f b = record {
   name = refl;
   words = omega (arith, length-map b.items (recalled_item f));
-  branch = λ is. (is, length-map b.items (recalled_item f));
+  branch = λ is. (is, omega (arith, length-map b.items (recalled_item f)));
 }
 
 -- another term, which is a Branch only where the old one is
 pub term_shrunk : (b : Block) (t : Term) → term_words t ≤ term_words b.term → (IsBranch t → IsBranch b.term) → IsShrunk b (record b { term = t })
-term_shrunk b t words is = record { name = refl; words = omega (arith, words); branch = λ yes. (is yes, refl) }
+term_shrunk b t words is = record { name = refl; words = omega (arith, words); branch = λ yes. (is yes, omega arith) }
 
-fewer : (items : List Item) (at : ℕ) → length (replaced_items items at 1 []) ≤ length items
-fewer items at = omega (arith, length-append (take at items) (drop (at + 1) items), length-take at items, length-drop (at + 1) items)
+-- no more items
+pub items_shrunk : (b : Block) (items : List Item) → length items ≤ length b.items → IsShrunk b (record b { items = items })
+items_shrunk b items few = record { name = refl; words = omega (arith, few); branch = λ is. (is, few) }
 
--- without an item, where no Branch follows
-pub item_shrunk : (b : Block) (at : ℕ) → (IsBranch b.term → ⊥) → IsShrunk b (record b { items = replaced_items b.items at 1 [] })
-item_shrunk b at none = record { name = refl; words = let l = fewer b.items at in omega arith; branch = λ is. absurd (none is) }
+pub replaced_shrunk : (b : Block) (at count : ℕ) (by : List Item) → at + count ≤ length b.items → length by ≤ count → IsShrunk b (record b { items = replaced_items b.items at count by })
+replaced_shrunk b at count by there few =
+    items_shrunk b (replaced_items b.items at count by)
+    (omega (
+      arith,
+      there,
+      few,
+      length-append (take at b.items) (by ++ drop (at + count) b.items),
+      length-append by (drop (at + count) b.items),
+      length-take at b.items,
+      length-drop (at + count) b.items,
+    ))
+
+pub without_item_shrunk : (b : Block) (at : ℕ) → IsShrunk b (record b { items = replaced_items b.items at 1 [] })
+without_item_shrunk b at =
+    items_shrunk b (replaced_items b.items at 1 []) (omega (arith, length-append (take at b.items) (drop (at + 1) b.items), length-take at b.items, length-drop (at + 1) b.items))

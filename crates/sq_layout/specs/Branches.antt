@@ -1,5 +1,5 @@
 -- Whether a block's Branch reaches.
-use Rattle.std.specs.Prelude.{◌≡◌, ℕ, pos, ◌-ℤ◌, ◌+◌, ◌*◌, length, Option, Some, option_map}
+use Rattle.std.specs.Prelude.{◌≡◌, ℕ, pos, ◌-ℤ◌, ◌+◌, ◌-◌, ◌*◌, length, nat_lt, Option, Some, option_map, if◌then◌else◌}
 use Rattle.sq_graph.specs.Graph.{Graph}
 use Rattle.sq_graph.specs.Blocks.{items_of}
 use Rattle.sq_graph.specs.Places.{block_address, Reaches}
@@ -12,3 +12,7 @@ term_address g block = option_map (λ at. at + 4 * length (items_of g block)) (b
 abbrev pub BranchReaches : Graph → ℕ → ℕ → Type 0
 BranchReaches g from to =
     (at target : ℕ) → term_address g from ≡ Some at → block_address g 0 to ≡ Some target → Reaches (pos target -ℤ pos at)
+
+-- where a place stands once a word is gone
+abbrev pub lifted : ℕ → ℕ → ℕ
+lifted gone x = if nat_lt gone x then x - 4 else x
