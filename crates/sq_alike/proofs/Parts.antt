@@ -22,7 +22,7 @@ use Rattle.sq_graph.proofs.RulesByBlock.{ItemStands, BlockStands, by_block}
 use Rattle.sq_graph.proofs.SlotReads.{block_at}
 use Rattle.sq_jumps.specs.Rows.{JumpsByDeadPart}
 use Rattle.sq_jumps.proofs.Surveying.{part_there}
-use Rattle.sq_lifted.proofs.RenamedLives.{named_lines, lines_are, Known, known, lives_on}
+use Rattle.sq_graph.proofs.RenamedLives.{named_lines, lines_are, Known, known, lives_on}
 use Rattle.sq_patch.specs.Operations.{IsShortable}
 use Rattle.sq_alike.proofs.Names.{some_back, items_are, term_back}
 

@@ -166,7 +166,7 @@ pub canonical_is_canonical : (g : Graph) → IsGraph g → IsCanonical (canonica
 canonical_is_canonical g rules =
     subst IsCanonical (sym (canonical_is_joined g rules)) (joined_is_canonical (all_bypassed g) (all_bypassed_none_bare g))
 
-term_words-other : (f : ℕ → ℕ) (t : Term) → term_words (retargeted_term f t) ≡ term_words t
+pub term_words-other : (f : ℕ → ℕ) (t : Term) → term_words (retargeted_term f t) ≡ term_words t
 term_words-other f Fall = refl
 term_words-other f (Jump to) = refl
 term_words-other f (Branch c a b to) = refl
@@ -188,7 +188,7 @@ block_words-other f (b ∷ bs) =
       term_words-other f b.term,
     )
 
-procedure_words-other : (f : ℕ → ℕ) (ps : List Procedure) → sum_by procedure_words (map (retargeted_procedure f) ps) ≡ sum_by procedure_words ps
+pub procedure_words-other : (f : ℕ → ℕ) (ps : List Procedure) → sum_by procedure_words (map (retargeted_procedure f) ps) ≡ sum_by procedure_words ps
 procedure_words-other f [] = refl
 procedure_words-other f (p ∷ ps) =
     omega (

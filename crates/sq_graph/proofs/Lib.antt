@@ -44,3 +44,6 @@ pub mod AlikeCanonical
 pub mod Slotting
 pub mod FromParts
 pub mod SlotNames
+pub mod RenamedLives
+pub mod RenamedReach
+pub mod RenamedSound

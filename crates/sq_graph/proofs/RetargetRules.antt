@@ -117,7 +117,7 @@ module _ (f : ℕ → ℕ) (nm : Block → ℕ) where
   ends-other (b ∷ []) = goes_on-other b.term
   ends-other (b ∷ next ∷ bs) = ends-other (next ∷ bs)
 
-  addresses-other : (ws : List CodeRef) → map (λ w. w.at) (retargeted_words f ws) ≡ map (λ w. w.at) ws
+  pub addresses-other : (ws : List CodeRef) → map (λ w. w.at) (retargeted_words f ws) ≡ map (λ w. w.at) ws
   addresses-other [] = refl
   addresses-other (w ∷ ws) = ap (λ ats. w.at ∷ ats) (addresses-other ws)
 

@@ -17,7 +17,7 @@ use Rattle.sq_program.specs.FilePrograms.{LinkDies, NoteDies, IsFirstAlive}
 use Rattle.sq_lifting.specs.Lifting.{IsReadable, NotesDie}
 use Rattle.sq_lifting.proofs.NoteFacts.{at_number, used_good, own_number}
 use Rattle.sq_lifted.specs.LiveLinks.{AreLiveLinks, first_set}
-use Rattle.sq_lifted.proofs.RenamedLives.{all_die, all_died}
+use Rattle.sq_lifted.proofs.RenamedLinks.{all_die, all_died}
 
 pub in_range : {A : Type 0} (xs : List A) (i : ℕ) (x : A) → slice_get xs i ≡ Some x → i < length xs
 in_range [] i x e = absurd (cc)

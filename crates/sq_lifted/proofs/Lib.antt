@@ -11,7 +11,7 @@ pub mod PlainCells
 pub mod PlainStarts
 pub mod Named
 pub mod EarlyGraphs
-pub mod RenamedLives
+pub mod RenamedLinks
 pub mod Dying
 pub mod Alive
 pub mod LiftedFiles

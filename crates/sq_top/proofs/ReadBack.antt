@@ -20,7 +20,7 @@ use Rattle.sq_readback.proofs.NoteFaults.{written_files_pass_early}
 use Rattle.sq_readback.proofs.WordsReached.{written_words_are_reached, written_notes_are_used}
 use Rattle.sq_readback.proofs.AlikeBack.{lifted_back_is_alike}
 use Rattle.sq_lifted.proofs.FileWorlds.{early_readable}
-use Rattle.sq_lifted.proofs.GoodGraphs.{sound_kept}
+use Rattle.sq_graph.proofs.RenamedSound.{sound_kept}
 use Rattle.sq_lifted.proofs.SoundNotes.{sound_notes_die}
 use Rattle.sq_top.specs.Packing.{IsReachedFile}
 

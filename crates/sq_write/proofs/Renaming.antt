@@ -1,15 +1,13 @@
 -- The file of a graph doesn't depend on the names of its blocks.
-use Rattle.std.proofs.Common.{◌≡◌, ℕ, pos, if◌then◌else◌, zero, suc, ◌+◌, ◌*◌, ◌==◌, Bool, true, false, nat_lt, nat_le, nat_eq, ◌⊎◌, inl, inr, List, [], ◌∷◌, ◌++◌, map, filter, length, sum_by, Option, Some, None, IsSome, option_map, slice_get, refl, sym, ap, ◌∙◌, subst, arith}
-use Rattle.std.specs.List.{All, AllByRecursion, find, flat_map}
+use Rattle.std.proofs.Common.{◌≡◌, ℕ, pos, zero, suc, ◌+◌, ◌*◌, Bool, true, false, nat_lt, nat_le, nat_eq, ◌⊎◌, inl, inr, List, [], ◌∷◌, ◌++◌, map, filter, length, Option, Some, option_map, slice_get, refl, ap, ◌∙◌, arith}
+use Rattle.std.specs.List.{All, find}
 use Rattle.std.specs.Option.{unwrap_or}
-use Rattle.std.proofs.lemmas.Bool.{cases_Bool, eqb-true, eqb-false, eq-eqb}
+use Rattle.std.proofs.lemmas.Bool.{cases_Bool}
 use Rattle.std.proofs.lemmas.List.{length-map}
 use Rattle.std.proofs.lemmas.List.Elements.{All-head, All-tail}
-use Rattle.std.proofs.lemmas.List.Sums.{sum_by-cons}
 use Rattle.sq_num.specs.Halves.{high_half, low_half}
 use Rattle.sq_isa.specs.declared.instructions.Insn.TheVariants.{Lui, Jal, Jalr, Branch as BranchInsn, OpImm}
 use Rattle.sq_isa.specs.declared.instructions.ImmOp.TheVariants.{Addi}
-use Rattle.sq_arena.specs.Entries.{value_of}
 use Rattle.sq_elf.specs.Text.{text_of}
 use Rattle.sq_graph.specs.declared.item.Item.{Item}
 use Rattle.sq_graph.specs.declared.item.Item.TheVariants.{Op, Hi, Lo, Out}
@@ -17,14 +15,16 @@ use Rattle.sq_graph.specs.declared.item.Term.{Term}
 use Rattle.sq_graph.specs.declared.item.Term.TheVariants.{Fall, Jump, Branch, Call, PartJump, Indirect, Stop}
 use Rattle.sq_graph.specs.declared.parts.CodeRef.{CodeRef}
 use Rattle.sq_graph.specs.Graph.{Block, Procedure, Graph}
-use Rattle.sq_graph.specs.Blocks.{named, HasBlock, HasProcedure, procedure_link}
-use Rattle.sq_graph.specs.Places.{address_in, procedure_addresses}
+use Rattle.sq_graph.specs.Blocks.{HasBlock, HasProcedure, procedure_link}
+use Rattle.sq_graph.specs.Places.{procedure_addresses}
 use Rattle.sq_graph.specs.Renames.{retargeted_item, retargeted_items, retargeted_term, retargeted_procedure, retargeted_word, renamed_block, renamed}
 use Rattle.sq_graph.specs.Rules.{IsGraph}
-use Rattle.sq_graph.specs.Uses.{item_uses, term_uses, code_word_uses}
-use Rattle.sq_graph.specs.Words.{term_words, block_words, procedure_words}
+use Rattle.sq_graph.specs.Uses.{item_uses, term_uses}
+use Rattle.sq_graph.specs.Words.{block_words, procedure_words}
+use Rattle.sq_graph.proofs.Renamed.{names_there}
+use Rattle.sq_graph.proofs.RenamedReach.{same_length, same_block, same_procedure, same_sum, same_starts, same_address}
 use Rattle.sq_graph.proofs.RulesByBlock.{ItemStands, BlockStands, BodyStands, IsByBlock, by_block}
-use Rattle.sq_write.specs.Output.{Output, Piece, Relocation, output_file}
+use Rattle.sq_write.specs.Output.{Output, Relocation, output_file}
 use Rattle.sq_write.specs.Points.{Point, new_address, new_start, call_link, offset_to, point_word, high_entry, low_entry, item_point, items_points, plain_point, term_points, block_points, blocks_points, procedure_points, procedures_points, procedures_at, text_points}
 use Rattle.sq_write.specs.Pieces.{set_word_at, pieces_before, pieces_behind}
 use Rattle.sq_write.specs.Written.{word_entry, entries_of, note_entries, note_from, note_of, written_output, written}
@@ -40,48 +40,7 @@ output bytes entry set points relocations note = record {
   note = note;
 }
 
--- each block of a list is under its name
-pub names_there : (bs : List Block) → AllByRecursion (λ b. IsSome (value_of (named bs) b.name)) bs
-names_there [] = tt
-names_there (x ∷ rest) = (rw (eq-eqb x.name x.name refl) refl, widen rest (names_there rest))
-  where
-    one : (b : Block) → IsSome (value_of (named rest) b.name) → IsSome (value_of (named (x ∷ rest)) b.name)
-    one b there = elim (cases_Bool (x.name == b.name)) [ inl same ↦ rw same refl | inr apart ↦ rw apart there ]
-
-    widen : (bs : List Block) → AllByRecursion (λ b. IsSome (value_of (named rest) b.name)) bs → AllByRecursion (λ b. IsSome (value_of (named (x ∷ rest)) b.name)) bs
-    widen [] all = tt
-    widen (b ∷ bs) all = (one b all.0, widen bs all.1)
-
 module _ (f : ℕ → ℕ) where
-  same_term : (t : Term) → term_words (retargeted_term f t) ≡ term_words t
-  same_term Fall = refl
-  same_term (Jump to) = refl
-  same_term (Branch c a b to) = refl
-  same_term (Call link to) = refl
-  same_term (PartJump link part to) = refl
-  same_term (Indirect link register offset) = refl
-  same_term (Stop word) = refl
-
-  pub same_length : (items : List Item) → length (retargeted_items f items) ≡ length items
-  same_length items = length-map items (retargeted_item f)
-
-  pub same_block : (b : Block) → block_words (renamed_block f b) ≡ block_words b
-  same_block b = omega (arith, same_length b.items, same_term b.term)
-
-  pub same_procedure : (p : Procedure) → procedure_words (retargeted_procedure f p) ≡ procedure_words p
-  same_procedure p = omega (arith, same_length p.body)
-
-  pub same_sum : (bs : List Block) → sum_by block_words (map (renamed_block f) bs) ≡ sum_by block_words bs
-  same_sum [] = refl
-  same_sum (b ∷ bs) =
-      omega (arith, same_sum bs, same_block b, sum_by-cons block_words b bs, sum_by-cons block_words (renamed_block f b) (map (renamed_block f) bs))
-
-  same_starts : (ps : List Procedure) (at : ℕ) → procedure_addresses (map (retargeted_procedure f) ps) at ≡ procedure_addresses ps at
-  same_starts [] at = refl
-  same_starts (p ∷ ps) at =
-      ap (λ n. at ∷ procedure_addresses (map (retargeted_procedure f) ps) (at + 4 * n)) (same_procedure p)
-      ∙ ap (λ xs. at ∷ xs) (same_starts ps (at + 4 * procedure_words p))
-
   same_link : (ps : List Procedure) (k : ℕ) → procedure_link (slice_get (map (retargeted_procedure f) ps) k) ≡ procedure_link (slice_get ps k)
   same_link [] k = refl
   same_link (p ∷ ps) zero = refl
@@ -91,7 +50,7 @@ module _ (f : ℕ → ℕ) where
   same_entries [] at = refl
   same_entries (p ∷ ps) at =
       let rest = same_entries ps (at + 4 * procedure_words p) in
-      rw (same_length p.body, rest) refl
+      rw (same_length f p.body, rest) refl
 
   same_note : (ps : List Procedure) (at : ℕ) → note_from at (map (retargeted_procedure f) ps) ≡ note_from at ps
   same_note [] at = refl
@@ -100,35 +59,14 @@ module _ (f : ℕ → ℕ) where
       rw (count, same_entries (p ∷ ps) at) refl
 
   module _ (g : Graph) (rules : IsGraph g) (one : (m n : ℕ) → HasBlock g m → HasBlock g n → f m ≡ f n → m ≡ n) where
-    same_test : (m n : ℕ) → HasBlock g m → HasBlock g n → (f m == f n) ≡ (m == n)
-    same_test m n has there =
-        elim (cases_Bool (m == n)) [
-          | inl same ↦ eq-eqb (f m) (f n) (ap f (eqb-true m n same)) ∙ sym same
-          | inr apart ↦ differ (cases_Bool (f m == f n)) apart
-        ]
-      where
-        differ : ((f m == f n) ≡ true) ⊎ ((f m == f n) ≡ false) → (m == n) ≡ false → (f m == f n) ≡ (m == n)
-        differ (inl same) apart = absurd (eqb-false m n apart (one m n has there (eqb-true (f m) (f n) same)))
-        differ (inr other) apart = other ∙ sym apart
-
-    pub same_address : (bs : List Block) (at n : ℕ) → AllByRecursion (λ b. HasBlock g b.name) bs → HasBlock g n → address_in (map (renamed_block f) bs) at (f n) ≡ address_in bs at n
-    same_address [] at n all there = refl
-    same_address (b ∷ bs) at n all there =
-        let test = same_test b.name n all.0 there in
-        let rest = same_address bs (at + 4 * block_words b) n all.1 there in
-        let words : at + 4 * block_words (renamed_block f b) ≡ at + 4 * block_words b = omega (arith, same_block b) in
-        ap (λ t. if t then Some at else address_in (map (renamed_block f) bs) (at + 4 * block_words (renamed_block f b)) (f n)) test
-        ∙ ap (λ m. if b.name == n then Some at else address_in (map (renamed_block f) bs) m (f n)) words
-        ∙ ap (λ o. if b.name == n then Some at else o) rest
-
     new_is : (lo n : ℕ) → HasBlock g n → new_address (renamed f g) lo (f n) ≡ new_address g lo n
-    new_is lo n there = ap (λ o. unwrap_or o 0) (same_address g.blocks lo n (names_there g.blocks) there)
+    new_is lo n there = ap (λ o. unwrap_or o 0) (same_address f g one g.blocks lo n (names_there g.blocks) there)
 
     start_is : (lo p : ℕ) → new_start (renamed f g) lo p ≡ new_start g lo p
     start_is lo p =
-        let at : procedures_at (renamed f g) lo ≡ procedures_at g lo = omega (arith, same_sum g.blocks) in
+        let at : procedures_at (renamed f g) lo ≡ procedures_at g lo = omega (arith, same_sum f g.blocks) in
         ap (λ n. unwrap_or (slice_get (procedure_addresses (map (retargeted_procedure f) g.procedures) n) p) 0) at
-        ∙ ap (λ xs. unwrap_or (slice_get xs p) 0) (same_starts g.procedures (procedures_at g lo))
+        ∙ ap (λ xs. unwrap_or (slice_get xs p) 0) (same_starts f g.procedures (procedures_at g lo))
 
     link_is : (p : ℕ) → call_link (renamed f g) p ≡ call_link g p
     link_is p = ap (λ o. unwrap_or o 0) (same_link g.procedures p)
@@ -168,8 +106,8 @@ module _ (f : ℕ → ℕ) where
           let rest = same_blocks bs (at + 4 * block_words b) (All-tail (BlockStands (HasBlock g) (HasProcedure g)) b bs all) in
           let items = same_items b.items at here.items in
           let term = same_end b.term (at + 4 * length b.items) here.names in
-          ap (λ n. (items_points (renamed f g) lo at (retargeted_items f b.items) ++ term_points (renamed f g) lo (at + 4 * n) (retargeted_term f b.term)) ++ blocks_points (renamed f g) lo (at + 4 * block_words (renamed_block f b)) (map (renamed_block f) bs)) (same_length b.items)
-          ∙ ap (λ n. (items_points (renamed f g) lo at (retargeted_items f b.items) ++ term_points (renamed f g) lo (at + 4 * length b.items) (retargeted_term f b.term)) ++ blocks_points (renamed f g) lo (at + 4 * n) (map (renamed_block f) bs)) (same_block b)
+          ap (λ n. (items_points (renamed f g) lo at (retargeted_items f b.items) ++ term_points (renamed f g) lo (at + 4 * n) (retargeted_term f b.term)) ++ blocks_points (renamed f g) lo (at + 4 * block_words (renamed_block f b)) (map (renamed_block f) bs)) (same_length f b.items)
+          ∙ ap (λ n. (items_points (renamed f g) lo at (retargeted_items f b.items) ++ term_points (renamed f g) lo (at + 4 * length b.items) (retargeted_term f b.term)) ++ blocks_points (renamed f g) lo (at + 4 * n) (map (renamed_block f) bs)) (same_block f b)
           ∙ ap (λ ps. (ps ++ term_points (renamed f g) lo (at + 4 * length b.items) (retargeted_term f b.term)) ++ blocks_points (renamed f g) lo (at + 4 * block_words b) (map (renamed_block f) bs)) items
           ∙ ap (λ ps. (items_points g lo at b.items ++ ps) ++ blocks_points (renamed f g) lo (at + 4 * block_words b) (map (renamed_block f) bs)) term
           ∙ ap (λ ps. block_points g lo at b ++ ps) rest
@@ -180,14 +118,14 @@ module _ (f : ℕ → ℕ) where
           let here = All-head (BodyStands (HasBlock g) (HasProcedure g)) p ps all in
           let rest = same_procedures ps (at + 4 * procedure_words p) (All-tail (BodyStands (HasBlock g) (HasProcedure g)) p ps all) in
           ap (λ xs. (xs ++ plain_point (Jalr 0 p.link (pos 0))) ++ procedures_points (renamed f g) lo (at + 4 * procedure_words (retargeted_procedure f p)) (map (retargeted_procedure f) ps)) (same_items p.body at here.items)
-          ∙ ap (λ n. procedure_points g lo at p ++ procedures_points (renamed f g) lo (at + 4 * n) (map (retargeted_procedure f) ps)) (same_procedure p)
+          ∙ ap (λ n. procedure_points g lo at p ++ procedures_points (renamed f g) lo (at + 4 * n) (map (retargeted_procedure f) ps)) (same_procedure f p)
           ∙ ap (λ xs. procedure_points g lo at p ++ xs) rest
 
       by : IsByBlock (HasBlock g) (HasProcedure g) g
       by = by_block (HasBlock g) (HasProcedure g) g rules rules.named_all rules.called_all
 
       same_at : procedures_at (renamed f g) lo ≡ procedures_at g lo
-      same_at = omega (arith, same_sum g.blocks)
+      same_at = omega (arith, same_sum f g.blocks)
 
       same_text : text_points (renamed f g) lo ≡ text_points g lo
       same_text =

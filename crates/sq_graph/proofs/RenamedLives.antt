@@ -23,7 +23,6 @@ use Rattle.sq_graph.specs.Renames.{retargeted_items, retargeted_term, retargeted
 use Rattle.sq_graph.specs.Lines.{AddressHalf, Plain, Upper, Lower, Line, Name, Do, Enter, Return, End, line_of, term_lines, lines_of, inside, has_name, behind_name, block_lines}
 use Rattle.sq_graph.specs.Walks.{word_name, lower_names, link_names, first_name, code_targets, term_sources, term_link, is_register, is_link_of, line_reads, line_writes, Goes, IsLive, read_here, live_behind}
 use Rattle.sq_graph.specs.Alike.{IsOneToOne}
-use Rattle.sq_program.specs.FilePrograms.{LinkDies}
 
 -- LISTS
 
@@ -436,28 +435,3 @@ module _ (f : ℕ → ℕ) where
         let s = tail_is first (line_named line) behind (named_lines lines) same in
         let step = goes_from line lines after k (subst (λ ls. Goes other (line_named line) ls after) s (subst (λ l. Goes other l behind after) q goes)) in
         live_behind {line = line} {rest = lines} {next = step.0} (sym (writes_are g.procedures line r) ∙ ap (λ l. line_writes other.procedures l r) (sym q) ∙ w) step.1 (lived live step.0 step.2 step.3)
-
-    -- THE LINK OF A PROCEDURE
-
-    pub dies_on : (q link : ℕ) (lines : List Line) → Known lines → LinkDies g q link lines → LinkDies other q link (named_lines lines)
-    dies_on q link [] k h = tt
-    dies_on q link (Name n ∷ rest) k h = dies_on q link rest k.1 h
-    dies_on q link (Do half insn ∷ rest) k h = dies_on q link rest k.1 h
-    dies_on q link (Return r ∷ rest) k h = dies_on q link rest k.1 h
-    dies_on q link (End term ∷ rest) k h = dies_on q link rest k.1 h
-    dies_on q link (Enter procedure ∷ rest) k h = (λ e live. h.0 e (lived live rest refl k.1), dies_on q link rest k.1 h.1)
-
-    pub died : (q link : ℕ) (lines : List Line) → Known lines → LinkDies other q link (named_lines lines) → LinkDies g q link lines
-    died q link [] k h = tt
-    died q link (Name n ∷ rest) k h = died q link rest k.1 h
-    died q link (Do half insn ∷ rest) k h = died q link rest k.1 h
-    died q link (Return r ∷ rest) k h = died q link rest k.1 h
-    died q link (End term ∷ rest) k h = died q link rest k.1 h
-    died q link (Enter procedure ∷ rest) k h = (λ e live. h.0 e (lives_on live k.1), died q link rest k.1 h.1)
-
-    -- the same of all lines
-    pub all_die : (q link : ℕ) → LinkDies g q link (lines_of g.blocks) → LinkDies other q link (lines_of other.blocks)
-    all_die q link h = subst (LinkDies other q link) (sym (lines_are g.blocks)) (dies_on q link (lines_of g.blocks) known h)
-
-    pub all_died : (q link : ℕ) → LinkDies other q link (lines_of other.blocks) → LinkDies g q link (lines_of g.blocks)
-    all_died q link h = died q link (lines_of g.blocks) known (subst (LinkDies other q link) (lines_are g.blocks) h)
