@@ -8,3 +8,4 @@ pub mod ArenaLemmas
 pub mod ArenaReads
 pub mod ArenaWrites
 pub mod Moves
+pub mod Positions

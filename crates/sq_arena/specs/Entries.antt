@@ -1,10 +1,18 @@
 -- Words on a list of pairs of key and value, whose keys are distinct.
-use Rattle.std.specs.Prelude.{◌≡◌, ◌≢◌, ℕ, List, [], ◌∷◌, ◌++◌, map, Option, None, Some, IsSome, ◌==◌, if◌then◌else◌, nat_eq}
+use Rattle.std.specs.Prelude.{◌≡◌, ◌≢◌, ℕ, ◌+◌, List, [], ◌∷◌, ◌++◌, map, Option, None, Some, IsSome, ◌==◌, if◌then◌else◌, nat_eq}
 use Rattle.std.specs.List.{IsDistinct}
 
 module _ {T : Type 0} where
   abbrev pub keys : List (ℕ × T) → List ℕ
   keys entries = map (λ entry. entry.0) entries
+
+  abbrev pub values : List (ℕ × T) → List T
+  values entries = map (λ entry. entry.1) entries
+
+  -- each value under its position, where the first one stands at this one
+  abbrev pub at_positions : ℕ → List T → List (ℕ × T)
+  at_positions position [] = []
+  at_positions position (value ∷ rest) = (position, value) ∷ at_positions (position + 1) rest
 
   abbrev pub HasDistinctKeys : List (ℕ × T) → Type 0
   HasDistinctKeys entries = IsDistinct nat_eq (keys entries)

@@ -9,7 +9,7 @@
 ghost use Rattle.std.specs.Prelude.{◌≡◌, ℕ, ◌+◌, ◌^◌, ◌<◌, ◌≤◌, List, [], ◌∷◌, ◌++◌, length, max, IsOk, OnOk, OnErr, IfOk, option_copied};
 ghost use Rattle.std.specs.Option.{option_copied_mut};
 ghost use Rattle.std.specs.Borrow.{sem};
-ghost use Rattle.sq_arena.specs.Entries.{HasDistinctKeys, value_of, ContainsKey, KeepsOthers, KeepsValues, without, without_run, IsRun, insert_after, move_run_after, first_key, last_key, next_key, previous_key};
+ghost use Rattle.sq_arena.specs.Entries.{HasDistinctKeys, value_of, ContainsKey, KeepsOthers, KeepsValues, without, without_run, IsRun, at_positions, insert_after, move_run_after, first_key, last_key, next_key, previous_key};
 
 mod links;
 mod memory;
@@ -58,6 +58,25 @@ impl<T> Arena<T> {
             len: 0,
             spare: 0,
         }
+    }
+
+    /// An arena of these values in order, each under its position.
+    pub fn from_values(alloc: Global, values: &[T]) -> Result<Self, ArenaMemory>
+    where
+        T: Copy + Drop,
+        requires { length values.now < 2 ^ 32 }
+        ensures entries { IfOk result (λ made. made.entries ≡ at_positions 0 values.now) }
+        ensures spare { IfOk result (λ made. made.spare ≡ 0) }
+    {
+        let mut made = Arena::new(alloc);
+        for value in values {
+            made.reserve(1)?;
+            let position = made.len();
+            if made.push_back(*value) != position {
+                return Err(ArenaMemory);
+            }
+        }
+        Ok(made)
     }
 
     /// How many pairs the list has.
