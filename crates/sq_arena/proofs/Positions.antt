@@ -1,7 +1,9 @@
 -- Values under their positions.
-use Rattle.std.proofs.Common.{◌≡◌, ℕ, suc, ◌+◌, ◌<◌, List, [], ◌∷◌, ◌++◌, length, take, get_or, refl, sym, ap, ◌∙◌, arith}
-use Rattle.std.proofs.lemmas.List.{take_more, length-take-le}
-use Rattle.sq_arena.specs.Entries.{keys, values, at_positions}
+use Rattle.std.proofs.Common.{◌≡◌, ℕ, suc, false, nat_eq, ◌+◌, ◌<◌, List, [], ◌∷◌, ◌++◌, length, take, get_or, refl, sym, ap, ◌∙◌, arith}
+use Rattle.std.proofs.lemmas.List.{take_more}
+use Rattle.std.specs.List.{AllByRecursion, IsDistinct}
+use Rattle.std.proofs.lemmas.Bool.{ne_eqb}
+use Rattle.sq_arena.specs.Entries.{keys, values, HasDistinctKeys, at_positions}
 
 module _ {T : Type 0} where
   pub length-at_positions : (k : ℕ) (xs : List T) → length (at_positions k xs) ≡ length xs
@@ -27,3 +29,12 @@ module _ {T : Type 0} where
     where
       zero_left : (n : ℕ) → n ≡ 0 + n
       zero_left n = omega arith
+
+  later : (k j : ℕ) (xs : List T) → k < j → AllByRecursion (λ y. nat_eq k y ≡ false) (keys (at_positions j xs))
+  later k j [] less = tt
+  later k j (x ∷ xs) less = (ne_eqb k j (λ same. omega (arith, less, same)), later k (j + 1) xs (omega (arith, less)))
+
+  pub distinct-at_positions : (k : ℕ) (xs : List T) → HasDistinctKeys (at_positions k xs)
+  unfolding IsDistinct
+  distinct-at_positions k [] = tt
+  distinct-at_positions k (x ∷ xs) = (later k (k + 1) xs (omega arith), distinct-at_positions (k + 1) xs)

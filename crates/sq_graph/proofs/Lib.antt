@@ -27,7 +27,6 @@ pub mod ProcedureWrites
 pub mod ProcedureRemoval
 pub mod PartLoops
 pub mod RetargetRules
-pub mod FromParts
 pub mod BlockMoves
 pub mod Numbering
 pub mod Exchanged
@@ -43,6 +42,9 @@ pub mod CanonicalReach
 pub mod Renamed
 pub mod AlikeGraphs
 pub mod AlikeCanonical
+pub mod Slotting
+pub mod FromParts
+pub mod SlotNames
 pub mod RenamedLives
 pub mod RenamedReach
 pub mod RenamedSound

@@ -1,15 +1,13 @@
 -- The loops that give the blocks and procedures of parts their places.
-use Rattle.std.proofs.Common.{◌≡◌, ℕ, ◌+◌, ◌≤◌, ◌<◌, List, [], ◌∷◌, ◌++◌, length, take, get_or, refl, sym, ap, ◌∙◌, subst, arith}
-use Rattle.std.proofs.lemmas.List.{take_more, map-append}
+use Rattle.std.proofs.Common.{◌≡◌, ℕ, ◌+◌, ◌≤◌, ◌<◌, List, [], ◌∷◌, ◌++◌, length, take, get_or, sym, ap, ◌∙◌, arith}
+use Rattle.std.proofs.lemmas.List.{take_more}
 use Rattle.std.proofs.lemmas.List.Sums.{sum_by-cons, sum_by_push, sum_by_more_le}
-use Rattle.sq_arena.specs.Entries.{keys, HasDistinctKeys}
-use Rattle.sq_arena.proofs.EntriesLaws.{distinct_keys}
 use Rattle.sq_graph.specs.declared.slot.Slot.{Slot}
 use Rattle.sq_graph.specs.declared.slot.Body.{Body}
 use Rattle.sq_graph.specs.declared.parts.BlockPart.{BlockPart}
 use Rattle.sq_graph.specs.declared.parts.ProcedurePart.{ProcedurePart}
 use Rattle.sq_graph.specs.Parts.{length_of_blocks, length_of_bodies}
-use Rattle.sq_graph.specs.PartSlots.{values, part_slots, part_bodies}
+use Rattle.sq_graph.specs.PartSlots.{part_slots, part_bodies}
 
 zero_left : (n : ℕ) → n ≡ 0 + n
 zero_left n = omega arith
@@ -47,41 +45,21 @@ pub bodies_fit : (i start : ℕ) (p : ProcedurePart) (ps : List ProcedurePart) (
 bodies_fit i start p ps bodies first inside read =
     omega (arith, first.start_is, sum_by_more_le (λ (part : ProcedurePart). part.length) ps i p inside, ap (λ q. q.length) read)
 
--- the first slots of blocks, under their names
-pub record FirstSlots (i start count : ℕ) (ps : List BlockPart) (entries : List (ℕ × Slot)) (spare : ℕ) (names : List ℕ) : Type 0 where
-  pub names_are : names ≡ keys entries
-  pub values_are : values entries ≡ part_slots 0 (take i ps)
-  pub distinct : HasDistinctKeys entries
-  pub spare_is : spare + i ≡ count
+-- the first slots of blocks, and how long they are
+pub record FirstSlots (i start : ℕ) (ps : List BlockPart) (slots : List Slot) : Type 0 where
+  pub are : slots ≡ part_slots 0 (take i ps)
   pub start_is : start ≡ length_of_blocks (take i ps)
 
-pub slots_none : (count : ℕ) (ps : List BlockPart) (entries : List (ℕ × Slot)) (names : List ℕ) → entries ≡ [] → names ≡ [] → FirstSlots 0 0 count ps entries count names
-slots_none count ps entries names none no_names =
-    record {
-      names_are = no_names ∙ ap keys (sym none);
-      values_are = ap values none;
-      distinct = subst (λ (es : List (ℕ × Slot)). HasDistinctKeys es) (sym none) (distinct_keys {T = Slot} [] (λ p. omega arith));
-      spare_is = omega arith;
-      start_is = refl;
-    }
-
-pub slots_step : (i start count : ℕ) (p : BlockPart) (ps : List BlockPart) (entries entries' : List (ℕ × Slot)) (spare spare' : ℕ) (names names' : List ℕ) (name : ℕ) → FirstSlots i start count ps entries spare names → i < length ps → p ≡ get_or ps i p
-    → entries' ≡ entries ++ (name, record { start = start; length = p.length; term = p.term }) ∷ [] → names' ≡ names ++ name ∷ [] → HasDistinctKeys entries' → spare' + 1 ≡ spare
-    → FirstSlots (i + 1) (start + p.length) count ps entries' spare' names'
-slots_step i start count p ps entries entries' spare spare' names names' name first inside read is names_is distinct spares =
+pub slots_step : (i start : ℕ) (p : BlockPart) (ps : List BlockPart) (slots slots' : List Slot) → FirstSlots i start ps slots → i < length ps → p ≡ get_or ps i p → slots' ≡ slots ++ record { start = start; length = p.length; term = p.term } ∷ [] → FirstSlots (i + 1) (start + p.length) ps slots'
+slots_step i start p ps slots slots' first inside read is =
     let more : take (i + 1) ps ≡ take i ps ++ p ∷ [] = take_more ps i p inside ∙ ap (λ q. take i ps ++ q ∷ []) (sym read) in
-    let slot : Slot = record { start = start; length = p.length; term = p.term } in
     record {
-      names_are = names_is ∙ ap (λ ns. ns ++ name ∷ []) first.names_are ∙ sym (ap keys is ∙ map-append {B = ℕ} (λ e. e.0) entries ((name, slot) ∷ []));
-      values_are = ap values is ∙ map-append {B = Slot} (λ e. e.1) entries ((name, slot) ∷ [])
-          ∙ ap (λ ss. ss ++ slot ∷ []) first.values_are
+      are = is ∙ ap (λ ss. ss ++ record { start = start; length = p.length; term = p.term } ∷ []) first.are
           ∙ ap (λ s. part_slots 0 (take i ps) ++ record { start = s; length = p.length; term = p.term } ∷ []) (first.start_is ∙ zero_left (length_of_blocks (take i ps)))
           ∙ sym (part_slots-push 0 (take i ps) p) ∙ ap (part_slots 0) (sym more);
-      distinct = distinct;
-      spare_is = omega (arith, first.spare_is, spares);
       start_is = omega (arith, first.start_is, ap length_of_blocks more, sum_by_push (λ (part : BlockPart). part.length) (take i ps) p);
     }
 
-pub slots_fit : (i start count spare : ℕ) (p : BlockPart) (ps : List BlockPart) (entries : List (ℕ × Slot)) (names : List ℕ) → FirstSlots i start count ps entries spare names → i < length ps → p ≡ get_or ps i p → start + p.length ≤ length_of_blocks ps
-slots_fit i start count spare p ps entries names first inside read =
+pub slots_fit : (i start : ℕ) (p : BlockPart) (ps : List BlockPart) (slots : List Slot) → FirstSlots i start ps slots → i < length ps → p ≡ get_or ps i p → start + p.length ≤ length_of_blocks ps
+slots_fit i start p ps slots first inside read =
     omega (arith, first.start_is, sum_by_more_le (λ (part : BlockPart). part.length) ps i p inside, ap (λ q. q.length) read)

@@ -18,6 +18,7 @@ pub mod Layout
 pub mod Cursor
 pub mod Numbered
 pub mod CanonicalSlots
+pub mod Slotted
 pub mod PartSlots
 pub mod Pieces
 pub mod Lines

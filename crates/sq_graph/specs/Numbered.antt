@@ -8,6 +8,11 @@ use Rattle.sq_graph.specs.Cursor.{renumbered, length_of_slots}
 abbrev pub IsNumbered : ℕ → List (ℕ × Slot) → Type 0
 IsNumbered start entries = renumbered start entries ≡ entries
 
+-- each slot has its position in place of its start, the first one this position
+abbrev pub with_positions : ℕ → List (ℕ × Slot) → List (ℕ × Slot)
+with_positions position [] = []
+with_positions position (e ∷ rest) = (e.0, record e.1 { start = position }) ∷ with_positions (position + 1) rest
+
 -- where one slot has its start, so have those behind it
 abbrev pub Settles : ℕ → List (ℕ × Slot) → Type 0
 Settles start [] = Unit {0}

@@ -1,13 +1,10 @@
 -- How the blocks and procedures of parts stand in the arena and the vectors of a graph. No public clause cites
 -- this module.
-use Rattle.std.specs.Prelude.{ℕ, ◌+◌, List, [], ◌∷◌, map}
+use Rattle.std.specs.Prelude.{ℕ, ◌+◌, List, [], ◌∷◌}
 use Rattle.sq_graph.specs.declared.slot.Slot.{Slot}
 use Rattle.sq_graph.specs.declared.slot.Body.{Body}
 use Rattle.sq_graph.specs.declared.parts.BlockPart.{BlockPart}
 use Rattle.sq_graph.specs.declared.parts.ProcedurePart.{ProcedurePart}
-
-abbrev pub values : {T : Type 0} → List (ℕ × T) → List T
-values entries = map (λ e. e.1) entries
 
 abbrev pub part_slots : ℕ → List BlockPart → List Slot
 part_slots start [] = []

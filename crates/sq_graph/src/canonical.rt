@@ -52,8 +52,8 @@ impl Graph {
 
 /// Where the uses of each name go, as the starts say.
 #[derive(Drop)]
-struct Aims<'a> {
-    slots: &'a Arena<Slot>,
+pub(crate) struct Aims<'a> {
+    pub slots: &'a Arena<Slot>,
 }
 
 impl Rename for Aims<'_> {

@@ -1,4 +1,4 @@
-//! The laws of the canonical graph, for the layers above.
+//! The laws of the canonical graph and of names, for the layers above.
 
 ghost use Rattle.std.specs.Prelude.{◌≡◌};
 ghost use Rattle.sq_graph.specs.Graph.{Graph};
@@ -7,6 +7,7 @@ ghost use Rattle.sq_graph.specs.Leaders.{IsCanonical};
 ghost use Rattle.sq_graph.specs.Alike.{AreAlike};
 ghost use Rattle.sq_graph.specs.Canonical.{canonical_of};
 ghost use Rattle.sq_graph.specs.Places.{IsInReach};
+ghost use Rattle.sq_graph.specs.Slotted.{slotted, IsSlotted};
 
 /// The canonical graph of a canonical graph is that graph, and the one of a graph in reach is in reach.
 #[tactic(auto, using(crate::proofs::CanonicalLaws::canonical_again, crate::proofs::CanonicalReach::canonical_in_reach))]
@@ -24,4 +25,13 @@ pub fn alike_laws()
     ensures through { (g h k : Graph) → AreAlike g h → AreAlike h k → AreAlike g k }
     ensures rules { (g h : Graph) → IsGraph g → AreAlike g h → IsGraph h }
     ensures canonical { (g h : Graph) → IsGraph g → AreAlike g h → AreAlike (canonical_of g) (canonical_of h) }
+{}
+
+/// Graphs that differ in the names of their blocks alone have one slotted graph, which is alike them and slotted. So what
+/// is said of slotted graphs doesn't depend on names.
+#[tactic(auto, using(crate::proofs::Slotting::slotted_alike, crate::proofs::Slotting::one_slotted, crate::proofs::Slotting::slotted_again))]
+pub fn slotted_laws()
+    ensures alike { (g : Graph) → AreAlike g (slotted g) }
+    ensures one { (g h : Graph) → IsGraph g → AreAlike g h → slotted h ≡ slotted g }
+    ensures again { (g : Graph) → IsGraph g → IsSlotted (slotted g) }
 {}

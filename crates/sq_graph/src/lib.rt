@@ -14,6 +14,7 @@ mod graph;
 mod item;
 pub mod laws;
 mod moves;
+mod naming;
 mod parts;
 mod pieces;
 mod rename;

@@ -1,6 +1,6 @@
 //! Uses of names and numbers, each made one of another.
 
-ghost use Rattle.std.specs.Prelude.{◌≡◌, ℕ, ◌+◌, ◌-◌, ◌<◌, ◌^◌, length, slice_index, vec_capacity};
+ghost use Rattle.std.specs.Prelude.{◌≡◌, ℕ, ◌+◌, ◌-◌, ◌<◌, ◌^◌, length, vec_capacity};
 ghost use Rattle.std.specs.List.{All};
 ghost use Rattle.sq_graph.specs.Uses.{item_uses, items_uses, term_uses, code_word_uses};
 ghost use Rattle.sq_graph.specs.Renames.{retargeted_item, retargeted_items, retargeted_term, retargeted_word, retargeted_words, recalled_item, recalled_items, swapped, lowered};
@@ -33,22 +33,6 @@ impl Rename for Swap {
 
     fn name(&self, name: u32) -> u32 {
         if name == self.from { self.to } else { name }
-    }
-}
-
-/// The name at each position.
-#[derive(Drop)]
-pub(crate) struct Names<'a> {
-    pub names: &'a [u32],
-}
-
-impl Rename for Names<'_> {
-    ghost name_of = { λ n. slice_index n.names.now };
-
-    ghost Knows = { λ n position. position < length n.names.now };
-
-    fn name(&self, position: u32) -> u32 {
-        self.names[position as usize]
     }
 }
 

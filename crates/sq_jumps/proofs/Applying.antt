@@ -7,7 +7,6 @@ use Rattle.sq_isa.specs.declared.instructions.Cond.{Cond}
 use Rattle.sq_isa.specs.Branches.{inverse_of}
 use Rattle.sq_graph.specs.declared.item.Term.{Term}
 use Rattle.sq_graph.specs.declared.item.Term.TheVariants.{Fall, Jump, Branch, Call, PartJump, Indirect, Stop}
-use Rattle.sq_graph.specs.Alike.{AreAlike}
 use Rattle.sq_graph.specs.Graph.{Block, Graph}
 use Rattle.sq_graph.specs.Blocks.{named, block_of, block_term, items_of, next_of, term_of}
 use Rattle.sq_graph.specs.Canonical.{canonical_of}
@@ -18,7 +17,7 @@ use Rattle.sq_graph.specs.Rules.{IsGraph}
 use Rattle.sq_graph.specs.Words.{term_words}
 use Rattle.sq_arena.proofs.EntriesLaws.{distinct_back}
 use Rattle.sq_graph.proofs.Kept.{absent_behind}
-use Rattle.sq_graph.proofs.Bypassing.{retargeted_same}
+use Rattle.sq_graph.proofs.AlikeGraphs.{alike_itself}
 use Rattle.sq_patch.specs.Operations.{IsShortable, hastened as short_jump, shortened}
 use Rattle.sq_patch.specs.LoneJumps.{without_jump, IsJumpedOver, inverted_over}
 use Rattle.sq_patch.proofs.OneBlock.{fall_follows, fall_sound}
@@ -36,10 +35,6 @@ use Rattle.sq_layout.proofs.Shrinking.{shrunk_in_reach}
 use Rattle.sq_layout.proofs.Shrunk.{shrinks_twice, each_shrinks, one_shrinks, without_shrinks, retargeted_shrunk, term_shrunk, without_item_shrunk}
 use Rattle.sq_layout.proofs.Standing.{block_of-without, block_of-retargeted, block_of-changed, block_of-changed_here}
 use Rattle.sq_jumps.proofs.Rewriting.{fall_rules, redirected_rules_here, passed_rules, turned_rules, inverted_rules, shortened_rules}
-
--- a graph is alike itself
-pub alike_itself : (g : Graph) → AreAlike g g
-alike_itself g = record { name = λ n. n; one_to_one = λ m n has has' same. same; is = sym (retargeted_same g) }
 
 same_term : (s t : Term) → Some s ≡ Some t → s ≡ t
 same_term s t e = cc

@@ -21,6 +21,7 @@ use Rattle.sq_graph.specs.Uses.{item_calls}
 use Rattle.sq_graph.specs.Words.{block_words, procedure_words, words_of}
 use Rattle.sq_graph.proofs.Kept.{absent_behind}
 use Rattle.sq_graph.proofs.RulesByBlock.{BlockStands, BodyStands, by_block}
+use Rattle.sq_graph.proofs.AlikeGraphs.{alike_itself}
 use Rattle.sq_patch.specs.Restrictions.{procedures_held, number_held, IsCalledIn, HoldsReached}
 use Rattle.sq_patch.proofs.Restricting.{restrict_follows, restrict_sound, reached_closed}
 use Rattle.sq_reach.proofs.Blocks.{reached_has}
@@ -33,7 +34,6 @@ use Rattle.sq_layout.specs.Reach.{LedThere}
 use Rattle.sq_layout.proofs.Shrinking.{shrunk_in_reach, block_with}
 use Rattle.sq_layout.proofs.Shrunk.{shrinks_twice, each_shrinks, filter_shrinks, recalled_shrunk}
 use Rattle.sq_jumps.proofs.Ruled.{block_found}
-use Rattle.sq_jumps.proofs.Applying.{alike_itself}
 use Rattle.sq_jumps.proofs.Clearing.{cleared_if, all_cleared}
 use Rattle.sq_jumps.proofs.Uncalled.{number_same, held_same, only_held, held_from}
 use Rattle.sq_jumps.proofs.Removing.{left_of, each_goes}

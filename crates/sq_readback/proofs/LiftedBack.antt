@@ -24,7 +24,7 @@ use Rattle.sq_program.specs.Lifted.{TermForm, words_lead, is_leader, is_kept, Re
 use Rattle.sq_write.specs.Points.{new_address, procedures_at, text_points}
 use Rattle.sq_write.proofs.Fitting.{text_stands}
 use Rattle.sq_write.proofs.Lengths.{length_text}
-use Rattle.sq_write.proofs.Renaming.{names_there}
+use Rattle.sq_graph.proofs.Renamed.{names_there}
 use Rattle.sq_outputs.proofs.Pairs.{all_map}
 use Rattle.sq_readback.specs.Cutting.{lifted_back, WrittenGraphsLiftBack}
 use Rattle.sq_readback.specs.Programs.{word_at_point, graph_text, new_code_word, notes_from, graph_notes, graph_program}

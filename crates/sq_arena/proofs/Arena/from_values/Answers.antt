@@ -1,4 +1,4 @@
-use Rattle.std.proofs.Common.{◌∙◌, length, ap, sym, arith}
+use Rattle.std.proofs.Common.{◌∙◌, length, ap, arith}
 use Rattle.std.proofs.lemmas.List.{length-take-le}
 use Rattle.sq_arena.proofs.Positions.{length-at_positions, positions_step}
 use Rattle.std.proofs.Common.{take}

@@ -1,0 +1,209 @@
+//! The steps of a case.
+
+use crate::arenas::Lists;
+use crate::changes::{change, reserve};
+use crate::drafts::{graph_of, is_part, parts_ahead};
+use crate::passes::{pass_step, settled, settled_with};
+use crate::places::{liveness_text, told};
+use crate::terms::{fields, register_of};
+use crate::texts::{graph_text, memory, names_of, parts_text};
+use anyhow::{Context, Error};
+use sq_cases::{CaseError, Step, Subject, cases_of, decimal, expect};
+use sq_graph::{Graph, Room};
+use sq_jumps::Jumps;
+use sq_layout::reaches;
+use sq_pass::{Blocks, Pass};
+use std::alloc::Global;
+use std::mem;
+
+/// The cases of this program, over the texts of the instruction words and of the graphs with names.
+#[derive(Drop)]
+pub struct Bench {
+    pub words: String,
+    pub graphs: String,
+}
+
+/// What a case has so far: a graph, another one that is kept, and lists.
+#[derive(Drop)]
+struct Scene {
+    graph: Option<Graph>,
+    kept: Option<Graph>,
+    lists: Lists,
+}
+
+/// A number, or that of a register.
+fn operand(word: &str) -> Result<u32, Error> {
+    match decimal(word) {
+        Ok(number) => Ok(number),
+        Err(_) => Ok(register_of(word)?.number()),
+    }
+}
+
+/// Numbers and registers, apart by spaces.
+pub fn operands_of(alloc: Global, words: &str) -> Result<Vec<u32>, Error> {
+    let mut operands = Vec::new(alloc);
+    for word in words.split_whitespace() {
+        operands.push(operand(word)?)?;
+    }
+    Ok(operands)
+}
+
+/// Whether branches reach so far, which is wanted of each of the distances.
+fn expect_reach(alloc: Global, distances: &str, wanted: bool) -> Result<(), Error> {
+    for distance in distances.split_whitespace() {
+        let number = distance.parse::<i64>().map_err(|_| CaseError::Number)?;
+        if reaches(number) != wanted {
+            expect(distances, distance)?;
+        }
+    }
+    Ok(())
+}
+
+/// Whether a list of blocks has these names once they are pushed.
+fn expect_listed(alloc: Global, words: &str) -> Result<(), Error> {
+    let names = operands_of(alloc, words)?;
+    let mut blocks = Blocks::new(alloc);
+    for name in &names {
+        blocks.push(*name).map_err(memory)?;
+    }
+    if blocks.as_slice() != names.as_slice() {
+        return Err(Error::msg("other names are listed"));
+    }
+    Ok(())
+}
+
+/// Does a step that changes the graph, where it can be done.
+fn change_step(alloc: Global, graph: &mut Graph, step: &Step<'_>) -> Result<(), Error> {
+    let operands = operands_of(alloc, step.words)?;
+    if let ("reserve", &[blocks, items, procedures]) = (step.verb, operands.as_slice()) {
+        return reserve(
+            graph,
+            Room {
+                blocks,
+                items,
+                procedures,
+            },
+        );
+    }
+    let names = names_of(alloc, graph).map_err(memory)?;
+    change(graph, &names, step.verb, &operands).context("this can't be done")
+}
+
+/// Does a step on the graph that isn't about its text, and tells whether it was an expectation.
+fn graph_step(alloc: Global, graph: &mut Graph, step: &Step<'_>) -> Result<bool, Error> {
+    match step.verb {
+        "live" | "dead" => {
+            let fields = fields(alloc, step.words)?;
+            let &[block, place, r] = fields.as_slice() else {
+                return Err(Error::msg("a block, a place and a register are wanted"));
+            };
+            let names = names_of(alloc, graph).map_err(memory)?;
+            let block = names.get(decimal(block)? as usize).copied();
+            let block = block.context("no block")?;
+            let r = register_of(r)?.number();
+            let found = liveness_text(alloc, graph, block, decimal(place)?, r);
+            expect(step.verb, found.map_err(memory)?)?;
+        }
+        "jumps" => pass_step(alloc, graph, &Jumps, step.words)?,
+        "boxed" => {
+            let boxed: Box<dyn Pass> = Box::new(alloc, Jumps)?;
+            pass_step(alloc, graph, &boxed, step.words)?;
+        }
+        "settle" => expect(step.words, &settled(alloc, graph).map_err(memory)?)?,
+        "settle_with" => {
+            let (count, wanted) = step.words.split_once(" saves ").context("no savings")?;
+            expect(wanted, &settled_with(alloc, graph, count)?)?;
+        }
+        verb => match told(alloc, graph, verb).map_err(memory)? {
+            Some(found) => expect(step.words, &found)?,
+            None => {
+                change_step(alloc, graph, step)?;
+                return Ok(false);
+            }
+        },
+    }
+    Ok(true)
+}
+
+impl Bench {
+    /// The graph of this name.
+    fn named(&self, alloc: Global, name: &str) -> Result<Graph, Error> {
+        for case in cases_of(alloc, &self.graphs)? {
+            if case.name == name {
+                return graph_of(alloc, &self.words, &case.steps);
+            }
+        }
+        Err(Error::msg("no graph of this name"))
+    }
+
+    /// Does a step, behind which stand the parts of a graph, and tells whether it was an expectation.
+    fn step(
+        &self,
+        alloc: Global,
+        scene: &mut Scene,
+        step: &Step<'_>,
+        parts: &[Step<'_>],
+    ) -> Result<bool, Error> {
+        if !parts.is_empty() && step.verb != "given" && step.verb != "graph" {
+            return Err(Error::msg("no graph is wanted here"));
+        }
+        match step.verb {
+            "given" => scene.graph = Some(graph_of(alloc, &self.words, parts)?),
+            "from" => scene.graph = Some(self.named(alloc, step.words)?),
+            "keep" => {
+                let graph = scene.graph.as_ref().context("no graph")?;
+                scene.kept = Some(graph.copy(alloc).map_err(memory)?);
+            }
+            "swap" => mem::swap(&mut scene.graph, &mut scene.kept),
+            "list" => return scene.lists.step(alloc, step.words),
+            _ => {
+                let graph = scene.graph.as_mut();
+                return self.expectation(alloc, graph, step, parts);
+            }
+        }
+        Ok(false)
+    }
+
+    /// Does a step on the graph, or on none.
+    fn expectation(
+        &self,
+        alloc: Global,
+        graph: Option<&mut Graph>,
+        step: &Step<'_>,
+        parts: &[Step<'_>],
+    ) -> Result<bool, Error> {
+        match step.verb {
+            "reaches" => expect_reach(alloc, step.words, true)?,
+            "too_far" => expect_reach(alloc, step.words, false)?,
+            "names" => expect_listed(alloc, step.words)?,
+            "graph" => {
+                let wanted = parts_text(alloc, parts).map_err(memory)?;
+                let found = graph_text(alloc, &self.words, graph.context("no graph")?);
+                expect(&wanted, &found.map_err(memory)?)?;
+            }
+            _ => return graph_step(alloc, graph.context("no graph")?, step),
+        }
+        Ok(true)
+    }
+}
+
+impl Subject for Bench {
+    fn run(&mut self, alloc: Global, steps: &[Step<'_>]) -> Result<usize, Error> {
+        let mut scene = Scene {
+            graph: None,
+            kept: None,
+            lists: Lists::new(alloc),
+        };
+        let mut expectations = 0usize;
+        for (place, step) in steps.iter().enumerate() {
+            // A part belongs to the step before.
+            if place == 0 || !is_part(step) {
+                let parts = parts_ahead(&steps[place + 1..]);
+                if self.step(alloc, &mut scene, step, parts)? {
+                    expectations = expectations.saturating_add(1);
+                }
+            }
+        }
+        Ok(expectations)
+    }
+}

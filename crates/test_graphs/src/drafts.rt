@@ -1,0 +1,100 @@
+//! Graphs that are read from texts.
+
+use crate::rules::made_of;
+use crate::terms::{item_of, register_of, term_of};
+use crate::texts::memory;
+use anyhow::{Context, Error};
+use sq_cases::{Step, decimal, hexadecimal};
+use sq_graph::{BlockPart, CodeRef, Graph, Item, ProcedurePart};
+use std::alloc::Global;
+
+/// The parts of a graph, of which each was read. A block is called by its position.
+#[derive(Drop)]
+pub struct Draft {
+    pub blocks: Vec<BlockPart>,
+    pub items: Vec<Item>,
+    pub entry: u32,
+    pub code_words: Vec<CodeRef>,
+    pub procedures: Vec<ProcedurePart>,
+    /// The items of the procedures.
+    pub bodies: Vec<Item>,
+}
+
+/// Whether a step is a part of a graph.
+pub fn is_part(step: &Step<'_>) -> bool {
+    matches!(step.verb, "entry" | "block" | "word" | "procedure")
+}
+
+/// The parts with which the steps begin.
+pub fn parts_ahead<'s, 't>(steps: &'s [Step<'t>]) -> &'s [Step<'t>] {
+    match steps.iter().position(|step| !is_part(step)) {
+        Some(end) => &steps[..end],
+        None => steps,
+    }
+}
+
+/// Appends items that are apart by ` ; `, and says how many. `N * ITEM` stands for N of them.
+fn push_items(alloc: Global, words: &str, items: &mut Vec<Item>, text: &str) -> Result<u32, Error> {
+    let before = items.len();
+    for part in text.split(" ; ") {
+        let (times, item) = part.split_once(" * ").unwrap_or(("1", part));
+        if !item.trim().is_empty() {
+            let item = item_of(alloc, words, item.trim())?;
+            for _ in 0..decimal(times.trim())? {
+                items.push(item)?;
+            }
+        }
+    }
+    u32::try_from(items.len().wrapping_sub(before)).context("too many items")
+}
+
+impl Draft {
+    fn new(alloc: Global) -> Draft {
+        Draft {
+            blocks: Vec::new(alloc),
+            items: Vec::new(alloc),
+            entry: 0,
+            code_words: Vec::new(alloc),
+            procedures: Vec::new(alloc),
+            bodies: Vec::new(alloc),
+        }
+    }
+
+    /// Takes in a part: `entry BLOCK`, `block ITEMS => TERM`, `word ADDRESS BLOCK` or `procedure LINK ; ITEMS`.
+    fn push(&mut self, alloc: Global, words: &str, part: &Step<'_>) -> Result<(), Error> {
+        match part.verb {
+            "entry" => self.entry = decimal(part.words)?,
+            "block" => {
+                let (items, term) = part.words.split_once("=> ").context("no term")?;
+                let length = push_items(alloc, words, &mut self.items, items)?;
+                let term = term_of(alloc, term)?;
+                self.blocks.push(BlockPart { length, term })?;
+            }
+            "word" => {
+                let (at, block) = part.words.split_once(" ").context("no block")?;
+                let at = hexadecimal(at)?;
+                let block = decimal(block)?;
+                self.code_words.push(CodeRef { at, block })?;
+            }
+            _ => {
+                let (link, items) = part.words.split_once(" ; ").unwrap_or((part.words, ""));
+                let length = push_items(alloc, words, &mut self.bodies, items)?;
+                let link = register_of(link)?;
+                self.procedures.push(ProcedurePart { link, length })?;
+            }
+        }
+        Ok(())
+    }
+}
+
+/// The graph of these parts, where they meet the rules of a graph.
+pub fn graph_of(alloc: Global, words: &str, parts: &[Step<'_>]) -> Result<Graph, Error> {
+    let mut draft = Draft::new(alloc);
+    for part in parts {
+        draft.push(alloc, words, part)?;
+    }
+    draft.items.extend_from_slice(&draft.bodies)?;
+    made_of(alloc, &draft)
+        .map_err(memory)?
+        .context("the rules of a graph don't hold")
+}

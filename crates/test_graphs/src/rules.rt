@@ -1,0 +1,190 @@
+//! The rules of a graph, looked at in its parts.
+
+ghost use Rattle.std.specs.Prelude.{◌≡◌, ◌<◌, ◌^◌, IsTrue, length};
+ghost use Rattle.std.specs.List.{All};
+ghost use Rattle.sq_graph.specs.Rules.{IsOperation, ProcedureFits};
+ghost use Rattle.sq_graph.specs.Terms.{goes_on};
+ghost use Rattle.sq_graph.specs.Parts.{length_of_blocks, length_of_bodies, procedures_of_parts};
+ghost use Rattle.test_graphs.specs.Standing.{ItemIsRight, TermIsRight, WordsAreRight, IsFree};
+
+use crate::drafts::Draft;
+use sq_graph::{BlockPart, CodeRef, Graph, Item, Parts, ProcedurePart, Term};
+use sq_isa::{Insn, Reg, RegSet, fits, mentions};
+use sq_num::Memory;
+use std::alloc::Global;
+
+/// Whether an instruction goes on to the next word whatever it does, and names no address.
+fn is_operation(insn: &Insn) -> bool
+    ensures { IsTrue result → IsOperation insn.now }
+{
+    match *insn {
+        Insn::Auipc { .. }
+        | Insn::Jal { .. }
+        | Insn::Jalr { .. }
+        | Insn::Branch { .. }
+        | Insn::Ebreak
+        | Insn::Unimp { .. } => false,
+        Insn::Lui { .. }
+        | Insn::Load { .. }
+        | Insn::Store { .. }
+        | Insn::OpImm { .. }
+        | Insn::Op { .. }
+        | Insn::Fence { .. }
+        | Insn::Ecall
+        | Insn::Atomic { .. } => true,
+    }
+}
+
+fn item_is_right(item: &Item, blocks: u32, procedures: u32) -> bool
+    ensures { IsTrue result → ItemIsRight blocks procedures item.now }
+{
+    match *item {
+        Item::Op(insn) => is_operation(&insn) && fits(&insn),
+        Item::Hi { to, .. } | Item::Lo { to, .. } => to < blocks,
+        Item::Out { procedure } => procedure < procedures,
+    }
+}
+
+fn items_are_right(items: &[Item], blocks: u32, procedures: u32) -> bool
+    ensures { IsTrue result → All (ItemIsRight blocks procedures) items.now }
+{
+    for item in items {
+        if !item_is_right(item, blocks, procedures) {
+            return false;
+        }
+    }
+    true
+}
+
+fn term_is_right(term: Term, blocks: u32) -> bool
+    ensures { IsTrue result → TermIsRight blocks term }
+{
+    match term {
+        Term::Fall => true,
+        Term::Jump { to } | Term::Branch { to, .. } | Term::PartJump { to, .. } => to < blocks,
+        Term::Call { link, to } => link.number() != 0 && to < blocks,
+        Term::Indirect { offset, .. } => -2048 <= offset && offset < 2048,
+        Term::Stop { word } => word == 0x0010_0073 || word == 0 || word == 0xc000_1073,
+    }
+}
+
+fn terms_are_right(parts: &[BlockPart], blocks: u32) -> bool
+    ensures { IsTrue result → All (λ part. TermIsRight blocks part.term) parts.now }
+{
+    for part in parts {
+        if !term_is_right(part.term, blocks) {
+            return false;
+        }
+    }
+    true
+}
+
+/// Whether a term goes on to its next slot.
+fn goes_on(term: Term) -> bool
+    ensures { result ≡ goes_on term }
+{
+    match term {
+        Term::Fall | Term::Branch { .. } | Term::Call { .. } => true,
+        Term::Jump { .. } | Term::Stop { .. } => false,
+        Term::PartJump { link, .. } | Term::Indirect { link, .. } => link.number() != 0,
+    }
+}
+
+fn words_are_right(words: &[CodeRef], blocks: u32) -> bool
+    ensures { IsTrue result → WordsAreRight blocks words.now }
+{
+    for (place, word) in words.iter().enumerate() {
+        if word.block >= blocks || (place > 0 && words[place - 1].at >= word.at) {
+            return false;
+        }
+    }
+    true
+}
+
+/// Whether an item calls no procedure and doesn't mention the register.
+fn is_free(item: &Item, link: Reg) -> bool
+    ensures { IsTrue result → IsFree link item.now }
+{
+    match *item {
+        Item::Op(insn) => !mentions(&insn).has(link),
+        Item::Hi { rd, .. } => !RegSet::new().with(rd).has(link),
+        Item::Lo { rd, rs, .. } => !RegSet::new().with(rd).with(rs).has(link),
+        Item::Out { .. } => false,
+    }
+}
+
+/// Whether a procedure may have this link and this body.
+pub fn body_fits(link: Reg, body: &[Item]) -> bool
+    ensures { IsTrue result → ProcedureFits (record { link = link; body = body.now }) }
+{
+    for item in body {
+        if !is_free(item, link) {
+            return false;
+        }
+    }
+    link.number() != 0
+}
+
+/// Whether the items are just those of the procedures, each of which may have its body.
+fn bodies_fit(procedures: &[ProcedurePart], items: &[Item]) -> bool
+    ensures length { IsTrue result → length_of_bodies procedures.now ≡ length items.now }
+    ensures fit { IsTrue result → All ProcedureFits (procedures_of_parts procedures.now items.now) }
+{
+    let Some((first, rest)) = procedures.split_first() else {
+        return items.is_empty();
+    };
+    if items.len() < first.length as usize {
+        return false;
+    }
+    let (body, others) = items.split_at(first.length as usize);
+    body_fits(first.link, body) && bodies_fit(rest, others)
+}
+
+/// How many items the blocks have.
+fn items_of(blocks: &[BlockPart]) -> u64
+    requires { length blocks.now < 2 ^ 29 }
+    ensures { result ≡ length_of_blocks blocks.now }
+{
+    let mut items = 0;
+    for part in blocks {
+        items += u64::from(part.length);
+    }
+    items
+}
+
+/// The graph of the parts, or None where they don't meet the rules of a graph.
+pub fn made_of(alloc: Global, draft: &Draft) -> Result<Option<Graph>, Memory> {
+    let parts = Parts {
+        blocks: &draft.blocks,
+        items: &draft.items,
+        entry: draft.entry,
+        code_words: &draft.code_words,
+        procedures: &draft.procedures,
+    };
+    made(alloc, &parts)
+}
+
+/// The same of parts that are lent.
+fn made(alloc: Global, parts: &Parts<'_>) -> Result<Option<Graph>, Memory> {
+    const MOST: usize = 1 << 29;
+    let Some(last) = parts.blocks.last() else {
+        return Ok(None);
+    };
+    if parts.blocks.len() >= MOST || parts.items.len() >= MOST || parts.procedures.len() >= MOST {
+        return Ok(None);
+    }
+    let (blocks, procedures) = (parts.blocks.len() as u32, parts.procedures.len() as u32);
+    let own = items_of(parts.blocks);
+    if own > parts.items.len() as u64
+        || parts.entry >= blocks
+        || goes_on(last.term)
+        || !terms_are_right(parts.blocks, blocks)
+        || !items_are_right(parts.items, blocks, procedures)
+        || !words_are_right(parts.code_words, blocks)
+        || !bodies_fit(parts.procedures, &parts.items[own as usize..])
+    {
+        return Ok(None);
+    }
+    let graph = Graph::from_parts(alloc, parts)?;
+    Ok(Some(graph))
+}
