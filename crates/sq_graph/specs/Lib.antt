@@ -22,5 +22,6 @@ pub mod PartSlots
 pub mod Pieces
 pub mod Lines
 pub mod Walks
+pub mod Matches
 pub mod Soundness
 pub mod Places

@@ -1,6 +1,6 @@
 -- Renaming changes the registers of an instruction and leaves its form; form and registers make the instruction.
 use Rattle.std.proofs.Common.{◌≡◌, ℕ, ◌<◌, refl, sym, ap, ◌∙◌, map}
-use Rattle.sq_isa.specs.Forms.{renamed, form_of, first_of, second_of}
+use Rattle.sq_isa.specs.Forms.{renamed, form_of, first_of, second_of, with_registers}
 use Rattle.sq_isa.specs.Uses.{sources_of, destination_of}
 use Rattle.sq_isa.specs.Ranges.{FieldsFit, SourceFits}
 use Rattle.sq_isa.specs.declared.instructions.Insn.{Insn}
@@ -93,25 +93,8 @@ sources_of-renamed to a0 a1 a2 a7 Ebreak = refl
 sources_of-renamed to a0 a1 a2 a7 (Unimp word) = refl
 sources_of-renamed to a0 a1 a2 a7 (Atomic op o d a b) = refl
 
--- a form with registers put into it: destination, first and second source
-with_registers : ℕ → ℕ → ℕ → Insn → Insn
-with_registers d a b (Lui _ u) = Lui d u
-with_registers d a b (Auipc _ u) = Auipc d u
-with_registers d a b (Jal _ o) = Jal d o
-with_registers d a b (Jalr _ _ o) = Jalr d a o
-with_registers d a b (Branch c _ _ o) = Branch c a b o
-with_registers d a b (Load k _ _ o) = Load k d a o
-with_registers d a b (Store k _ _ o) = Store k a b o
-with_registers d a b (OpImm op _ _ z) = OpImm op d a z
-with_registers d a b (Op op _ _ _) = Op op d a b
-with_registers d a b (Fence word) = Fence word
-with_registers d a b Ecall = Ecall
-with_registers d a b Ebreak = Ebreak
-with_registers d a b (Unimp word) = Unimp word
-with_registers d a b (Atomic op o _ _ _) = Atomic op o d a b
-
+-- a form with the registers put into it
 with_its_registers : (i : Insn) → with_registers (destination_of i) (first_of i) (second_of i) (form_of i) ≡ i
-unfolding with_registers
 with_its_registers (Lui d u) = refl
 with_its_registers (Auipc d u) = refl
 with_its_registers (Jal d o) = refl

@@ -1,7 +1,7 @@
 -- Items, terms and blocks that a change carries over: under its other names, and with other numbers of procedures.
 use Rattle.std.proofs.Common.{◌≡◌, ℕ, Bool, true, false, List, [], ◌∷◌, ◌++◌, Option, Some, None, pos, map, slice_get, refl, sym, ap, ◌∙◌, subst}
 use Rattle.std.specs.List.{Contains}
-use Rattle.sq_isa.specs.Forms.{first_of, second_of}
+use Rattle.sq_isa.specs.Forms.{first_of, second_of, with_registers}
 use Rattle.sq_isa.specs.Uses.{sources_of, destination_of}
 use Rattle.sq_isa.specs.declared.instructions.Insn.{Insn}
 use Rattle.sq_isa.specs.declared.instructions.Insn.TheVariants.{Lui, OpImm}
@@ -17,7 +17,7 @@ use Rattle.sq_graph.specs.Renames.{retargeted_items, retargeted_term, retargeted
 use Rattle.sq_graph.specs.Lines.{AddressHalf, Plain, Upper, Lower, Line, Do, Enter, Return, inside, line_of, term_lines, body_lines, slot_name}
 use Rattle.sq_graph.specs.Walks.{IsLive, is_register}
 use Rattle.sq_graph.specs.Soundness.{LinksDieIn}
-use Rattle.sq_patch.specs.Registers.{with_registers, AreSources}
+use Rattle.sq_patch.specs.Registers.{AreSources}
 use Rattle.sq_patch.specs.Changes.{Change, IsNamedHalf, SameSlot, falls, Alike, both_do, both_enter, both_return, both_end, guarded}
 use Rattle.sq_patch.proofs.LiveSteps.{own_registers, own_sources}
 use Rattle.sq_patch.proofs.Shrink.{IsBacked}

@@ -4,6 +4,7 @@ use Rattle.std.specs.Ordering.{int_eq}
 use Rattle.std.specs.List.{list_any}
 use Rattle.std.proofs.lemmas.Bool.{eqb-true, cases_eq}
 use Rattle.std.proofs.lemmas.Bool.Decides.{nat_tests}
+use Rattle.sq_isa.specs.Forms.{with_registers}
 use Rattle.sq_isa.specs.Registers.{written}
 use Rattle.sq_isa.specs.Uses.{sources_of, destination_of}
 use Rattle.sq_isa.specs.Words.{wrapped, unsigned, even}
@@ -26,7 +27,7 @@ use Rattle.sq_follow.specs.Rows.{Operands, row_of}
 use Rattle.sq_follow.specs.Jumps.{Destination, ToName, ToNumber, number_jump, indirect_jump}
 use Rattle.sq_follow.specs.GraphRuns.{ReadsLost, Core, State, At, Moves, value_in, is_lost, register_value, lost_in, reads_lost, operands, finish, do_line}
 use Rattle.sq_patch.specs.Agreement.{Ties, SameValue, SameHeld, SameStore, SameMade, SameCore, IsTied}
-use Rattle.sq_patch.specs.Registers.{with_registers, IsSource, AreSources, IsWritten}
+use Rattle.sq_patch.specs.Registers.{IsSource, AreSources, IsWritten}
 use Rattle.sq_patch.proofs.Memories.{if_rel}
 use Rattle.sq_patch.proofs.Loading.{with_code}
 use Rattle.sq_patch.proofs.Rows.{first_source, plain_rel, IsLowerTied, lower_rel, upper_rel}

@@ -36,6 +36,7 @@ pub mod OneBlock
 mod Leading
 mod Meeting
 pub mod Merging
+pub mod MatchedBodies
 pub mod Tailing
 pub mod Recalling
 pub mod Inserting

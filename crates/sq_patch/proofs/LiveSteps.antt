@@ -5,7 +5,7 @@ use Rattle.std.proofs.lemmas.Bool.{and_parts}
 use Rattle.std.proofs.lemmas.Bool.Decides.{nat_tests}
 use Rattle.sq_isa.specs.Registers.{is_among, is_among_but_x0}
 use Rattle.sq_isa.specs.Uses.{sources_of, destination_of}
-use Rattle.sq_isa.specs.Forms.{first_of, second_of}
+use Rattle.sq_isa.specs.Forms.{first_of, second_of, with_registers}
 use Rattle.sq_isa.specs.declared.instructions.Insn.{Insn}
 use Rattle.sq_isa.specs.declared.instructions.Insn.TheVariants.{Lui, Auipc, Jal, Jalr, Branch as BranchInsn, Load, Store as StoreInsn, OpImm, Op, Fence, Ecall, Ebreak, Unimp, Atomic}
 use Rattle.sq_isa.specs.declared.instructions.ImmOp.TheVariants.{Addi}
@@ -30,7 +30,7 @@ use Rattle.sq_follow.specs.Jumps.{ToName, ToNumber, Jumped, part_jump, indirect_
 use Rattle.sq_follow.specs.GraphRuns.{Core, State, At, Fetching, Moves, register_value, reads_lost, with_register, do_line, enter, link_to, with_link, jump, branch, term_step, term_line, lines_step, graph_step}
 use Rattle.sq_follow.specs.Worlds.{World, all_names, setting_of}
 use Rattle.sq_patch.specs.Agreement.{Ties, SameValue, SameHeld, SameCore, IsTied}
-use Rattle.sq_patch.specs.Registers.{with_registers, IsSource, AreSources, IsWritten}
+use Rattle.sq_patch.specs.Registers.{IsSource, AreSources, IsWritten}
 use Rattle.sq_patch.specs.LiveAgreement.{own_ties, everywhere, StandsLive, HalfMakesTarget, SlotIsTarget, MakeTargets, AgreeLive, StepsAgree}
 use Rattle.sq_patch.proofs.Deeds.{IsTiedHalf, sources_rel, operand_at, registers_rel, taken_rel, do_rel, unless_lost}
 use Rattle.sq_patch.proofs.LiveTargets.{block_makes, inside_makes}

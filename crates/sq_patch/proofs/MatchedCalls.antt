@@ -1,5 +1,5 @@
 -- A graph with a call in place of items that match a procedure's body follows it.
-use Rattle.std.proofs.Common.{◌≡◌, ◌≢◌, ℕ, ◌<◌, ◌≤◌, ◌+◌, Bool, true, false, not, ◌&&◌, ◌==◌, ⊎_elim, inl, inr, List, [], ◌∷◌, ◌++◌, Some, None, map, drop, length, slice_get, refl, sym, ap, ◌∙◌, subst, arith}
+use Rattle.std.proofs.Common.{◌≡◌, ◌≢◌, ℕ, ◌<◌, ◌≤◌, ◌+◌, Bool, true, false, not, ◌==◌, ⊎_elim, inl, inr, List, [], ◌∷◌, ◌++◌, Some, None, map, drop, length, slice_get, refl, sym, ap, ◌∙◌, subst, arith}
 use Rattle.std.proofs.lemmas.Bool.{cases_eq, ne_eqb}
 use Rattle.std.specs.List.{Contains, flat_map, slice_range}
 use Rattle.sq_arena.specs.Entries.{value_of}
@@ -8,14 +8,15 @@ use Rattle.sq_graph.specs.declared.item.Item.{Item}
 use Rattle.sq_graph.specs.declared.item.Item.TheVariants.{Op, Hi, Lo, Out}
 use Rattle.sq_graph.specs.Graph.{Block, Procedure, Graph}
 use Rattle.sq_graph.specs.Blocks.{HasBlock, named, block_items, items_of, body_of, procedure_body, procedure_link}
+use Rattle.sq_graph.specs.Uses.{item_calls}
 use Rattle.sq_graph.specs.Rules.{IsGraph, mentions, ProcedureFits}
 use Rattle.sq_graph.specs.Lines.{Line, Return, line_of, term_lines, body_lines, lines_of, behind_name, block_lines, place_lines}
 use Rattle.sq_graph.specs.Walks.{IsLive, is_register, lower_names, code_targets}
+use Rattle.sq_graph.specs.Matches.{registers_of, IsPair, Match, PairsDie}
 use Rattle.sq_graph.specs.Soundness.{LinksDieIn, IsSound}
 use Rattle.sq_graph.proofs.Located.{IsAt}
 use Rattle.sq_follow.specs.Follows.{Follows}
 use Rattle.sq_patch.specs.Changes.{Change, Alike, enter_after, return_after, shift}
-use Rattle.sq_patch.specs.Matches.{registers_of, IsPair, Match, PairsDie}
 use Rattle.sq_patch.specs.Calls.{IsMatching, call_items, called_there}
 use Rattle.sq_patch.proofs.Places.{every, absent_from, name_at}
 use Rattle.sq_patch.proofs.Dead.{live, live_carrier}
@@ -26,25 +27,21 @@ use Rattle.sq_patch.proofs.Standing.{stands_at, distinct_at, block_at}
 use Rattle.sq_patch.proofs.Relating.{items_stay}
 use Rattle.sq_patch.proofs.Replacing.{behind_items, C as replacing, Hold, Go, may_hold, may_go, place, x as block_there, out, behind, replaced_follows, replaced_sound, replaced_live}
 use Rattle.sq_patch.proofs.Calls.{range_is, is_other, not_both}
-use Rattle.sq_patch.proofs.Matching.{Matched, StandsMatched, at as in_mode, matched, at_first, at_last, among_others}
-use Rattle.sq_patch.proofs.Used.{contains_first, contains_later, from_slice, slice_there, from_all}
+use Rattle.sq_patch.proofs.Matching.{Matched, StandsMatched, CallsStay, calls_stay, at as in_mode, matched, at_first, at_last, among_others}
+use Rattle.sq_patch.proofs.Used.{contains_first, contains_later, from_slice, slice_there, from_all, body_calls_none}
 
--- a register that stands in a pair of some items and others is mentioned by one of the others
-mentioned : (item : Item) (r : ℕ) → is_among_but_x0 (registers_of item) r ≡ true → mentions item r ≡ true
-mentioned (Op insn) r e = e
-mentioned (Hi rd to) r e = e
-mentioned (Lo rd rs to) r e = e
-mentioned (Out q) r e = absurd (no_more (not (r == 0)) e)
-  where
-    no_more : (t : Bool) → (t && false) ≡ true → ⊥
-    no_more true e = cc
-    no_more false e = cc
+-- a register that stands in a pair of some items and others, which are no Outs, is mentioned by one of the others
+mentioned : (procedures : List Procedure) (item : Item) (r : ℕ) → item_calls item ≡ [] → is_among_but_x0 (registers_of procedures item) r ≡ true → mentions item r ≡ true
+mentioned procedures (Op insn) r none e = e
+mentioned procedures (Hi rd to) r none e = e
+mentioned procedures (Lo rd rs to) r none e = e
+mentioned procedures (Out q) r none e = absurd (cc)
 
-pair_mentioned : (items others : List Item) (r s : ℕ) → IsPair items others r s → s ≢ 0 → (item : Item) × (Contains others item × (mentions item s ≡ true))
-pair_mentioned [] others r s p nz = absurd p
-pair_mentioned (i ∷ items) [] r s p nz = absurd p
-pair_mentioned (i ∷ items) (j ∷ others) r s (inl p) nz = (j, (contains_first j others, mentioned j s (among_others (registers_of i) (registers_of j) r s p nz)))
-pair_mentioned (i ∷ items) (j ∷ others) r s (inr p) nz = let o = pair_mentioned items others r s p nz in (o.0, (contains_later j o.0 others o.1.0, o.1.1))
+pair_mentioned : (procedures : List Procedure) (items others : List Item) (r s : ℕ) → ((item : Item) → Contains others item → item_calls item ≡ []) → IsPair procedures items others r s → s ≢ 0 → (item : Item) × (Contains others item × (mentions item s ≡ true))
+pair_mentioned ps [] others r s none p nz = absurd p
+pair_mentioned ps (i ∷ items) [] r s none p nz = absurd p
+pair_mentioned ps (i ∷ items) (j ∷ others) r s none (inl p) nz = (j, (contains_first j others, mentioned ps j s (none j (contains_first j others)) (among_others (registers_of ps i) (registers_of ps j) r s p nz)))
+pair_mentioned ps (i ∷ items) (j ∷ others) r s none (inr p) nz = let o = pair_mentioned ps items others r s (λ item c. none item (contains_later j item others c)) p nz in (o.0, (contains_later j o.0 others o.1.0, o.1.1))
 
 module _ (g : Graph) (block at procedure : ℕ) (rules : IsGraph g) (callable : IsMatching g block at procedure) where
   abbrev many : ℕ
@@ -96,8 +93,8 @@ module _ (g : Graph) (block at procedure : ℕ) (rules : IsGraph g) (callable : 
   before_is : call_items g block at procedure ≡ before
   before_is = ap (λ items. slice_range items at (at + many)) items_are ∙ range_is x.items at many
 
-  match : Match before p.body
-  match = subst (λ items. Match items p.body) before_is (subst (λ body. Match (call_items g block at procedure) body) body_is callable.match)
+  match : Match g.procedures before p.body
+  match = subst (λ items. Match g.procedures items p.body) before_is (subst (λ body. Match g.procedures (call_items g block at procedure) body) body_is callable.match)
 
   lines_are : block_lines g block ≡ body_lines x (lines_of spot.back)
   lines_are =
@@ -111,18 +108,18 @@ module _ (g : Graph) (block at procedure : ℕ) (rules : IsGraph g) (callable : 
   dead : ¬ IsLive g p.link later
   dead = subst (λ lines. ¬ IsLive g p.link lines) behind_is (callable.link_dies p.link (ap procedure_link found.1))
 
-  pairs_die : PairsDie before p.body (live g later)
+  pairs_die : PairsDie g.procedures before p.body (live g later)
   pairs_die =
-      subst (λ items. PairsDie items p.body (live g later)) before_is
-      (subst (λ body. PairsDie (call_items g block at procedure) body (live g later)) body_is
-      (subst (λ lines. PairsDie (call_items g block at procedure) (body_of g procedure) (live g lines)) behind_is callable.pairs_die))
+      subst (λ items. PairsDie g.procedures items p.body (live g later)) before_is
+      (subst (λ body. PairsDie g.procedures (call_items g block at procedure) body (live g later)) body_is
+      (subst (λ lines. PairsDie g.procedures (call_items g block at procedure) (body_of g procedure) (live g lines)) behind_is callable.pairs_die))
 
   -- no register of the body is the link
-  free : (r s : ℕ) → IsPair before p.body r s → is_register p.link s ≡ false
+  free : (r s : ℕ) → IsPair g.procedures before p.body r s → is_register p.link s ≡ false
   free r s q =
       ⊎_elim
       (λ (e : p.link ≡ s).
-      let o = pair_mentioned before p.body r s q (λ z. fits.link (e ∙ z)) in
+      let o = pair_mentioned g.procedures before p.body r s (λ item c. body_calls_none g rules p item here c) q (λ z. fits.link (e ∙ z)) in
       let none : mentions o.0 p.link ≡ false = from_all (λ item. mentions item p.link ≡ false) p.body o.0 fits.no_mention o.1.0 in
       absurd (let some : mentions o.0 p.link ≡ true = subst (λ k. mentions o.0 k ≡ true) (sym e) o.1.1 in cc))
       (λ (e : p.link ≢ s). let t : (p.link == s) ≡ false = ne_eqb p.link s e in rw t (not_both (not (s == 0)))) (cases_eq p.link s)
@@ -138,12 +135,15 @@ module _ (g : Graph) (block at procedure : ℕ) (rules : IsGraph g) (callable : 
       items_stay Matched StandsMatched Holds Goes every (live g) (Unit {0}) g h rules refl refl (may_hold Matched StandsMatched (live g) (Unit {0}) g h rules refl refl) (may_go Matched StandsMatched (live g) (Unit {0}) g h rules refl refl) x (stands_at g rules spot.front x spot.back whole) item
       (drop_in x.items at item (take_in (drop at x.items) many item c))
 
+  stay : CallsStay C
+  stay = calls_stay Matched StandsMatched Holds Goes every (live g) (Unit {0}) g h rules refl refl (may_hold Matched StandsMatched (live g) (Unit {0}) g h rules refl refl) (may_go Matched StandsMatched (live g) (Unit {0}) g h rules refl refl)
+
   -- the items go on like the call
   calls : (b : Bool) → Alike C b None later later → Alike C b None (map line_of before ++ later) (map line_of by ++ later)
   calls b k =
       enter_after {m = None} {m' = Some (in_mode Holds Goes (live g) (Unit {0}) g h before p.body p.link match free [])} p found.1
       (λ r s l n. (n.link, at_first Holds Goes (live g) (Unit {0}) g h before p.body p.link match free r s n))
-      (matched Holds Goes (live g) (Unit {0}) g h before p.body p.link match free b later (Return p.link ∷ later) each
+      (matched Holds Goes (live g) (Unit {0}) g h before p.body p.link match free stay b later (Return p.link ∷ later) each
       (λ ws. return_after (shift (at_last Holds Goes (live g) (Unit {0}) g h before p.body p.link match free ws later pairs_die (λ r l. is_other g p.link r later dead l)) k)))
 
   no_lowers : (m : ℕ) → Contains (flat_map lower_names by) m → Contains (code_targets g) m

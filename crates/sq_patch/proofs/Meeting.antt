@@ -1,5 +1,5 @@
 -- Terms that lead to the same, where names that lead to the same are given, go on alike.
-use Rattle.std.proofs.Common.{◌≡◌, ℕ, ℤ, Bool, true, false, Option, Some, None, refl, sym, ap, ◌∙◌, subst}
+use Rattle.std.proofs.Common.{◌≡◌, ℕ, ℤ, Bool, true, false, List, Option, Some, None, refl, sym, ap, ◌∙◌, subst}
 use Rattle.std.specs.Option.{option_map}
 use Rattle.std.specs.List.{Contains}
 use Rattle.sq_isa.specs.declared.instructions.Cond.{Cond}
@@ -7,11 +7,10 @@ use Rattle.sq_graph.specs.declared.item.Term.{Term}
 use Rattle.sq_graph.specs.declared.item.Term.TheVariants.{Fall, Jump, Branch, Call, PartJump, Indirect, Stop}
 use Rattle.sq_graph.specs.Graph.{Graph}
 use Rattle.sq_graph.specs.Terms.{links}
-use Rattle.sq_graph.specs.Lines.{term_lines, slot_name}
+use Rattle.sq_graph.specs.Lines.{Line, term_lines, slot_name}
 use Rattle.sq_graph.specs.Resolve.{ResolvedTerm, resolved, resolved_term, next_if, jump_to}
 use Rattle.sq_graph.specs.Walks.{code_targets}
 use Rattle.sq_patch.specs.Changes.{Change, Alike, SameSlot, ends, promised, name_before, name_after, jump_before, jump_after, both_end}
-use Rattle.sq_patch.proofs.Keeping.{NoMode, no_stands, all_matter}
 use Rattle.sq_patch.proofs.Relating.{relating}
 use Rattle.sq_patch.proofs.Leading.{slot_lines, Hops, stop, hops}
 
@@ -172,17 +171,14 @@ joint_itself g n = (n, (stop, stop))
 pub joint_resolved : (g : Graph) (n m : ℕ) → Resolve g n m → Joint g n m
 joint_resolved g n m e = (resolved g n, (hops g n, subst (λ r. Hops g m r) (sym e) (hops g m)))
 
-module _ (g h : Graph) where
-  abbrev pub MayGo : ℕ → ℕ → Type 0
-  MayGo n m = Joint g n m
+abbrev pub MayHold : Graph → ℕ → ℕ → Type 0
+MayHold g n m = Contains (code_targets g) n × Joint g n m
 
-  abbrev pub MayHold : ℕ → ℕ → Type 0
-  MayHold n m = Contains (code_targets g) n × MayGo n m
-
+module _ (Mode : Type 0) (StandsIn : Mode → ℕ → ℕ → Type 0) (X : List Line → ℕ → Type 0) (Z : Type 0) (g h : Graph) where
   abbrev pub C : Change
-  C = relating NoMode no_stands MayHold MayGo all_matter (Unit {0}) g h
+  C = relating Mode StandsIn (MayHold g) (Joint g) X Z g h
 
-  slots_go : (s o : Option ℕ) → SameLead MayGo s o → Alike C true None (slot_lines g.blocks s) (slot_lines h.blocks o)
+  slots_go : (s o : Option ℕ) → SameLead (Joint g) s o → Alike C true None (slot_lines g.blocks s) (slot_lines h.blocks o)
   slots_go None None j = ends
   slots_go None (Some m) j = absurd j
   slots_go (Some n) None j = absurd j
@@ -191,13 +187,13 @@ module _ (g h : Graph) where
   abbrev Targets : Option ℕ → Type 0
   Targets s = (n : ℕ) → s ≡ Some n → Contains (code_targets g) n
 
-  slots_hold : (s o : Option ℕ) → SameLead MayGo s o → Targets s → SameSlot MayHold (slot_name (slot_lines g.blocks s)) (slot_name (slot_lines h.blocks o))
+  slots_hold : (s o : Option ℕ) → SameLead (Joint g) s o → Targets s → SameSlot (MayHold g) (slot_name (slot_lines g.blocks s)) (slot_name (slot_lines h.blocks o))
   slots_hold None o j t = tt
   slots_hold (Some n) None j t = absurd j
   slots_hold (Some n) (Some m) j t = (t n refl, j)
 
   -- such terms go on alike, once both sides have taken a step
-  pub meet : {t u : Term} {s o : Option ℕ} → EndsMeet MayGo t u s o → (links t ≡ true → Targets s) → Alike C true None (term_lines t (slot_lines g.blocks s)) (term_lines u (slot_lines h.blocks o))
+  pub meet : {t u : Term} {s o : Option ℕ} → EndsMeet (Joint g) t u s o → (links t ≡ true → Targets s) → Alike C true None (term_lines t (slot_lines g.blocks s)) (term_lines u (slot_lines h.blocks o))
   meet (both_fall {s = s} {o = o} j) k = slots_go s o j
   meet (fall_jumps j) k = name_before (jump_after (promised j))
   meet (jump_falls j) k = jump_before (name_after (promised j))

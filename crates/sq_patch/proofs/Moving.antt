@@ -5,7 +5,7 @@ use Rattle.std.proofs.lemmas.Option.{slice_get-map}
 use Rattle.std.specs.Option.{option_map}
 use Rattle.std.proofs.lemmas.List.Elements.{Contains-append_left, Contains-append_right}
 use Rattle.std.specs.List.{Contains}
-use Rattle.sq_isa.specs.Forms.{first_of, second_of}
+use Rattle.sq_isa.specs.Forms.{first_of, second_of, with_registers}
 use Rattle.sq_isa.specs.Uses.{sources_of, destination_of}
 use Rattle.sq_isa.specs.declared.instructions.Insn.{Insn}
 use Rattle.sq_isa.specs.declared.instructions.Insn.TheVariants.{Lui, OpImm}
@@ -24,7 +24,7 @@ use Rattle.sq_graph.specs.Renames.{retargeted_items, retargeted_term, retargeted
 use Rattle.sq_graph.specs.Lines.{AddressHalf, Plain, Upper, Lower, Line, Do, Enter, Return, inside, line_of, term_lines, body_lines, slot_name, block_lines}
 use Rattle.sq_graph.specs.Walks.{code_targets, is_register, word_name}
 use Rattle.sq_follow.specs.Follows.{Follows, word_address}
-use Rattle.sq_patch.specs.Registers.{with_registers, AreSources}
+use Rattle.sq_patch.specs.Registers.{AreSources}
 use Rattle.sq_patch.specs.LiveAgreement.{SlotIsTarget, MakeTargets}
 use Rattle.sq_patch.specs.Changes.{Change, IsNamedHalf, SameSlot, Alike, IsSteady, both_do, both_enter, both_return, both_end, guarded}
 use Rattle.sq_patch.proofs.LiveSteps.{own_registers, own_sources}

@@ -4,6 +4,7 @@ use Rattle.std.specs.List.{list_any}
 use Rattle.std.proofs.lemmas.Bool.{eqb-true, and_parts, and_from}
 use Rattle.std.proofs.lemmas.Bool.Decides.{nat_tests}
 use Rattle.std.proofs.lemmas.Grind.{common_steps}
+use Rattle.sq_isa.specs.Forms.{with_registers}
 use Rattle.sq_isa.specs.Branches.{taken_of, inverse_of}
 use Rattle.sq_isa.specs.Registers.{is_among, is_among_but_x0}
 use Rattle.sq_isa.specs.Uses.{sources_of, destination_of}
@@ -32,7 +33,7 @@ use Rattle.sq_follow.specs.GraphRuns.{LeavesGraph, Core, State, At, Fetching, Mo
 use Rattle.sq_follow.specs.Worlds.{World, all_names, setting_of, first_registers, regions_at_start}
 use Rattle.sq_follow.specs.Follows.{Follows, word_address, state_at_start}
 use Rattle.sq_patch.specs.Agreement.{Ties, SameValue, SameHeld, SameMemory, SameCore, IsTied}
-use Rattle.sq_patch.specs.Registers.{with_registers, IsSource, AreSources}
+use Rattle.sq_patch.specs.Registers.{IsSource, AreSources}
 use Rattle.sq_patch.specs.LiveAgreement.{everywhere}
 use Rattle.sq_patch.specs.Changes.{Change, Stands, IsNamedHalf, term_named, MayGoTo, falls, SameSlot, Alike, ends, promised, guarded, shift, name_before, name_after, jump_before, jump_after, return_before, return_after, enter_before, enter_after, dead_before, both_do, both_enter, both_return, both_end, both_turned, both_hastened, both_jumped, IsSteady}
 use Rattle.sq_patch.proofs.Deeds.{IsTiedHalf, SameDestination, sources_rel, operand_at, registers_rel, taken_rel, indirect_rel, do_rel, unless_lost, written_test}

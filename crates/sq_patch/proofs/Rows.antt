@@ -2,6 +2,7 @@
 use Rattle.std.proofs.Common.{◌≡◌, ℕ, ◌+◌, ◌^◌, ◌<◌, ℤ, pos, Bool, true, false, ◌==◌, ◌&&◌, Option, Some, None, if◌then◌else◌, refl, arith}
 use Rattle.std.specs.Ordering.{int_eq}
 use Rattle.std.proofs.lemmas.Bool.Decides.{Decides-int_eq}
+use Rattle.sq_isa.specs.Forms.{with_registers}
 use Rattle.sq_isa.specs.Words.{wrapped, unsigned, upper_word}
 use Rattle.sq_isa.specs.Values.{value_imm_of}
 use Rattle.sq_isa.specs.declared.instructions.Insn.{Insn}
@@ -21,7 +22,6 @@ use Rattle.sq_follow.specs.Arithmetic.{zero_is_outside_text, tagged_imm, imm_val
 use Rattle.sq_follow.specs.Accesses.{Step, gives, gives_or_breaks, load_at, store_at, atomic_at}
 use Rattle.sq_follow.specs.Rows.{Operands, at_number, address_value, plain_row, row_of}
 use Rattle.sq_patch.specs.Agreement.{Ties, SameTag, SameValue, SameStore, SameMade, IsTied}
-use Rattle.sq_patch.specs.Registers.{with_registers}
 use Rattle.sq_patch.proofs.Loading.{with_code, gives_rel, load_rel, store_rel, atomic_rel, SameResult}
 use Rattle.sq_patch.proofs.Calling.{call_rel}
 

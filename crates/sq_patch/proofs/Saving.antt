@@ -26,6 +26,7 @@ use Rattle.sq_patch.proofs.Inverting.{invert_saves}
 use Rattle.sq_patch.proofs.Exchanging.{exchange_saves}
 use Rattle.sq_patch.proofs.Tailing.{tail_saves}
 use Rattle.sq_patch.proofs.Merging.{can_merge, merge_saves}
+use Rattle.sq_patch.proofs.MatchedBodies.{body_saves}
 use Rattle.sq_patch.specs.Calls.{call_end, called_there}
 use Rattle.sq_patch.specs.LoneJumps.{IsPassable, without_jump}
 use Rattle.sq_patch.proofs.Places.{found_at}
@@ -236,6 +237,7 @@ saved = record {
   hasten = hasten_saves;
   drop = drop_saves;
   merge = λ g dropped at kept term rules can e. merge_saves g dropped at kept rules (can_merge g dropped at kept can) term e;
+  body = λ g dropped kept term rules have e. body_saves g dropped kept rules have term e;
   tail = λ g new dropped at kept from term rules fresh have e. tail_saves g new dropped at kept from rules fresh have term e;
   call = call_saves;
   inline = inline_saves;

@@ -3,6 +3,7 @@ use Rattle.std.proofs.Common.{◌≡◌, ℕ, zero, suc, Bool, true, false, ◌|
 use Rattle.std.specs.List.{Contains}
 use Rattle.std.proofs.lemmas.Bool.{and_parts, eqb-true}
 use Rattle.std.proofs.lemmas.Bool.Decides.{nat_tests}
+use Rattle.sq_isa.specs.Forms.{with_registers}
 use Rattle.sq_isa.specs.Registers.{is_among, is_among_but_x0}
 use Rattle.sq_isa.specs.Uses.{sources_of, destination_of}
 use Rattle.sq_graph.specs.declared.item.Term.{Term}
@@ -10,7 +11,7 @@ use Rattle.sq_graph.specs.declared.item.Term.TheVariants.{Fall, Jump, Branch, Ca
 use Rattle.sq_graph.specs.Graph.{Procedure}
 use Rattle.sq_graph.specs.Lines.{Line, End, inside, block_lines}
 use Rattle.sq_graph.specs.Walks.{IsLive, read_here, live_behind, Goes, TermGoes, code_targets, is_register, is_link_of, line_reads, line_writes, term_link}
-use Rattle.sq_patch.specs.Registers.{with_registers, IsSource, AreSources}
+use Rattle.sq_patch.specs.Registers.{IsSource, AreSources}
 use Rattle.sq_patch.specs.Changes.{Change, Stands, term_named, MayGoTo, falls, Alike, ends, promised, guarded, shift, name_before, name_after, jump_before, jump_after, return_before, return_after, enter_before, enter_after, dead_before, both_do, both_enter, both_return, both_end, both_turned, both_hastened, both_jumped, IsSteady}
 use Rattle.sq_patch.proofs.LiveSteps.{no_link}
 use Rattle.sq_patch.proofs.Patch.{later}

@@ -9,9 +9,9 @@ use Rattle.sq_graph.specs.Rules.{IsGraph}
 use Rattle.sq_graph.specs.Operations.{replaced}
 use Rattle.sq_graph.specs.Lines.{place_lines}
 use Rattle.sq_graph.specs.Walks.{IsLive}
+use Rattle.sq_graph.specs.Matches.{Match, PairsDie}
 use Rattle.sq_graph.specs.Soundness.{IsSound}
 use Rattle.sq_follow.specs.Follows.{Follows}
-use Rattle.sq_patch.specs.Matches.{Match, PairsDie}
 
 -- where the items end that stand in a block from `at` on and are as many as the procedure's body has
 abbrev pub call_end : Graph → ℕ → ℕ → ℕ
@@ -45,8 +45,8 @@ pub record IsMatching (g : Graph) (block at procedure : ℕ) : Type 0 where
   pub block_there : HasBlock g block
   pub procedure_there : HasProcedure g procedure
   pub within : call_end g at procedure ≤ length (items_of g block)
-  pub match : Match (call_items g block at procedure) (body_of g procedure)
-  pub pairs_die : PairsDie (call_items g block at procedure) (body_of g procedure) (λ r. IsLive g r (place_lines g block (call_end g at procedure)))
+  pub match : Match g.procedures (call_items g block at procedure) (body_of g procedure)
+  pub pairs_die : PairsDie g.procedures (call_items g block at procedure) (body_of g procedure) (λ r. IsLive g r (place_lines g block (call_end g at procedure)))
   pub link_dies : (link : ℕ) → link_of g procedure ≡ Some link → ¬ IsLive g link (place_lines g block (call_end g at procedure))
 
 -- A graph with a call in place of such items follows it, and is sound where it is.

@@ -1,6 +1,7 @@
 -- A change from one graph to another, and when pieces of the two go on alike.
 use Rattle.std.specs.Prelude.{◌≡◌, ℕ, Bool, true, false, List, [], ◌∷◌, Option, Some, None, slice_get}
 use Rattle.std.specs.List.{Contains}
+use Rattle.sq_isa.specs.Forms.{with_registers}
 use Rattle.sq_isa.specs.Branches.{inverse_of}
 use Rattle.sq_isa.specs.Uses.{sources_of, destination_of, is_written}
 use Rattle.sq_isa.specs.declared.instructions.Cond.{Cond}
@@ -13,7 +14,7 @@ use Rattle.sq_graph.specs.Graph.{Procedure, Graph}
 use Rattle.sq_graph.specs.Terms.{links}
 use Rattle.sq_graph.specs.Lines.{AddressHalf, Plain, Upper, Lower, Line, Name, Do, Enter, Return, End, inside, slot_name, block_lines}
 use Rattle.sq_graph.specs.Walks.{Goes, code_targets, is_register, line_reads, line_writes}
-use Rattle.sq_patch.specs.Registers.{with_registers, AreSources}
+use Rattle.sq_patch.specs.Registers.{AreSources}
 
 -- What a change is given by: the two graphs; names that values may hold for one another; names to which the two may
 -- go; for upper halves and their targets one function; a carrier, which has the registers that matter at a place; and

@@ -5,9 +5,9 @@ pub mod Changes
 pub mod Operations
 pub mod Restrictions
 pub mod LoneJumps
-pub mod Matches
 pub mod Calls
 pub mod Merges
+pub mod Bodies
 pub mod Recalls
 pub mod Inserts
 pub mod Savings

@@ -15,6 +15,7 @@ use Rattle.sq_patch.specs.Restrictions.{restricted}
 use Rattle.sq_patch.specs.LoneJumps.{IsPassable, without_jump, IsJumpedOver, inverted_over, IsOverJump, exchanged}
 use Rattle.sq_patch.specs.Calls.{call_end, called_there}
 use Rattle.sq_patch.specs.Merges.{IsMergeable, merged, HaveTail, tailed}
+use Rattle.sq_patch.specs.Bodies.{HaveBodies}
 
 pub record SaveWords : Type 0 where
   -- what goes is the graph with the others alone
@@ -26,6 +27,7 @@ pub record SaveWords : Type 0 where
   pub hasten : (g : Graph) (block link part to : ℕ) → term_of g block ≡ Some (PartJump link part to) → words_of (with_term g block (hastened link to)) ≡ words_of g
   pub drop : (g : Graph) (block at rd to : ℕ) → slice_get (items_of g block) at ≡ Some (Hi rd to) → words_of (replaced g block at 1 []) + 1 ≡ words_of g
   pub merge : (g : Graph) (dropped at kept : ℕ) (term : Term) → IsGraph g → IsMergeable g dropped at kept → term_of g dropped ≡ Some term → words_of (merged g dropped at kept) + (length (items_of g kept) + term_words term) ≡ words_of g + 1
+  pub body : (g : Graph) (dropped kept : ℕ) (term : Term) → IsGraph g → HaveBodies g dropped kept → term_of g dropped ≡ Some term → words_of (merged g dropped 0 kept) + (length (items_of g kept) + term_words term) ≡ words_of g + 1
   pub tail : (g : Graph) (new dropped at kept from : ℕ) (term : Term) → IsGraph g → IsNew g new → HaveTail g dropped at kept from → term_of g dropped ≡ Some term → words_of (tailed g new dropped at kept from) + (length (drop_items from (items_of g kept)) + term_words term) ≡ words_of g + 1
   pub call : (g : Graph) (block at procedure : ℕ) → HasBlock g block → call_end g at procedure ≤ length (items_of g block) → words_of (called_there g block at procedure) + length (body_of g procedure) ≡ words_of g + 1
   pub inline : (g : Graph) (block at procedure : ℕ) → slice_get (items_of g block) at ≡ Some (Out procedure) → words_of (inlined g block at) + 1 ≡ words_of g + length (body_of g procedure)

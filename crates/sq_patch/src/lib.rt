@@ -3,7 +3,7 @@
 //! To the layers above it promises that two runs of one graph which agree on memory and on the registers
 //! that are live go on to agree: what is dead may differ, and what the first run has lost may be anything; and
 //! that the operations of which rewrites are made keep runs, and sound graphs sound: splits, shorter terms, blocks
-//! and procedures that go, equal ends that become one, items that become calls and calls that become items, other
+//! and procedures that go, equal ends and matching bodies that become one, items that become calls and calls that become items, other
 //! names, other orders, and the canonical form. It says how many words they save.
 #![tactic(auto)]
 
@@ -15,6 +15,7 @@ ghost use Rattle.sq_patch.specs.LoneJumps.{JumpGoesFollows, JumpGoesIsSound, Inv
 ghost use Rattle.sq_patch.specs.Operations.{SplitFollows, SplitIsSound, FallFollows, FallIsSound, DropFollows, DropIsSound, HastenFollows, HastenIsSound, InlineFollows, InlineIsSound, CanonicalFollows, CanonicalIsSound, RenameFollows, OutlineFollows, OutlineIsSound, OutlineKeepsDead, ShortenFollows, ShortenIsSound};
 ghost use Rattle.sq_patch.specs.Calls.{CallFollows, CallIsSound, CallKeepsDead, MatchFollows, MatchIsSound, MatchKeepsDead};
 ghost use Rattle.sq_patch.specs.Merges.{MergeFollows, MergeIsSound, TailFollows, TailIsSound};
+ghost use Rattle.sq_patch.specs.Bodies.{BodyFollows, BodyIsSound};
 ghost use Rattle.sq_patch.specs.Recalls.{RecallFollows, RecallIsSound, UncalledGoesFollows, UncalledGoesIsSound};
 ghost use Rattle.sq_patch.specs.Savings.{SaveWords};
 ghost use Rattle.sq_patch.specs.Inserts.{InsertFollows, InsertIsSound, ReorderFollows, ReorderIsSound};
@@ -187,6 +188,17 @@ pub fn tail_keeps_runs()
 /// A graph in which equal tails of two blocks became one is sound where the graph is.
 pub fn tail_keeps_soundness()
     ensures { TailIsSound }
+{}
+
+/// A graph in which a block became a Jump to another, which its whole body matches, follows it, where the pairs of two
+/// registers are dead behind the body and the two resolved terms are equal.
+pub fn body_keeps_runs()
+    ensures { BodyFollows }
+{}
+
+/// A graph in which a block became a Jump to another, which its whole body matches, is sound where the graph is.
+pub fn body_keeps_soundness()
+    ensures { BodyIsSound }
 {}
 
 /// A graph in which a procedure is called in place of an equal one follows it.
