@@ -41,7 +41,7 @@ use Rattle.sq_patch.proofs.Restricting.{own, block_target, procedure_target, slo
 use Rattle.sq_patch.proofs.Standing.{stands_at, distinct_at, block_at, there_by_term, there_by_item}
 use Rattle.sq_patch.proofs.Placing.{C as placing, block_stays, block_goes, all_stay, items_stay, bodies_stay, placed_follows, placed_sound, placed_live, placed_place, placed_backs, body_itself}
 use Rattle.sq_patch.proofs.Ending.{all_of, one_slot, term_turn, term_at}
-use Rattle.sq_patch.proofs.Remaining.{fits_at, AlikeAt, items_at, first_at}
+use Rattle.sq_patch.proofs.Remaining.{fits_at, fits_take, AlikeAt, items_at, first_at}
 use Rattle.sq_patch.proofs.Replacing.{behind_items, own_items, C as replacing, place, out, behind, replaced_sound, replaced_follows, replaced_live}
 use Rattle.sq_patch.proofs.Calls.{items_dead, is_other}
 use Rattle.sq_patch.proofs.Used.{contains_first, contains_later, flat_contains, from_slice, from_all, slice_there, item_called, block_item, not_new}
@@ -341,13 +341,6 @@ module _ (g : Graph) (block at q : ℕ) (rules : IsGraph g) (there : slice_get (
 
   pub inline_sound : IsSound g → IsSound ih
   inline_sound sound = replaced_sound NoMode no_stands (live g) (IsSound g) g (live_carrier g) rules block at 1 by inline_there inlines by_lowers by_dies (λ xs r l. l) sound sound
-
--- a place up to another is among the items up to that
-fits_take : (place at : ℕ) (items : List Item) → place ≤ at → place ≤ length items → place ≤ length (take at items)
-fits_take zero at items up l = omega arith
-fits_take (suc place) zero items up l = absurd (omega (arith, up))
-fits_take (suc place) (suc at) [] up l = absurd (omega (arith, l))
-fits_take (suc place) (suc at) (item ∷ items) up l = let k = fits_take place at items (omega (arith, up)) (omega (arith, l)) in omega (arith, k)
 
 module _ (g : Graph) (new block at : ℕ) (rules : IsGraph g) (fresh : IsNew g new) where
   abbrev sh : Graph

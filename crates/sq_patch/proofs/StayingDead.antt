@@ -1,6 +1,9 @@
 -- What is dead at a place that stays is dead there when a graph is changed by one of the operations.
-use Rattle.sq_patch.specs.Liveness.{FallKeepsDead, HastenKeepsDead, DropKeepsDead, ShortenKeepsDead, RestrictKeepsDead, JumpGoesKeepsDead, InvertKeepsDead, SplitKeepsDead, SplitMovesDead, CanonicalKeepsDead, InlineKeepsDead, RecallKeepsDead, UncalledGoesKeepsDead, InsertKeepsDead, ExchangeKeepsDead, ReorderKeepsDead}
+use Rattle.sq_patch.specs.Liveness.{FallKeepsDead, HastenKeepsDead, DropKeepsDead, ShortenKeepsDead, RestrictKeepsDead, JumpGoesKeepsDead, InvertKeepsDead, MergeKeepsDead, BodyKeepsDead, TailKeepsDead, TailMovesDead, SplitKeepsDead, SplitMovesDead, CanonicalKeepsDead, InlineKeepsDead, RecallKeepsDead, UncalledGoesKeepsDead, InsertKeepsDead, ExchangeKeepsDead, ReorderKeepsDead}
 use Rattle.sq_patch.proofs.OneBlock.{fall_live, hasten_place, drop_live, inline_live, split_live, split_moves}
+use Rattle.sq_patch.proofs.Merging.{can_merge, merge_live}
+use Rattle.sq_patch.proofs.MatchedBodies.{body_live}
+use Rattle.sq_patch.proofs.Tailing.{tail_live, tail_moves}
 use Rattle.sq_patch.proofs.Joining.{canonical_live}
 use Rattle.sq_patch.proofs.Recalling.{recall_live, uncalled_goes_live}
 use Rattle.sq_patch.proofs.Inserting.{insert_live}
@@ -58,3 +61,15 @@ reorder_dead g blocks rules order other place r has l stays gone live = gone (re
 
 pub canonical_dead : CanonicalKeepsDead
 canonical_dead g rules other place r has l stays gone live = gone (canonical_live g rules other place r has stays l live)
+
+pub merge_dead : MergeKeepsDead
+merge_dead g dropped at kept rules can other place r has l stays gone live = gone (merge_live g dropped at kept rules (can_merge g dropped at kept can) other place r l stays live)
+
+pub body_dead : BodyKeepsDead
+body_dead g dropped kept rules bodies other place r has l stays gone live = gone (body_live g dropped kept rules bodies other place r l stays live)
+
+pub tail_dead : TailKeepsDead
+tail_dead g new dropped at kept from rules fresh tail other place r has l stays gone live = gone (tail_live g new dropped at kept from rules fresh tail other place r has l stays.0 stays.1 live)
+
+pub tail_moves_dead : TailMovesDead
+tail_moves_dead g new dropped at kept from rules fresh tail place r l gone live = gone (tail_moves g new dropped at kept from rules fresh tail place r l live)

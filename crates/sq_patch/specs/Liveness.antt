@@ -17,6 +17,8 @@ use Rattle.sq_patch.specs.LoneJumps.{IsPassable, without_jump, IsJumpedOver, inv
 use Rattle.sq_patch.specs.Inserts.{AreReordered}
 use Rattle.sq_patch.specs.Recalls.{AreEqual}
 use Rattle.sq_patch.specs.Restrictions.{restricted, IsClosed}
+use Rattle.sq_patch.specs.Merges.{IsMergeable, merged, HaveTail, tailed}
+use Rattle.sq_patch.specs.Bodies.{HaveBodies}
 use Rattle.sq_patch.specs.Operations.{hastened, IsShortable, shortened}
 
 -- What is dead at a place of the first graph is dead at that place of the second, where the place stays.
@@ -102,3 +104,20 @@ ReorderKeepsDead = (g : Graph) (blocks : List Block) → IsGraph g → AreReorde
 -- Blocks that are empty with Fall go, and others are joined to those before.
 abbrev pub CanonicalKeepsDead : Type 0
 CanonicalKeepsDead = (g : Graph) → IsGraph g → KeepsDead g (canonical_of g) (λ block place. HasBlock (canonical_of g) block)
+
+-- The end of a block that is equal to another block goes, and a Jump to that stands in its place.
+abbrev pub MergeKeepsDead : Type 0
+MergeKeepsDead = (g : Graph) (dropped at kept : ℕ) → IsGraph g → IsMergeable g dropped at kept → KeepsDead g (merged g dropped at kept) (UpTo dropped at)
+
+-- All of a block goes whose body matches another's.
+abbrev pub BodyKeepsDead : Type 0
+BodyKeepsDead = (g : Graph) (dropped kept : ℕ) → IsGraph g → HaveBodies g dropped kept → KeepsDead g (merged g dropped 0 kept) (UpTo dropped 0)
+
+-- Equal tails of two blocks become one. What is dead at a place of the tail is dead at that of the new block.
+abbrev pub TailKeepsDead : Type 0
+TailKeepsDead =
+    (g : Graph) (new dropped at kept from : ℕ) → IsGraph g → IsNew g new → HaveTail g dropped at kept from → KeepsDead g (tailed g new dropped at kept from) (λ block place. UpTo dropped at block place × UpTo kept from block place)
+
+abbrev pub TailMovesDead : Type 0
+TailMovesDead =
+    (g : Graph) (new dropped at kept from : ℕ) → IsGraph g → IsNew g new → HaveTail g dropped at kept from → (place r : ℕ) → from + place ≤ length (items_of g kept) → ¬ IsLive g r (place_lines g kept (from + place)) → ¬ IsLive (tailed g new dropped at kept from) r (place_lines (tailed g new dropped at kept from) new place)

@@ -1,6 +1,6 @@
 //! Registers that are dead stay dead under the operations.
 
-ghost use Rattle.sq_patch.specs.Liveness.{FallKeepsDead, JumpGoesKeepsDead, InvertKeepsDead, ShortenKeepsDead, HastenKeepsDead, DropKeepsDead, RestrictKeepsDead, SplitKeepsDead, SplitMovesDead, CanonicalKeepsDead, InlineKeepsDead, RecallKeepsDead, UncalledGoesKeepsDead, InsertKeepsDead, ExchangeKeepsDead, ReorderKeepsDead};
+ghost use Rattle.sq_patch.specs.Liveness.{FallKeepsDead, JumpGoesKeepsDead, InvertKeepsDead, ShortenKeepsDead, HastenKeepsDead, DropKeepsDead, RestrictKeepsDead, TailKeepsDead, TailMovesDead, MergeKeepsDead, BodyKeepsDead, SplitKeepsDead, SplitMovesDead, CanonicalKeepsDead, InlineKeepsDead, RecallKeepsDead, UncalledGoesKeepsDead, InsertKeepsDead, ExchangeKeepsDead, ReorderKeepsDead};
 
 /// Registers that are dead at a place are dead there still, for each of these operations and each place that it leaves.
 pub fn operations_keep_dead()
@@ -11,6 +11,10 @@ pub fn operations_keep_dead()
     ensures hasten { HastenKeepsDead }
     ensures drop { DropKeepsDead }
     ensures restrict { RestrictKeepsDead }
+    ensures tail { TailKeepsDead }
+    ensures tail_moves { TailMovesDead }
+    ensures merge { MergeKeepsDead }
+    ensures body { BodyKeepsDead }
     ensures split { SplitKeepsDead }
     ensures split_moves { SplitMovesDead }
     ensures canonical { CanonicalKeepsDead }

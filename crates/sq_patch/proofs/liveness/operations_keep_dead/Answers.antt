@@ -1,4 +1,4 @@
-use Rattle.sq_patch.proofs.StayingDead.{fall_dead, jump_goes_dead, invert_dead, shorten_dead, hasten_dead, drop_dead, restrict_dead, split_dead, split_moves_dead, canonical_dead, inline_dead, recall_dead, uncalled_goes_dead, insert_dead, exchange_dead, reorder_dead}
+use Rattle.sq_patch.proofs.StayingDead.{fall_dead, jump_goes_dead, invert_dead, shorten_dead, hasten_dead, drop_dead, restrict_dead, tail_dead, tail_moves_dead, merge_dead, body_dead, split_dead, split_moves_dead, canonical_dead, inline_dead, recall_dead, uncalled_goes_dead, insert_dead, exchange_dead, reorder_dead}
 use Rattle.sq_patch.proofs.liveness.operations_keep_dead.Goals as goal
 
 pub returns-clause-fall : goal.returns-clause-fall
@@ -21,6 +21,18 @@ returns-clause-drop c = drop_dead
 
 pub returns-clause-restrict : goal.returns-clause-restrict
 returns-clause-restrict c = restrict_dead
+
+pub returns-clause-tail : goal.returns-clause-tail
+returns-clause-tail c = tail_dead
+
+pub returns-clause-tail_moves : goal.returns-clause-tail_moves
+returns-clause-tail_moves c = tail_moves_dead
+
+pub returns-clause-merge : goal.returns-clause-merge
+returns-clause-merge c = merge_dead
+
+pub returns-clause-body : goal.returns-clause-body
+returns-clause-body c = body_dead
 
 pub returns-clause-split : goal.returns-clause-split
 returns-clause-split c = split_dead
