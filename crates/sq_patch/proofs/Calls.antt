@@ -164,6 +164,7 @@ module _ (g : Graph) (block at procedure : ℕ) (rules : IsGraph g) (callable : 
   begin : at ≤ length x.items
   begin = let l : at + many ≤ length x.items = subst (λ items. at + many ≤ length items) items_are callable.within in omega (arith, l)
 
-  pub call_dead : (other spot r : ℕ) → HasBlock g other → spot ≤ length (items_of g other) → (other ≡ block → spot ≤ at) → ¬ IsLive g r (place_lines g other spot) → ¬ IsLive h r (place_lines h other spot)
-  call_dead other spot r has l ahead_of gone lives =
-      gone (replaced_live NoMode no_stands (live g) (Unit {0}) g (live_carrier g) rules block at many by callable.block_there calls no_lowers dies (λ xs r l. l) tt begin other spot r has l ahead_of lives)
+  -- no more is live in other blocks, and in this one up to the items
+  pub call_live : (other spot r : ℕ) → HasBlock g other → spot ≤ length (items_of g other) → (other ≡ block → spot ≤ at) → IsLive h r (place_lines h other spot) → IsLive g r (place_lines g other spot)
+  call_live other spot r has l ahead_of lives =
+      replaced_live NoMode no_stands (live g) (Unit {0}) g (live_carrier g) rules block at many by callable.block_there calls no_lowers dies (λ xs r l. l) tt begin other spot r has l ahead_of lives

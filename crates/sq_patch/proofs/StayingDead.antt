@@ -1,11 +1,13 @@
 -- What is dead at a place that stays is dead there when a graph is changed by one of the operations.
-use Rattle.sq_patch.specs.Liveness.{FallKeepsDead, HastenKeepsDead, DropKeepsDead, ShortenKeepsDead, RestrictKeepsDead, JumpGoesKeepsDead, InvertKeepsDead, MergeKeepsDead, BodyKeepsDead, TailKeepsDead, TailMovesDead, SplitKeepsDead, SplitMovesDead, CanonicalKeepsDead, InlineKeepsDead, RecallKeepsDead, UncalledGoesKeepsDead, InsertKeepsDead, ExchangeKeepsDead, ReorderKeepsDead}
+use Rattle.sq_patch.specs.Liveness.{FallKeepsDead, HastenKeepsDead, DropKeepsDead, ShortenKeepsDead, RestrictKeepsDead, JumpGoesKeepsDead, InvertKeepsDead, MergeKeepsDead, BodyKeepsDead, TailKeepsDead, TailMovesDead, SplitKeepsDead, SplitMovesDead, CanonicalKeepsDead, InlineKeepsDead, OutlineKeepsDead, CallKeepsDead, MatchKeepsDead, RecallKeepsDead, UncalledGoesKeepsDead, InsertKeepsDead, ExchangeKeepsDead, ReorderKeepsDead}
 use Rattle.sq_patch.proofs.OneBlock.{fall_live, hasten_place, drop_live, inline_live, split_live, split_moves}
 use Rattle.sq_patch.proofs.Merging.{can_merge, merge_live}
 use Rattle.sq_patch.proofs.MatchedBodies.{body_live}
 use Rattle.sq_patch.proofs.Tailing.{tail_live, tail_moves}
 use Rattle.sq_patch.proofs.Joining.{canonical_live}
-use Rattle.sq_patch.proofs.Recalling.{recall_live, uncalled_goes_live}
+use Rattle.sq_patch.proofs.Calls.{call_live}
+use Rattle.sq_patch.proofs.MatchedCalls.{match_live}
+use Rattle.sq_patch.proofs.Recalling.{outline_live, recall_live, uncalled_goes_live}
 use Rattle.sq_patch.proofs.Inserting.{insert_live}
 use Rattle.sq_patch.proofs.Exchanging.{exchange_live}
 use Rattle.sq_patch.proofs.Reordering.{reorder_live}
@@ -73,3 +75,12 @@ tail_dead g new dropped at kept from rules fresh tail other place r has l stays 
 
 pub tail_moves_dead : TailMovesDead
 tail_moves_dead g new dropped at kept from rules fresh tail place r l gone live = gone (tail_moves g new dropped at kept from rules fresh tail place r l live)
+
+pub outline_dead : OutlineKeepsDead
+outline_dead g block at size link rules other place r has l stays gone live = gone (outline_live g block at size link rules other place r l live)
+
+pub call_dead : CallKeepsDead
+call_dead g block at procedure rules callable other place r has l stays gone live = gone (call_live g block at procedure rules callable other place r has l stays live)
+
+pub match_dead : MatchKeepsDead
+match_dead g block at procedure rules matching other place r has l stays gone live = gone (match_live g block at procedure rules matching other place r has l stays live)

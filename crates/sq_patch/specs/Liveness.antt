@@ -7,7 +7,7 @@ use Rattle.sq_graph.specs.declared.item.Term.TheVariants.{Fall, Jump, PartJump}
 use Rattle.sq_graph.specs.Graph.{Block, Graph}
 use Rattle.sq_graph.specs.Blocks.{HasBlock, items_of, next_of, term_of}
 use Rattle.sq_graph.specs.Rules.{IsGraph}
-use Rattle.sq_graph.specs.Operations.{IsNew, with_term, replaced, split_at, inlined, inserted_after, redirected_calls, without_procedure}
+use Rattle.sq_graph.specs.Operations.{IsNew, with_term, replaced, split_at, inlined, outlined, inserted_after, redirected_calls, without_procedure}
 use Rattle.sq_graph.specs.Canonical.{canonical_of}
 use Rattle.sq_graph.specs.Lines.{place_lines}
 use Rattle.sq_graph.specs.Walks.{IsLive}
@@ -17,6 +17,7 @@ use Rattle.sq_patch.specs.LoneJumps.{IsPassable, without_jump, IsJumpedOver, inv
 use Rattle.sq_patch.specs.Inserts.{AreReordered}
 use Rattle.sq_patch.specs.Recalls.{AreEqual}
 use Rattle.sq_patch.specs.Restrictions.{restricted, IsClosed}
+use Rattle.sq_patch.specs.Calls.{IsCallable, IsMatching, called_there}
 use Rattle.sq_patch.specs.Merges.{IsMergeable, merged, HaveTail, tailed}
 use Rattle.sq_patch.specs.Bodies.{HaveBodies}
 use Rattle.sq_patch.specs.Operations.{hastened, IsShortable, shortened}
@@ -121,3 +122,15 @@ TailKeepsDead =
 abbrev pub TailMovesDead : Type 0
 TailMovesDead =
     (g : Graph) (new dropped at kept from : ℕ) → IsGraph g → IsNew g new → HaveTail g dropped at kept from → (place r : ℕ) → from + place ≤ length (items_of g kept) → ¬ IsLive g r (place_lines g kept (from + place)) → ¬ IsLive (tailed g new dropped at kept from) r (place_lines (tailed g new dropped at kept from) new place)
+
+-- Items of a block come as the body of one more procedure.
+abbrev pub OutlineKeepsDead : Type 0
+OutlineKeepsDead = (g : Graph) (block at size link : ℕ) → IsGraph g → KeepsDead g (outlined g block at size link) Anywhere
+
+-- Items that are the body of a procedure, or match it, become a call of it. So several calls may be made one after
+-- another, in a block from the last to the first.
+abbrev pub CallKeepsDead : Type 0
+CallKeepsDead = (g : Graph) (block at procedure : ℕ) → IsGraph g → IsCallable g block at procedure → KeepsDead g (called_there g block at procedure) (UpTo block at)
+
+abbrev pub MatchKeepsDead : Type 0
+MatchKeepsDead = (g : Graph) (block at procedure : ℕ) → IsGraph g → IsMatching g block at procedure → KeepsDead g (called_there g block at procedure) (UpTo block at)

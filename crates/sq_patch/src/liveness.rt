@@ -1,6 +1,6 @@
 //! Registers that are dead stay dead under the operations.
 
-ghost use Rattle.sq_patch.specs.Liveness.{FallKeepsDead, JumpGoesKeepsDead, InvertKeepsDead, ShortenKeepsDead, HastenKeepsDead, DropKeepsDead, RestrictKeepsDead, TailKeepsDead, TailMovesDead, MergeKeepsDead, BodyKeepsDead, SplitKeepsDead, SplitMovesDead, CanonicalKeepsDead, InlineKeepsDead, RecallKeepsDead, UncalledGoesKeepsDead, InsertKeepsDead, ExchangeKeepsDead, ReorderKeepsDead};
+ghost use Rattle.sq_patch.specs.Liveness.{FallKeepsDead, JumpGoesKeepsDead, InvertKeepsDead, ShortenKeepsDead, HastenKeepsDead, DropKeepsDead, RestrictKeepsDead, TailKeepsDead, TailMovesDead, MergeKeepsDead, BodyKeepsDead, SplitKeepsDead, SplitMovesDead, CanonicalKeepsDead, OutlineKeepsDead, CallKeepsDead, MatchKeepsDead, InlineKeepsDead, RecallKeepsDead, UncalledGoesKeepsDead, InsertKeepsDead, ExchangeKeepsDead, ReorderKeepsDead};
 
 /// Registers that are dead at a place are dead there still, for each of these operations and each place that it leaves.
 pub fn operations_keep_dead()
@@ -18,6 +18,9 @@ pub fn operations_keep_dead()
     ensures split { SplitKeepsDead }
     ensures split_moves { SplitMovesDead }
     ensures canonical { CanonicalKeepsDead }
+    ensures outline { OutlineKeepsDead }
+    ensures call { CallKeepsDead }
+    ensures matching { MatchKeepsDead }
     ensures inline { InlineKeepsDead }
     ensures recall { RecallKeepsDead }
     ensures uncalled_goes { UncalledGoesKeepsDead }

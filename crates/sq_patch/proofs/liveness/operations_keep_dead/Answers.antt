@@ -1,4 +1,4 @@
-use Rattle.sq_patch.proofs.StayingDead.{fall_dead, jump_goes_dead, invert_dead, shorten_dead, hasten_dead, drop_dead, restrict_dead, tail_dead, tail_moves_dead, merge_dead, body_dead, split_dead, split_moves_dead, canonical_dead, inline_dead, recall_dead, uncalled_goes_dead, insert_dead, exchange_dead, reorder_dead}
+use Rattle.sq_patch.proofs.StayingDead.{fall_dead, jump_goes_dead, invert_dead, shorten_dead, hasten_dead, drop_dead, restrict_dead, tail_dead, tail_moves_dead, merge_dead, body_dead, split_dead, split_moves_dead, canonical_dead, outline_dead, call_dead, match_dead, inline_dead, recall_dead, uncalled_goes_dead, insert_dead, exchange_dead, reorder_dead}
 use Rattle.sq_patch.proofs.liveness.operations_keep_dead.Goals as goal
 
 pub returns-clause-fall : goal.returns-clause-fall
@@ -42,6 +42,15 @@ returns-clause-split_moves c = split_moves_dead
 
 pub returns-clause-canonical : goal.returns-clause-canonical
 returns-clause-canonical c = canonical_dead
+
+pub returns-clause-outline : goal.returns-clause-outline
+returns-clause-outline c = outline_dead
+
+pub returns-clause-call : goal.returns-clause-call
+returns-clause-call c = call_dead
+
+pub returns-clause-matching : goal.returns-clause-matching
+returns-clause-matching c = match_dead
 
 pub returns-clause-inline : goal.returns-clause-inline
 returns-clause-inline c = inline_dead
