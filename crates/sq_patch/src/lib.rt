@@ -4,7 +4,8 @@
 //! that are live go on to agree: what is dead may differ, and what the first run has lost may be anything; and
 //! that the operations of which rewrites are made keep runs, and sound graphs sound: splits, shorter terms, blocks
 //! and procedures that go, equal ends and matching bodies that become one, items that become calls and calls that become items, other
-//! names, other orders, and the canonical form. It says how many words they save.
+//! names, other orders, and the canonical form. It says how many words they save, and at which places registers that
+//! are dead stay dead.
 #![tactic(auto)]
 
 mod liveness;
