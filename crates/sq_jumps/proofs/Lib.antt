@@ -15,7 +15,6 @@ pub mod StillSafe
 pub mod Passed
 pub mod Detours
 pub mod Fallen
-pub mod StayingDead
 pub mod Sweeping
 pub mod Cutting
 pub mod Clearing

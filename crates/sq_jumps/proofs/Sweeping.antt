@@ -24,6 +24,7 @@ use Rattle.sq_live.specs.Liveness.{IsLivenessOf}
 use Rattle.sq_live.proofs.Layouts.{block_at}
 use Rattle.sq_patch.specs.Operations.{hastened as short_jump}
 use Rattle.sq_patch.proofs.Joining.{canonical_follows, canonical_sound}
+use Rattle.sq_patch.proofs.StayingDead.{shorten_dead}
 use Rattle.sq_pass.specs.declared.cut.Row.{Row}
 use Rattle.sq_pass.specs.declared.cut.Row.TheVariants.{J1, J2, J3, C}
 use Rattle.sq_pass.specs.Applied.{IsApplied}
@@ -40,7 +41,6 @@ use Rattle.sq_jumps.proofs.Hastening.{shortened_canonical}
 use Rattle.sq_jumps.proofs.Inverted.{inverted_canonical}
 use Rattle.sq_jumps.proofs.Passed.{detour_canonical}
 use Rattle.sq_jumps.proofs.Rewriting.{names-changed, has_names}
-use Rattle.sq_jumps.proofs.StayingDead.{shortened_dead}
 
 -- ONE REWRITE
 
@@ -116,7 +116,7 @@ hastened_still g h block live rules d is still = record {
   there = λ n some. still.there n (back n some);
   dead = λ n r some dead.
       subst (λ (k : Graph). ¬ IsLive k r (block_lines k n)) (sym (is ∙ hastening_is g block d.at d.link d.part d.to d.shortable))
-      (shortened_dead g block d.at d.link d.part d.to rules d.shortable n r (still.dead n r (back n some) dead));
+      (shorten_dead g block d.at d.link d.part d.to rules d.shortable n 0 r (back n some) (omega arith) (λ here. omega arith) (still.dead n r (back n some) dead));
 }
   where
     back : (n : ℕ) → HasBlock h n → HasBlock g n

@@ -1,5 +1,5 @@
 -- A graph in which every block that is empty with Fall is bypassed follows it.
-use Rattle.std.proofs.Common.{◌≡◌, ℕ, zero, suc, ◌<◌, ◌≤◌, drop, length, Option, ◌⊎◌, ◌==◌, if◌then◌else◌, arith, Bool, true, false, not, List, [], ◌∷◌, ◌++◌, Some, None, IsSome, map, refl, sym, ap, ◌∙◌, subst, inl, inr}
+use Rattle.std.proofs.Common.{◌≡◌, ℕ, zero, suc, ◌<◌, ◌≤◌, length, Option, ◌⊎◌, ◌==◌, if◌then◌else◌, arith, Bool, true, false, not, List, [], ◌∷◌, ◌++◌, Some, None, IsSome, map, refl, sym, ap, ◌∙◌, subst, inl, inr}
 use Rattle.std.proofs.lemmas.Bool.{cases_Bool, eq-eqb, eqb-true}
 use Rattle.std.proofs.lemmas.List.{map-append}
 use Rattle.std.proofs.lemmas.List.Elements.{filter-append, Contains-append_left, Contains-append_right, Contains-append_cases}

@@ -27,7 +27,7 @@ use Rattle.sq_patch.proofs.Carrying.{same_some, carry_items, Backs}
 use Rattle.sq_patch.proofs.Restricting.{own}
 use Rattle.sq_patch.proofs.Standing.{distinct_at, block_at}
 use Rattle.sq_patch.proofs.Placing.{bodies_stay}
-use Rattle.sq_patch.proofs.Replacing.{own_items, behind_items, C as replacing, place, x as block_there, out, behind, replaced_follows, replaced_sound, replaced_live}
+use Rattle.sq_patch.proofs.Replacing.{own_items, behind_items, C as replacing, place, x as block_there, out, behind, replaced_follows, replaced_sound, replaced_live, replaced_moves}
 use Rattle.sq_patch.proofs.Used.{contains_first, contains_later, from_slice, slice_there, from_all}
 
 -- a register that none of these items mentions, which are no calls, isn't live before them where it is dead behind
@@ -164,6 +164,12 @@ module _ (g : Graph) (block at procedure : ℕ) (rules : IsGraph g) (callable : 
   begin : at ≤ length x.items
   begin = let l : at + many ≤ length x.items = subst (λ items. at + many ≤ length items) items_are callable.within in omega (arith, l)
 
-  pub call_dead : (other spot r : ℕ) → HasBlock g other → spot ≤ length (items_of g other) → (other ≡ block → spot ≤ at) → ¬ IsLive g r (place_lines g other spot) → ¬ IsLive h r (place_lines h other spot)
-  call_dead other spot r has l ahead_of gone lives =
-      gone (replaced_live NoMode no_stands (live g) (Unit {0}) g (live_carrier g) rules block at many by callable.block_there calls no_lowers dies (λ xs r l. l) tt begin other spot r has l ahead_of lives)
+  -- no more is live in other blocks, and in this one up to the items
+  pub call_live : (other spot r : ℕ) → HasBlock g other → spot ≤ length (items_of g other) → (other ≡ block → spot ≤ at) → IsLive h r (place_lines h other spot) → IsLive g r (place_lines g other spot)
+  call_live other spot r has l ahead_of lives =
+      replaced_live NoMode no_stands (live g) (Unit {0}) g (live_carrier g) rules block at many by callable.block_there calls no_lowers dies (λ xs r l. l) tt begin other spot r has l ahead_of lives
+
+  -- nor behind them
+  pub call_moves : (spot r : ℕ) → (at + many) + spot ≤ length (items_of g block) → IsLive h r (place_lines h block ((at + 1) + spot)) → IsLive g r (place_lines g block ((at + many) + spot))
+  call_moves spot r l lives =
+      replaced_moves NoMode no_stands (live g) (Unit {0}) g (live_carrier g) rules block at many by callable.block_there calls no_lowers dies (λ xs r l. l) tt (subst (λ items. at + many ≤ length items) items_are callable.within) spot r l lives

@@ -1,5 +1,5 @@
 -- A graph in which every block that is fallen into and is no leader is joined to the one before follows it.
-use Rattle.std.proofs.Common.{◌≡◌, ℕ, ◌≤◌, drop, length, Option, Some, IsSome, Bool, true, false, not, ◌&&◌, ◌==◌, if◌then◌else◌, List, [], ◌∷◌, ◌++◌, None, map, refl, sym, ap, ◌∙◌, subst, inl, inr, zero, suc, ◌<◌, ◌⊎◌, arith}
+use Rattle.std.proofs.Common.{◌≡◌, ℕ, ◌≤◌, drop, length, IsSome, Bool, true, false, not, ◌&&◌, ◌==◌, if◌then◌else◌, List, [], ◌∷◌, ◌++◌, None, map, refl, sym, ap, ◌∙◌, subst, inl, inr, zero, suc, ◌<◌, ◌⊎◌, arith}
 use Rattle.std.proofs.lemmas.Bool.{cases_Bool, eq-eqb, ne_eqb, or_left, or_right}
 use Rattle.std.proofs.lemmas.List.Elements.{Contains-append_left, Contains-append_right, Contains-append_cases}
 use Rattle.std.specs.List.{Contains}

@@ -1,5 +1,5 @@
 -- A graph in which a block became a Jump to another, which its whole body matches, follows it.
-use Rattle.std.proofs.Common.{◌≡◌, ℕ, ◌+◌, arith, Bool, true, List, [], ◌∷◌, ◌++◌, Some, None, map, drop, length, refl, ap, ◌∙◌, subst}
+use Rattle.std.proofs.Common.{◌≡◌, ℕ, ◌+◌, ◌≤◌, arith, Bool, true, List, [], ◌∷◌, ◌++◌, Some, None, map, drop, length, refl, ap, ◌∙◌, subst}
 use Rattle.std.proofs.lemmas.List.{drop_all}
 use Rattle.sq_graph.specs.declared.item.Item.{Item}
 use Rattle.sq_graph.specs.declared.item.Term.{Term}
@@ -7,6 +7,7 @@ use Rattle.sq_graph.specs.Graph.{Graph}
 use Rattle.sq_graph.specs.Blocks.{items_of, term_of}
 use Rattle.sq_graph.specs.Rules.{IsGraph}
 use Rattle.sq_graph.specs.Lines.{Line, line_of, place_lines}
+use Rattle.sq_graph.specs.Walks.{IsLive}
 use Rattle.sq_graph.specs.Matches.{AreSameForms, Match, PairsDie}
 use Rattle.sq_graph.specs.Soundness.{IsSound}
 use Rattle.sq_graph.specs.Words.{term_words, words_of}
@@ -19,7 +20,7 @@ use Rattle.sq_patch.proofs.Dead.{live, live_carrier}
 use Rattle.sq_patch.proofs.Replacing.{behind_items}
 use Rattle.sq_patch.proofs.Meeting.{Joint, MayHold}
 use Rattle.sq_patch.proofs.Matching.{Matched, StandsMatched, CallsStay, calls_stay, zero_register, at as in_mode, matched_some, at_first, at_last}
-use Rattle.sq_patch.proofs.Merging.{HaveEnds, joint_terms, h as merged_graph, k, out, end, kept_items, x_items, some_out, lines_are, C as merging, may_hold, may_go, in_out, merged_follows, merged_sound, merged_saves}
+use Rattle.sq_patch.proofs.Merging.{HaveEnds, joint_terms, h as merged_graph, k, out, end, kept_items, x_items, some_out, lines_are, C as merging, may_hold, may_go, in_out, merged_follows, merged_sound, merged_live, merged_saves}
 
 equally_many : (items others : List Item) → AreSameForms items others → length items ≡ length others
 equally_many [] [] e = refl
@@ -88,6 +89,10 @@ module _ (g : Graph) (dropped kept : ℕ) (rules : IsGraph g) (bodies : HaveBodi
 
   pub body_sound : IsSound g → IsSound (merged g dropped 0 kept)
   body_sound sound = merged_sound g dropped 0 kept rules ends Matched StandsMatched (live g) (Unit {0}) (live_carrier g) goes (λ xs r l. l) tt sound
+
+  -- no more is live in other blocks, and where this one begins
+  pub body_live : (m place r : ℕ) → place ≤ length (items_of g m) → (m ≡ dropped → place ≤ 0) → IsLive (merged g dropped 0 kept) r (place_lines (merged g dropped 0 kept) m place) → IsLive g r (place_lines g m place)
+  body_live m place r l up lives = merged_live g dropped 0 kept rules ends Matched StandsMatched (live g) (Unit {0}) (live_carrier g) goes (λ xs r l. l) tt m place r l up lives
 
   pub body_saves : (term : Term) → term_of g dropped ≡ Some term → words_of (merged g dropped 0 kept) + (length (items_of g kept) + term_words term) ≡ words_of g + 1
   body_saves term e = merged_saves g dropped 0 kept rules ends term e

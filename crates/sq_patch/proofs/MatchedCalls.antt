@@ -25,7 +25,7 @@ use Rattle.sq_patch.proofs.Carrying.{same_some, AreOf, ItemGoes, Backs}
 use Rattle.sq_patch.proofs.Restricting.{own}
 use Rattle.sq_patch.proofs.Standing.{stands_at, distinct_at, block_at}
 use Rattle.sq_patch.proofs.Relating.{items_stay}
-use Rattle.sq_patch.proofs.Replacing.{behind_items, C as replacing, Hold, Go, may_hold, may_go, place, x as block_there, out, behind, replaced_follows, replaced_sound, replaced_live}
+use Rattle.sq_patch.proofs.Replacing.{behind_items, C as replacing, Hold, Go, may_hold, may_go, place, x as block_there, out, behind, replaced_follows, replaced_sound, replaced_live, replaced_moves}
 use Rattle.sq_patch.proofs.Calls.{range_is, is_other, not_both}
 use Rattle.sq_patch.proofs.Matching.{Matched, StandsMatched, CallsStay, calls_stay, at as in_mode, matched, at_first, at_last, among_others}
 use Rattle.sq_patch.proofs.Used.{contains_first, contains_later, from_slice, slice_there, from_all, body_calls_none}
@@ -169,6 +169,12 @@ module _ (g : Graph) (block at procedure : ℕ) (rules : IsGraph g) (callable : 
   begin : at ≤ length x.items
   begin = let l : at + many ≤ length x.items = subst (λ items. at + many ≤ length items) items_are callable.within in omega (arith, l)
 
-  pub match_dead : (other spot r : ℕ) → HasBlock g other → spot ≤ length (items_of g other) → (other ≡ block → spot ≤ at) → ¬ IsLive g r (place_lines g other spot) → ¬ IsLive h r (place_lines h other spot)
-  match_dead other spot r has l ahead_of gone lives =
-      gone (replaced_live Matched StandsMatched (live g) (Unit {0}) g (live_carrier g) rules block at many by callable.block_there calls no_lowers dies (λ xs r l. l) tt begin other spot r has l ahead_of lives)
+  -- no more is live in other blocks, and in this one up to the items
+  pub match_live : (other spot r : ℕ) → HasBlock g other → spot ≤ length (items_of g other) → (other ≡ block → spot ≤ at) → IsLive h r (place_lines h other spot) → IsLive g r (place_lines g other spot)
+  match_live other spot r has l ahead_of lives =
+      replaced_live Matched StandsMatched (live g) (Unit {0}) g (live_carrier g) rules block at many by callable.block_there calls no_lowers dies (λ xs r l. l) tt begin other spot r has l ahead_of lives
+
+  -- nor behind them
+  pub match_moves : (spot r : ℕ) → (at + many) + spot ≤ length (items_of g block) → IsLive h r (place_lines h block ((at + 1) + spot)) → IsLive g r (place_lines g block ((at + many) + spot))
+  match_moves spot r l lives =
+      replaced_moves Matched StandsMatched (live g) (Unit {0}) g (live_carrier g) rules block at many by callable.block_there calls no_lowers dies (λ xs r l. l) tt (subst (λ items. at + many ≤ length items) items_are callable.within) spot r l lives

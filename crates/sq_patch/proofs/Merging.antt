@@ -13,7 +13,7 @@ use Rattle.sq_graph.specs.Uses.{uses}
 use Rattle.sq_graph.specs.Rules.{IsGraph}
 use Rattle.sq_graph.specs.Operations.{replaced_items, replaced}
 use Rattle.sq_graph.specs.Resolve.{jump_of, jump_from, resolved_term, resolved_term_of, block_resolved}
-use Rattle.sq_graph.specs.Lines.{Line, End, line_of, term_lines, body_lines, lines_of, behind_name, slot_name, block_lines}
+use Rattle.sq_graph.specs.Lines.{Line, End, line_of, term_lines, body_lines, lines_of, behind_name, slot_name, block_lines, place_lines}
 use Rattle.sq_graph.specs.Walks.{IsLive, lower_names, code_targets}
 use Rattle.sq_graph.specs.Soundness.{LinksDieIn, IsSound}
 use Rattle.sq_graph.specs.Words.{term_words, block_words, words_of}
@@ -33,7 +33,9 @@ use Rattle.sq_patch.proofs.Layouts.{Turn, choose}
 use Rattle.sq_patch.proofs.Restricting.{own, flat_from, block_target, slot_targets}
 use Rattle.sq_patch.proofs.Standing.{stands_at, distinct_at, block_at}
 use Rattle.sq_patch.proofs.Passing.{lone_block, lone_lines, jump_lines, jumps_from}
-use Rattle.sq_patch.proofs.Relating.{items_stay, same_names, placed_follows, placed_sound}
+use Rattle.sq_patch.proofs.Relating.{items_stay, same_names, placed_follows, placed_sound, placed_place}
+use Rattle.sq_patch.proofs.Remaining.{AlikeAt, fits_at, fits_take, items_at, first_at}
+use Rattle.std.proofs.lemmas.Bool.{eqb-true}
 use Rattle.sq_patch.proofs.Ending.{all_of}
 use Rattle.sq_patch.proofs.Replacing.{own_items}
 use Rattle.sq_patch.proofs.Inverting.{placed_by}
@@ -338,6 +340,23 @@ module _ (g : Graph) (dropped at kept : ℕ) (rules : IsGraph g) (can : HaveEnds
       pub merged_sound : ((xs : List Line) (r : ℕ) → IsLive g r xs → X xs r) → Z → IsSound g → IsSound h
       merged_sound matters safe sound = placed_sound Mode StandsIn (MayHold g) (Joint g) every X Z g h rules refl refl may_hold may_go (x ∷ []) (y ∷ []) back refl turn front whole after refl carrier values names matters safe sound
 
+      -- places of the first block ahead of the end, and of others
+      merged_at : (m place : ℕ) → ((x.name == m) ≡ true → place ≤ length x.items) → (m ≡ dropped → place ≤ at) → AlikeAt C own m place back back → AlikeAt C own m place (x ∷ back) (y ∷ back)
+      merged_at m place fits up q =
+          first_at C own m place x y back back refl
+          (λ t.
+          let within : place ≤ length first = fits_take place at x.items (up (sym (eqb-true x.name m t) ∙ spot.has_name)) (fits t) in
+          subst (λ xs. Alike C true None (drop place xs) (drop place (body_lines y (lines_of back)))) (sym x_lines)
+          (subst (λ ys. Alike C true None (drop place (map line_of first ++ (map line_of out ++ end))) (drop place ys)) (sym y_lines)
+          (subst (λ is. Alike C true None (drop place (map line_of first ++ (map line_of out ++ end))) (drop place (map line_of is ++ (End (Jump kept) ∷ lines_of back)))) (own_items first)
+          (items_at C own place first (map line_of out ++ end) (End (Jump kept) ∷ lines_of back) in_first within (end_goes true))))) q
+
+      -- no more is live at them
+      pub merged_live : ((xs : List Line) (r : ℕ) → IsLive g r xs → X xs r) → Z → (m place r : ℕ) → place ≤ length (items_of g m) → (m ≡ dropped → place ≤ at) → IsLive h r (place_lines h m place) → IsLive g r (place_lines g m place)
+      merged_live matters safe m place r l up live =
+          placed_place Mode StandsIn (MayHold g) (Joint g) every X Z g h rules refl refl may_hold may_go (x ∷ []) (y ∷ []) back refl turn front whole after refl carrier values names matters safe m place r l
+          (merged_at m place (fits_at g rules m place l front x back whole) up) live
+
 -- The end of one block is another block, by its items and by where the two lead.
 pub record CanMerge (g : Graph) (dropped at kept : ℕ) : Type 0 where
   pub other : kept ≢ dropped
@@ -377,6 +396,9 @@ module _ (g : Graph) (dropped at kept : ℕ) (rules : IsGraph g) (can : CanMerge
 
   pub merge_sound : IsSound g → IsSound (merged g dropped at kept)
   merge_sound sound = merged_sound g dropped at kept rules ends NoMode no_stands all_matter (Unit {0}) (every_carrier g) equal_goes (λ xs r l. tt) tt sound
+
+  pub merge_live : (m place r : ℕ) → place ≤ length (items_of g m) → (m ≡ dropped → place ≤ at) → IsLive (merged g dropped at kept) r (place_lines (merged g dropped at kept) m place) → IsLive g r (place_lines g m place)
+  merge_live m place r l up live = merged_live g dropped at kept rules ends NoMode no_stands all_matter (Unit {0}) (every_carrier g) equal_goes (λ xs r l. tt) tt m place r l up live
 
   pub merge_saves : (term : Term) → term_of g dropped ≡ Some term → words_of (merged g dropped at kept) + (length (items_of g kept) + term_words term) ≡ words_of g + 1
   merge_saves term e = merged_saves g dropped at kept rules ends term e

@@ -8,7 +8,7 @@ use Rattle.sq_graph.specs.declared.item.Item.{Item}
 use Rattle.sq_graph.specs.declared.item.Item.TheVariants.{Op, Hi, Lo, Out}
 use Rattle.sq_graph.specs.declared.item.Term.TheVariants.{Fall, Jump, PartJump}
 use Rattle.sq_graph.specs.Graph.{Block, Procedure, Graph}
-use Rattle.sq_graph.specs.Blocks.{named, HasBlock, block_of, block_items, items_of, block_term, term_of, next_of, procedure_body}
+use Rattle.sq_graph.specs.Blocks.{named, HasBlock, block_of, block_items, items_of, block_term, term_of, next_of, procedure_body, body_of}
 use Rattle.sq_graph.specs.Terms.{links}
 use Rattle.sq_graph.specs.Uses.{uses, item_calls}
 use Rattle.sq_graph.specs.Rules.{IsGraph, mentions, ProcedureFits}
@@ -41,8 +41,8 @@ use Rattle.sq_patch.proofs.Restricting.{own, block_target, procedure_target, slo
 use Rattle.sq_patch.proofs.Standing.{stands_at, distinct_at, block_at, there_by_term, there_by_item}
 use Rattle.sq_patch.proofs.Placing.{C as placing, block_stays, block_goes, all_stay, items_stay, bodies_stay, placed_follows, placed_sound, placed_live, placed_place, placed_backs, body_itself}
 use Rattle.sq_patch.proofs.Ending.{all_of, one_slot, term_turn, term_at}
-use Rattle.sq_patch.proofs.Remaining.{fits_at, AlikeAt, items_at, first_at}
-use Rattle.sq_patch.proofs.Replacing.{behind_items, own_items, C as replacing, place, out, behind, replaced_sound, replaced_follows, replaced_live}
+use Rattle.sq_patch.proofs.Remaining.{fits_at, fits_take, AlikeAt, items_at, first_at}
+use Rattle.sq_patch.proofs.Replacing.{behind_items, own_items, C as replacing, place, out, behind, replaced_sound, replaced_follows, replaced_live, replaced_moves}
 use Rattle.sq_patch.proofs.Calls.{items_dead, is_other}
 use Rattle.sq_patch.proofs.Used.{contains_first, contains_later, flat_contains, from_slice, from_all, slice_there, item_called, block_item, not_new}
 
@@ -234,6 +234,11 @@ module _ (g : Graph) (block at rd to : ℕ) (rules : IsGraph g) (there : slice_g
       let within = item_within dspot.block.items at (Hi rd to) hi_there in
       replaced_live NoMode no_stands (live g) (Unit {0}) g (live_carrier g) rules block at 1 [] drop_there drops no_lowers (λ backs k die die'. die') (λ xs r l. l) tt (omega (arith, within)) other spot r has l ahead_of lives
 
+  -- nor behind it
+  pub drop_moves : (spot r : ℕ) → (at + 1) + spot ≤ length (items_of g block) → IsLive dh r (place_lines dh block ((at + 0) + spot)) → IsLive g r (place_lines g block ((at + 1) + spot))
+  drop_moves spot r l lives =
+      replaced_moves NoMode no_stands (live g) (Unit {0}) g (live_carrier g) rules block at 1 [] drop_there drops no_lowers (λ backs k die die'. die') (λ xs r l. l) tt (item_within dspot.block.items at (Hi rd to) hi_there) spot r l lives
+
 -- a register that is dead behind a return is dead at it
 return_dead : (g : Graph) (link r : ℕ) (rest : List Line) → ¬ IsLive g r rest → ¬ IsLive g r (Return link ∷ rest)
 return_dead g link r rest dead (read_here e) = absurd (cc)
@@ -339,15 +344,15 @@ module _ (g : Graph) (block at q : ℕ) (rules : IsGraph g) (there : slice_get (
       let within = item_within ispot.block.items at (Out q) out_there in
       replaced_live NoMode no_stands (live g) (IsSound g) g (live_carrier g) rules block at 1 by inline_there inlines by_lowers by_dies (λ xs r l. l) sound (omega (arith, within)) other spot r has l ahead_of lives
 
+  -- nor behind it
+  pub inline_moves : IsSound g → (spot r : ℕ) → (at + 1) + spot ≤ length (items_of g block) → IsLive ih r (place_lines ih block ((at + length (body_of g q)) + spot)) → IsLive g r (place_lines g block ((at + 1) + spot))
+  inline_moves sound spot r l lives =
+      let many : length (body_of g q) ≡ length by = ap length (ap procedure_body found.1 ∙ sym by_is) in
+      replaced_moves NoMode no_stands (live g) (IsSound g) g (live_carrier g) rules block at 1 by inline_there inlines by_lowers by_dies (λ xs r l. l) sound (item_within ispot.block.items at (Out q) out_there) spot r l
+      (subst (λ k. IsLive ih r (place_lines ih block ((at + k) + spot))) many lives)
+
   pub inline_sound : IsSound g → IsSound ih
   inline_sound sound = replaced_sound NoMode no_stands (live g) (IsSound g) g (live_carrier g) rules block at 1 by inline_there inlines by_lowers by_dies (λ xs r l. l) sound sound
-
--- a place up to another is among the items up to that
-fits_take : (place at : ℕ) (items : List Item) → place ≤ at → place ≤ length items → place ≤ length (take at items)
-fits_take zero at items up l = omega arith
-fits_take (suc place) zero items up l = absurd (omega (arith, up))
-fits_take (suc place) (suc at) [] up l = absurd (omega (arith, l))
-fits_take (suc place) (suc at) (item ∷ items) up l = let k = fits_take place at items (omega (arith, up)) (omega (arith, l)) in omega (arith, k)
 
 module _ (g : Graph) (new block at : ℕ) (rules : IsGraph g) (fresh : IsNew g new) where
   abbrev sh : Graph

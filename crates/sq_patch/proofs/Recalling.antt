@@ -36,7 +36,6 @@ use Rattle.sq_patch.proofs.Parts.{take_in, drop_in}
 use Rattle.sq_patch.proofs.Calls.{range_is}
 use Rattle.sq_patch.proofs.Remaining.{AlikeAt, nothing_at, fits_at, stays_at, live_at}
 use Rattle.std.proofs.Common.{◌≤◌, length as size_of}
-use Rattle.sq_graph.specs.Blocks.{HasBlock}
 use Rattle.sq_graph.specs.Lines.{place_lines}
 use Rattle.sq_graph.specs.Walks.{IsLive}
 use Rattle.sq_patch.proofs.Carrying.{Backs}
@@ -318,6 +317,5 @@ module _ (g : Graph) (block at length link : ℕ) (rules : IsGraph g) where
   outline_sound fits sound =
       renumbered_sound g oh own rules more sound (All-append IsSoundBody g.procedures (new ∷ []) sound.bodies (All-cons IsSoundBody new [] fits (All-nil IsSoundBody)))
 
-  -- what is dead at a place stays dead
-  pub outline_dead : (other spot r : ℕ) → HasBlock g other → spot ≤ size_of (items_of g other) → ¬ IsLive g r (place_lines g other spot) → ¬ IsLive oh r (place_lines oh other spot)
-  outline_dead other spot r has l gone lives = gone (renumbered_live g oh own rules more other spot r l lives)
+  pub outline_live : (n place r : ℕ) → place ≤ size_of (items_of g n) → IsLive oh r (place_lines oh n place) → IsLive g r (place_lines g n place)
+  outline_live n place r l live = renumbered_live g oh own rules more n place r l live

@@ -1,11 +1,11 @@
 -- Places that a change leaves: what is live at one in the second graph was live at it in the first.
-use Rattle.std.proofs.Common.{◌≡◌, ℕ, zero, suc, ◌≤◌, Bool, true, false, ◌==◌, if◌then◌else◌, List, [], ◌∷◌, ◌++◌, Some, None, map, drop, length, refl, sym, ap, subst, arith}
+use Rattle.std.proofs.Common.{◌≡◌, ℕ, zero, suc, ◌≤◌, Bool, true, false, ◌==◌, if◌then◌else◌, List, [], ◌∷◌, ◌++◌, Some, None, map, take, drop, length, refl, sym, ap, subst, arith}
 use Rattle.std.proofs.lemmas.Bool.{eqb-true}
 use Rattle.sq_arena.specs.Entries.{value_of, HasDistinctKeys}
 use Rattle.sq_graph.specs.declared.item.Item.{Item}
 use Rattle.sq_graph.specs.Graph.{Block, Graph}
 use Rattle.sq_graph.specs.Blocks.{named, block_of, block_items, items_of}
-use Rattle.sq_graph.specs.Lines.{Line, line_of, term_lines, body_lines, lines_of, behind_name, block_lines, place_lines}
+use Rattle.sq_graph.specs.Lines.{Line, line_of, term_lines, body_lines, lines_of, behind_name, place_lines}
 use Rattle.sq_graph.specs.Renames.{retargeted_term}
 use Rattle.sq_graph.specs.Rules.{IsGraph}
 use Rattle.sq_graph.specs.Walks.{IsLive}
@@ -22,6 +22,13 @@ fits_at g rules n place l front x bs e same =
     let here : block_of g x.name ≡ Some x = subst (λ blocks. value_of (named blocks) x.name ≡ Some x) e (found_at front x bs absent) in
     let found : block_of g n ≡ Some x = subst (λ m. block_of g m ≡ Some x) (eqb-true x.name n same) here in
     subst (λ items. place ≤ length items) (ap block_items found) l
+
+-- a place up to another is among the items up to that
+pub fits_take : (place at : ℕ) (items : List Item) → place ≤ at → place ≤ length items → place ≤ length (take at items)
+fits_take zero at items up l = omega arith
+fits_take (suc place) zero items up l = absurd (omega (arith, up))
+fits_take (suc place) (suc at) [] up l = absurd (omega (arith, l))
+fits_take (suc place) (suc at) (item ∷ items) up l = let k = fits_take place at items (omega (arith, up)) (omega (arith, l)) in omega (arith, k)
 
 module _ (C : Change) (number : ℕ → ℕ) where
   -- from this place of the block of this name on, the two go on alike

@@ -1,8 +1,9 @@
 -- A block with other items in place of some, in a place of a graph.
 use Rattle.std.proofs.Common.{◌≤◌, ◌≡◌, ℕ, Bool, true, false, ◌==◌, inl, inr, List, [], ◌∷◌, ◌++◌, ◌+◌, None, map, take, drop, take-append-drop, drop-drop, refl, sym, ap, ◌∙◌, subst}
 use Rattle.std.specs.List.{IsDistinct}
-use Rattle.std.proofs.Common.{length-take-le, length, length as count, arith, zero, suc, nat_eq, ◌≢◌, ◌⊎◌, Option, Some}
+use Rattle.std.proofs.Common.{length-take-le, length-append, length-drop, length, length as count, arith, zero, suc, nat_eq, ◌≢◌, ◌⊎◌, Option, Some}
 use Rattle.std.proofs.lemmas.Bool.{cases_eq}
+use Rattle.std.proofs.Math.Seq.{drop-append-add}
 use Rattle.sq_arena.specs.Entries.{value_of, first_key, next_key, behind as entries_behind, HasDistinctKeys}
 use Rattle.sq_graph.specs.Blocks.{named, block_of, block_items, items_of, next_of}
 use Rattle.sq_graph.specs.Lines.{slot_name, place_lines}
@@ -62,6 +63,10 @@ pub three_parts : (items : List Item) (at length : ℕ) → take at items ++ (ta
 three_parts items at length =
     ap (λ rest. take at items ++ (take length (drop at items) ++ rest)) (sym (drop-drop length at items))
     ∙ ap (λ rest. take at items ++ rest) (take-append-drop length (drop at items)) ∙ take-append-drop at items
+
+-- what stands behind the first of two lists
+drop_past : (first items : List Item) (at n : ℕ) → length first ≡ at → drop (at + n) (first ++ items) ≡ drop n items
+drop_past first items at n e = subst (λ k. drop (k + n) (first ++ items) ≡ drop n items) e (drop-append-add first items n)
 
 module _ (Mode : Type 0) (StandsIn : Mode → ℕ → ℕ → Type 0) (X : List Line → ℕ → Type 0) (Z : Type 0) (g h : Graph) (rules : IsGraph g) (procedures : h.procedures ≡ g.procedures) (words : h.code_words ≡ g.code_words) where
   -- each name for itself
@@ -318,6 +323,38 @@ module _ (Mode : Type 0) (StandsIn : Mode → ℕ → ℕ → Type 0) (X : List 
         (subst (λ ys. Alike D true None (map line_of (drop spot first) ++ (map line_of out ++ behind)) ys) (sym (ap (drop spot) later ∙ behind_items first spot (map line_of by ++ behind) fits))
         (keep_items (drop spot first) (map line_of out ++ behind) (map line_of by ++ behind) (λ item d. items_ok x there item (take_in x.items at item (drop_in first spot item d)))
         (middle true (keep_items rest (term_lines x.term (lines_of back)) (term_lines x.term (lines_of back)) (λ item d. items_ok x there item (drop_in x.items (at + length) item d)) (ended true)))))
+
+    -- a place behind the items
+    behind_alike : at + length ≤ count x.items → (spot : ℕ) → (at + length) + spot ≤ count x.items → Alike D true None (place_lines g block ((at + length) + spot)) (place_lines h block ((at + count by) + spot))
+    behind_alike within spot l =
+        let ending = term_lines x.term (lines_of back) in
+        let absent = absent_from place.front x back (distinct_at g rules place.front x back whole) in
+        let first_many : count (take at x.items) ≡ at = length-take-le at x.items (omega (arith, within)) in
+        let left : drop ((at + count by) + spot) new_items ≡ drop ((at + length) + spot) x.items =
+        ap (λ k. drop k new_items) (let e : (at + count by) + spot ≡ at + (count by + spot) = omega arith in e)
+        ∙ drop_past (take at x.items) (by ++ rest) at (count by + spot) first_many
+        ∙ drop_past by rest (count by) spot refl ∙ drop-drop spot (at + length) x.items in
+        let fits : (at + count by) + spot ≤ count new_items =
+        (let a = length-append (take at x.items) (by ++ rest) in let b = length-append by rest in let c = length-drop (at + length) x.items in omega (arith, first_many, a, b, c, l)) in
+        let before : place_lines g block ((at + length) + spot) ≡ map line_of (drop ((at + length) + spot) x.items) ++ ending =
+        ap (drop ((at + length) + spot)) (subst (λ k. behind_name k (lines_of g.blocks) ≡ body_lines x (lines_of back)) place.has_name (subst (λ cs. behind_name x.name (lines_of cs) ≡ body_lines x (lines_of back)) whole (name_at place.front x back absent)))
+        ∙ behind_items x.items ((at + length) + spot) ending l in
+        let later : place_lines h block ((at + count by) + spot) ≡ map line_of (drop ((at + length) + spot) x.items) ++ ending =
+        ap (drop ((at + count by) + spot)) (subst (λ k. behind_name k (lines_of h.blocks) ≡ body_lines made (lines_of back)) place.has_name (subst (λ cs. behind_name x.name (lines_of cs) ≡ body_lines made (lines_of back)) (sym after) (name_at place.front made back absent)))
+        ∙ behind_items new_items ((at + count by) + spot) ending fits ∙ ap (λ is. map line_of is ++ ending) left in
+        subst (λ xs. Alike D true None xs (place_lines h block ((at + count by) + spot))) (sym before)
+        (subst (λ ys. Alike D true None (map line_of (drop ((at + length) + spot) x.items) ++ ending) ys) (sym later)
+        (keep_items (drop ((at + length) + spot) x.items) ending ending (λ item d. items_ok x there item (drop_in x.items ((at + length) + spot) item d)) (ended true)))
+
+    x_items : items_of g block ≡ x.items
+    x_items = ap block_items (subst (λ k. value_of (named g.blocks) k ≡ Some x) place.has_name (block_at g rules place.front x back whole))
+
+    pub replaced_moves : ((xs : List Line) (r : ℕ) → IsLive g r xs → X xs r) → Z → at + length ≤ count x.items → (spot r : ℕ) → (at + length) + spot ≤ count (items_of g block) → IsLive h r (place_lines h block ((at + count by) + spot)) → IsLive g r (place_lines g block ((at + length) + spot))
+    replaced_moves matters safe within spot r l live =
+        let backs = placed_backs Mode StandsIn H G every X Z g h rules refl refl held goes (x ∷ []) (made ∷ []) back refl turn place.front whole after refl carrier values names matters safe in
+        let o = backs r (place_lines h block ((at + count by) + spot)) live true None (place_lines g block ((at + length) + spot)) (behind_alike within spot (subst (λ items. (at + length) + spot ≤ count items) x_items l)) in
+        let is : r ≡ o.0 = o.1.0 in
+        subst (λ q. IsLive g q (place_lines g block ((at + length) + spot))) (sym is) o.1.1
 
     pub replaced_live : ((xs : List Line) (r : ℕ) → IsLive g r xs → X xs r) → Z → at ≤ count x.items → (other spot r : ℕ) → HasBlock g other → spot ≤ count (items_of g other) → (other ≡ block → spot ≤ at) → IsLive h r (place_lines h other spot) → IsLive g r (place_lines g other spot)
     replaced_live matters safe within other spot r has_other l ahead_of live =

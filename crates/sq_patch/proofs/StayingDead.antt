@@ -1,8 +1,19 @@
 -- What is dead at a place that stays is dead there when a graph is changed by one of the operations.
-use Rattle.sq_patch.specs.Liveness.{FallKeepsDead, HastenKeepsDead, DropKeepsDead, ShortenKeepsDead, RestrictKeepsDead, JumpGoesKeepsDead, InvertKeepsDead, SplitKeepsDead, SplitMovesDead, CanonicalKeepsDead, InlineKeepsDead, RecallKeepsDead, UncalledGoesKeepsDead, InsertKeepsDead, ExchangeKeepsDead, ReorderKeepsDead}
-use Rattle.sq_patch.proofs.OneBlock.{fall_live, hasten_place, drop_live, inline_live, split_live, split_moves}
+use Rattle.std.proofs.Common.{◌≡◌, ℕ, ◌+◌, [], arith, subst}
+use Rattle.sq_graph.specs.Lines.{place_lines}
+use Rattle.sq_graph.specs.Operations.{replaced, split_at}
+use Rattle.sq_graph.specs.Walks.{IsLive}
+use Rattle.sq_graph.specs.Graph.{Graph}
+use Rattle.sq_patch.specs.Merges.{tailed}
+use Rattle.sq_patch.specs.Liveness.{FallKeepsDead, HastenKeepsDead, DropKeepsDead, DropMovesDead, ShortenKeepsDead, RestrictKeepsDead, JumpGoesKeepsDead, InvertKeepsDead, MergeKeepsDead, BodyKeepsDead, TailKeepsDead, TailMovesDead, SplitKeepsDead, SplitMovesDead, CanonicalKeepsDead, InlineKeepsDead, InlineMovesDead, OutlineKeepsDead, CallKeepsDead, CallMovesDead, MatchKeepsDead, MatchMovesDead, RecallKeepsDead, UncalledGoesKeepsDead, InsertKeepsDead, ExchangeKeepsDead, ReorderKeepsDead}
+use Rattle.sq_patch.proofs.OneBlock.{fall_live, hasten_place, drop_live, drop_moves, inline_live, inline_moves, split_live, split_moves}
+use Rattle.sq_patch.proofs.Merging.{can_merge, merge_live}
+use Rattle.sq_patch.proofs.MatchedBodies.{body_live}
+use Rattle.sq_patch.proofs.Tailing.{tail_live, tail_moves}
 use Rattle.sq_patch.proofs.Joining.{canonical_live}
-use Rattle.sq_patch.proofs.Recalling.{recall_live, uncalled_goes_live}
+use Rattle.sq_patch.proofs.Calls.{call_live, call_moves}
+use Rattle.sq_patch.proofs.MatchedCalls.{match_live, match_moves}
+use Rattle.sq_patch.proofs.Recalling.{outline_live, recall_live, uncalled_goes_live}
 use Rattle.sq_patch.proofs.Inserting.{insert_live}
 use Rattle.sq_patch.proofs.Exchanging.{exchange_live}
 use Rattle.sq_patch.proofs.Reordering.{reorder_live}
@@ -10,6 +21,10 @@ use Rattle.sq_patch.proofs.Shortening.{shorten_live}
 use Rattle.sq_patch.proofs.Restricting.{restrict_live}
 use Rattle.sq_patch.proofs.Passing.{jump_goes_live}
 use Rattle.sq_patch.proofs.Inverting.{invert_live}
+
+-- a place of a block, as one behind its start
+from_start : (h : Graph) (block place r : ℕ) → IsLive h r (place_lines h block (0 + place)) → IsLive h r (place_lines h block place)
+from_start h block place r live = let same : 0 + place ≡ place = omega arith in subst (λ k. IsLive h r (place_lines h block k)) same live
 
 pub fall_dead : FallKeepsDead
 fall_dead g block n rules jumps slot other place r has l stays gone live = gone (fall_live g block n rules jumps slot other place r l live)
@@ -36,7 +51,7 @@ pub split_dead : SplitKeepsDead
 split_dead g new block at rules fresh there other place r has l stays gone live = gone (split_live g new block at rules fresh there other place r has l stays live)
 
 pub split_moves_dead : SplitMovesDead
-split_moves_dead g new block at rules fresh there place r l gone live = gone (split_moves g new block at rules fresh there place r l live)
+split_moves_dead g new block at rules fresh there place r l gone live = gone (split_moves g new block at rules fresh there place r l (from_start (split_at g new block at) new place r live))
 
 pub inline_dead : InlineKeepsDead
 inline_dead g block at procedure rules sound there other place r has l stays gone live = gone (inline_live g block at procedure rules there sound other place r has l stays live)
@@ -58,3 +73,39 @@ reorder_dead g blocks rules order other place r has l stays gone live = gone (re
 
 pub canonical_dead : CanonicalKeepsDead
 canonical_dead g rules other place r has l stays gone live = gone (canonical_live g rules other place r has stays l live)
+
+pub merge_dead : MergeKeepsDead
+merge_dead g dropped at kept rules can other place r has l stays gone live = gone (merge_live g dropped at kept rules (can_merge g dropped at kept can) other place r l stays live)
+
+pub body_dead : BodyKeepsDead
+body_dead g dropped kept rules bodies other place r has l stays gone live = gone (body_live g dropped kept rules bodies other place r l stays live)
+
+pub tail_dead : TailKeepsDead
+tail_dead g new dropped at kept from rules fresh tail other place r has l stays gone live = gone (tail_live g new dropped at kept from rules fresh tail other place r has l stays.0 stays.1 live)
+
+pub tail_moves_dead : TailMovesDead
+tail_moves_dead g new dropped at kept from rules fresh tail place r l gone live = gone (tail_moves g new dropped at kept from rules fresh tail place r l (from_start (tailed g new dropped at kept from) new place r live))
+
+pub outline_dead : OutlineKeepsDead
+outline_dead g block at size link rules other place r has l stays gone live = gone (outline_live g block at size link rules other place r l live)
+
+pub call_dead : CallKeepsDead
+call_dead g block at procedure rules callable other place r has l stays gone live = gone (call_live g block at procedure rules callable other place r has l stays live)
+
+pub match_dead : MatchKeepsDead
+match_dead g block at procedure rules matching other place r has l stays gone live = gone (match_live g block at procedure rules matching other place r has l stays live)
+
+pub drop_moves_dead : DropMovesDead
+drop_moves_dead g block at rd to rules there dead place r l gone live =
+    let same : at + place ≡ (at + 0) + place = omega arith in
+    let h = replaced g block at 1 [] in
+    gone (drop_moves g block at rd to rules there dead place r l (subst (λ k. IsLive h r (place_lines h block k)) same live))
+
+pub inline_moves_dead : InlineMovesDead
+inline_moves_dead g block at procedure rules sound there place r l gone live = gone (inline_moves g block at procedure rules there sound place r l live)
+
+pub call_moves_dead : CallMovesDead
+call_moves_dead g block at procedure rules callable place r l gone live = gone (call_moves g block at procedure rules callable place r l live)
+
+pub match_moves_dead : MatchMovesDead
+match_moves_dead g block at procedure rules matching place r l gone live = gone (match_moves g block at procedure rules matching place r l live)

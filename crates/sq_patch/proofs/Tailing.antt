@@ -1,14 +1,14 @@
 -- A graph with the tails of two blocks merged follows it: the one is split, and the end of the other merged with what
 -- was split off.
 use Rattle.std.proofs.Common.{◌≡◌, ◌≢◌, ℕ, ◌≤◌, false, ◌==◌, if◌then◌else◌, inl, inr, List, [], ◌∷◌, ◌++◌, Option, Some, None, IsSome, take, drop, length, refl, sym, ap, ◌∙◌, subst, arith}
-use Rattle.std.proofs.lemmas.Bool.{cases_Bool, ne_eqb}
+use Rattle.std.proofs.lemmas.Bool.{cases_Bool, cases_eq, ne_eqb}
 use Rattle.std.proofs.lemmas.List.{drop_all}
 use Rattle.sq_arena.specs.Entries.{value_of, first_key, next_key, behind as entries_behind}
 use Rattle.sq_graph.specs.declared.item.Item.{Item}
 use Rattle.sq_graph.specs.declared.item.Term.{Term}
 use Rattle.sq_graph.specs.declared.item.Term.TheVariants.{Fall}
 use Rattle.sq_graph.specs.Graph.{Block, Graph}
-use Rattle.sq_graph.specs.Blocks.{named, block_of, block_items, items_of, block_term, term_of, next_of}
+use Rattle.sq_graph.specs.Blocks.{named, HasBlock, block_of, block_items, items_of, block_term, term_of, next_of}
 use Rattle.sq_graph.specs.Rules.{IsGraph}
 use Rattle.sq_graph.specs.Operations.{IsNew, halves, split_at}
 use Rattle.sq_graph.specs.Resolve.{lone_jump, jump_of, jump_from}
@@ -17,19 +17,22 @@ use Rattle.sq_graph.proofs.Located.{IsAt, located}
 use Rattle.sq_graph.proofs.Changes.{with_blocks-at}
 use Rattle.sq_graph.proofs.SplitRules.{split_rules, words_of-split}
 use Rattle.sq_graph.specs.Words.{term_words, words_of}
-use Rattle.std.proofs.Common.{◌+◌}
+use Rattle.std.proofs.Common.{◌+◌, length-drop}
+use Rattle.sq_graph.specs.Lines.{place_lines}
+use Rattle.sq_graph.specs.Walks.{IsLive}
 use Rattle.sq_follow.specs.Follows.{Follows}
 use Rattle.sq_follow.proofs.Following.{graph_follows_through}
 use Rattle.sq_patch.specs.Merges.{HaveTail, tailed}
 use Rattle.sq_patch.proofs.Changing.{ahead}
 use Rattle.sq_patch.proofs.Places.{absent_from, next_at}
-use Rattle.sq_patch.proofs.OneBlock.{split_follows, split_sound}
+use Rattle.sq_patch.proofs.OneBlock.{split_follows, split_sound, split_live, split_moves}
+use Rattle.sq_patch.proofs.Remaining.{fits_take}
 use Rattle.sq_patch.proofs.Carrying.{same_some}
 use Rattle.sq_patch.proofs.Standing.{distinct_at, block_at}
 use Rattle.sq_patch.proofs.Passing.{lone_block, jumps_from}
 use Rattle.sq_patch.proofs.Leading.{others_same, Hops, stop, hop}
 use Rattle.sq_patch.proofs.Meeting.{EndsMeet, meet_weaker, Joint}
-use Rattle.sq_patch.proofs.Merging.{CanMerge, joint_terms, with_items, merge_follows, merge_sound, merge_saves}
+use Rattle.sq_patch.proofs.Merging.{CanMerge, joint_terms, with_items, merge_follows, merge_sound, merge_live, merge_saves}
 use Rattle.sq_patch.proofs.Used.{not_new}
 
 -- a block of another name is passed by
@@ -180,6 +183,34 @@ module _ (g : Graph) (new dropped at kept from : ℕ) (rules : IsGraph g) (fresh
 
   pub tail_sound : IsSound g → IsSound (tailed g new dropped at kept from)
   tail_sound sound = merge_sound s dropped at new s_rules can (split_sound g new kept from rules fresh sound)
+
+  -- a place that stays is one of the split graph
+  kept_has : HasBlock g kept
+  kept_has = subst IsSome (sym kept_there.1) refl
+
+  split_block : block_of s kept ≡ Some one
+  split_block = subst (λ k. value_of (named s.blocks) k ≡ Some one) spot.has_name (block_at s s_rules spot.front one (two ∷ spot.back) (sym after))
+
+  split_fits : (m place : ℕ) → HasBlock g m → place ≤ length (items_of g m) → (m ≡ kept → place ≤ from) → place ≤ length (items_of s m)
+  split_fits m place has l up =
+      elim (cases_eq m kept) [
+        | inl here ↦
+            let fits : place ≤ length x.items = subst (λ items. place ≤ length items) (ap (items_of g) here ∙ kept_items) l in
+            subst (λ items. place ≤ length items) (sym (ap (items_of s) here ∙ ap block_items split_block)) (fits_take place from x.items (up here) fits)
+        | inr differs ↦ subst (λ items. place ≤ length items) (sym (ap block_items (other_block m differs (not_new g new m fresh has)))) l
+      ]
+
+  -- no more is live in other blocks, and in the two up to their tails
+  pub tail_live : (m place r : ℕ) → HasBlock g m → place ≤ length (items_of g m) → (m ≡ dropped → place ≤ at) → (m ≡ kept → place ≤ from) → IsLive (tailed g new dropped at kept from) r (place_lines (tailed g new dropped at kept from) m place) → IsLive g r (place_lines g m place)
+  tail_live m place r has l up up' live =
+      split_live g new kept from rules fresh kept_has m place r has l up'
+      (merge_live s dropped at new s_rules can m place r (split_fits m place has l up') up live)
+
+  -- and in the tail, in its new block
+  pub tail_moves : (place r : ℕ) → from + place ≤ length (items_of g kept) → IsLive (tailed g new dropped at kept from) r (place_lines (tailed g new dropped at kept from) new place) → IsLive g r (place_lines g kept (from + place))
+  tail_moves place r l live =
+      let within : place ≤ length (items_of s new) = subst (λ items. place ≤ length items) (sym new_items) (let n = length-drop from (items_of g kept) in omega (arith, l, n)) in
+      split_moves g new kept from rules fresh kept_has place r l (merge_live s dropped at new s_rules can new place r within (λ e. absurd (dropped_new (sym e))) live)
 
   pub tail_saves : (term : Term) → term_of g dropped ≡ Some term → words_of (tailed g new dropped at kept from) + (length (drop from (items_of g kept)) + term_words term) ≡ words_of g + 1
   tail_saves term e =

@@ -55,13 +55,3 @@ MatchFollows = (g : Graph) (block at procedure : ℕ) → IsGraph g → IsMatchi
 
 abbrev pub MatchIsSound : Type 0
 MatchIsSound = (g : Graph) (block at procedure : ℕ) → IsGraph g → IsMatching g block at procedure → IsSound g → IsSound (called_there g block at procedure)
-
--- What is dead stays dead, at places of other blocks and at those of this one up to where the items begin. So several
--- calls may be made one after another, in a block from the last to the first.
-abbrev pub MatchKeepsDead : Type 0
-MatchKeepsDead =
-    (g : Graph) (block at procedure : ℕ) → IsGraph g → IsMatching g block at procedure → (other place r : ℕ) → HasBlock g other → place ≤ length (items_of g other) → (other ≡ block → place ≤ at) → ¬ IsLive g r (place_lines g other place) → ¬ IsLive (called_there g block at procedure) r (place_lines (called_there g block at procedure) other place)
-
-abbrev pub CallKeepsDead : Type 0
-CallKeepsDead =
-    (g : Graph) (block at procedure : ℕ) → IsGraph g → IsCallable g block at procedure → (other place r : ℕ) → HasBlock g other → place ≤ length (items_of g other) → (other ≡ block → place ≤ at) → ¬ IsLive g r (place_lines g other place) → ¬ IsLive (called_there g block at procedure) r (place_lines (called_there g block at procedure) other place)

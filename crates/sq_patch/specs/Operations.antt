@@ -1,5 +1,5 @@
 -- Operations on graphs that keep runs.
-use Rattle.std.specs.Prelude.{◌≡◌, ℕ, zero, suc, ◌+◌, ◌⊎◌, ◌≤◌, length, [], Some, slice_get}
+use Rattle.std.specs.Prelude.{◌≡◌, ℕ, zero, suc, ◌+◌, ◌⊎◌, length, [], Some, slice_get}
 use Rattle.std.specs.List.{slice_range}
 use Rattle.sq_graph.specs.declared.item.Item.TheVariants.{Hi, Out}
 use Rattle.sq_graph.specs.declared.item.Term.{Term}
@@ -75,11 +75,6 @@ OutlineFollows = (g : Graph) (block at length link : ℕ) → IsGraph g → Foll
 abbrev pub OutlineIsSound : Type 0
 OutlineIsSound =
     (g : Graph) (block at length link : ℕ) → IsGraph g → IsSoundBody (record { link = link; body = slice_range (items_of g block) at (at + length) }) → IsSound g → IsSound (outlined g block at length link)
-
--- What is dead at a place of a block stays dead there.
-abbrev pub OutlineKeepsDead : Type 0
-OutlineKeepsDead =
-    (g : Graph) (block at size link : ℕ) → IsGraph g → (other place r : ℕ) → HasBlock g other → place ≤ length (items_of g other) → ¬ IsLive g r (place_lines g other place) → ¬ IsLive (outlined g block at size link) r (place_lines (outlined g block at size link) other place)
 
 -- The last item of a block is the upper half by which it jumps, whose register is the link or dead at the target.
 pub record IsShortable (g : Graph) (block at link part to : ℕ) : Type 0 where

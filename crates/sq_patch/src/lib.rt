@@ -4,7 +4,8 @@
 //! that are live go on to agree: what is dead may differ, and what the first run has lost may be anything; and
 //! that the operations of which rewrites are made keep runs, and sound graphs sound: splits, shorter terms, blocks
 //! and procedures that go, equal ends and matching bodies that become one, items that become calls and calls that become items, other
-//! names, other orders, and the canonical form. It says how many words they save.
+//! names, other orders, and the canonical form. It says how many words they save, and at which places registers that
+//! are dead stay dead.
 #![tactic(auto)]
 
 mod liveness;
@@ -12,8 +13,8 @@ mod liveness;
 ghost use Rattle.sq_patch.specs.LiveAgreement.{StepsAgree, PlacesMakeTargets};
 ghost use Rattle.sq_patch.specs.Restrictions.{RestrictFollows, RestrictIsSound, ReachedAreClosed};
 ghost use Rattle.sq_patch.specs.LoneJumps.{JumpGoesFollows, JumpGoesIsSound, InvertFollows, InvertIsSound, ExchangeFollows, ExchangeIsSound};
-ghost use Rattle.sq_patch.specs.Operations.{SplitFollows, SplitIsSound, FallFollows, FallIsSound, DropFollows, DropIsSound, HastenFollows, HastenIsSound, InlineFollows, InlineIsSound, CanonicalFollows, CanonicalIsSound, RenameFollows, OutlineFollows, OutlineIsSound, OutlineKeepsDead, ShortenFollows, ShortenIsSound};
-ghost use Rattle.sq_patch.specs.Calls.{CallFollows, CallIsSound, CallKeepsDead, MatchFollows, MatchIsSound, MatchKeepsDead};
+ghost use Rattle.sq_patch.specs.Operations.{SplitFollows, SplitIsSound, FallFollows, FallIsSound, DropFollows, DropIsSound, HastenFollows, HastenIsSound, InlineFollows, InlineIsSound, CanonicalFollows, CanonicalIsSound, RenameFollows, OutlineFollows, OutlineIsSound, ShortenFollows, ShortenIsSound};
+ghost use Rattle.sq_patch.specs.Calls.{CallFollows, CallIsSound, MatchFollows, MatchIsSound};
 ghost use Rattle.sq_patch.specs.Merges.{MergeFollows, MergeIsSound, TailFollows, TailIsSound};
 ghost use Rattle.sq_patch.specs.Bodies.{BodyFollows, BodyIsSound};
 ghost use Rattle.sq_patch.specs.Recalls.{RecallFollows, RecallIsSound, UncalledGoesFollows, UncalledGoesIsSound};
@@ -260,19 +261,4 @@ pub fn outline_keeps_soundness()
 /// How many words each of these operations saves.
 pub fn operations_save_words()
     ensures { SaveWords }
-{}
-
-/// Registers that are dead stay dead where items become a call, in other blocks and ahead of the items.
-pub fn call_keeps_dead()
-    ensures { CallKeepsDead }
-{}
-
-/// Registers that are dead stay dead where items that match a procedure's body become a call of it.
-pub fn match_keeps_dead()
-    ensures { MatchKeepsDead }
-{}
-
-/// Registers that are dead at a place of a block stay dead there with one more procedure.
-pub fn outline_keeps_dead()
-    ensures { OutlineKeepsDead }
 {}

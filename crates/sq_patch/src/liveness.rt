@@ -1,6 +1,6 @@
 //! Registers that are dead stay dead under the operations.
 
-ghost use Rattle.sq_patch.specs.Liveness.{FallKeepsDead, JumpGoesKeepsDead, InvertKeepsDead, ShortenKeepsDead, HastenKeepsDead, DropKeepsDead, RestrictKeepsDead, SplitKeepsDead, SplitMovesDead, CanonicalKeepsDead, InlineKeepsDead, RecallKeepsDead, UncalledGoesKeepsDead, InsertKeepsDead, ExchangeKeepsDead, ReorderKeepsDead};
+ghost use Rattle.sq_patch.specs.Liveness.{FallKeepsDead, JumpGoesKeepsDead, InvertKeepsDead, ShortenKeepsDead, HastenKeepsDead, DropKeepsDead, DropMovesDead, RestrictKeepsDead, TailKeepsDead, TailMovesDead, MergeKeepsDead, BodyKeepsDead, SplitKeepsDead, SplitMovesDead, CanonicalKeepsDead, OutlineKeepsDead, CallKeepsDead, CallMovesDead, MatchKeepsDead, MatchMovesDead, InlineKeepsDead, InlineMovesDead, RecallKeepsDead, UncalledGoesKeepsDead, InsertKeepsDead, ExchangeKeepsDead, ReorderKeepsDead};
 
 /// Registers that are dead at a place are dead there still, for each of these operations and each place that it leaves.
 pub fn operations_keep_dead()
@@ -10,11 +10,22 @@ pub fn operations_keep_dead()
     ensures shorten { ShortenKeepsDead }
     ensures hasten { HastenKeepsDead }
     ensures drop { DropKeepsDead }
+    ensures drop_moves { DropMovesDead }
     ensures restrict { RestrictKeepsDead }
+    ensures tail { TailKeepsDead }
+    ensures tail_moves { TailMovesDead }
+    ensures merge { MergeKeepsDead }
+    ensures body { BodyKeepsDead }
     ensures split { SplitKeepsDead }
     ensures split_moves { SplitMovesDead }
     ensures canonical { CanonicalKeepsDead }
+    ensures outline { OutlineKeepsDead }
+    ensures call { CallKeepsDead }
+    ensures call_moves { CallMovesDead }
+    ensures matching { MatchKeepsDead }
+    ensures match_moves { MatchMovesDead }
     ensures inline { InlineKeepsDead }
+    ensures inline_moves { InlineMovesDead }
     ensures recall { RecallKeepsDead }
     ensures uncalled_goes { UncalledGoesKeepsDead }
     ensures insert { InsertKeepsDead }

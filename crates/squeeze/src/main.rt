@@ -74,6 +74,3 @@ fn main(rt: HostRuntime) -> ExitCode {
     let words = collect_words(&rt, alloc);
     ExitCode::from(status_of(alloc, &mut desk, words))
 }
-
-#[cfg(test)]
-mod tests;
