@@ -1,9 +1,0 @@
-pub mod Names
-pub mod Shapes
-pub mod Jumps
-pub mod Parts
-pub mod Rows
-pub mod Reached
-pub mod Unreached
-pub mod Candidates
-pub mod Rules
