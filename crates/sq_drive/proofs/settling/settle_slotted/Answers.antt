@@ -1,0 +1,47 @@
+use Rattle.std.proofs.Common.{◌≡◌, ◌≤◌, sym, subst, arith}
+use Rattle.sq_num.specs.declared.packed.TheConstants.Savings.{NONE}
+use Rattle.sq_graph.specs.Slotted.{IsSlotted, slotted}
+use Rattle.sq_graph.specs.Words.{words_of}
+use Rattle.sq_graph.proofs.Slotting.{slotted_alike, slotted_again}
+use Rattle.sq_follow.specs.Follows.{Follows}
+use Rattle.sq_follow.proofs.Following.{graph_follows_through}
+use Rattle.sq_pass.proofs.Rewriting.{rewritten_itself, rewritten_through, rewritten_none, rewritten_named}
+use Rattle.sq_jumps.specs.Candidates.{saves_a_word}
+use Rattle.sq_drive.specs.Rows.{IsCandidate, described}
+use Rattle.sq_drive.proofs.Slots.{slotted_settled}
+use Rattle.sq_drive.proofs.settling.settle_slotted.Goals as goal
+
+pub loop-savings-init : goal.loop-savings-init
+loop-savings-init c = record {
+  rewritten = rewritten_itself IsCandidate described NONE c.args.graph.now.graph c.requires.canonical;
+  slotted = c.requires.slotted;
+}
+
+-- what is left after a round that lost no word is what was there before it
+pub returns-then-words_of-before-clause-rewritten : goal.returns-then-words_of-before-clause-rewritten
+returns-then-words_of-before-clause-rewritten c =
+    rewritten_through IsCandidate described NONE c.loop-savings.savings c.in_ok-savings.savings c.args.graph.now.graph c.loop-savings.graph.graph c.settle_by.new.graph.graph
+    c.loop-savings.invariant.rewritten c.in_ok-savings.ensures.rewritten
+
+pub returns-then-words_of-before-clause-slotted : goal.returns-then-words_of-before-clause-slotted
+returns-then-words_of-before-clause-slotted c =
+    subst IsSlotted
+    (sym (rewritten_none IsCandidate described saves_a_word c.loop-savings.savings c.in_ok-savings.savings c.loop-savings.graph.graph c.settle_by.new.graph.graph c.in_ok-savings.ensures.rewritten
+    (omega (arith, c.if-words_of-before.true, c.words_of.ensures, c.words_of-before.ensures))))
+    c.loop-savings.invariant.slotted
+
+pub returns-then-words_of-before-clause-follows : goal.returns-then-words_of-before-clause-follows
+returns-then-words_of-before-clause-follows c = (returns-then-words_of-before-clause-rewritten c).settled.follows
+
+pub loop-savings-preserved : goal.loop-savings-preserved
+loop-savings-preserved c =
+    let swept = rewritten_through IsCandidate described NONE c.loop-savings.savings c.in_ok-savings.savings c.args.graph.now.graph c.loop-savings.graph.graph c.settle_by.new.graph.graph
+    c.loop-savings.invariant.rewritten c.in_ok-savings.ensures.rewritten in
+    ?
+
+pub returns-in_err-savings-clause-follows : goal.returns-in_err-savings-clause-follows
+returns-in_err-savings-clause-follows c =
+    graph_follows_through c.args.graph.now.graph c.loop-savings.graph.graph c.settle_by.new.graph.graph c.loop-savings.invariant.rewritten.settled.follows c.settle_by.ensures.follows
+
+pub returns-in_err-name_by_slots-clause-follows : goal.returns-in_err-name_by_slots-clause-follows
+returns-in_err-name_by_slots-clause-follows c = ?
