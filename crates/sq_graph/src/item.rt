@@ -1,5 +1,9 @@
 //! What a block has: items, and a term behind them.
 
+ghost use Rattle.std.specs.Prelude.{◌≡◌, option_to_list};
+ghost use Rattle.sq_graph.specs.Terms.{goes_on};
+ghost use Rattle.sq_graph.specs.Uses.{term_uses};
+
 use sq_isa::{Cond, Insn, Reg};
 
 /// One word of a block that goes on to the next word, or a call of a procedure. `to` is the name of a block.
@@ -31,4 +35,30 @@ pub enum Term {
     Indirect { link: Reg, at: Reg, offset: i32 },
     /// EBREAK, or a word that stands for no instruction.
     Stop { word: u32 },
+}
+
+impl Term {
+    /// Whether it goes on to the next slot, at once or when what it calls returns.
+    pub fn goes_on(self) -> bool
+        ensures { result ≡ goes_on self }
+    {
+        match self {
+            Term::Fall | Term::Branch { .. } | Term::Call { .. } => true,
+            Term::PartJump { link, .. } | Term::Indirect { link, .. } => link.number() != 0,
+            Term::Jump { .. } | Term::Stop { .. } => false,
+        }
+    }
+
+    /// The block that it names.
+    pub fn target(self) -> Option<u32>
+        ensures { option_to_list result ≡ term_uses self }
+    {
+        match self {
+            Term::Jump { to }
+            | Term::Branch { to, .. }
+            | Term::Call { to, .. }
+            | Term::PartJump { to, .. } => Some(to),
+            Term::Fall | Term::Indirect { .. } | Term::Stop { .. } => None,
+        }
+    }
 }

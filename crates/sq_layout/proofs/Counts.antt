@@ -12,7 +12,7 @@ use Rattle.sq_graph.specs.Rules.{last_goes_on}
 use Rattle.sq_graph.specs.Terms.{goes_on}
 use Rattle.sq_graph.specs.Words.{term_words, block_words, procedure_words, words_of}
 
-term_at_most : (t : Term) → term_words t ≤ 1
+pub term_at_most : (t : Term) → term_words t ≤ 1
 term_at_most Fall = omega arith
 term_at_most (Jump to) = omega arith
 term_at_most (Branch c a b to) = omega arith

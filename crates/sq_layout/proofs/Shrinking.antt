@@ -1,5 +1,5 @@
 -- Where blocks go or get fewer words, two places of what is left come no further apart, so branches reach on.
-use Rattle.std.proofs.Common.{◌≡◌, ℕ, pos, ◌-ℤ◌, ◌+◌, ◌*◌, ◌≤◌, ◌==◌, Bool, true, false, List, [], ◌∷◌, length, Option, None, Some, IsSome, ◌⊎◌, inl, inr, refl, sym, ap, ◌∙◌, subst, arith}
+use Rattle.std.proofs.Common.{◌≡◌, ◌↔◌, ℕ, pos, ◌-ℤ◌, ◌+◌, ◌*◌, ◌≤◌, ◌==◌, Bool, true, false, List, [], ◌∷◌, length, Option, None, Some, IsSome, ◌⊎◌, inl, inr, refl, sym, ap, ◌∙◌, subst, arith}
 use Rattle.std.specs.Prelude.{option_map}
 use Rattle.std.proofs.lemmas.Bool.{cases_Bool, eq-eqb, eqb-true}
 use Rattle.std.proofs.lemmas.Int.{ints}
@@ -9,7 +9,7 @@ use Rattle.sq_isa.specs.declared.instructions.Cond.{Cond}
 use Rattle.sq_graph.specs.declared.item.Term.{Term}
 use Rattle.sq_graph.specs.declared.item.Term.TheVariants.{Fall, Jump, Branch, Call, PartJump, Indirect, Stop}
 use Rattle.sq_graph.specs.Graph.{Block, Graph}
-use Rattle.sq_graph.specs.Blocks.{named, block_of, block_items, block_term, term_of}
+use Rattle.sq_graph.specs.Blocks.{named, block_of, block_items, items_of, block_term, term_of}
 use Rattle.sq_graph.specs.Words.{term_words, block_words}
 use Rattle.sq_graph.specs.Places.{address_in, block_address, Reaches, TermReaches, BranchesReach, IsInReach}
 use Rattle.sq_graph.proofs.Kept.{absent_behind}
@@ -259,6 +259,16 @@ branch_reaches g reach n cond a b to e at target here there =
     let at_is : place.0 + 4 * length o.0.items ≡ at =
     some_is (place.0 + 4 * length o.0.items) at (sym (ap (λ (k : Option Block). option_map (λ x. x + 4 * length (block_items k)) (block_address g 0 n)) o.1 ∙ ap (option_map (λ x. x + 4 * length o.0.items)) place.1) ∙ here) in
     subst (λ k. Reaches (pos target -ℤ pos k)) at_is (branch_in g g.blocks 0 n place.0 o.0 cond a b to target reach o.1 o.2 place.1 there)
+
+-- the two distances are those of one Branch
+pub reach_is : (h : Graph) (from to x y items : ℕ) → block_address h 0 from ≡ Some x → block_address h 0 to ≡ Some y → length (items_of h from) ≡ items → BranchReaches h from to ↔ Reaches (pos y -ℤ pos (x + 4 * items))
+reach_is h from to x y items e f l = (
+  λ reach. reach (x + 4 * items) y (ap (option_map (λ at. at + 4 * length (items_of h from))) e ∙ ap (λ n. Some (x + 4 * n)) l) f,
+  λ reach at target here there.
+      let at_is : x + 4 * items ≡ at = some_is (x + 4 * items) at (sym (ap (option_map (λ at. at + 4 * length (items_of h from))) e ∙ ap (λ n. Some (x + 4 * n)) l) ∙ here) in
+      let target_is : y ≡ target = some_is y target (sym f ∙ there) in
+      subst (λ k. Reaches (pos target -ℤ pos k)) at_is (subst (λ k. Reaches (pos k -ℤ pos (x + 4 * items))) target_is reach),
+)
 
 -- a graph is in reach where each branch reaches its target
 pub in_reach : (g : Graph) → HasDistinctKeys (named g.blocks) → ((n : ℕ) (cond : Cond) (a b to : ℕ) → term_of g n ≡ Some (Branch cond a b to) → BranchReaches g n to) → IsInReach g

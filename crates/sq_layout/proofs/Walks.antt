@@ -1,5 +1,5 @@
 -- A walk over the blocks of a graph in layout order.
-use Rattle.std.proofs.Common.{◌≡◌, ℕ, ◌+◌, ◌≤◌, ◌==◌, sum_by, option_map, arith, false, inl, inr, List, [], ◌∷◌, ◌++◌, map, Option, Some, None, IsSome, refl, sym, ap, ◌∙◌, subst}
+use Rattle.std.proofs.Common.{◌≡◌, ℕ, ◌+◌, ◌≤◌, ◌<◌, ◌^◌, ◌==◌, length, sum_by, option_map, arith, false, inl, inr, List, [], ◌∷◌, ◌++◌, map, Option, Some, None, IsSome, refl, sym, ap, ◌∙◌, subst}
 use Rattle.std.proofs.lemmas.Bool.{cases_Bool}
 use Rattle.std.proofs.lemmas.List.Sums.{sum_by-cons}
 use Rattle.sq_arena.specs.Entries.{HasDistinctKeys, value_of, before, behind, starting_at, first_key, next_key}
@@ -7,7 +7,7 @@ use Rattle.sq_arena.proofs.EntriesLaws.{absent_ahead, distinct_back, behind-appe
 use Rattle.sq_arena.proofs.EntriesLemmas.{some_value, split_at}
 use Rattle.sq_graph.specs.Graph.{Block, Graph}
 use Rattle.sq_graph.specs.Blocks.{named, block_of, block_items, items_of}
-use Rattle.sq_graph.specs.Words.{block_words}
+use Rattle.sq_graph.specs.Words.{block_words, words_of}
 use Rattle.sq_graph.specs.Rules.{IsGraph, last_goes_on}
 use Rattle.sq_graph.specs.Cursor.{IsPlace, rest_from}
 use Rattle.sq_graph.proofs.Located.{located, named-append, value_of-at}
@@ -117,3 +117,15 @@ here g place name rules is there =
 -- what a call tells of the words of the block
 pub words_here : (g : Graph) (name words : ℕ) (b : Block) → block_of g name ≡ Some b → option_map block_words (block_of g name) ≡ Some words → words ≡ block_words b
 words_here g name words b found told = let e : Some (block_words b) ≡ Some words = sym (ap (option_map block_words) found) ∙ told in cc
+
+-- a block has few items
+found_few : (bs : List Block) (n : ℕ) → length (block_items (value_of (named bs) n)) ≤ sum_by block_words bs
+found_few [] n = omega arith
+found_few (b ∷ bs) n =
+    elim (cases_Bool (b.name == n)) [
+      | inl here ↦ rw here (omega (arith, sum_by-cons block_words b bs))
+      | inr apart ↦ rw apart (omega (arith, sum_by-cons block_words b bs, found_few bs n))
+    ]
+
+pub items_few : (g : Graph) (n : ℕ) → words_of g < 2 ^ 31 → length (items_of g n) < 2 ^ 31
+items_few g n few = let l = found_few g.blocks n in omega (arith, few)

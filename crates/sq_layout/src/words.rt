@@ -1,11 +1,11 @@
 //! How many words a graph takes.
 
-ghost use Rattle.std.specs.Prelude.{◌≡◌, ◌+◌, ◌<◌, ◌^◌, Some, length, option_map, sum_by};
-ghost use Rattle.sq_graph.specs.Blocks.{HasBlock, block_of, items_of};
+ghost use Rattle.std.specs.Prelude.{◌≡◌, ◌+◌, ◌<◌, ◌^◌, Some, option_map, sum_by};
+ghost use Rattle.sq_graph.specs.Blocks.{HasBlock, block_of};
 ghost use Rattle.sq_graph.specs.Rules.{IsGraph};
 ghost use Rattle.sq_graph.specs.Words.{term_words, block_words, procedure_words, words_of};
 
-use crate::facts::facts;
+use crate::facts::learn;
 use sq_graph::{Graph, Term};
 
 /// A Fall takes no word, and each other term one.
@@ -24,11 +24,11 @@ fn term_words(term: Term) -> u32
 }
 
 /// The words of a block: its items and its term.
-pub(crate) fn block_words(g: &Graph, block: u32) -> u32
-    requires has { HasBlock g.now.graph block }
-    requires few { length (items_of g.now.graph block) < 2 ^ 31 }
+pub fn block_words(g: &Graph, block: u32) -> u32
+    requires { HasBlock g.now.graph block }
     ensures { option_map block_words (block_of g.now.graph block) ≡ Some result }
 {
+    learn(g);
     g.items(block).len() as u32 + term_words(g.term(block))
 }
 
@@ -63,6 +63,6 @@ fn words_of_procedures(g: &Graph) -> u32
 pub fn words_of(g: &Graph) -> u32
     ensures { result ≡ words_of g.now.graph }
 {
-    facts(g);
+    learn(g);
     words_of_blocks(g) + words_of_procedures(g)
 }

@@ -20,11 +20,6 @@ overflow_cast-at c =
     let small : c.loop-place.at < 2 ^ 32 = at_small c.args.g.now.graph.blocks c.args.lo c.loop-place.at (get nat_eq c.loop-place.addresses) h.step.block h.step.others placed h.ends c.requires.fits in
     omega arith
 
-pub block_words-requires-clause-few : goal.block_words-requires-clause-few
-block_words-requires-clause-few c =
-    let h = here c.args.g.now.graph c.loop-place.place c.in-Some.name c.requires.rules c.in-Some.is c.loop-place.invariant.place in
-    omega (arith, ap length h.items, h.few, c.requires.fits)
-
 pub loop-place-smaller : goal.loop-place-smaller
 loop-place-smaller c =
     let h = here c.args.g.now.graph c.loop-place.place c.in-Some.name c.requires.rules c.in-Some.is c.loop-place.invariant.place in

@@ -3,11 +3,6 @@ use Rattle.sq_graph.specs.Words.{block_words}
 use Rattle.sq_layout.proofs.Walks.{blocks_from, here, words_here}
 use Rattle.sq_layout.proofs.words.words_of_blocks.Goals as goal
 
-pub block_words-words-requires-clause-few : goal.block_words-words-requires-clause-few
-block_words-words-requires-clause-few c =
-    let h = here c.args.g.now.graph c.loop-place.place c.in-Some.name c.requires.rules c.in-Some.is c.loop-place.invariant.place in
-    omega (arith, ap length h.items, h.few, c.requires.few)
-
 pub overflow_add-words : goal.overflow_add-words
 overflow_add-words c =
     let h = here c.args.g.now.graph c.loop-place.place c.in-Some.name c.requires.rules c.in-Some.is c.loop-place.invariant.place in

@@ -1,0 +1,5 @@
+pub mod Tabling
+pub mod Targets
+pub mod Sizes
+pub mod Reaching
+pub mod Resolving
