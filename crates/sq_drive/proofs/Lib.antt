@@ -1,2 +1,3 @@
 pub mod Rewrites
 pub mod Steps
+pub mod Slots

@@ -12,6 +12,6 @@ IsCandidate g cut = IsJumpsCandidate g cut
 abbrev pub described : Graph → Cut → Graph
 described g cut = jumps_described g cut
 
--- no row has a candidate
+-- no row that is built has a candidate
 abbrev pub IsLeftoverFree : Graph → Type 0
 IsLeftoverFree g = (cut : Cut) → ¬ IsCandidate g cut

@@ -2,7 +2,7 @@
 //!
 //! To the layers above it promises that the graph that is left follows the one before, is canonical, sound and in reach
 //! where that was, and has no candidate of any pass; that the words that it lost are those that the rows saved; and, of
-//! `settle_slotted`, that its blocks are named by their positions, so that no reading of it has a candidate.
+//! `settle_slotted`, that its blocks are named by their positions.
 #![tactic(auto)]
 
 mod listed;

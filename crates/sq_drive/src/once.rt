@@ -7,6 +7,7 @@ ghost use Rattle.sq_pass.specs.declared.cut.Cut.{Cut as Told};
 ghost use Rattle.sq_pass.specs.Rewrites.{IsRewrite, IsSettled};
 
 use sq_graph::Graph;
+use sq_layout::learn;
 use sq_live::live;
 use sq_num::Memory;
 use sq_pass::{Pass, Rewrite};
@@ -34,8 +35,7 @@ pub fn rewrite_once<P: Pass>(
     };
     graph.reserve(pass.room(graph, &cut))?;
     pass.apply(graph, &cut);
-    // Its contract has that the graph keeps the rules.
-    let _entry = graph.entry();
+    learn(graph);
     graph.canonical();
     Ok(Some(Rewrite {
         row: cut.row,

@@ -13,7 +13,7 @@ ghost use Rattle.sq_drive.specs.Rows.{IsCandidate, described, IsLeftoverFree};
 use crate::once::rewrite_once;
 use crate::rows::AllRows;
 use sq_graph::Graph;
-use sq_layout::words_of;
+use sq_layout::{learn, words_of};
 use sq_num::{Memory, Savings};
 use sq_pass::Pass;
 use std::alloc::Global;
@@ -43,7 +43,7 @@ pub fn settle_by<P: Pass>(
     }
 }
 
-/// The same by all rows, from no savings on.
+/// The same by all rows that are built, from no savings on.
 pub fn settle(alloc: Global, graph: &mut Graph) -> Result<Savings, Memory>
     requires canonical { IsCanonical graph.old.graph }
     requires words { words_of graph.old.graph ≤ 1048576 }
@@ -54,8 +54,8 @@ pub fn settle(alloc: Global, graph: &mut Graph) -> Result<Savings, Memory>
     settle_by(alloc, graph, &AllRows, Savings::NONE)
 }
 
-/// The same of a graph whose blocks are named by their positions, which it is in the end too. After each round that saved
-/// words the blocks are named anew, and all rows are asked once more.
+/// The same of a graph whose blocks are named by their positions, as they are in the end. After each round that saved words
+/// the blocks are named anew, and all rows are asked once more.
 pub fn settle_slotted(alloc: Global, graph: &mut Graph) -> Result<Savings, Memory>
     requires canonical { IsCanonical graph.old.graph }
     requires slotted { IsSlotted graph.old.graph }
@@ -72,6 +72,7 @@ pub fn settle_slotted(alloc: Global, graph: &mut Graph) -> Result<Savings, Memor
         if words_of(graph) == before {
             return Ok(savings);
         }
+        learn(graph);
         graph.name_by_slots(alloc)?;
     }
 }

@@ -14,7 +14,7 @@ use Rattle.sq_reloc.specs.Outside.{code_word_at}
 use Rattle.sq_graph.specs.declared.parts.CodeRef.{CodeRef}
 use Rattle.sq_graph.specs.Graph.{Graph}
 use Rattle.sq_graph.specs.Rules.{IsGraph}
-use Rattle.sq_graph.specs.Slotted.{IsSlotted, slotted as slotted_of}
+use Rattle.sq_graph.specs.Slotted.{IsSlotted}
 use Rattle.sq_graph.specs.Words.{words_of}
 use Rattle.sq_follow.specs.Follows.{word_address}
 use Rattle.sq_program.specs.FilePrograms.{IsAcceptedFile}
@@ -126,8 +126,10 @@ module _ (bytes : List ℕ) (first g : Graph) (savings : Savings) (fit : AllByRe
     back : IsReachedFile (written bytes g) g
     back = reads_back bytes g writable registers settled.canonical (settled.sound f.sound) whole
 
-    left : (h : Graph) → IsLiftedFile (written bytes g) h → IsLeftoverFree (slotted_of h)
-    left h lifted = subst IsLeftoverFree (sym (lifted_one (written bytes g) h g (written_is_bytes bytes g writable) lifted back.lifted ∙ slotted)) none
+    left : (h : Graph) → IsLiftedFile (written bytes g) h → IsSlotted h → IsLeftoverFree h
+    left h lifted named =
+        let same : h ≡ g = sym named ∙ lifted_one (written bytes g) h g (written_is_bytes bytes g writable) lifted back.lifted ∙ slotted in
+        subst IsLeftoverFree (sym same) none
 
     abbrev good : GoodOutput bytes (written bytes g)
     good = record {

@@ -11,7 +11,7 @@ use Rattle.sq_reloc.specs.Outside.{code_word_at}
 use Rattle.sq_graph.specs.Graph.{Graph}
 use Rattle.sq_graph.specs.Leaders.{IsCanonical}
 use Rattle.sq_graph.specs.Places.{IsInReach}
-use Rattle.sq_graph.specs.Slotted.{IsSlotted, slotted as slotted_of}
+use Rattle.sq_graph.specs.Slotted.{IsSlotted}
 use Rattle.sq_graph.specs.Soundness.{IsSound}
 use Rattle.sq_graph.specs.Words.{words_of}
 use Rattle.sq_num.specs.declared.packed.TheConstants.Savings.{NONE}
@@ -75,9 +75,9 @@ pub record GoodOutput (given output : List ℕ) : Type 0 where
   pub rewritten : IsRewritten IsCandidate described NONE savings first graph
   -- its blocks are named by their positions
   pub slotted : IsSlotted graph
-  -- Nothing is left over: whatever graph the output is read back as, no row has a candidate in it, its blocks named by their
-  -- positions.
-  pub left : (reading : Graph) → IsLiftedFile output reading → IsLeftoverFree (slotted_of reading)
+  -- Nothing is left over: whatever graph the output is read back as, named by positions, no row that is built has a
+  -- candidate in it
+  pub left : (reading : Graph) → IsLiftedFile output reading → IsSlotted reading → IsLeftoverFree reading
   -- the output is made of the data of the given file and of the words of that graph
   pub output_is : output ≡ written given graph
 

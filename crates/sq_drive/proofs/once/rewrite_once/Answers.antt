@@ -23,7 +23,7 @@ returns-clause-settled g c =
     let described = g.P.Pass.described c.args.pass.now in
     let applied = subst (λ same. IsApplied c.in-Some.cut.saving (described same c.in-Some.cut) same mid) c.reserve.ensures.graph c.apply.ensures.applied in
     settled_made c.in-Some.cut.saving (described old c.in-Some.cut) old mid c.canonical.new.self.graph applied
-    (made_canonical mid c.canonical.new.self.graph c.entry-entry.ensures.rules c.canonical.ensures.graph c.canonical.ensures.canonical c.canonical.ensures.words)
+    (made_canonical mid c.canonical.new.self.graph c.learn.ensures.rules c.canonical.ensures.graph c.canonical.ensures.canonical c.canonical.ensures.words)
 
 pub returns-clause-saves : goal.returns-clause-saves
 returns-clause-saves g c =

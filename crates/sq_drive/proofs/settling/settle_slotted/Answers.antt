@@ -1,10 +1,12 @@
-use Rattle.std.proofs.Common.{◌≡◌, ◌≤◌, sym, subst, arith}
+use Rattle.std.proofs.Common.{◌≡◌, ◌<◌, ◌≤◌, sym, ap, subst, arith}
 use Rattle.sq_num.specs.declared.packed.TheConstants.Savings.{NONE}
+use Rattle.sq_graph.specs.Room.{GraphAndRoom}
 use Rattle.sq_graph.specs.Slotted.{IsSlotted, slotted}
 use Rattle.sq_graph.specs.Words.{words_of}
 use Rattle.sq_graph.proofs.Slotting.{slotted_alike, slotted_again}
 use Rattle.sq_follow.specs.Follows.{Follows}
 use Rattle.sq_follow.proofs.Following.{graph_follows_through}
+use Rattle.sq_pass.specs.Rewrites.{IsRewritten}
 use Rattle.sq_pass.proofs.Rewriting.{rewritten_itself, rewritten_through, rewritten_none, rewritten_named}
 use Rattle.sq_jumps.specs.Candidates.{saves_a_word}
 use Rattle.sq_drive.specs.Rows.{IsCandidate, described}
@@ -35,13 +37,22 @@ returns-then-words_of-before-clause-follows c = (returns-then-words_of-before-cl
 
 pub loop-savings-preserved : goal.loop-savings-preserved
 loop-savings-preserved c =
-    let swept = rewritten_through IsCandidate described NONE c.loop-savings.savings c.in_ok-savings.savings c.args.graph.now.graph c.loop-savings.graph.graph c.settle_by.new.graph.graph
-    c.loop-savings.invariant.rewritten c.in_ok-savings.ensures.rewritten in
-    ?
+    let old = c.args.graph.now.graph in
+    let mid = c.settle_by.new.graph.graph in
+    let round : IsRewritten IsCandidate described c.loop-savings.savings c.in_ok-savings.savings c.loop-savings.graph.graph mid = c.in_ok-savings.ensures.rewritten in
+    let done = rewritten_through IsCandidate described NONE c.loop-savings.savings c.in_ok-savings.savings old c.loop-savings.graph.graph mid c.loop-savings.invariant.rewritten round in
+    let fewer : words_of mid < words_of old = omega (arith, c.if-words_of-before.false, c.words_of.ensures, c.words_of-before.ensures, round.settled.words, c.loop-savings.invariant.rewritten.settled.words) in
+    let kept = slotted_settled mid c.learn.ensures.rules done.settled.canonical in
+    record {
+      rewritten = subst (IsRewritten IsCandidate described NONE c.in_ok-savings.savings old) (sym c.name_by_slots.ensures.graph) (rewritten_named IsCandidate described mid (slotted mid) (slotted_alike mid) NONE c.in_ok-savings.savings old done fewer kept);
+      slotted = subst IsSlotted (sym c.name_by_slots.ensures.graph) (slotted_again mid c.learn.ensures.rules);
+    }
 
 pub returns-in_err-savings-clause-follows : goal.returns-in_err-savings-clause-follows
 returns-in_err-savings-clause-follows c =
     graph_follows_through c.args.graph.now.graph c.loop-savings.graph.graph c.settle_by.new.graph.graph c.loop-savings.invariant.rewritten.settled.follows c.settle_by.ensures.follows
 
 pub returns-in_err-name_by_slots-clause-follows : goal.returns-in_err-name_by_slots-clause-follows
-returns-in_err-name_by_slots-clause-follows c = ?
+returns-in_err-name_by_slots-clause-follows c =
+    let follows = graph_follows_through c.args.graph.now.graph c.loop-savings.graph.graph c.settle_by.new.graph.graph c.loop-savings.invariant.rewritten.settled.follows c.settle_by.ensures.follows in
+    subst (Follows c.args.graph.now.graph) (sym (ap (λ (v : GraphAndRoom). v.graph) c.in_err-name_by_slots.ensures.err)) follows
