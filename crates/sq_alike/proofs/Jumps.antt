@@ -19,10 +19,11 @@ use Rattle.sq_graph.specs.Uses.{uses}
 use Rattle.sq_graph.proofs.RetargetRules.{uses-other}
 use Rattle.sq_patch.specs.LoneJumps.{IsApart, IsPassable, without_jump, IsJumpedOver, inverted_over}
 use Rattle.sq_layout.specs.Branches.{BranchReaches}
-use Rattle.sq_jumps.specs.Rows.{JumpsToNext, IsDetour, BranchesOverJump}
-use Rattle.sq_jumps.proofs.Distances.{has_term, jump_there}
+use Rattle.sq_jumps.specs.Fall.{JumpsToNext}
+use Rattle.sq_jumps.specs.Detour.{IsDetour}
+use Rattle.sq_jumps.specs.Invert.{BranchesOverJump}
+use Rattle.sq_lookup.proofs.Targets.{has_term, jump_there, targets_there, branch_there}
 use Rattle.sq_jumps.proofs.Ruled.{next_there}
-use Rattle.sq_jumps.proofs.Surveying.{targets_there, branch_there}
 use Rattle.std.proofs.lemmas.List.Elements.{All-head}
 use Rattle.sq_write.proofs.Renaming.{names_there}
 use Rattle.sq_alike.proofs.Names.{mapped_in, block_is, term_is, next_is, term_back, next_back}

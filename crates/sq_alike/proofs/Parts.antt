@@ -20,8 +20,8 @@ use Rattle.sq_graph.proofs.Eachs.{All-right}
 use Rattle.sq_graph.proofs.Located.{located}
 use Rattle.sq_graph.proofs.RulesByBlock.{ItemStands, BlockStands, by_block}
 use Rattle.sq_graph.proofs.SlotReads.{block_at}
-use Rattle.sq_jumps.specs.Rows.{JumpsByDeadPart}
-use Rattle.sq_jumps.proofs.Surveying.{part_there}
+use Rattle.sq_jumps.specs.Shorten.{JumpsByDeadPart}
+use Rattle.sq_lookup.proofs.Targets.{part_there}
 use Rattle.sq_lifted.proofs.RenamedLives.{named_lines, lines_are, Known, known, lives_on}
 use Rattle.sq_patch.specs.Operations.{IsShortable}
 use Rattle.sq_alike.proofs.Names.{some_back, items_are, term_back}

@@ -10,7 +10,7 @@ use Rattle.sq_pass.specs.declared.cut.Cut.{Cut}
 use Rattle.sq_pass.specs.declared.cut.Row.{Row}
 use Rattle.sq_pass.specs.declared.cut.Row.TheVariants.{J1, J2, J3, C}
 use Rattle.sq_jumps.specs.Candidates.{HasRow, IsJumpCut, cut_at}
-use Rattle.sq_jumps.proofs.Distances.{has_term, has_lone, lone}
+use Rattle.sq_lookup.proofs.Targets.{has_term, has_lone, lone}
 use Rattle.sq_alike.specs.Names.{IsCandidateUnder}
 use Rattle.sq_alike.proofs.Names.{was_there}
 use Rattle.sq_alike.proofs.Jumps.{jumps_to_next, is_detour, branches_over_jump}

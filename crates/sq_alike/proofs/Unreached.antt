@@ -19,7 +19,7 @@ use Rattle.sq_graph.specs.Words.{block_words, procedure_words}
 use Rattle.sq_pass.specs.declared.cut.Cut.{Cut}
 use Rattle.sq_patch.specs.Restrictions.{procedures_held}
 use Rattle.sq_jumps.specs.Candidates.{IsUnreachedCut}
-use Rattle.sq_jumps.specs.Names.{is_listed}
+use Rattle.sq_lookup.specs.Names.{is_listed}
 use Rattle.sq_jumps.specs.Unreached.{stays, is_called_in, is_held, words_gone, AreUnreached}
 use Rattle.sq_write.proofs.Renaming.{names_there, same_block, same_procedure}
 use Rattle.sq_alike.specs.Names.{IsCandidateUnder}

@@ -21,7 +21,7 @@ use Rattle.sq_reach.proofs.Searches.{contains_from_marked}
 use Rattle.sq_pass.specs.declared.cut.Cut.{Cut}
 use Rattle.sq_pass.specs.declared.cut.Row.TheVariants.{U}
 use Rattle.sq_drive.proofs.Rewrites.{some_word}
-use Rattle.sq_jumps.specs.Names.{is_listed}
+use Rattle.sq_lookup.specs.Names.{is_listed}
 use Rattle.sq_jumps.specs.Unreached.{stays, is_called_in, is_held, words_gone, AreUnreached}
 use Rattle.sq_jumps.specs.Candidates.{IsCandidate}
 use Rattle.sq_jumps.proofs.Counting.{are_unreached}
