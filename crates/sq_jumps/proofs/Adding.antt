@@ -8,7 +8,7 @@ use Rattle.std.specs.List.{flat_map}
 use Rattle.sq_graph.specs.Graph.{Block, Procedure, Graph}
 use Rattle.sq_graph.specs.Blocks.{items_of_blocks, items_of_bodies, all_items}
 use Rattle.sq_graph.specs.Uses.{item_uses, items_uses, terms_uses, code_word_uses, uses}
-use Rattle.sq_jumps.specs.Names.{is_listed, Adds}
+use Rattle.sq_lookup.specs.Names.{is_listed, Adds}
 
 pub is_listed-append : (xs ys : List ℕ) (n : ℕ) → is_listed (xs ++ ys) n ≡ (is_listed xs n || is_listed ys n)
 is_listed-append xs ys n = list_any-append (nat_eq n) xs ys

@@ -1,5 +1,5 @@
 -- A Branch and its target, once a block of one word is gone.
-use Rattle.std.proofs.Common.{◌≡◌, ◌≢◌, ◌↔◌, ℕ, pos, ◌-ℤ◌, ◌+◌, ◌*◌, ◌==◌, List, [], ◌∷◌, map, length, Option, None, Some, refl, sym, ap, ◌∙◌, subst, arith}
+use Rattle.std.proofs.Common.{◌≡◌, ◌≢◌, ◌↔◌, ℕ, pos, ◌-ℤ◌, ◌+◌, ◌*◌, List, [], ◌∷◌, map, length, Option, None, Some, refl, sym, ap, ◌∙◌, arith}
 use Rattle.std.specs.Prelude.{option_map}
 use Rattle.std.proofs.lemmas.List.{length-map}
 use Rattle.sq_arena.specs.Entries.{value_of}
@@ -11,23 +11,13 @@ use Rattle.sq_graph.specs.Operations.{with_blocks, with_term, without_block, red
 use Rattle.sq_graph.specs.Renames.{retargeted_item, retargeted_block, swapped}
 use Rattle.sq_graph.specs.Places.{address_in, block_address, Reaches}
 use Rattle.sq_layout.specs.Branches.{BranchReaches, lifted}
-use Rattle.sq_layout.proofs.Shrinking.{some_is}
+use Rattle.sq_layout.proofs.Shrinking.{reach_is}
 use Rattle.sq_layout.proofs.Shrunk.{retargeted_words}
 use Rattle.sq_layout.proofs.Standing.{address-without, address-changed, address-retargeted, block_of-without, block_of-retargeted, block_of-changed, block_of-changed_here}
 
 length-retargeted : (f : ℕ → ℕ) (o : Option Block) → length (block_items (option_map (retargeted_block f) o)) ≡ length (block_items o)
 length-retargeted f None = refl
 length-retargeted f (Some b) = length-map b.items (retargeted_item f)
-
--- the two distances are those of one Branch
-reach_is : (h : Graph) (from to x y items : ℕ) → block_address h 0 from ≡ Some x → block_address h 0 to ≡ Some y → length (items_of h from) ≡ items → BranchReaches h from to ↔ Reaches (pos y -ℤ pos (x + 4 * items))
-reach_is h from to x y items e f l = (
-  λ reach. reach (x + 4 * items) y (ap (option_map (λ at. at + 4 * length (items_of h from))) e ∙ ap (λ n. Some (x + 4 * n)) l) f,
-  λ reach at target here there.
-      let at_is : x + 4 * items ≡ at = some_is (x + 4 * items) at (sym (ap (option_map (λ at. at + 4 * length (items_of h from))) e ∙ ap (λ n. Some (x + 4 * n)) l) ∙ here) in
-      let target_is : y ≡ target = some_is y target (sym f ∙ there) in
-      subst (λ k. Reaches (pos target -ℤ pos k)) at_is (subst (λ k. Reaches (pos k -ℤ pos (x + 4 * items))) target_is reach),
-)
 
 -- what the code needs of the graph
 pub record IsRemovable (g : Graph) (n gone from to x y : ℕ) : Type 0 where

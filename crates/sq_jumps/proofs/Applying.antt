@@ -27,8 +27,10 @@ use Rattle.sq_patch.proofs.Shortening.{shorten_follows, shorten_sound}
 use Rattle.sq_patch.proofs.Saving.{fall_saves, jump_goes_saves, drop_saves, hasten_saves}
 use Rattle.sq_pass.specs.Applied.{IsApplied}
 use Rattle.sq_layout.specs.Branches.{BranchReaches}
-use Rattle.sq_jumps.specs.Rows.{JumpsToNext, IsDetour, BranchesOverJump, JumpsByDeadPart}
-use Rattle.sq_jumps.specs.Rewrites.{falling, passed_to, passed, inverted_to, target_of, inverted, hastened_by, hastened}
+use Rattle.sq_jumps.specs.Fall.{JumpsToNext, falling}
+use Rattle.sq_jumps.specs.Detour.{IsDetour, straightened_to, straightened}
+use Rattle.sq_jumps.specs.Invert.{BranchesOverJump, inverted_to, target_of, inverted}
+use Rattle.sq_jumps.specs.Shorten.{JumpsByDeadPart, hastened_by, hastened}
 use Rattle.sq_layout.specs.Shrinks.{IsBranch, Shrinks}
 use Rattle.sq_layout.specs.Reach.{LedThere}
 use Rattle.sq_layout.proofs.Shrinking.{shrunk_in_reach}
@@ -108,14 +110,14 @@ retargeted_before f (Some c) cond a b to e =
     let before = branch_before f c.term cond a b to (same_term (retargeted_term f c.term) (Branch cond a b to) e) in
     (before.0, ap Some before.1, before.2)
 
-pub passing_is : (g : Graph) (block to : ℕ) → jump_from g block ≡ Some to → passed g block ≡ without_jump g block to
-passing_is g block to jump = ap (passed_to g block) jump
+pub passing_is : (g : Graph) (block to : ℕ) → jump_from g block ≡ Some to → straightened g block ≡ without_jump g block to
+passing_is g block to jump = ap (straightened_to g block) jump
 
 pub pass_shrinks : (g : Graph) (block to : ℕ) → Shrinks g.blocks (without_jump g block to).blocks
 pass_shrinks g block to =
     shrinks_twice (each_shrinks (retargeted_block (swapped block to)) (retargeted_shrunk (swapped block to)) g.blocks) (without_shrinks (map (retargeted_block (swapped block to)) g.blocks) block)
 
-pub pass_applied : (g : Graph) (block : ℕ) → IsGraph g → IsDetour g block → IsApplied 1 (passed g block) g (passed g block)
+pub pass_applied : (g : Graph) (block : ℕ) → IsGraph g → IsDetour g block → IsApplied 1 (straightened g block) g (straightened g block)
 pass_applied g block rules d =
     subst (λ h. IsApplied 1 h g h) (sym (passing_is g block d.to d.passable.jump))
     (record {

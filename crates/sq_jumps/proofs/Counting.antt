@@ -14,7 +14,7 @@ use Rattle.sq_graph.specs.Words.{block_words, procedure_words, words_of}
 use Rattle.sq_patch.specs.Restrictions.{procedures_held}
 use Rattle.sq_reach.specs.Marks.{AreReached}
 use Rattle.sq_pass.specs.declared.cut.Cut.{Cut}
-use Rattle.sq_jumps.specs.Names.{is_listed}
+use Rattle.sq_lookup.specs.Names.{is_listed}
 use Rattle.sq_jumps.specs.Unreached.{stays, is_called_in, is_held, words_gone, AreUnreached}
 use Rattle.sq_jumps.specs.Candidates.{IsUnreachedCut}
 use Rattle.sq_jumps.proofs.Uncalled.{held_same}

@@ -16,8 +16,7 @@ use Rattle.sq_num.specs.declared.memory.Memory.{Memory}
 use Rattle.sq_jumps.specs.Candidates.{HasRow, IsJumpCut, IsUnreachedCut, IsCandidate, rewritten, described}
 use Rattle.sq_jumps.specs.Unreached.{words_gone, without_all}
 use Rattle.sq_jumps.proofs.Leaving.{unreached_applied}
-use Rattle.sq_jumps.proofs.Surveying.{name_listed}
-use Rattle.sq_jumps.proofs.Distances.{has_term, lone, has_lone}
+use Rattle.sq_lookup.proofs.Targets.{name_listed, has_term, lone, has_lone}
 
 -- a row that is known is applied at its block
 pub row_applied : (row known : Row) (g new : Graph) (block : ℕ) → row ≡ known → HasRow row g block → (HasRow known g block → IsApplied 1 (rewritten known g (block ∷ [])) g (rewritten known g (block ∷ []))) → new ≡ rewritten known g (block ∷ []) → IsApplied 1 (rewritten row g (block ∷ [])) g new

@@ -19,14 +19,14 @@ use Rattle.sq_graph.specs.Terms.{goes_on}
 use Rattle.sq_graph.specs.Uses.{uses}
 use Rattle.sq_patch.specs.LoneJumps.{without_jump}
 use Rattle.sq_layout.specs.Branches.{BranchReaches}
-use Rattle.sq_jumps.specs.Names.{is_listed}
-use Rattle.sq_jumps.specs.Rewrites.{passed}
-use Rattle.sq_jumps.specs.Rows.{IsDetour}
-use Rattle.sq_jumps.specs.Surveys.{address_of, ReachesBy, ReachesWithout}
-use Rattle.sq_jumps.specs.Sweeps.{IsPlainDetour, IsStillDetour}
+use Rattle.sq_lookup.specs.Names.{is_listed}
+use Rattle.sq_jumps.specs.Detour.{straightened, IsDetour, IsPlainDetour, IsStillDetour}
+use Rattle.sq_lookup.specs.Addresses.{address_of}
+use Rattle.sq_jumps.specs.Surveys.{ReachesBy, ReachesWithout}
 use Rattle.sq_layout.proofs.Standing.{block_of-without, block_of-retargeted}
 use Rattle.sq_jumps.proofs.Applying.{passing_is, pass_shrinks, retargeted_before, gone_block}
-use Rattle.sq_jumps.proofs.Distances.{has_term, jump_there, passes}
+use Rattle.sq_lookup.proofs.Targets.{has_term, jump_there}
+use Rattle.sq_jumps.proofs.Distances.{passes}
 use Rattle.sq_jumps.proofs.Leading.{or_cases}
 use Rattle.sq_jumps.proofs.Passed.{name_used}
 use Rattle.sq_jumps.proofs.Rewriting.{goes_on-retargeted, next-redirected, redirected_rules_here, passed_rules}
@@ -166,7 +166,7 @@ module _ (g : Graph) (gone : ℕ) (rules : IsGraph g) (d : IsPlainDetour g gone)
       is_named = name_used g gone to rules d.detour.passable n (ne_eqb n gone other) d.is_named p.is_named;
     }
 
-  pub detours_still : (k : Graph) (n : ℕ) → k ≡ passed g gone → IsStillDetour g n → IsStillDetour k n
+  pub detours_still : (k : Graph) (n : ℕ) → k ≡ straightened g gone → IsStillDetour g n → IsStillDetour k n
   detours_still k n is still =
       subst (λ (m : Graph). IsStillDetour m n) (sym (is ∙ passing_is g gone to d.detour.passable.jump)) (λ has. detour_still n has (still (there_before n has)))
 

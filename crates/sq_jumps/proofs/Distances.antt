@@ -1,58 +1,21 @@
 -- Branches over lone Jumps that go, by the addresses that a survey has.
-use Rattle.std.proofs.Common.{◌≡◌, ◌≢◌, ◌↔◌, ℕ, List, [], ◌∷◌, length, Option, None, Some, unwrap_or, is_some, inl, inr, refl, sym, ap, ◌∙◌, subst, arith}
+use Rattle.std.proofs.Common.{◌≡◌, ◌≢◌, ◌↔◌, ℕ, List, length, Some, inl, inr, sym, ap, ◌∙◌, subst, arith}
 use Rattle.sq_isa.specs.declared.instructions.Cond.{Cond}
 use Rattle.sq_graph.specs.declared.item.Item.{Item}
 use Rattle.sq_graph.specs.declared.item.Term.{Term}
-use Rattle.sq_graph.specs.declared.item.Term.TheVariants.{Fall, Jump, Branch, Call, PartJump, Indirect, Stop}
-use Rattle.sq_graph.specs.Graph.{Block, Graph}
-use Rattle.sq_graph.specs.Blocks.{HasBlock, block_of, block_term, term_of}
+use Rattle.sq_graph.specs.declared.item.Term.TheVariants.{Jump, Branch}
+use Rattle.sq_graph.specs.Graph.{Graph}
+use Rattle.sq_graph.specs.Blocks.{HasBlock, block_of, term_of}
 use Rattle.sq_graph.specs.Operations.{with_term, redirected, without_block}
-use Rattle.sq_graph.specs.Resolve.{jump_of, lone_jump, jump_from}
-use Rattle.sq_graph.specs.Rules.{IsGraph}
+use Rattle.sq_graph.specs.Resolve.{jump_from}
 use Rattle.sq_graph.specs.Words.{term_words, block_words}
-use Rattle.sq_graph.specs.Places.{block_address}
 use Rattle.sq_layout.specs.Branches.{BranchReaches}
-use Rattle.sq_jumps.specs.Surveys.{address_of, ReachesWithout, IsTooFar, Needs}
-use Rattle.sq_layout.proofs.Shrinking.{placed, block_with}
+use Rattle.sq_lookup.specs.Addresses.{address_of}
+use Rattle.sq_jumps.specs.Surveys.{ReachesWithout, IsTooFar, Needs}
+use Rattle.sq_layout.proofs.Shrinking.{block_with}
+use Rattle.sq_lookup.proofs.Targets.{IsLone, lone, has_term, has_lone, lone_term}
+use Rattle.sq_lookup.proofs.Sizes.{placed_at}
 use Rattle.sq_jumps.proofs.Addresses.{IsRemovable, detour_reaches, other_term_reaches}
-use Rattle.sq_jumps.proofs.Surveying.{targets_there}
-use Rattle.std.proofs.lemmas.List.Elements.{All-head}
-
--- a lone Jump block has no items, and ends in the Jump
-pub record IsLone (g : Graph) (n to : ℕ) : Type 0 where
-  pub block : Block
-  pub found : block_of g n ≡ Some block
-  pub items : block.items ≡ []
-  pub term : block.term ≡ Jump to
-
-of_jump : (items : List Item) (t : Term) (to : ℕ) → jump_of items t ≡ Some to → (items ≡ []) × (t ≡ Jump to)
-of_jump (item ∷ items) t to e = absurd (cc)
-of_jump [] Fall to e = absurd (cc)
-of_jump [] (Jump n) to e = (refl, let same : n ≡ to = cc in ap Jump same)
-of_jump [] (Branch cond a b n) to e = absurd (cc)
-of_jump [] (Call link n) to e = absurd (cc)
-of_jump [] (PartJump link part n) to e = absurd (cc)
-of_jump [] (Indirect link at offset) to e = absurd (cc)
-of_jump [] (Stop word) to e = absurd (cc)
-
-pub lone : (g : Graph) (n to : ℕ) → jump_from g n ≡ Some to → IsLone g n to
-lone g n to e = by_block (block_of g n) refl e
-  where
-    by_block : (o : Option Block) → block_of g n ≡ o → lone_jump o ≡ Some to → IsLone g n to
-    by_block None is f = absurd (cc)
-    by_block (Some b) is f = let parts = of_jump b.items b.term to f in record { block = b; found = is; items = parts.0; term = parts.1 }
-
-pub placed_at : (g : Graph) (n : ℕ) → HasBlock g n → block_address g 0 n ≡ Some (address_of g n)
-placed_at g n there = let place = placed g.blocks 0 n there in place.1 ∙ ap Some (sym (ap (λ o. unwrap_or o 0) place.1))
-
-pub has_term : (g : Graph) (n : ℕ) (t : Term) → term_of g n ≡ Some t → HasBlock g n
-has_term g n t e = let o = block_with (block_of g n) t e in ap is_some o.1
-
-pub has_lone : (g : Graph) (n to : ℕ) → IsLone g n to → HasBlock g n
-has_lone g n to l = ap is_some l.found
-
-pub lone_term : (g : Graph) (n to : ℕ) → IsLone g n to → term_of g n ≡ Some (Jump to)
-lone_term g n to l = ap block_term l.found ∙ ap Some l.term
 
 lone_word : (g : Graph) (n to : ℕ) (l : IsLone g n to) → block_words l.block ≡ 1
 lone_word g n to l = omega (arith, ap (λ (is : List Item). length is) l.items, ap term_words l.term)
@@ -116,9 +79,6 @@ too_far g from over to cond a b there e jump other far = record {
   other = other;
   far = λ reach. far ((passes g over from to cond a b jump e there other).0 reach);
 }
-
-pub jump_there : (g : Graph) (n to : ℕ) → IsGraph g → jump_from g n ≡ Some to → HasBlock g to
-jump_there g n to rules e = All-head (HasBlock g) to [] (targets_there g n (Jump to) rules (lone_term g n to (lone g n to e)))
 
 -- a block that needs another is there
 pub needs_there : (g : Graph) (from n : ℕ) → Needs g from n → HasBlock g from

@@ -18,13 +18,11 @@ use Rattle.sq_graph.proofs.Eachs.{All-left, All-right}
 use Rattle.sq_graph.proofs.Located.{IsAt, located}
 use Rattle.sq_graph.proofs.Marks.{is_among-append}
 use Rattle.sq_graph.proofs.SlotReads.{block_at}
-use Rattle.sq_jumps.specs.Names.{is_listed, Adds}
-use Rattle.sq_jumps.specs.Rewrites.{falling}
-use Rattle.sq_jumps.specs.Rows.{JumpsToNext}
-use Rattle.sq_jumps.specs.Sweeps.{IsNamedElsewhere, AreNamedElsewhere, IsPlainFall}
+use Rattle.sq_lookup.specs.Names.{is_listed, Adds}
+use Rattle.sq_jumps.specs.Fall.{falling, JumpsToNext, IsNamedElsewhere, AreNamedElsewhere, IsPlainFall}
 use Rattle.sq_jumps.proofs.Applying.{term_elsewhere}
 use Rattle.sq_jumps.proofs.Detours.{listed_among}
-use Rattle.sq_jumps.proofs.Distances.{has_term}
+use Rattle.sq_lookup.proofs.Targets.{has_term}
 use Rattle.sq_jumps.proofs.Hastening.{three_uses}
 use Rattle.sq_jumps.proofs.Inverted.{HasFirst, first_is}
 use Rattle.sq_jumps.proofs.Leading.{or_cases, one_of_four}

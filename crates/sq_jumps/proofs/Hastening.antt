@@ -19,7 +19,7 @@ use Rattle.sq_graph.proofs.Located.{IsAt, located}
 use Rattle.sq_graph.proofs.Marks.{is_among-append}
 use Rattle.sq_graph.proofs.SlotReads.{block_at}
 use Rattle.sq_patch.specs.Operations.{IsShortable, hastened as short_jump, shortened}
-use Rattle.sq_jumps.proofs.Distances.{has_term}
+use Rattle.sq_lookup.proofs.Targets.{has_term}
 
 -- TERMS
 

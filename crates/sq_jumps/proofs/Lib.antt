@@ -2,7 +2,6 @@ pub mod Ruled
 pub mod Totals
 pub mod Addresses
 pub mod Adding
-pub mod Tabling
 pub mod Surveying
 pub mod Distances
 pub mod Rewriting

@@ -29,8 +29,7 @@ use Rattle.sq_patch.specs.LoneJumps.{IsPassable, IsJumpedOver}
 use Rattle.sq_jumps.proofs.Ruled.{IsEntered, behind_it, ends_without, without_rules, still_unused}
 use Rattle.sq_jumps.proofs.Totals.{term_total, without_total, redirected_total, replaced_total}
 use Rattle.sq_layout.proofs.Standing.{block_of-retargeted, block_of-changed, block_of-changed_here}
-use Rattle.sq_jumps.proofs.Surveying.{targets_are}
-use Rattle.sq_jumps.proofs.Distances.{has_term, jump_there, lone, lone_term}
+use Rattle.sq_lookup.proofs.Targets.{targets_are, has_term, jump_there, lone, lone_term}
 
 -- what there is and what is spare, of a graph that is known
 pub total_by : (old new : GraphAndRoom) (h : Graph) (spare : Room) → new.graph ≡ h → new.spare ≡ spare → sum_of (count_of h) spare ≡ sum_of (count_of old.graph) old.spare → KeepsTotal old new

@@ -23,11 +23,13 @@ use Rattle.sq_graph.specs.Walks.{IsLive}
 use Rattle.sq_graph.specs.Words.{words_of}
 use Rattle.sq_patch.specs.LoneJumps.{IsJumpedOver}
 use Rattle.sq_layout.specs.Branches.{BranchReaches}
-use Rattle.sq_jumps.specs.Names.{is_listed}
+use Rattle.sq_lookup.specs.Names.{is_listed}
 use Rattle.sq_jumps.specs.Surveys.{ReachesWithout, Needs, IsSurvey}
-use Rattle.sq_jumps.specs.Rows.{IsDetour, BranchesOverJump, JumpsByDeadPart}
-use Rattle.sq_jumps.specs.Sweeps.{IsStillSafe}
-use Rattle.sq_jumps.proofs.Distances.{passes, turns, jump_there}
+use Rattle.sq_jumps.specs.Detour.{IsDetour}
+use Rattle.sq_jumps.specs.Invert.{BranchesOverJump, IsStillSafe}
+use Rattle.sq_jumps.specs.Shorten.{JumpsByDeadPart}
+use Rattle.sq_jumps.proofs.Distances.{passes, turns}
+use Rattle.sq_lookup.proofs.Targets.{jump_there}
 use Rattle.sq_jumps.proofs.Rewriting.{to_apart, shortable_to}
 use Rattle.sq_layout.proofs.Shrunk.{all_stay}
 

@@ -1,5 +1,5 @@
 -- What an old survey tells of a graph from which blocks went since.
-use Rattle.std.proofs.Common.{◌≡◌, ◌≢◌, ◌⊎◌, ℕ, pos, ◌-ℤ◌, ◌+◌, ◌*◌, ◌<◌, ◌≤◌, ◌^◌, List, [], length, Option, None, Some, IsSome, unwrap_or, inl, inr, refl, sym, ap, ◌∙◌, subst, arith}
+use Rattle.std.proofs.Common.{◌≡◌, ◌≢◌, ◌⊎◌, ℕ, pos, ◌-ℤ◌, ◌+◌, ◌*◌, ◌≤◌, List, [], length, Option, None, Some, IsSome, unwrap_or, inl, inr, refl, sym, ap, ◌∙◌, subst, arith}
 use Rattle.std.specs.List.{All, Contains}
 use Rattle.std.proofs.lemmas.Int.{ints}
 use Rattle.std.proofs.lemmas.List.Elements.{All-nil, All-cons, All-head}
@@ -12,33 +12,24 @@ use Rattle.sq_graph.specs.Graph.{Block, Graph}
 use Rattle.sq_graph.specs.Blocks.{named, HasBlock, block_of, block_items, items_of}
 use Rattle.sq_graph.specs.Operations.{with_term}
 use Rattle.sq_graph.specs.Resolve.{jump_from}
-use Rattle.sq_graph.specs.Places.{address_in, block_address, Reaches}
+use Rattle.sq_graph.specs.Places.{address_in, Reaches}
 use Rattle.sq_graph.specs.Rules.{IsGraph}
 use Rattle.sq_graph.specs.Uses.{uses}
-use Rattle.sq_graph.specs.Words.{term_words, block_words, words_of}
+use Rattle.sq_graph.specs.Words.{term_words, block_words}
 use Rattle.sq_patch.specs.LoneJumps.{inverted_over}
-use Rattle.sq_jumps.specs.Rewrites.{inverted}
-use Rattle.sq_jumps.specs.Rows.{BranchesOverJump}
+use Rattle.sq_jumps.specs.Invert.{inverted, BranchesOverJump, IsStillSafe}
 use Rattle.sq_layout.specs.Shrinks.{Shrinks}
 use Rattle.sq_layout.specs.Branches.{lifted}
-use Rattle.sq_jumps.specs.Surveys.{address_of, address_at, ReachesBy, ReachesWithout}
-use Rattle.sq_jumps.specs.Sweeps.{IsStillSafe}
+use Rattle.sq_lookup.specs.Addresses.{address_of, address_at}
+use Rattle.sq_jumps.specs.Surveys.{ReachesBy, ReachesWithout}
+use Rattle.sq_lookup.proofs.Sizes.{addresses_are}
 use Rattle.sq_layout.proofs.Standing.{above, below}
 use Rattle.sq_jumps.proofs.Applying.{inverting_is, invert_shrinks}
-use Rattle.sq_jumps.proofs.Distances.{has_term, lone, lone_term, jump_there}
+use Rattle.sq_lookup.proofs.Targets.{has_term, lone, lone_term, jump_there, targets_are}
 use Rattle.sq_jumps.proofs.Rewriting.{all_apart, turned_rules, over_there, inverted_rules}
 use Rattle.sq_jumps.proofs.Ruled.{still_unused, without_names}
 use Rattle.sq_layout.proofs.Shrinking.{IsNoFurther, no_further, placed, source_of}
 use Rattle.sq_layout.proofs.Shrunk.{shrinks_twice}
-use Rattle.sq_jumps.proofs.Surveying.{address_small, targets_are}
-
--- ADDRESSES OF A TABLE
-
-pub addresses_are : (address : ℕ → Option ℕ) (g : Graph) → ((n : ℕ) → address n ≡ block_address g 0 n) → address_at address ≡ address_of g
-addresses_are address g same = λ i n. unwrap_or (same n i) 0
-
-pub addresses_small : (address : ℕ → Option ℕ) (g : Graph) → ((n : ℕ) → address n ≡ block_address g 0 n) → words_of g < 2 ^ 31 → (n : ℕ) → address_at address n < 2 ^ 34
-addresses_small address g same few n = subst (λ (f : ℕ → ℕ). f n < 2 ^ 34) (sym (addresses_are address g same)) (address_small g n few)
 
 pub reaches_by : (p q : ℕ → ℕ) (items gone from to : ℕ) → p ≡ q → ReachesBy p items gone from to → ReachesBy q items gone from to
 reaches_by p q items gone from to same reach = subst (λ (f : ℕ → ℕ). ReachesBy f items gone from to) same reach

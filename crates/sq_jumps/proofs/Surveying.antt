@@ -1,94 +1,12 @@
 -- What a survey finds of a graph.
-use Rattle.std.proofs.Common.{◌≡◌, ◌↔◌, ◌⊎◌, ℕ, suc, ◌+◌, ◌*◌, ◌<◌, ◌≤◌, ◌^◌, ◌==◌, ◌||◌, Bool, true, false, nat_eq, List, [], ◌∷◌, map, take, drop, length, get_or, sum_by, Option, None, Some, IsSome, unwrap_or, option_to_list, inl, inr, refl, sym, ap, ◌∙◌, subst, arith}
-use Rattle.std.specs.List.{All}
-use Rattle.std.proofs.lemmas.Bool.{cases_Bool, cases_lt, eqb-true, eq-eqb}
-use Rattle.std.proofs.lemmas.List.{take-append-drop}
-use Rattle.std.proofs.lemmas.List.Sums.{sum_by-cons}
-use Rattle.std.proofs.lemmas.List.Elements.{All-head}
-use Rattle.sq_arena.specs.Entries.{HasDistinctKeys, value_of}
-use Rattle.sq_arena.proofs.EntriesLaws.{distinct_back}
-use Rattle.sq_isa.specs.declared.instructions.Cond.{Cond}
-use Rattle.sq_graph.specs.declared.item.Term.{Term}
-use Rattle.sq_graph.specs.declared.item.Term.TheVariants.{Branch, PartJump}
-use Rattle.sq_graph.specs.Graph.{Block, Graph}
-use Rattle.sq_graph.specs.Blocks.{named, HasBlock, HasProcedure, block_of, block_items, items_of, term_of}
+use Rattle.std.proofs.Common.{◌≡◌, ◌↔◌, ◌⊎◌, ℕ, ◌+◌, ◌<◌, ◌≤◌, ◌||◌, Bool, true, false, nat_eq, List, [], length, get_or, Option, None, Some, option_to_list, inl, inr, refl, sym, ap, ◌∙◌, subst, arith}
+use Rattle.std.proofs.lemmas.Bool.{cases_lt, eqb-true, eq-eqb}
+use Rattle.sq_graph.specs.Graph.{Graph}
+use Rattle.sq_graph.specs.Blocks.{HasBlock}
 use Rattle.sq_graph.specs.Parts.{names_of}
-use Rattle.sq_graph.specs.Rules.{IsGraph}
-use Rattle.sq_graph.specs.Uses.{term_uses, uses}
-use Rattle.sq_graph.specs.Words.{block_words, words_of}
-use Rattle.sq_graph.specs.Places.{address_in, block_address}
-use Rattle.sq_graph.proofs.Located.{located, named-append}
-use Rattle.sq_graph.proofs.SlotReads.{block_at}
-use Rattle.sq_graph.proofs.Eachs.{All-right}
-use Rattle.sq_graph.proofs.RulesByBlock.{BlockStands, by_block}
-use Rattle.sq_jumps.specs.Names.{is_listed, Adds}
-use Rattle.sq_jumps.specs.Surveys.{address_of, Needs}
-use Rattle.sq_layout.proofs.Shrinking.{some_is, block_with}
-
--- the blocks from a position on have different names
-pub drop_distinct : (g : Graph) (k : ℕ) (b : Block) (rest : List Block) → IsGraph g → drop k g.blocks ≡ b ∷ rest → HasDistinctKeys (named (b ∷ rest))
-drop_distinct g k b rest rules e =
-    subst (λ (bs : List Block). HasDistinctKeys (named bs)) e
-    (distinct_back (named (take k g.blocks)) (named (drop k g.blocks))
-    (subst (λ (es : List (ℕ × Block)). HasDistinctKeys es) (ap named (sym (take-append-drop k g.blocks)) ∙ named-append (take k g.blocks) (drop k g.blocks)) rules.distinct))
-
--- an address is no further than the end
-most : (bs : List Block) (at n x : ℕ) → address_in bs at n ≡ Some x → x ≤ at + 4 * sum_by block_words bs
-most [] at n x e = absurd (cc)
-most (b ∷ bs) at n x e =
-    elim (cases_Bool (b.name == n)) [
-      | inl here ↦ let s = some_is at x (rw here at e) in omega arith
-      | inr apart ↦ let l = most bs (at + 4 * block_words b) n x (rw apart at e) in omega (arith, sum_by-cons block_words b bs)
-    ]
-
-pub address_small : (g : Graph) (n : ℕ) → words_of g < 2 ^ 31 → address_of g n < 2 ^ 34
-address_small g n few = by_place (block_address g 0 n) refl
-  where
-    by_place : (o : Option ℕ) → block_address g 0 n ≡ o → unwrap_or (block_address g 0 n) 0 < 2 ^ 34
-    by_place None e = rw e (omega arith)
-    by_place (Some x) e = let l = most g.blocks 0 n x e in rw e (omega (arith, few))
-
-found_few : (bs : List Block) (n : ℕ) → length (block_items (value_of (named bs) n)) ≤ sum_by block_words bs
-found_few [] n = omega arith
-found_few (b ∷ bs) n =
-    elim (cases_Bool (b.name == n)) [
-      | inl here ↦ rw here (omega (arith, sum_by-cons block_words b bs))
-      | inr apart ↦ rw apart (omega (arith, sum_by-cons block_words b bs, found_few bs n))
-    ]
-
-pub items_few : (g : Graph) (n : ℕ) → words_of g < 2 ^ 31 → length (items_of g n) < 2 ^ 31
-items_few g n few = let l = found_few g.blocks n in omega (arith, few)
-
--- what holds of all uses holds of what a term names
-pub targets_are : (P : ℕ → Type 0) (g : Graph) (n : ℕ) (t : Term) → IsGraph g → All P (uses g) → term_of g n ≡ Some t → All P (term_uses t)
-targets_are P g n t rules used e =
-    let o = block_with (block_of g n) t e in
-    let at = located g.blocks n (rw o.1 refl) in
-    let B = BlockStands P (HasProcedure g) in
-    let by = by_block P (HasProcedure g) g rules used rules.called_all in
-    let all = subst (λ (bs : List Block). All (BlockStands P (HasProcedure g)) bs) at.whole by.blocks in
-    let own = All-head B at.block at.back (All-right B at.front (at.block ∷ at.back) all) in
-    let same : at.block.term ≡ t = let f : Some at.block ≡ Some o.0 = sym (block_at g.blocks n at) ∙ o.1 in let is : at.block ≡ o.0 = cc in ap (λ (b : Block). b.term) is ∙ o.2 in
-    subst (λ u. All P (term_uses u)) same own.names
-
--- what a term names is there
-pub targets_there : (g : Graph) (n : ℕ) (t : Term) → IsGraph g → term_of g n ≡ Some t → All (HasBlock g) (term_uses t)
-targets_there g n t rules e = targets_are (HasBlock g) g n t rules rules.named_all e
-
-pub branch_there : (g : Graph) (n : ℕ) (cond : Cond) (a b to : ℕ) → IsGraph g → term_of g n ≡ Some (Branch cond a b to) → HasBlock g to
-branch_there g n cond a b to rules e = All-head (HasBlock g) to [] (targets_there g n (Branch cond a b to) rules e)
-
-pub part_there : (g : Graph) (n link part to : ℕ) → IsGraph g → term_of g n ≡ Some (PartJump link part to) → HasBlock g to
-part_there g n link part to rules e = All-head (HasBlock g) to [] (targets_there g n (PartJump link part to) rules e)
-
--- each block's name is in the list of names
-pub name_listed : (bs : List Block) (n : ℕ) → IsSome (value_of (named bs) n) → (k : ℕ) × (k < length (map (λ (b : Block). b.name) bs)) × (get_or (map (λ (b : Block). b.name) bs) k 0 ≡ n)
-name_listed [] n some = absurd (cc)
-name_listed (b ∷ bs) n some =
-    elim (cases_Bool (b.name == n)) [
-      | inl here ↦ (0, omega arith, eqb-true b.name n here)
-      | inr apart ↦ let later = name_listed bs n (rw apart at some) in (suc later.0, omega (arith, later.1), later.2)
-    ]
+use Rattle.sq_lookup.specs.Names.{is_listed, Adds}
+use Rattle.sq_lookup.proofs.Targets.{name_listed}
+use Rattle.sq_jumps.specs.Surveys.{Needs}
 
 -- A set of names, in midst of a walk over the blocks
 

@@ -32,9 +32,10 @@ use Rattle.sq_pass.specs.Counted.{counted}
 use Rattle.sq_pass.specs.Rewrites.{IsSettled, IsRewritten}
 use Rattle.sq_pass.proofs.Rewriting.{settled_itself, rewrite_made, settled_made, rewritten_once, rewritten_through}
 use Rattle.sq_jumps.specs.Candidates.{HasRow, cut_at, IsCandidate, rewritten, described}
-use Rattle.sq_jumps.specs.Rewrites.{falling, passed, hastened, inverted}
-use Rattle.sq_jumps.specs.Rows.{BranchesOverJump, JumpsByDeadPart}
-use Rattle.sq_jumps.specs.Sweeps.{IsStillDead, IsPlainDetour, IsPlainFall}
+use Rattle.sq_jumps.specs.Fall.{falling, IsPlainFall}
+use Rattle.sq_jumps.specs.Detour.{straightened, IsPlainDetour}
+use Rattle.sq_jumps.specs.Shorten.{hastened, JumpsByDeadPart, IsStillDead}
+use Rattle.sq_jumps.specs.Invert.{inverted, BranchesOverJump}
 use Rattle.sq_jumps.proofs.Applying.{hastening_is, shorten_applied, inverting_is, invert_applied, passing_is, pass_applied, fall_applied}
 use Rattle.sq_jumps.proofs.Fallen.{falling_canonical}
 use Rattle.sq_jumps.proofs.Hastening.{shortened_canonical}
@@ -137,7 +138,7 @@ inverted_rewritten g h block before after rules canonical o is counts =
 
 -- ROW J2
 
-pub detour_rewritten : (g h : Graph) (block : ℕ) (before after : Savings) → IsGraph g → IsCanonical g → IsPlainDetour g block → h ≡ passed g block → after ≡ counted before J2 1 → IsRewritten IsCandidate described before after g h
+pub detour_rewritten : (g h : Graph) (block : ℕ) (before after : Savings) → IsGraph g → IsCanonical g → IsPlainDetour g block → h ≡ straightened g block → after ≡ counted before J2 1 → IsRewritten IsCandidate described before after g h
 detour_rewritten g h block before after rules canonical p is counts =
     let to = p.detour.to in
     let passable = p.detour.passable in

@@ -23,7 +23,7 @@ use Rattle.sq_graph.proofs.Kept.{absent_behind}
 use Rattle.sq_patch.specs.Restrictions.{procedures_held, number_held}
 use Rattle.sq_patch.proofs.Restricting.{successors_at}
 use Rattle.sq_reach.proofs.Blocks.{reached_has}
-use Rattle.sq_jumps.specs.Names.{is_listed}
+use Rattle.sq_lookup.specs.Names.{is_listed}
 use Rattle.sq_jumps.specs.Unreached.{is_called_in, AreUnreached}
 use Rattle.sq_jumps.specs.Clearings.{cleared_each, is_called, without_uncalled, first_listed, AreApart, AreOnce, MayGo}
 use Rattle.sq_jumps.proofs.Adding.{uses_of_blocks, uses_of_bodies}

@@ -7,7 +7,7 @@ use Rattle.sq_graph.specs.Blocks.{HasBlock, items_of}
 use Rattle.sq_graph.specs.Operations.{with_term, replaced, without_block, without_procedure}
 use Rattle.sq_graph.specs.Terms.{goes_on}
 use Rattle.sq_graph.specs.Uses.{uses}
-use Rattle.sq_jumps.specs.Names.{is_listed}
+use Rattle.sq_lookup.specs.Names.{is_listed}
 use Rattle.sq_jumps.specs.Unreached.{is_called_in}
 
 -- the block loses its items, and stops

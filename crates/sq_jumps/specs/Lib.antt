@@ -1,9 +1,8 @@
-pub mod Names
-pub mod Tables
 pub mod Surveys
-pub mod Rows
-pub mod Rewrites
+pub mod Fall
+pub mod Detour
+pub mod Invert
+pub mod Shorten
 pub mod Unreached
 pub mod Clearings
 pub mod Candidates
-pub mod Sweeps

@@ -1,5 +1,5 @@
 -- What is gathered of a graph before its blocks are tested. No public clause cites this module.
-use Rattle.std.specs.Prelude.{◌≡◌, ◌≢◌, ◌↔◌, ◌⊎◌, ℕ, pos, ◌-ℤ◌, ◌+◌, ◌*◌, true, List, length, Option, Some, unwrap_or}
+use Rattle.std.specs.Prelude.{◌≡◌, ◌≢◌, ◌↔◌, ◌⊎◌, ℕ, pos, ◌-ℤ◌, ◌+◌, ◌*◌, true, List, length, Option, Some}
 use Rattle.sq_isa.specs.declared.instructions.Cond.{Cond}
 use Rattle.sq_graph.specs.declared.item.Term.{Term}
 use Rattle.sq_graph.specs.declared.item.Term.TheVariants.{Branch}
@@ -10,16 +10,9 @@ use Rattle.sq_graph.specs.Uses.{uses}
 use Rattle.sq_graph.specs.Operations.{redirected, without_block}
 use Rattle.sq_graph.specs.Resolve.{jump_from}
 use Rattle.sq_graph.specs.Places.{block_address, Reaches}
+use Rattle.sq_lookup.specs.Addresses.{address_of}
 use Rattle.sq_layout.specs.Branches.{BranchReaches, lifted}
-use Rattle.sq_jumps.specs.Names.{is_listed}
-
--- where a block stands in a text that starts at 0
-abbrev pub address_of : Graph → ℕ → ℕ
-address_of g n = unwrap_or (block_address g 0 n) 0
-
--- the address under a name
-abbrev pub address_at : (ℕ → Option ℕ) → ℕ → ℕ
-address_at address n = unwrap_or (address n) 0
+use Rattle.sq_lookup.specs.Names.{is_listed}
 
 -- by these addresses, once a block of one word is gone, a Branch behind so many items of a block reaches another one
 abbrev pub ReachesBy : (ℕ → ℕ) → ℕ → ℕ → ℕ → ℕ → Type 0

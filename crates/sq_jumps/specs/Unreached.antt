@@ -8,7 +8,7 @@ use Rattle.sq_graph.specs.Uses.{item_calls}
 use Rattle.sq_graph.specs.Walks.{IsReachedBlock}
 use Rattle.sq_graph.specs.Words.{block_words, procedure_words}
 use Rattle.sq_patch.specs.Restrictions.{procedures_held, restricted}
-use Rattle.sq_jumps.specs.Names.{is_listed}
+use Rattle.sq_lookup.specs.Names.{is_listed}
 
 -- a block of the graph that isn't among those that go
 abbrev pub stays : Graph → List ℕ → ℕ → Bool

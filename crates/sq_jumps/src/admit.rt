@@ -1,21 +1,24 @@
-//! Whether a given cut is a candidate, but for what its row determines.
+//! Whether a given cut of a row for one block is a candidate, but for what its row determines.
 
-ghost use Rattle.std.specs.Prelude.{◌≡◌, ◌≢◌, ◌↔◌, ℕ, IsTrue, None, Ok, IfOk, IfSome};
+ghost use Rattle.std.specs.Prelude.{◌↔◌, IsTrue, ◌≡◌, IfOk, IfSome, ℕ, None, Ok, ◌≢◌};
 ghost use Rattle.sq_graph.specs.Blocks.{HasBlock};
-ghost use Rattle.sq_graph.specs.Rules.{IsGraph};
 ghost use Rattle.sq_live.specs.Liveness.{IsLivenessOf};
+ghost use Rattle.sq_jumps.specs.Candidates.{HasRow, OneBlock, IsJumpCut};
+ghost use Rattle.sq_graph.specs.Rules.{IsGraph};
 ghost use Rattle.sq_pass.specs.declared.cut.Cut.{Cut as Told};
 ghost use Rattle.sq_pass.specs.declared.cut.Row.TheVariants.{U as Unreached};
 ghost use Rattle.sq_pass.specs.Cuts.{IsCompleted};
-ghost use Rattle.sq_jumps.specs.Candidates.{HasRow, OneBlock, IsJumpCut, IsUnreachedCut};
 
-use crate::blocks::{facts, is_block};
+use crate::detour::is_detour;
+use crate::fall::jumps_to_next;
 use crate::find::no_register;
-use crate::rows::{branches_over_jump, is_detour, jumps_by_dead_part, jumps_to_next};
+use crate::invert::branches_over_jump;
+use crate::shorten::jumps_by_dead_part;
 use crate::survey::survey_of;
-use crate::unreached::find_unreached;
 use sq_graph::Graph;
+use sq_layout::learn;
 use sq_live::{Liveness, block_names};
+use sq_lookup::is_block;
 use sq_num::Memory;
 use sq_pass::{Cut, Row};
 use std::alloc::Global;
@@ -33,7 +36,7 @@ fn has_row(
     requires live { IsLivenessOf graph.now.graph live.now }
     ensures { IfOk result (λ has. IsTrue has ↔ HasRow row graph.now.graph block) }
 {
-    facts(graph);
+    learn(graph);
     match row {
         Row::J1 => Ok(jumps_to_next(graph, block)),
         Row::J2 => {
@@ -88,22 +91,4 @@ pub(crate) fn admit_block(
         saving: 1,
         ..cut
     }))
-}
-
-/// The cut of U with its blocks, link and saving, or `None` where there is none.
-pub(crate) fn admit_unreached(
-    alloc: Global,
-    graph: &Graph,
-    cut: &Cut,
-) -> Result<Option<Cut>, Memory>
-    requires rules { IsGraph graph.now.graph }
-    requires row { cut.now.row ≡ Unreached }
-    ensures some { IfOk result (λ found. IfSome found (λ given. IsUnreachedCut graph.now.graph given × IsCompleted cut.now given)) }
-    ensures none { result ≡ Ok None → (given : Told) → IsCompleted cut.now given → ¬ IsUnreachedCut graph.now.graph given }
-{
-    if cut.procedure != 0 || cut.other != 0 || cut.length != 0 {
-        return Ok(None);
-    }
-    let names = block_names(alloc, graph)?;
-    find_unreached(alloc, graph, &names)
 }

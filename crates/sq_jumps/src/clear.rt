@@ -6,12 +6,12 @@ ghost use Rattle.sq_graph.specs.Blocks.{HasBlock};
 ghost use Rattle.sq_graph.specs.Room.{KeepsTotal};
 ghost use Rattle.sq_graph.specs.Rules.{IsGraph};
 ghost use Rattle.sq_graph.specs.Uses.{item_calls};
-ghost use Rattle.sq_jumps.specs.Names.{is_listed};
+ghost use Rattle.sq_lookup.specs.Names.{is_listed};
 ghost use Rattle.sq_jumps.specs.Unreached.{AreUnreached, without_all};
 ghost use Rattle.sq_jumps.specs.Clearings.{cleared, cleared_each, is_called, without_uncalled, without_each, MayGo};
 
-use crate::blocks::facts;
 use sq_graph::{Graph, Item, Term};
+use sq_layout::learn;
 
 /// Takes the items of a block away, and makes it stop, so that it names nothing.
 fn clear(graph: &mut Graph, block: u32)
@@ -20,7 +20,7 @@ fn clear(graph: &mut Graph, block: u32)
     ensures blocks { (n : ℕ) → HasBlock graph.old.graph n → HasBlock graph.new.graph n }
     ensures total { KeepsTotal graph.old graph.new }
 {
-    facts(graph);
+    learn(graph);
     let count = graph.items(block).len() as u32;
     graph.replace(block, 0, count, &[]);
     graph.set_term(block, Term::Stop { word: 0 });
@@ -72,7 +72,7 @@ fn remove_uncalled(graph: &mut Graph)
     ensures total { KeepsTotal graph.old graph.new }
 {
     for number in (0..graph.procedures()).rev() {
-        facts(graph);
+        learn(graph);
         if !is_called(graph, number) {
             graph.remove_procedure(number);
         }
@@ -86,7 +86,7 @@ fn remove_each(graph: &mut Graph, blocks: &[u32])
     ensures total { KeepsTotal graph.old graph.new }
 {
     for block in blocks {
-        facts(graph);
+        learn(graph);
         graph.remove(*block);
     }
 }
@@ -98,10 +98,10 @@ pub(crate) fn drop_unreached(graph: &mut Graph, blocks: &[u32])
     ensures rules { IsGraph graph.new.graph }
     ensures total { KeepsTotal graph.old graph.new }
 {
-    facts(graph);
+    learn(graph);
     clear_each(graph, blocks);
     remove_uncalled(graph);
-    facts(graph);
+    learn(graph);
     remove_each(graph, blocks);
-    facts(graph);
+    learn(graph);
 }

@@ -9,15 +9,20 @@ ghost use Rattle.sq_live.specs.Liveness.{IsLivenessOf};
 ghost use Rattle.sq_pass.specs.declared.cut.Row.{Row as RowName};
 ghost use Rattle.sq_pass.specs.declared.cut.Cut.{Cut as Told};
 ghost use Rattle.sq_jumps.specs.Surveys.{IsSurvey};
-ghost use Rattle.sq_jumps.specs.Tables.{number_at};
-ghost use Rattle.sq_jumps.specs.Rows.{JumpsToNext, IsDetour, BranchesOverJump};
+ghost use Rattle.sq_lookup.specs.Tables.{number_at};
+ghost use Rattle.sq_jumps.specs.Fall.{JumpsToNext};
+ghost use Rattle.sq_jumps.specs.Detour.{IsDetour};
+ghost use Rattle.sq_jumps.specs.Invert.{BranchesOverJump};
 ghost use Rattle.sq_jumps.specs.Candidates.{HasRow, cut_at, IsJumpCut};
 
-use crate::blocks::facts;
-use crate::rows::{branches_over_jump, is_detour, jumps_by_dead_part, jumps_to_next};
+use crate::detour::is_detour;
+use crate::fall::jumps_to_next;
+use crate::invert::branches_over_jump;
+use crate::shorten::jumps_by_dead_part;
 use crate::survey::{Survey, survey_of};
 use sq_graph::Graph;
 use sq_isa::Reg;
+use sq_layout::learn;
 use sq_live::Liveness;
 use sq_num::Memory;
 use sq_pass::{Blocks, Cut, Row};
@@ -54,7 +59,7 @@ pub(crate) fn jump_row(graph: &Graph, survey: &Survey, block: u32) -> Option<Row
     ensures some { IfSome result (λ row. HasRow row graph.now.graph block) }
     ensures none { result ≡ None → ¬ JumpsToNext graph.now.graph block × ¬ IsDetour graph.now.graph block × ¬ BranchesOverJump graph.now.graph block }
 {
-    facts(graph);
+    learn(graph);
     if jumps_to_next(graph, block) {
         return Some(Row::J1);
     }

@@ -1,13 +1,17 @@
 //! The pass.
 
-use crate::admit::{admit_block, admit_unreached};
-use crate::blocks::facts;
+use crate::admit::admit_block;
+use crate::apply::apply_row;
 use crate::clear::drop_unreached;
+use crate::detour::sweep_detours;
+use crate::fall::sweep_falls;
 use crate::find::find_block;
-use crate::rewrites::apply_row;
-use crate::sweep::{sweep_branches, sweep_calls, sweep_detours, sweep_falls, sweep_jumps};
-use crate::unreached::find_unreached;
+use crate::invert::sweep_branches;
+use crate::shorten::sweep_calls;
+use crate::sweep::sweep_jumps;
+use crate::unreached::{admit_unreached, find_unreached};
 use sq_graph::{Graph, Room};
+use sq_layout::learn;
 use sq_live::{Liveness, block_names};
 use sq_num::{Memory, Savings};
 use sq_pass::{Cut, Pass, Row};
@@ -37,7 +41,7 @@ impl Pass for Jumps {
         live: &Liveness,
         cut: Cut,
     ) -> Result<Option<Cut>, Memory> {
-        facts(graph);
+        learn(graph);
         match cut.row {
             Row::U => admit_unreached(alloc, graph, &cut),
             _ => admit_block(alloc, graph, live, cut),
@@ -46,7 +50,7 @@ impl Pass for Jumps {
 
     /// It looks at each word a few times.
     fn find(&self, alloc: Global, graph: &Graph, live: &Liveness) -> Result<Option<Cut>, Memory> {
-        facts(graph);
+        learn(graph);
         let names = block_names(alloc, graph)?;
         match find_block(alloc, graph, live, &names)? {
             Some(cut) => Ok(Some(cut)),
@@ -65,7 +69,7 @@ impl Pass for Jumps {
 
     /// A few calls of the graph; of U one look at the blocks for each procedure besides.
     fn apply(&self, graph: &mut Graph, cut: &Cut) {
-        facts(graph);
+        learn(graph);
         let blocks = cut.blocks.as_slice();
         match cut.row {
             Row::U => drop_unreached(graph, blocks),

@@ -5,16 +5,16 @@
 #![tactic(auto)]
 
 mod admit;
-mod blocks;
+mod apply;
 mod clear;
+mod detour;
+mod fall;
 mod find;
+mod invert;
 mod jumps;
-mod names;
-mod rewrites;
-mod rows;
+mod shorten;
 mod survey;
 mod sweep;
-mod table;
 mod unreached;
 mod uses;
 

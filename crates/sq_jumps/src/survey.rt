@@ -1,22 +1,21 @@
 //! What is gathered of a graph before its blocks are tested.
 
-ghost use Rattle.std.specs.Prelude.{◌≡◌, ℕ, pos, ◌-ℤ◌, ◌<◌, ◌^◌, ◌↔◌, true, Some, IsTrue, IfOk, length};
+ghost use Rattle.std.specs.Prelude.{◌≡◌, ℕ, ◌<◌, ◌^◌, ◌↔◌, true, Some, IsTrue, IfOk, length};
 ghost use Rattle.sq_graph.specs.Blocks.{HasBlock, items_of};
 ghost use Rattle.sq_graph.specs.Parts.{names_of};
 ghost use Rattle.sq_graph.specs.Places.{block_address};
 ghost use Rattle.sq_graph.specs.Rules.{IsGraph};
 ghost use Rattle.sq_graph.specs.Words.{words_of};
-ghost use Rattle.sq_jumps.specs.Names.{is_listed};
+ghost use Rattle.sq_lookup.specs.Names.{is_listed};
 ghost use Rattle.sq_layout.specs.Branches.{lifted};
-ghost use Rattle.sq_jumps.specs.Surveys.{address_at, ReachesBy, GoesInto, IsTooFar, Needs, IsSurvey};
-ghost use Rattle.sq_jumps.specs.Tables.{number_at};
+ghost use Rattle.sq_lookup.specs.Addresses.{address_at};
+ghost use Rattle.sq_jumps.specs.Surveys.{ReachesBy, GoesInto, IsTooFar, Needs, IsSurvey};
+ghost use Rattle.sq_lookup.specs.Tables.{number_at};
 
-use crate::blocks::{block_words, facts, goes_on, jump_from};
-use crate::names::Names;
-use crate::table::Table;
 use crate::uses::used_names;
 use sq_graph::{Graph, Term};
-use sq_layout::reaches;
+use sq_layout::{distance, learn, reaches};
+use sq_lookup::{Names, Table, address, block_addresses, jump_from};
 use sq_num::Memory;
 use std::alloc::Global;
 
@@ -29,43 +28,11 @@ pub(crate) struct Survey {
     pub needed: Names,
 }
 
-/// The address of each block in a text that starts at 0.
-fn block_addresses(alloc: Global, graph: &Graph, names: &[u32]) -> Result<Table, Memory>
-    requires rules { IsGraph graph.now.graph }
-    requires few { words_of graph.now.graph < 2 ^ 31 }
-    requires names { names.now ≡ names_of graph.now.graph }
-    ensures { IfOk result (λ addresses. (n : ℕ) → number_at addresses n ≡ block_address graph.now.graph 0 n) }
-{
-    let mut addresses = Table::new(alloc);
-    let mut at = 0;
-    for name in names {
-        addresses.insert(*name, at)?;
-        at += 4 * block_words(graph, *name);
-    }
-    Ok(addresses)
-}
-
-/// The address of a block.
-fn address(addresses: &Table, block: u32) -> u64
-    ensures { result ≡ address_at (number_at addresses.now) block }
-{
-    addresses.get(block).unwrap_or(0)
-}
-
 /// Where a place stands once a word is gone.
 fn lifted(gone: u64, at: u64) -> u64
     ensures { result ≡ lifted gone at }
 {
     if gone < at { at.saturating_sub(4) } else { at }
-}
-
-/// How far a place is behind another one.
-fn distance(target: u64, at: u64) -> i64
-    requires target { target < 2 ^ 40 }
-    requires at { at < 2 ^ 40 }
-    ensures { result ≡ pos target -ℤ pos at }
-{
-    target as i64 - at as i64
 }
 
 /// Whether, by these addresses, the Branch at the end of the block reaches another one, once a block of one word is gone.
@@ -93,7 +60,7 @@ fn entered(graph: &Graph, from: u32) -> Option<u32>
     requires { HasBlock graph.now.graph from }
     ensures { (n : ℕ) → (result ≡ Some n) ↔ GoesInto graph.now.graph from n }
 {
-    if goes_on(&graph.term(from)) {
+    if graph.term(from).goes_on() {
         graph.next(from)
     } else {
         None
@@ -149,7 +116,7 @@ pub(crate) fn survey_of(alloc: Global, graph: &Graph, names: &[u32]) -> Result<S
     requires { names.now ≡ names_of graph.now.graph }
     ensures { IfOk result (λ survey. IsSurvey graph.now.graph (number_at survey.addresses) survey.used survey.needed) }
 {
-    facts(graph);
+    learn(graph);
     let addresses = block_addresses(alloc, graph, names)?;
     let used = used_names(alloc, graph, names)?;
     let needed = needed_names(alloc, graph, names, &addresses)?;

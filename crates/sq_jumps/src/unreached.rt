@@ -1,21 +1,31 @@
-//! What isn't reached.
+//! Row U: the blocks that aren't reached go, and the procedures that no other block calls.
+//!
+//!     before   a: ..      after   a: ..
+//!                 j c                j c
+//!              b: ..              c: ..
+//!              c: ..
+//!
+//! What the cut is and how it is found is here, and `clear` has how it is applied.
 
-ghost use Rattle.std.specs.Prelude.{◌≡◌, ℕ, ◌<◌, ◌^◌, not, sum_by, None, Ok, OnOk, IfOk, IfSome};
+ghost use Rattle.std.specs.Prelude.{◌≡◌, IfOk, IfSome, ℕ, ◌<◌, ◌^◌, not, sum_by, None, Ok, OnOk};
+ghost use Rattle.sq_jumps.specs.Candidates.{IsUnreachedCut};
 ghost use Rattle.std.specs.List.{filter, flat_map};
 ghost use Rattle.sq_graph.specs.Parts.{names_of};
 ghost use Rattle.sq_graph.specs.Rules.{IsGraph};
+ghost use Rattle.sq_graph.specs.Words.{words_of, block_words, procedure_words};
 ghost use Rattle.sq_graph.specs.Uses.{item_calls};
-ghost use Rattle.sq_graph.specs.Words.{block_words, procedure_words, words_of};
 ghost use Rattle.sq_patch.specs.Restrictions.{procedures_held};
 ghost use Rattle.sq_pass.specs.declared.cut.Cut.{Cut as Told};
-ghost use Rattle.sq_jumps.specs.Names.{is_listed, Adds};
+ghost use Rattle.sq_lookup.specs.Names.{is_listed, Adds};
 ghost use Rattle.sq_jumps.specs.Unreached.{is_called_in};
-ghost use Rattle.sq_jumps.specs.Candidates.{IsUnreachedCut};
+ghost use Rattle.sq_pass.specs.declared.cut.Row.TheVariants.{U as Unreached};
+ghost use Rattle.sq_pass.specs.Cuts.{IsCompleted};
 
-use crate::blocks::{block_words, facts};
 use crate::find::no_register;
-use crate::names::Names;
 use sq_graph::{Graph, Item};
+use sq_layout::{block_words, learn};
+use sq_live::block_names;
+use sq_lookup::Names;
 use sq_num::Memory;
 use sq_pass::{Blocks, Cut, Row};
 use sq_reach::{Marks, reachable};
@@ -79,7 +89,7 @@ fn words_of_unmarked(graph: &Graph, marks: &Marks, names: &[u32]) -> u64
         if marks.has(*name) {
             continue;
         }
-        words += block_words(graph, *name);
+        words += u64::from(block_words(graph, *name));
     }
     words
 }
@@ -109,7 +119,7 @@ pub(crate) fn find_unreached(
     ensures some { IfOk result (λ found. IfSome found (IsUnreachedCut graph.now.graph)) }
     ensures none { result ≡ Ok None → (cut : Told) → ¬ IsUnreachedCut graph.now.graph cut }
 {
-    facts(graph);
+    learn(graph);
     let marks = reachable(alloc, graph)?;
     let blocks = unmarked(alloc, &marks, names)?;
     let called = called_procedures(alloc, graph, &marks, names)?;
@@ -126,4 +136,22 @@ pub(crate) fn find_unreached(
         link: no_register(),
         saving: saving as u32,
     }))
+}
+
+/// The cut of U with its blocks, link and saving, or `None` where there is none.
+pub(crate) fn admit_unreached(
+    alloc: Global,
+    graph: &Graph,
+    cut: &Cut,
+) -> Result<Option<Cut>, Memory>
+    requires rules { IsGraph graph.now.graph }
+    requires row { cut.now.row ≡ Unreached }
+    ensures some { IfOk result (λ found. IfSome found (λ given. IsUnreachedCut graph.now.graph given × IsCompleted cut.now given)) }
+    ensures none { result ≡ Ok None → (given : Told) → IsCompleted cut.now given → ¬ IsUnreachedCut graph.now.graph given }
+{
+    if cut.procedure != 0 || cut.other != 0 || cut.length != 0 {
+        return Ok(None);
+    }
+    let names = block_names(alloc, graph)?;
+    find_unreached(alloc, graph, &names)
 }

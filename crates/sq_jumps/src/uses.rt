@@ -5,26 +5,13 @@ ghost use Rattle.std.specs.List.{flat_map};
 ghost use Rattle.sq_graph.specs.Blocks.{items_of_bodies};
 ghost use Rattle.sq_graph.specs.Parts.{names_of};
 ghost use Rattle.sq_graph.specs.Rules.{IsGraph};
-ghost use Rattle.sq_graph.specs.Uses.{item_uses, items_uses, term_uses, terms_uses, code_word_uses, uses};
-ghost use Rattle.sq_jumps.specs.Names.{Adds};
+ghost use Rattle.sq_graph.specs.Uses.{item_uses, items_uses, terms_uses, code_word_uses, uses};
+ghost use Rattle.sq_lookup.specs.Names.{Adds};
 
-use crate::names::Names;
-use sq_graph::{CodeRef, Graph, Item, Term};
+use sq_graph::{CodeRef, Graph, Item};
+use sq_lookup::Names;
 use sq_num::Memory;
 use std::alloc::Global;
-
-/// The block that a term names.
-pub(crate) fn term_target(term: &Term) -> Option<u32>
-    ensures { option_to_list result ≡ term_uses term.now }
-{
-    match *term {
-        Term::Jump { to }
-        | Term::Branch { to, .. }
-        | Term::Call { to, .. }
-        | Term::PartJump { to, .. } => Some(to),
-        Term::Fall | Term::Indirect { .. } | Term::Stop { .. } => None,
-    }
-}
 
 /// The block that an item names.
 fn item_target(item: Item) -> Option<u32>
@@ -60,7 +47,7 @@ fn use_terms(used: &mut Names, graph: &Graph, names: &[u32]) -> Result<(), Memor
     ensures { OnOk result (Adds (terms_uses graph.now.graph.blocks) used.old used.new) }
 {
     for name in names {
-        used.insert_some(term_target(&graph.term(*name)))?;
+        used.insert_some(graph.term(*name).target())?;
     }
     Ok(())
 }

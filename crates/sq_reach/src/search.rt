@@ -1,6 +1,6 @@
 //! A search over the blocks of a graph.
 
-use crate::exits::{slot_behind, target};
+use crate::exits::slot_behind;
 use crate::marks::Marks;
 use sq_graph::{CodeRef, Graph, Item};
 use sq_num::Memory;
@@ -160,7 +160,7 @@ impl Search {
         ensures called { self.new.called ≡ self.old.called }
     {
         let term = g.term(block);
-        self.reach_some(target(&term))?;
+        self.reach_some(term.target())?;
         self.reach_some(slot_behind(g, block, &term))
     }
 

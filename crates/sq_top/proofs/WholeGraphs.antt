@@ -20,7 +20,7 @@ use Rattle.sq_reach.proofs.Deciding.{reached_marks}
 use Rattle.sq_reach.proofs.Searches.{contains_from_marked}
 use Rattle.sq_pass.specs.declared.cut.Row.TheVariants.{U}
 use Rattle.sq_drive.proofs.Rewrites.{some_word}
-use Rattle.sq_jumps.specs.Names.{is_listed}
+use Rattle.sq_lookup.specs.Names.{is_listed}
 use Rattle.sq_jumps.specs.Unreached.{stays, is_called_in, is_held, words_gone, AreUnreached}
 use Rattle.sq_drive.specs.Rows.{IsLeftoverFree}
 use Rattle.sq_jumps.proofs.Counting.{are_unreached}

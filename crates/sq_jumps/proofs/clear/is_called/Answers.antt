@@ -2,7 +2,7 @@ use Rattle.std.proofs.Common.{◌≡◌, true, false, ◌||◌, ◌∙◌, sym, 
 use Rattle.std.specs.List.{flat_map}
 use Rattle.sq_graph.specs.Uses.{item_calls}
 use Rattle.sq_layout.proofs.Walks.{blocks_from, starts, here}
-use Rattle.sq_jumps.specs.Names.{is_listed}
+use Rattle.sq_lookup.specs.Names.{is_listed}
 use Rattle.sq_jumps.specs.Unreached.{is_called_in}
 use Rattle.sq_jumps.proofs.clear.is_called.Goals as goal
 

@@ -11,12 +11,12 @@ use Rattle.sq_jumps.proofs.clear.remove_each.Goals as goal
 pub remove-requires-clause-block : goal.remove-requires-clause-block
 remove-requires-clause-block c =
     let split = split_at_index c.args.blocks.now c.loop-block.block-index c.loop-block-test.true in
-    goes_there c.loop-block.graph.graph _ _ c.facts.ensures.rules (subst (λ ns. MayGo c.loop-block.graph.graph ns) split c.loop-block.invariant.may)
+    goes_there c.loop-block.graph.graph _ _ c.learn.ensures.rules (subst (λ ns. MayGo c.loop-block.graph.graph ns) split c.loop-block.invariant.may)
 
 pub remove-requires-clause-rules : goal.remove-requires-clause-rules
 remove-requires-clause-rules c =
     let split = split_at_index c.args.blocks.now c.loop-block.block-index c.loop-block-test.true in
-    goes_rules c.loop-block.graph.graph _ _ c.facts.ensures.rules (subst (λ ns. MayGo c.loop-block.graph.graph ns) split c.loop-block.invariant.may)
+    goes_rules c.loop-block.graph.graph _ _ c.learn.ensures.rules (subst (λ ns. MayGo c.loop-block.graph.graph ns) split c.loop-block.invariant.may)
 
 pub loop-block-preserved : goal.loop-block-preserved
 loop-block-preserved c =
@@ -26,9 +26,9 @@ loop-block-preserved c =
     let split = split_at_index c.args.blocks.now c.loop-block.block-index c.loop-block-test.true in
     let may = subst (λ ns. MayGo c.loop-block.graph.graph ns) split c.loop-block.invariant.may in
     let one = total_by c.loop-block.graph c.remove.new.self (without_block g block) (record spare { blocks = spare.blocks + 1; items = spare.items + length (items_of g block) }) c.remove.ensures.graph c.remove.ensures.spare
-    (without_total g block spare (goes_there g _ _ c.facts.ensures.rules may)) in
+    (without_total g block spare (goes_there g _ _ c.learn.ensures.rules may)) in
     record {
-      may = subst (λ (h : Graph). MayGo h (drop (c.loop-block.block-index + 1) c.args.blocks.now)) (sym c.remove.ensures.graph) (others_may g _ _ c.facts.ensures.rules may);
+      may = subst (λ (h : Graph). MayGo h (drop (c.loop-block.block-index + 1) c.args.blocks.now)) (sym c.remove.ensures.graph) (others_may g _ _ c.learn.ensures.rules may);
       same = c.loop-block.invariant.same ∙ ap (λ ns. without_each ns c.loop-block.graph.graph) split ∙ ap (without_each (drop (c.loop-block.block-index + 1) c.args.blocks.now)) (sym c.remove.ensures.graph);
       total = one ∙ c.loop-block.invariant.total;
     }

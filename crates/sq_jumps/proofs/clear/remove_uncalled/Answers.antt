@@ -10,12 +10,12 @@ use Rattle.sq_jumps.proofs.clear.remove_uncalled.Goals as goal
 
 pub remove_procedure-requires-clause-unused : goal.remove_procedure-requires-clause-unused
 remove_procedure-requires-clause-unused c =
-    uncalled_unused c.loop-number.graph.graph (c.loop-number.number - 1) c.facts.ensures.rules (sym c.is_called.ensures ∙ c.if-not-is_called.true)
+    uncalled_unused c.loop-number.graph.graph (c.loop-number.number - 1) c.learn.ensures.rules (sym c.is_called.ensures ∙ c.if-not-is_called.true)
 
 pub remove_procedure-requires-clause-rules : goal.remove_procedure-requires-clause-rules
 remove_procedure-requires-clause-rules c =
-    without_procedure_rules c.loop-number.graph.graph (c.loop-number.number - 1) c.facts.ensures.rules (omega (arith, c.loop-number.invariant.within))
-    (uncalled_unused c.loop-number.graph.graph (c.loop-number.number - 1) c.facts.ensures.rules (sym c.is_called.ensures ∙ c.if-not-is_called.true))
+    without_procedure_rules c.loop-number.graph.graph (c.loop-number.number - 1) c.learn.ensures.rules (omega (arith, c.loop-number.invariant.within))
+    (uncalled_unused c.loop-number.graph.graph (c.loop-number.number - 1) c.learn.ensures.rules (sym c.is_called.ensures ∙ c.if-not-is_called.true))
 
 pub loop-number-preserved-then-not-is_called : goal.loop-number-preserved-then-not-is_called
 loop-number-preserved-then-not-is_called c =

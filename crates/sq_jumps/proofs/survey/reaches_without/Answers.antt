@@ -2,7 +2,7 @@ use Rattle.std.proofs.Common.{ℕ, ◌≤◌, nat_lt, inl, inr, List, length, ap
 use Rattle.std.proofs.lemmas.Bool.{cases_Bool}
 use Rattle.sq_graph.specs.declared.item.Item.{Item}
 use Rattle.sq_layout.specs.Branches.{lifted}
-use Rattle.sq_jumps.proofs.Surveying.{items_few}
+use Rattle.sq_layout.proofs.Walks.{items_few}
 use Rattle.sq_jumps.proofs.survey.reaches_without.Goals as goal
 
 no_farther : (gone at : ℕ) → lifted gone at ≤ at

@@ -6,7 +6,7 @@ use Rattle.sq_jumps.proofs.sweep.jump_blocks.Goals.{then-is_some+in_ok-push, els
 
 pub jump_row-requires-clause-block : goal.jump_row-requires-clause-block
 jump_row-requires-clause-block c =
-    ap is_some (block_at c.args.graph.now.graph c.deref-name-items.result.now c.loop-name.name-index c.facts.ensures.rules (c.deref-name-items.ensures.value ∙ c.in_ok-names.ensures) c.loop-name-test.true).found
+    ap is_some (block_at c.args.graph.now.graph c.deref-name-items.result.now c.loop-name.name-index c.learn.ensures.rules (c.deref-name-items.ensures.value ∙ c.in_ok-names.ensures) c.loop-name-test.true).found
 
 pub loop-name-preserved : goal.loop-name-preserved
 loop-name-preserved c =

@@ -24,7 +24,7 @@ returns-in_default-clause-follows c = graph_follows_itself c.args.graph.now.grap
 pub returns-clause-rewritten : goal.returns-clause-rewritten
 returns-clause-rewritten c =
     let has = subst (λ o. IfSome o (λ row. HasRow row c.args.graph.now.graph c.args.block)) c.in-Some.is c.in_ok-row.ensures in
-    row_rewritten c.in-Some.row c.args.block c.args.savings c.count.result c.args.graph.now.graph c.apply_row.new.graph.graph c.canonical.new.self.graph has c.apply_row.ensures.applied c.facts.ensures.rules c.canonical.ensures.graph c.canonical.ensures.canonical c.canonical.ensures.words c.count.ensures.value
+    row_rewritten c.in-Some.row c.args.block c.args.savings c.count.result c.args.graph.now.graph c.apply_row.new.graph.graph c.canonical.new.self.graph has c.apply_row.ensures.applied c.learn.ensures.rules c.canonical.ensures.graph c.canonical.ensures.canonical c.canonical.ensures.words c.count.ensures.value
 
 pub returns-clause-follows : goal.returns-clause-follows
 returns-clause-follows c = (returns-clause-rewritten c).settled.follows

@@ -1,7 +1,7 @@
 use Rattle.std.proofs.Common.{take}
 use Rattle.std.specs.List.{flat_map}
 use Rattle.sq_graph.specs.Uses.{item_calls}
-use Rattle.sq_jumps.specs.Names.{Adds}
+use Rattle.sq_lookup.specs.Names.{Adds}
 use Rattle.sq_jumps.proofs.unreached.add_calls.Given as goal
 
 abbrev pub invariant-loop-item : goal.invariant-loop-item

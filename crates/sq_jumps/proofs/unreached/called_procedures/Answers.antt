@@ -2,7 +2,7 @@ use Rattle.std.proofs.Common.{◌+◌, take, is_some, ap, sym, ◌∙◌, ◌||�
 use Rattle.std.specs.List.{flat_map}
 use Rattle.sq_graph.specs.Uses.{item_calls}
 use Rattle.sq_live.proofs.Layouts.{block_at}
-use Rattle.sq_jumps.specs.Names.{is_listed}
+use Rattle.sq_lookup.specs.Names.{is_listed}
 use Rattle.sq_jumps.specs.Unreached.{is_called_in}
 use Rattle.sq_jumps.proofs.Counting.{called_skips, called_adds, items_there}
 use Rattle.sq_jumps.proofs.unreached.called_procedures.Goals as goal

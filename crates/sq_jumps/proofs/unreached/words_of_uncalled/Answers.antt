@@ -1,7 +1,7 @@
 use Rattle.std.proofs.Common.{◌+◌, drop, not, ap, refl, sym, ◌∙◌, arith}
 use Rattle.sq_graph.specs.Blocks.{body_of}
 use Rattle.sq_layout.proofs.Counts.{procedure_here}
-use Rattle.sq_jumps.specs.Names.{is_listed}
+use Rattle.sq_lookup.specs.Names.{is_listed}
 use Rattle.sq_jumps.proofs.Counting.{called_words, uncalled_words, all_uncalled_few}
 use Rattle.sq_jumps.proofs.unreached.words_of_uncalled.Goals as goal
 

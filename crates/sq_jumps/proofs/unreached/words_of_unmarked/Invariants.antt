@@ -1,7 +1,7 @@
 use Rattle.std.proofs.Common.{◌≡◌, take, not, sum_by}
 use Rattle.std.specs.List.{filter}
 use Rattle.sq_graph.specs.Words.{block_words}
-use Rattle.sq_jumps.specs.Names.{is_listed}
+use Rattle.sq_lookup.specs.Names.{is_listed}
 use Rattle.sq_jumps.proofs.unreached.words_of_unmarked.Given as goal
 
 abbrev pub invariant-loop-name : goal.invariant-loop-name

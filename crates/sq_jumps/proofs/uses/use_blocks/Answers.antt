@@ -2,7 +2,7 @@ use Rattle.std.proofs.Common.{◌≡◌, is_some, ap, subst, ◌∙◌}
 use Rattle.sq_graph.specs.Blocks.{block_items}
 use Rattle.sq_graph.specs.Uses.{items_uses}
 use Rattle.sq_live.proofs.Layouts.{block_at}
-use Rattle.sq_jumps.specs.Names.{Adds}
+use Rattle.sq_lookup.specs.Names.{Adds}
 use Rattle.sq_jumps.proofs.Adding.{adds_pushed}
 use Rattle.sq_jumps.proofs.uses.use_blocks.Goals as goal
 

@@ -1,7 +1,7 @@
 use Rattle.std.proofs.Common.{arith, subst}
 use Rattle.sq_graph.specs.Uses.{items_uses}
 use Rattle.sq_layout.proofs.Counts.{procedure_here}
-use Rattle.sq_jumps.specs.Names.{Adds}
+use Rattle.sq_lookup.specs.Names.{Adds}
 use Rattle.sq_jumps.proofs.Adding.{adds_pushed, procedure_more}
 use Rattle.sq_jumps.proofs.uses.use_bodies.Goals as goal
 

@@ -1,7 +1,7 @@
 use Rattle.std.proofs.Common.{take}
 use Rattle.std.specs.List.{flat_map}
 use Rattle.sq_graph.specs.Uses.{items_uses}
-use Rattle.sq_jumps.specs.Names.{Adds}
+use Rattle.sq_lookup.specs.Names.{Adds}
 use Rattle.sq_jumps.proofs.uses.use_bodies.Given as goal
 
 abbrev pub invariant-loop-procedure : goal.invariant-loop-procedure

@@ -1,6 +1,6 @@
 use Rattle.std.proofs.Common.{subst}
 use Rattle.sq_graph.specs.Uses.{item_uses}
-use Rattle.sq_jumps.specs.Names.{Adds}
+use Rattle.sq_lookup.specs.Names.{Adds}
 use Rattle.sq_jumps.proofs.Adding.{adds_more, adds_none}
 use Rattle.sq_jumps.proofs.uses.use_items.Goals as goal
 

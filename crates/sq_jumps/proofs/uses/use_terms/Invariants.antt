@@ -1,6 +1,6 @@
 use Rattle.std.proofs.Common.{take}
 use Rattle.sq_graph.specs.Uses.{terms_uses}
-use Rattle.sq_jumps.specs.Names.{Adds}
+use Rattle.sq_lookup.specs.Names.{Adds}
 use Rattle.sq_jumps.proofs.uses.use_terms.Given as goal
 
 abbrev pub invariant-loop-name : goal.invariant-loop-name

@@ -1,6 +1,6 @@
 use Rattle.std.proofs.Common.{take}
 use Rattle.sq_graph.specs.Uses.{code_word_uses}
-use Rattle.sq_jumps.specs.Names.{Adds}
+use Rattle.sq_lookup.specs.Names.{Adds}
 use Rattle.sq_jumps.proofs.uses.use_words.Given as goal
 
 abbrev pub invariant-loop-word : goal.invariant-loop-word

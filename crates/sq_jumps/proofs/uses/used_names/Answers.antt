@@ -1,6 +1,6 @@
 use Rattle.std.proofs.Common.{◌∷◌, [], subst}
 use Rattle.sq_graph.specs.Uses.{code_word_uses}
-use Rattle.sq_jumps.specs.Names.{Adds}
+use Rattle.sq_lookup.specs.Names.{Adds}
 use Rattle.sq_jumps.proofs.Adding.{adds_uses}
 use Rattle.sq_jumps.proofs.uses.used_names.Goals as goal
 

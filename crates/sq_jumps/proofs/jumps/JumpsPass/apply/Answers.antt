@@ -7,4 +7,4 @@ pub returns-in-U-clause-applied : goal.returns-in-U-clause-applied
 returns-in-U-clause-applied c =
     let g = c.args.graph.now.graph in
     let u = unreached_of g c.args.cut.now c.requires.candidate c.in-U.is in
-    gone_applied g c.drop_unreached.new.graph.graph c.args.cut.now c.facts.ensures.rules u c.drop_unreached.ensures.rules (c.drop_unreached.ensures.graph ∙ ap (λ ns. without_all g ns) c.as_slice-blocks.ensures)
+    gone_applied g c.drop_unreached.new.graph.graph c.args.cut.now c.learn.ensures.rules u c.drop_unreached.ensures.rules (c.drop_unreached.ensures.graph ∙ ap (λ ns. without_all g ns) c.as_slice-blocks.ensures)

@@ -1,9 +1,0 @@
-use Rattle.std.proofs.Common.{drop}
-use Rattle.sq_jumps.specs.Tables.{number_at}
-use Rattle.sq_layout.proofs.Placed.{IsPlaced}
-use Rattle.sq_jumps.proofs.survey.block_addresses.Given as goal
-
-abbrev pub invariant-loop-name : goal.invariant-loop-name
-invariant-loop-name l = record {
-  placed : IsPlaced l.graph.graph.blocks 0 (number_at l.addresses) (drop l.name-index l.graph.graph.blocks) l.at;
-}
