@@ -20,7 +20,7 @@ use Rattle.sq_graph.specs.Words.{block_words, procedure_words, words_of}
 use Rattle.sq_follow.specs.Follows.{Follows}
 use Rattle.sq_patch.proofs.Joining.{canonical_follows, canonical_sound}
 use Rattle.sq_pass.specs.Applied.{IsWithin}
-use Rattle.sq_pass.specs.Rewrites.{IsSettled}
+use Rattle.sq_pass.specs.Rewrites.{IsLighter}
 
 -- HOW MUCH A CANONICAL GRAPH HAS
 
@@ -64,7 +64,7 @@ small_room g room canonical few within =
 -- THE CANONICAL GRAPH
 
 -- it keeps what a rewrite keeps, and has as many words
-pub made_canonical : (mid new : Graph) → IsGraph mid → new ≡ canonical_of mid → IsCanonical new → words_of new ≡ words_of mid → IsSettled 0 mid new
+pub made_canonical : (mid new : Graph) → IsGraph mid → new ≡ canonical_of mid → IsCanonical new → words_of new ≡ words_of mid → IsLighter 0 mid new
 made_canonical mid new rules made canonical words = record {
   follows = subst (Follows mid) (sym made) (canonical_follows mid rules);
   sound = λ s. subst IsSound (sym made) (canonical_sound mid rules s);

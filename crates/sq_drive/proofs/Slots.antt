@@ -9,11 +9,11 @@ use Rattle.sq_graph.proofs.RenamedReach.{alike_words, alike_in_reach}
 use Rattle.sq_graph.proofs.RenamedSound.{canonical_kept, sound_kept}
 use Rattle.sq_graph.proofs.Slotting.{slotted_alike}
 use Rattle.sq_patch.proofs.Renaming.{rename_follows}
-use Rattle.sq_pass.specs.Rewrites.{IsSettled}
+use Rattle.sq_pass.specs.Rewrites.{IsLighter}
 
 -- it is what the graph was
-pub slotted_settled : (g : Graph) → IsGraph g → IsCanonical g → IsSettled 0 g (slotted g)
-slotted_settled g rules canonical =
+pub slotted_lighter : (g : Graph) → IsGraph g → IsCanonical g → IsLighter 0 g (slotted g)
+slotted_lighter g rules canonical =
     let alike = slotted_alike g in
     record {
       follows = rename_follows g (position_in (names_of g)) rules alike.one_to_one;

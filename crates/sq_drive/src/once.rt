@@ -4,7 +4,7 @@ ghost use Rattle.std.specs.Prelude.{◌≡◌, ◌≤◌, None, Ok, IfOk, IfSome
 ghost use Rattle.sq_graph.specs.Leaders.{IsCanonical};
 ghost use Rattle.sq_graph.specs.Words.{words_of};
 ghost use Rattle.sq_pass.specs.declared.cut.Cut.{Cut as Told};
-ghost use Rattle.sq_pass.specs.Rewrites.{IsRewrite, IsSettled};
+ghost use Rattle.sq_pass.specs.Rewrites.{IsRewrite, IsLighter};
 
 use sq_graph::Graph;
 use sq_layout::learn;
@@ -23,7 +23,7 @@ pub fn rewrite_once<P: Pass>(
     requires canonical { IsCanonical graph.old.graph }
     requires words { words_of graph.old.graph ≤ 1048576 }
     ensures some { IfOk result (λ done. IfSome done (λ rewrite. IsRewrite (P.is_candidate pass.now) (P.described pass.now) rewrite graph.old.graph graph.new.graph)) }
-    ensures settled { IfOk result (λ done. IfSome done (λ rewrite. IsSettled rewrite.saving graph.old.graph graph.new.graph)) }
+    ensures lighter { IfOk result (λ done. IfSome done (λ rewrite. IsLighter rewrite.saving graph.old.graph graph.new.graph)) }
     ensures saves { IfOk result (λ done. IfSome done (λ rewrite. 1 ≤ rewrite.saving)) }
     ensures none { result ≡ Ok None → graph.new.graph ≡ graph.old.graph }
     ensures left { result ≡ Ok None → (cut : Told) → ¬ P.is_candidate pass.now graph.old.graph cut }

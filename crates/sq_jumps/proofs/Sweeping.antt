@@ -29,8 +29,8 @@ use Rattle.sq_pass.specs.declared.cut.Row.{Row}
 use Rattle.sq_pass.specs.declared.cut.Row.TheVariants.{J1, J2, J3, C}
 use Rattle.sq_pass.specs.Applied.{IsApplied}
 use Rattle.sq_pass.specs.Counted.{counted}
-use Rattle.sq_pass.specs.Rewrites.{IsSettled, IsRewritten}
-use Rattle.sq_pass.proofs.Rewriting.{settled_itself, rewrite_made, settled_made, rewritten_once, rewritten_through}
+use Rattle.sq_pass.specs.Rewrites.{IsLighter, IsRewritten}
+use Rattle.sq_pass.proofs.Rewriting.{lighter_itself, rewrite_made, lighter_made, rewritten_once, rewritten_through}
 use Rattle.sq_jumps.specs.Candidates.{HasRow, cut_at, IsCandidate, rewritten, described}
 use Rattle.sq_jumps.specs.Fall.{falling, IsPlainFall}
 use Rattle.sq_jumps.specs.Detour.{straightened, IsPlainDetour}
@@ -46,15 +46,15 @@ use Rattle.sq_jumps.proofs.Rewriting.{names-changed, has_names}
 -- ONE REWRITE
 
 -- a row is applied at one of its blocks, and what is left is made canonical
-pub block_rewritten : (row : Row) (block : ℕ) (before : Savings) (g mid new : Graph) → HasRow row g block → IsApplied 1 (rewritten row g (block ∷ [])) g mid → new ≡ canonical_of mid → IsSettled 0 mid new → IsRewritten IsCandidate described before (counted before row 1) g new
-block_rewritten row block before g mid new has applied made settled =
+pub block_rewritten : (row : Row) (block : ℕ) (before : Savings) (g mid new : Graph) → HasRow row g block → IsApplied 1 (rewritten row g (block ∷ [])) g mid → new ≡ canonical_of mid → IsLighter 0 mid new → IsRewritten IsCandidate described before (counted before row 1) g new
+block_rewritten row block before g mid new has applied made lighter =
     rewritten_once IsCandidate described before (record { row = row; saving = 1 }) g new
     (rewrite_made IsCandidate described (cut_at row block) g mid new (inr (record { block = block; has_row = has; is = refl })) applied made)
-    (settled_made 1 (rewritten row g (block ∷ [])) g mid new applied settled)
+    (lighter_made 1 (rewritten row g (block ∷ [])) g mid new applied lighter)
 
 -- a graph made canonical
-pub canonical_settled : (mid new : Graph) → IsGraph mid → new ≡ canonical_of mid → IsCanonical new → words_of new ≡ words_of mid → IsSettled 0 mid new
-canonical_settled mid new rules made canonical words = record {
+pub canonical_lighter : (mid new : Graph) → IsGraph mid → new ≡ canonical_of mid → IsCanonical new → words_of new ≡ words_of mid → IsLighter 0 mid new
+canonical_lighter mid new rules made canonical words = record {
   follows = subst (Follows mid) (sym made) (canonical_follows mid rules);
   sound = λ sound. subst IsSound (sym made) (canonical_sound mid rules sound);
   reach = λ reach. subst IsInReach (sym made) (canonical_in_reach mid rules reach);
@@ -65,7 +65,7 @@ canonical_settled mid new rules made canonical words = record {
 -- a row at a block, and then the canonical graph
 pub row_rewritten : (row : Row) (block : ℕ) (before after : Savings) (g mid new : Graph) → HasRow row g block → IsApplied 1 (rewritten row g (block ∷ [])) g mid → IsGraph mid → new ≡ canonical_of mid → IsCanonical new → words_of new ≡ words_of mid → after ≡ counted before row 1 → IsRewritten IsCandidate described before after g new
 row_rewritten row block before after g mid new has applied rules made canonical words counts =
-    subst (λ s. IsRewritten IsCandidate described before s g new) (sym counts) (block_rewritten row block before g mid new has applied made (canonical_settled mid new rules made canonical words))
+    subst (λ s. IsRewritten IsCandidate described before s g new) (sym counts) (block_rewritten row block before g mid new has applied made (canonical_lighter mid new rules made canonical words))
 
 -- a row at a block that leaves the graph canonical
 kept_rewritten : (row : Row) (block : ℕ) (before after : Savings) (g h : Graph) → HasRow row g block → IsApplied 1 (rewritten row g (block ∷ [])) g (rewritten row g (block ∷ [])) → IsCanonical (rewritten row g (block ∷ [])) → h ≡ rewritten row g (block ∷ []) → after ≡ counted before row 1 → IsRewritten IsCandidate described before after g h
@@ -73,7 +73,7 @@ kept_rewritten row block before after g h has applied still is counts =
     let k = rewritten row g (block ∷ []) in
     subst (λ s. IsRewritten IsCandidate described before s g h) (sym counts)
     (subst (λ m. IsRewritten IsCandidate described before (counted before row 1) g m) (sym is)
-    (block_rewritten row block before g k k has applied (sym (canonical_again k still)) (settled_itself k still)))
+    (block_rewritten row block before g k k has applied (sym (canonical_again k still)) (lighter_itself k still)))
 
 -- rewrites, and what comes of going on
 pub swept_on : (before at : Savings) (old mid new : Graph) (r : Result Savings Memory) → IsRewritten IsCandidate described before at old mid → IfOk r (λ after. IsRewritten IsCandidate described at after mid new) → IfOk r (λ after. IsRewritten IsCandidate described before after old new)

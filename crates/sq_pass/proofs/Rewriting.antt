@@ -17,16 +17,16 @@ use Rattle.sq_pass.specs.declared.cut.Row.TheVariants.{U, J1, J2, J3, C, T, O1, 
 use Rattle.sq_pass.specs.declared.rewrite.Rewrite.{Rewrite}
 use Rattle.sq_pass.specs.Applied.{IsApplied}
 use Rattle.sq_pass.specs.Counted.{counted, counted_all}
-use Rattle.sq_pass.specs.Rewrites.{IsRewrite, AreSteps, IsSettled, IsRewrittenBy, IsRewritten}
+use Rattle.sq_pass.specs.Rewrites.{IsRewrite, AreSteps, IsLighter, IsRewrittenBy, IsRewritten}
 
 -- WHAT BECOMES OF A GRAPH
 
-pub settled_itself : (g : Graph) → IsCanonical g → IsSettled 0 g g
-settled_itself g canonical =
+pub lighter_itself : (g : Graph) → IsCanonical g → IsLighter 0 g g
+lighter_itself g canonical =
     record { follows = graph_follows_itself g; sound = λ s. s; reach = λ r. r; canonical = canonical; words = omega arith }
 
-pub settled_through : (first second : ℕ) (old mid new : Graph) → IsSettled first old mid → IsSettled second mid new → IsSettled (first + second) old new
-settled_through first second old mid new a b = record {
+pub lighter_through : (first second : ℕ) (old mid new : Graph) → IsLighter first old mid → IsLighter second mid new → IsLighter (first + second) old new
+lighter_through first second old mid new a b = record {
   follows = graph_follows_through old mid new a.follows b.follows;
   sound = λ s. b.sound (a.sound s);
   reach = λ r. b.reach (a.reach r);
@@ -46,8 +46,8 @@ rewrite_made is_candidate described cut old mid new candidate applied made = rec
   is = subst (AreAlike (canonical_of (described old cut))) (sym made) (alike_back (canonical_of mid) (canonical_of (described old cut)) (canonical_is_graph mid applied.rules) (alike_canonical mid (described old cut) applied.rules applied.described));
 }
 
-pub settled_made : (saving : ℕ) (described old mid new : Graph) → IsApplied saving described old mid → IsSettled 0 mid new → IsSettled saving old new
-settled_made saving described old mid new applied made = record {
+pub lighter_made : (saving : ℕ) (described old mid new : Graph) → IsApplied saving described old mid → IsLighter 0 mid new → IsLighter saving old new
+lighter_made saving described old mid new applied made = record {
   follows = graph_follows_through old mid new applied.follows made.follows;
   sound = λ s. made.sound (applied.sound s);
   reach = λ r. made.reach (applied.reach r);
@@ -95,18 +95,18 @@ module _ (step : Rewrite → Graph → Graph → Type 0) where
     counted = refl;
     saved = 0;
     total = omega arith;
-    settled = settled_itself g canonical;
+    lighter = lighter_itself g canonical;
   }
 
   -- one rewrite
-  pub stepped_once : (before : Savings) (done : Rewrite) (old new : Graph) → step done old new → IsSettled done.saving old new → IsRewrittenBy step before (counted before done.row done.saving) old new
-  stepped_once before done old new made settled = record {
+  pub stepped_once : (before : Savings) (done : Rewrite) (old new : Graph) → step done old new → IsLighter done.saving old new → IsRewrittenBy step before (counted before done.row done.saving) old new
+  stepped_once before done old new made lighter = record {
     rewrites = done ∷ [];
     are = (new, made, refl);
     counted = refl;
     saved = done.saving;
     total = counted_total before done.row done.saving;
-    settled = settled;
+    lighter = lighter;
   }
 
   -- rewrites, and then more of them
@@ -117,13 +117,13 @@ module _ (step : Rewrite → Graph → Graph → Type 0) where
     counted = b.counted ∙ ap (λ s. counted_all s b.rewrites) a.counted ∙ sym (counted_all-append before a.rewrites b.rewrites);
     saved = a.saved + b.saved;
     total = omega (arith, a.total, b.total);
-    settled = settled_through a.saved b.saved old mid new a.settled b.settled;
+    lighter = lighter_through a.saved b.saved old mid new a.lighter b.lighter;
   }
 
   -- rewrites, and then one more
-  pub stepped_on : (before at after : Savings) (done : Rewrite) (old mid new : Graph) → IsRewrittenBy step before at old mid → step done mid new → IsSettled done.saving mid new → after ≡ counted at done.row done.saving → IsRewrittenBy step before after old new
-  stepped_on before at after done old mid new rewritten made settled is =
-      subst (λ s. IsRewrittenBy step before s old new) (sym is) (stepped_through before at (counted at done.row done.saving) old mid new rewritten (stepped_once at done mid new made settled))
+  pub stepped_on : (before at after : Savings) (done : Rewrite) (old mid new : Graph) → IsRewrittenBy step before at old mid → step done mid new → IsLighter done.saving mid new → after ≡ counted at done.row done.saving → IsRewrittenBy step before after old new
+  stepped_on before at after done old mid new rewritten made lighter is =
+      subst (λ s. IsRewrittenBy step before s old new) (sym is) (stepped_through before at (counted at done.row done.saving) old mid new rewritten (stepped_once at done mid new made lighter))
 
 -- what is a step of one kind is one of a wider kind
 module _ (step wider : Rewrite → Graph → Graph → Type 0) (each : (done : Rewrite) (old new : Graph) → step done old new → wider done old new) where
@@ -138,7 +138,7 @@ module _ (step wider : Rewrite → Graph → Graph → Type 0) (each : (done : R
     counted = a.counted;
     saved = a.saved;
     total = a.total;
-    settled = a.settled;
+    lighter = a.lighter;
   }
 
 -- the same of the rewrites by the candidates of one pass
@@ -146,13 +146,13 @@ module _ (is_candidate : Graph → Cut → Type 0) (described : Graph → Cut �
   pub rewritten_itself : (savings : Savings) (g : Graph) → IsCanonical g → IsRewritten is_candidate described savings savings g g
   rewritten_itself = stepped_itself (IsRewrite is_candidate described)
 
-  pub rewritten_once : (before : Savings) (done : Rewrite) (old new : Graph) → IsRewrite is_candidate described done old new → IsSettled done.saving old new → IsRewritten is_candidate described before (counted before done.row done.saving) old new
+  pub rewritten_once : (before : Savings) (done : Rewrite) (old new : Graph) → IsRewrite is_candidate described done old new → IsLighter done.saving old new → IsRewritten is_candidate described before (counted before done.row done.saving) old new
   rewritten_once = stepped_once (IsRewrite is_candidate described)
 
   pub rewritten_through : (before at after : Savings) (old mid new : Graph) → IsRewritten is_candidate described before at old mid → IsRewritten is_candidate described at after mid new → IsRewritten is_candidate described before after old new
   rewritten_through = stepped_through (IsRewrite is_candidate described)
 
-  pub rewritten_on : (before at after : Savings) (done : Rewrite) (old mid new : Graph) → IsRewritten is_candidate described before at old mid → IsRewrite is_candidate described done mid new → IsSettled done.saving mid new → after ≡ counted at done.row done.saving → IsRewritten is_candidate described before after old new
+  pub rewritten_on : (before at after : Savings) (done : Rewrite) (old mid new : Graph) → IsRewritten is_candidate described before at old mid → IsRewrite is_candidate described done mid new → IsLighter done.saving mid new → after ≡ counted at done.row done.saving → IsRewritten is_candidate described before after old new
   rewritten_on = stepped_on (IsRewrite is_candidate described)
 
 -- each candidate saves a word: where the graph lost none, nothing was rewritten
@@ -161,7 +161,7 @@ rewritten_none is_candidate described saves before after old new rewritten words
     go rewritten.rewrites rewritten.are rewritten.counted
   where
     saved_none : words_saved after ≡ words_saved before
-    saved_none = omega (arith, rewritten.total, rewritten.settled.words, words)
+    saved_none = omega (arith, rewritten.total, rewritten.lighter.words, words)
 
     go : (rewrites : List Rewrite) → AreSteps (IsRewrite is_candidate described) rewrites old new → after ≡ counted_all before rewrites → new ≡ old
     go [] same counts = sym same
@@ -189,14 +189,14 @@ module _ (is_candidate : Graph → Cut → Type 0) (described : Graph → Cut �
   rewrites_named done (more ∷ rest) old (next, rewrite, others) = (next, rewrite, rewrites_named more rest next others)
 
   -- where words were lost
-  pub rewritten_named : (before after : Savings) (old : Graph) → IsRewritten is_candidate described before after old last → words_of last < words_of old → IsSettled 0 last named → IsRewritten is_candidate described before after old named
+  pub rewritten_named : (before after : Savings) (old : Graph) → IsRewritten is_candidate described before after old last → words_of last < words_of old → IsLighter 0 last named → IsRewritten is_candidate described before after old named
   rewritten_named before after old r fewer kept = record {
     rewrites = r.rewrites;
     are = go r.rewrites r.are;
     counted = r.counted;
     saved = r.saved;
     total = r.total;
-    settled = subst (λ n. IsSettled n old named) (omega arith) (settled_through r.saved 0 old last named r.settled kept);
+    lighter = subst (λ n. IsLighter n old named) (omega arith) (lighter_through r.saved 0 old last named r.lighter kept);
   }
     where
       go : (rewrites : List Rewrite) → AreSteps (IsRewrite is_candidate described) rewrites old last → AreSteps (IsRewrite is_candidate described) rewrites old named

@@ -30,7 +30,7 @@ AreSteps step (done ∷ rest) old new = (next : Graph) × step done old next × 
 
 -- The new graph follows the old one, is sound and in reach where that was, is canonical, and has fewer words by what was
 -- saved.
-pub record IsSettled (saved : ℕ) (old new : Graph) : Type 0 where
+pub record IsLighter (saved : ℕ) (old new : Graph) : Type 0 where
   pub follows : Follows old new
   pub sound : IsSound old → IsSound new
   pub reach : IsInReach old → IsInReach new
@@ -44,7 +44,7 @@ pub record IsRewrittenBy (step : Rewrite → Graph → Graph → Type 0) (before
   pub counted : after ≡ counted_all before rewrites
   pub saved : ℕ
   pub total : words_saved after ≡ words_saved before + saved
-  pub settled : IsSettled saved old new
+  pub lighter : IsLighter saved old new
 
 -- So by rewrites of the candidates of one pass.
 abbrev pub IsRewritten : (Graph → Cut → Type 0) → (Graph → Cut → Graph) → Savings → Savings → Graph → Graph → Type 0

@@ -34,7 +34,7 @@ use Rattle.sq_lifted.proofs.FileWorlds.{files_good}
 use Rattle.sq_lifted.proofs.OneReading.{lifted_one}
 use Rattle.sq_lifted.proofs.SameFiles.{same_through}
 use Rattle.sq_num.specs.declared.packed.TheConstants.Savings.{NONE}
-use Rattle.sq_pass.specs.Rewrites.{IsSettled, IsRewritten}
+use Rattle.sq_pass.specs.Rewrites.{IsLighter, IsRewritten}
 use Rattle.sq_drive.specs.Rows.{IsCandidate, described, IsLeftoverFree}
 use Rattle.sq_readback.specs.Whole.{IsWhole}
 use Rattle.sq_top.specs.Packing.{CanBeWritten, IsReachedFile, GoodOutput, Packs}
@@ -56,8 +56,8 @@ at_each P (w ∷ ws) (v ∷ vs) e all =
 
 -- a graph that was made by rewriting can be written where the first one can
 module _ (bytes : List ℕ) (first g : Graph) (savings : Savings) (f : FitsFile bytes first) (r : IsRewritten IsCandidate described NONE savings first g) where
-  s : IsSettled r.saved first g
-  s = r.settled
+  s : IsLighter r.saved first g
+  s = r.lighter
 
   pub rewritten_fits : CanBeWritten bytes g
   rewritten_fits = record {
@@ -73,8 +73,8 @@ pub small_text : (bytes : List ℕ) (g : Graph) → file_refusal_of bytes ≡ No
 small_text bytes g accepted f = omega (arith, f.words, few_text bytes accepted)
 
 module _ (bytes : List ℕ) (first g : Graph) (savings : Savings) (fit : AllByRecursion (λ b. b < 256) bytes) (l : IsLiftedFile bytes first) (f : FitsFile bytes first) (r : IsRewritten IsCandidate described NONE savings first g) (rules : IsGraph g) (registers : HasRegisters g) where
-  settled : IsSettled r.saved first g
-  settled = r.settled
+  lighter : IsLighter r.saved first g
+  lighter = r.lighter
 
   accepted : IsAcceptedFile bytes
   accepted = record { reached = l.is; program = l.program; accepted = l.lifted.accepted }
@@ -99,12 +99,12 @@ module _ (bytes : List ℕ) (first g : Graph) (savings : Savings) (fit : AllByRe
     registers = registers;
     reach = can.reach;
     words = can.words;
-    code_words = settled.follows.addresses ∙ ((alike_fit (lifted l.is l.program) first (files_good bytes l.is l.program fit l.lifted.accepted).graph l.lifted.alike).code_words ∙ refs_at l.program.code_words);
+    code_words = lighter.follows.addresses ∙ ((alike_fit (lifted l.is l.program) first (files_good bytes l.is l.program fit l.lifted.accepted).graph l.lifted.alike).code_words ∙ refs_at l.program.code_words);
   }
 
   same : Same bytes (written bytes g)
   same =
-      same_through bytes (written bytes g) l.is l.program first g fit l.lifted settled.follows
+      same_through bytes (written bytes g) l.is l.program first g fit l.lifted lighter.follows
       (written_files_show_graphs bytes l.is l.program g fit l.lifted.accepted.read into)
 
   sizes : HasSizes bytes g (written bytes g)
@@ -121,10 +121,10 @@ module _ (bytes : List ℕ) (first g : Graph) (savings : Savings) (fit : AllByRe
 
   module _ (none : IsLeftoverFree g) (slotted : IsSlotted g) where
     whole : IsWhole g
-    whole = whole_without_candidates g rules settled.canonical none
+    whole = whole_without_candidates g rules lighter.canonical none
 
     back : IsReachedFile (written bytes g) g
-    back = reads_back bytes g writable registers settled.canonical (settled.sound f.sound) whole
+    back = reads_back bytes g writable registers lighter.canonical (lighter.sound f.sound) whole
 
     left : (h : Graph) → IsLiftedFile (written bytes g) h → IsSlotted h → IsLeftoverFree h
     left h lifted named =

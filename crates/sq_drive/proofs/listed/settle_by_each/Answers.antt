@@ -19,8 +19,8 @@ returns-then-words_of-before-clause-rewritten g c =
 
 pub returns-then-words_of-before-clause-follows : goal.returns-then-words_of-before-clause-follows
 returns-then-words_of-before-clause-follows g c =
-    graph_follows_through c.args.graph.now.graph c.loop-savings.graph.graph c.rewrite_by_first.new.graph.graph c.loop-savings.invariant.settled.follows c.rewrite_by_first.ensures.follows
+    graph_follows_through c.args.graph.now.graph c.loop-savings.graph.graph c.rewrite_by_first.new.graph.graph c.loop-savings.invariant.lighter.follows c.rewrite_by_first.ensures.follows
 
 pub returns-in_err-savings-clause-follows : goal.returns-in_err-savings-clause-follows
 returns-in_err-savings-clause-follows g c =
-    graph_follows_through c.args.graph.now.graph c.loop-savings.graph.graph c.rewrite_by_first.new.graph.graph c.loop-savings.invariant.settled.follows c.rewrite_by_first.ensures.follows
+    graph_follows_through c.args.graph.now.graph c.loop-savings.graph.graph c.rewrite_by_first.new.graph.graph c.loop-savings.invariant.lighter.follows c.rewrite_by_first.ensures.follows

@@ -10,7 +10,7 @@ use Rattle.sq_pass.specs.Rewrites.{IsRewritten}
 use Rattle.sq_pass.proofs.Rewriting.{rewritten_itself, rewritten_through, rewritten_none, rewritten_named}
 use Rattle.sq_jumps.specs.Candidates.{saves_a_word}
 use Rattle.sq_drive.specs.Rows.{IsCandidate, described}
-use Rattle.sq_drive.proofs.Slots.{slotted_settled}
+use Rattle.sq_drive.proofs.Slots.{slotted_lighter}
 use Rattle.sq_drive.proofs.settling.settle_slotted.Goals as goal
 
 pub loop-savings-init : goal.loop-savings-init
@@ -33,7 +33,7 @@ returns-then-words_of-before-clause-slotted c =
     c.loop-savings.invariant.slotted
 
 pub returns-then-words_of-before-clause-follows : goal.returns-then-words_of-before-clause-follows
-returns-then-words_of-before-clause-follows c = (returns-then-words_of-before-clause-rewritten c).settled.follows
+returns-then-words_of-before-clause-follows c = (returns-then-words_of-before-clause-rewritten c).lighter.follows
 
 pub loop-savings-preserved : goal.loop-savings-preserved
 loop-savings-preserved c =
@@ -41,8 +41,8 @@ loop-savings-preserved c =
     let mid = c.settle_by.new.graph.graph in
     let round : IsRewritten IsCandidate described c.loop-savings.savings c.in_ok-savings.savings c.loop-savings.graph.graph mid = c.in_ok-savings.ensures.rewritten in
     let done = rewritten_through IsCandidate described NONE c.loop-savings.savings c.in_ok-savings.savings old c.loop-savings.graph.graph mid c.loop-savings.invariant.rewritten round in
-    let fewer : words_of mid < words_of old = omega (arith, c.if-words_of-before.false, c.words_of.ensures, c.words_of-before.ensures, round.settled.words, c.loop-savings.invariant.rewritten.settled.words) in
-    let kept = slotted_settled mid c.learn.ensures.rules done.settled.canonical in
+    let fewer : words_of mid < words_of old = omega (arith, c.if-words_of-before.false, c.words_of.ensures, c.words_of-before.ensures, round.lighter.words, c.loop-savings.invariant.rewritten.lighter.words) in
+    let kept = slotted_lighter mid c.learn.ensures.rules done.lighter.canonical in
     record {
       rewritten = subst (IsRewritten IsCandidate described NONE c.in_ok-savings.savings old) (sym c.name_by_slots.ensures.graph) (rewritten_named IsCandidate described mid (slotted mid) (slotted_alike mid) NONE c.in_ok-savings.savings old done fewer kept);
       slotted = subst IsSlotted (sym c.name_by_slots.ensures.graph) (slotted_again mid c.learn.ensures.rules);
@@ -50,9 +50,9 @@ loop-savings-preserved c =
 
 pub returns-in_err-savings-clause-follows : goal.returns-in_err-savings-clause-follows
 returns-in_err-savings-clause-follows c =
-    graph_follows_through c.args.graph.now.graph c.loop-savings.graph.graph c.settle_by.new.graph.graph c.loop-savings.invariant.rewritten.settled.follows c.settle_by.ensures.follows
+    graph_follows_through c.args.graph.now.graph c.loop-savings.graph.graph c.settle_by.new.graph.graph c.loop-savings.invariant.rewritten.lighter.follows c.settle_by.ensures.follows
 
 pub returns-in_err-name_by_slots-clause-follows : goal.returns-in_err-name_by_slots-clause-follows
 returns-in_err-name_by_slots-clause-follows c =
-    let follows = graph_follows_through c.args.graph.now.graph c.loop-savings.graph.graph c.settle_by.new.graph.graph c.loop-savings.invariant.rewritten.settled.follows c.settle_by.ensures.follows in
+    let follows = graph_follows_through c.args.graph.now.graph c.loop-savings.graph.graph c.settle_by.new.graph.graph c.loop-savings.invariant.rewritten.lighter.follows c.settle_by.ensures.follows in
     subst (Follows c.args.graph.now.graph) (sym (ap (λ (v : GraphAndRoom). v.graph) c.in_err-name_by_slots.ensures.err)) follows

@@ -7,7 +7,7 @@ pub loop-block-init : goal.loop-block-init
 loop-block-init c = rewritten_itself IsCandidate described c.args.savings c.args.graph.now.graph c.requires.canonical
 
 pub returns-in_err-after-clause-follows : goal.returns-in_err-after-clause-follows
-returns-in_err-after-clause-follows c = graph_follows_through c.args.graph.now.graph c.loop-block.graph.graph c.rewrite_one.new.graph.graph c.loop-block.invariant.settled.follows c.rewrite_one.ensures.follows
+returns-in_err-after-clause-follows c = graph_follows_through c.args.graph.now.graph c.loop-block.graph.graph c.rewrite_one.new.graph.graph c.loop-block.invariant.lighter.follows c.rewrite_one.ensures.follows
 
 pub loop-block-preserved : goal.loop-block-preserved
 loop-block-preserved c = rewritten_through IsCandidate described c.args.savings c.loop-block.after c.in_ok-after.after c.args.graph.now.graph c.loop-block.graph.graph c.rewrite_one.new.graph.graph c.loop-block.invariant c.in_ok-after.ensures.rewritten

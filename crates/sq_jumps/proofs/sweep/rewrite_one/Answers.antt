@@ -27,4 +27,4 @@ returns-clause-rewritten c =
     row_rewritten c.in-Some.row c.args.block c.args.savings c.count.result c.args.graph.now.graph c.apply_row.new.graph.graph c.canonical.new.self.graph has c.apply_row.ensures.applied c.learn.ensures.rules c.canonical.ensures.graph c.canonical.ensures.canonical c.canonical.ensures.words c.count.ensures.value
 
 pub returns-clause-follows : goal.returns-clause-follows
-returns-clause-follows c = (returns-clause-rewritten c).settled.follows
+returns-clause-follows c = (returns-clause-rewritten c).lighter.follows
