@@ -7,7 +7,7 @@ use Rattle.sq_graph.specs.Rules.{IsGraph}
 use Rattle.sq_graph.specs.Slotted.{position_in, slotted}
 use Rattle.sq_graph.proofs.RenamedReach.{alike_words, alike_in_reach}
 use Rattle.sq_graph.proofs.RenamedSound.{canonical_kept, sound_kept}
-use Rattle.sq_graph.proofs.Slotting.{slotted_alike}
+use Rattle.sq_graph.proofs.Slotting.{positions_apart, slotted_alike}
 use Rattle.sq_patch.proofs.Renaming.{rename_follows}
 use Rattle.sq_pass.specs.Rewrites.{IsLighter}
 
@@ -16,7 +16,7 @@ pub slotted_lighter : (g : Graph) → IsGraph g → IsCanonical g → IsLighter 
 slotted_lighter g rules canonical =
     let alike = slotted_alike g in
     record {
-      follows = rename_follows g (position_in (names_of g)) rules alike.one_to_one;
+      follows = rename_follows g (position_in (names_of g)) rules (positions_apart g);
       sound = λ s. sound_kept g (slotted g) rules alike s;
       reach = λ r. alike_in_reach g (slotted g) rules alike r;
       canonical = canonical_kept g (slotted g) rules alike canonical;

@@ -1,5 +1,5 @@
 -- What a sweep and one rewrite more, or none, made of a graph.
-use Rattle.std.proofs.Common.{◌≡◌, ℕ, ◌+◌, ◌≤◌, arith}
+use Rattle.std.proofs.Common.{◌≡◌, ℕ, ◌≤◌, arith}
 use Rattle.sq_num.specs.declared.packed.Savings.{Savings}
 use Rattle.sq_graph.specs.Graph.{Graph}
 use Rattle.sq_graph.specs.Words.{words_of}

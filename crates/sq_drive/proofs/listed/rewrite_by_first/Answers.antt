@@ -1,9 +1,7 @@
-use Rattle.std.proofs.Common.{◌≡◌, ◌≤◌, ◌+◌, ◌∙◌, sym, subst, take, arith}
+use Rattle.std.proofs.Common.{sym, subst, arith}
 use Rattle.std.specs.List.{All}
 use Rattle.std.proofs.lemmas.List.{take_all}
-use Rattle.sq_num.specs.declared.packed.Savings.{Savings}
 use Rattle.sq_graph.specs.Graph.{Graph}
-use Rattle.sq_graph.specs.Words.{words_of}
 use Rattle.sq_follow.specs.Follows.{Follows}
 use Rattle.sq_follow.proofs.Following.{graph_follows_itself}
 use Rattle.sq_pass.specs.declared.cut.Cut.{Cut}
@@ -13,10 +11,10 @@ use Rattle.sq_drive.proofs.listed.rewrite_by_first.Goals as goal
 
 pub returns-then-words_of-before-clause-rewritten : goal.returns-then-words_of-before-clause-rewritten
 returns-then-words_of-before-clause-rewritten g c =
-    let pass = c.pass-item.result.now in
+    let pass = c.pass-item.result in
     subst (λ (old : Graph). IsRewrittenByAll g.P.Pass.is_candidate g.P.Pass.described c.args.passes.now c.args.savings c.in_ok-after.after old c.rewrite_by.new.graph.graph) c.loop-pass.invariant.same
     (stepped_wider (IsRewrite (g.P.Pass.is_candidate pass) (g.P.Pass.described pass)) (IsRewriteOfOne g.P.Pass.is_candidate g.P.Pass.described c.args.passes.now)
-    (λ done old new rewrite. record { pass = pass; listed = (c.loop-pass.pass-index, omega (arith, c.loop-pass-test.true), c.pass-item.is); rewrite = rewrite })
+    (λ done old new rewrite. record { pass = pass; listed = (c.loop-pass.pass-index, omega (arith, c.loop-pass-test.true), sym c.pass-item.is); rewrite = rewrite })
     c.args.savings c.in_ok-after.after c.loop-pass.graph.graph c.rewrite_by.new.graph.graph c.in_ok-after.ensures.rewritten)
 
 pub returns-clause-rewritten : goal.returns-clause-rewritten

@@ -1,8 +1,10 @@
-use Rattle.std.proofs.Common.{◌≡◌, ◌<◌, ◌≤◌, sym, ap, subst, arith}
+use Rattle.std.proofs.Common.{◌<◌, sym, ap, subst, arith}
 use Rattle.sq_num.specs.declared.packed.TheConstants.Savings.{NONE}
+use Rattle.sq_graph.specs.Graph.{Graph}
 use Rattle.sq_graph.specs.Room.{GraphAndRoom}
 use Rattle.sq_graph.specs.Slotted.{IsSlotted, slotted}
 use Rattle.sq_graph.specs.Words.{words_of}
+use Rattle.sq_graph.proofs.RenamedReach.{alike_words}
 use Rattle.sq_graph.proofs.Slotting.{slotted_alike, slotted_again}
 use Rattle.sq_follow.specs.Follows.{Follows}
 use Rattle.sq_follow.proofs.Following.{graph_follows_through}
@@ -44,9 +46,17 @@ loop-savings-preserved c =
     let fewer : words_of mid < words_of old = omega (arith, c.if-words_of-before.false, c.words_of.ensures, c.words_of-before.ensures, round.lighter.words, c.loop-savings.invariant.rewritten.lighter.words) in
     let kept = slotted_lighter mid c.learn.ensures.rules done.lighter.canonical in
     record {
-      rewritten = subst (IsRewritten IsCandidate described NONE c.in_ok-savings.savings old) (sym c.name_by_slots.ensures.graph) (rewritten_named IsCandidate described mid (slotted mid) (slotted_alike mid) NONE c.in_ok-savings.savings old done fewer kept);
-      slotted = subst IsSlotted (sym c.name_by_slots.ensures.graph) (slotted_again mid c.learn.ensures.rules);
+      rewritten = subst (IsRewritten IsCandidate described NONE c.in_ok-savings.savings old) (sym c.in_ok-name_by_slots.ensures.graph) (rewritten_named IsCandidate described mid (slotted mid) (slotted_alike mid) NONE c.in_ok-savings.savings old done fewer kept);
+      slotted = subst IsSlotted (sym c.in_ok-name_by_slots.ensures.graph) (slotted_again mid c.learn.ensures.rules);
     }
+
+pub loop-savings-smaller : goal.loop-savings-smaller
+loop-savings-smaller c =
+    let mid = c.settle_by.new.graph.graph in
+    let round : IsRewritten IsCandidate described c.loop-savings.savings c.in_ok-savings.savings c.loop-savings.graph.graph mid = c.in_ok-savings.ensures.rewritten in
+    let same = alike_words mid (slotted mid) (slotted_alike mid) in
+    subst (λ (g : Graph). words_of g < words_of c.loop-savings.graph.graph) (sym c.in_ok-name_by_slots.ensures.graph)
+    (omega (arith, same, c.if-words_of-before.false, c.words_of.ensures, c.words_of-before.ensures, round.lighter.words))
 
 pub returns-in_err-savings-clause-follows : goal.returns-in_err-savings-clause-follows
 returns-in_err-savings-clause-follows c =
