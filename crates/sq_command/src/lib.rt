@@ -11,6 +11,3 @@ mod run_words;
 pub use command::{Command, command_of};
 pub use number::number_of;
 pub use run_words::RunWords;
-
-#[cfg(test)]
-mod tests;

@@ -13,6 +13,3 @@ mod sound_desk;
 pub use desk::{Desk, DeskFault, LoadFault};
 pub use memory_desk::MemoryDesk;
 pub use sound_desk::SoundDesk;
-
-#[cfg(test)]
-mod tests;
