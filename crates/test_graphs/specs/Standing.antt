@@ -1,5 +1,5 @@
 -- What stands in a graph of so many blocks and procedures, whose names and numbers are those below.
-use Rattle.std.specs.Prelude.{◌≡◌, ℕ, ◌<◌, [], map, false}
+use Rattle.std.specs.Prelude.{◌≡◌, ℕ, ◌<◌, List, [], map, false}
 use Rattle.std.specs.List.{All}
 use Rattle.std.specs.List.Sorted.{IsStrictlyIncreasing}
 use Rattle.sq_graph.specs.declared.item.Item.{Item}

@@ -145,11 +145,7 @@ fn items_of(blocks: &[BlockPart]) -> u64
     requires { length blocks.now < 2 ^ 29 }
     ensures { result ≡ length_of_blocks blocks.now }
 {
-    let mut items = 0;
-    for part in blocks {
-        items += u64::from(part.length);
-    }
-    items
+    blocks.iter().map(|part| u64::from(part.length)).sum()
 }
 
 /// The graph of the parts, or None where they don't meet the rules of a graph.

@@ -1,7 +1,0 @@
-use Rattle.std.proofs.Common.{ap, is_some}
-use Rattle.sq_graph.proofs.OperationRules.{inlined_rules}
-use Rattle.squeeze.proofs.tests.calls.inline.Goals as goal
-
-pub inline-requires-clause-rules : goal.inline-requires-clause-rules
-inline-requires-clause-rules c =
-    inlined_rules c.args.graph.now.graph c.args.block c.args.at c.entry-entry.ensures.rules (c.called.ensures.block (ap is_some c.in_ok-procedure.was))
