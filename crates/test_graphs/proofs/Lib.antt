@@ -1,2 +1,2 @@
-pub mod Right
+pub mod Looked
 pub mod PartRules

@@ -1,6 +1,7 @@
 -- A graph of parts keeps the rules where each part is right.
-use Rattle.std.proofs.Common.{◌≡◌, ◌≢◌, ℕ, ◌+◌, ◌-◌, ◌<◌, ◌≤◌, ◌^◌, ◌==◌, nat_eq, false, List, [], ◌∷◌, map, length, take, drop, get_or, IsSome, length-drop, refl, sym, subst, ap, ◌∙◌, inl, inr, arith}
+use Rattle.std.proofs.Common.{◌≡◌, ◌≢◌, ℕ, zero, suc, ◌+◌, ◌-◌, ◌<◌, ◌≤◌, ◌^◌, ◌==◌, nat_eq, false, List, [], ◌∷◌, map, length, take, drop, get_or, IsSome, length-drop, refl, sym, subst, ap, ◌∙◌, inl, inr, arith}
 use Rattle.std.specs.List.{All, AllByRecursion, IsDistinct}
+use Rattle.std.specs.List.Sorted.{IsStrictlyIncreasing}
 use Rattle.std.proofs.lemmas.Bool.{cases_Bool, eqb-false, ne_eqb}
 use Rattle.std.proofs.lemmas.List.Elements.{All-nil, All-cons, All-head, All-tail, All-map, All-take, All-drop, All-weaker}
 use Rattle.sq_arena.specs.Entries.{keys, HasDistinctKeys, value_of}
@@ -16,7 +17,7 @@ use Rattle.sq_graph.specs.Parts.{blocks_of_parts, procedures_of_parts, length_of
 use Rattle.sq_graph.specs.Room.{IsSmall, count_of}
 use Rattle.sq_graph.proofs.FromParts.{all_items_of_parts, length-blocks_of_parts, length-procedures_of_parts}
 use Rattle.sq_graph.proofs.RulesByBlock.{ItemStands, BlockStands, BodyStands, IsByBlock, from_blocks, by_stays}
-use Rattle.test_graphs.specs.Standing.{ItemIsRight, TermIsRight, WordsAreRight}
+use Rattle.test_graphs.specs.Standing.{ItemIsRight, TermIsRight, MakeGraph}
 
 -- each position is the name of a block, and no other one's
 has_position : (j k : ℕ) (ps : List BlockPart) (items : List Item) → j ≤ k → k < j + length ps → IsSome (value_of (named (blocks_of_parts j ps items)) k)
@@ -43,7 +44,9 @@ ends_with j p [] items = refl
 ends_with j p (q ∷ ps) items = ends_with (j + 1) q ps (drop p.length items) ∙ ap (λ (x : BlockPart). goes_on x.term) (same_default (q ∷ ps) (length ps) q p (omega arith))
   where
     same_default : (xs : List BlockPart) (k : ℕ) (d e : BlockPart) → k < length xs → get_or xs k d ≡ get_or xs k e
-    same_default xs k d e there = grind arith
+    same_default [] k d e there = absurd (omega (arith, there))
+    same_default (x ∷ xs) zero d e there = refl
+    same_default (x ∷ xs) (suc k) d e there = same_default xs k d e (omega (arith, there))
 
 module _ (b c : ℕ) where
   abbrev N : ℕ → Type 0
@@ -75,15 +78,16 @@ module _ (b c : ℕ) where
       (bodies_stand qs (drop q.length items) (All-drop (ItemStands N C) q.length items stand) (All-tail ProcedureFits added (procedures_of_parts qs (drop q.length items)) fit))
 
 -- what was looked at
-pub record PartsAreRight (ps : List BlockPart) (items : List Item) (entry : ℕ) (ws : List CodeRef) (qs : List ProcedurePart) : Type 0 where
-  pub entry : entry < length ps
-  pub words : WordsAreRight (length ps) ws
-  pub items : All (ItemIsRight (length ps) (length qs)) items
+pub record PartsAreRight (ps : List BlockPart) (all : List Item) (start : ℕ) (ws : List CodeRef) (qs : List ProcedurePart) : Type 0 where
+  pub entry : start < length ps
+  pub ascending : IsStrictlyIncreasing (map (λ w. w.at) ws)
+  pub words : All (λ w. w.block < length ps) ws
+  pub items : All (ItemIsRight (length ps) (length qs)) all
   pub terms : All (λ part. TermIsRight (length ps) part.term) ps
   pub ends : (d : BlockPart) → goes_on (get_or ps (length ps - 1) d).term ≡ false
-  pub bodies : All ProcedureFits (procedures_of_parts qs (drop (length_of_blocks ps) items))
-  pub own : length_of_blocks ps ≤ length items
-  pub others : length_of_bodies qs ≡ length (drop (length_of_blocks ps) items)
+  pub bodies : All ProcedureFits (procedures_of_parts qs (drop (length_of_blocks ps) all))
+  pub own : length_of_blocks ps ≤ length all
+  pub others : length_of_bodies qs ≡ length (drop (length_of_blocks ps) all)
 
 pub parts_fit : (ps : List BlockPart) (items : List Item) (qs : List ProcedurePart) → length_of_blocks ps ≤ length items → length_of_bodies qs ≡ length (drop (length_of_blocks ps) items) → LengthsFit ps items qs
 parts_fit ps items qs own others = omega (arith, own, others, length-drop (length_of_blocks ps) items)
@@ -93,7 +97,6 @@ parts_keep_rules ps items entry ws qs right =
     let g = graph_of_parts ps items entry ws qs in
     let N : ℕ → Type 0 = λ k. k < length ps in
     let C : ℕ → Type 0 = λ k. k < length qs in
-    let words = right.words in
     let stand = items_stand (length ps) (length qs) items right.items in
     let rest = drop (length_of_blocks ps) items in
     let has : (k : ℕ) → N k → HasBlock g k = λ k there. has_position 0 k ps items (omega arith) (omega (arith, there)) in
@@ -103,9 +106,9 @@ parts_keep_rules ps items entry ws qs right =
     (record {
       distinct = distinct_positions 0 ps items;
       entry = right.entry;
-      words = All-map N (λ w. w.block) ws words.names;
+      words = All-map N (λ (w : CodeRef). w.block) ws right.words;
       ends = ended ps items right.entry right.ends;
-      ascending = words.ascending;
+      ascending = right.ascending;
       blocks = blocks_stand (length ps) (length qs) 0 ps items stand right.terms;
       bodies = bodies_stand (length ps) (length qs) qs rest (All-drop (ItemStands N C) (length_of_blocks ps) items stand) right.bodies;
     }))
@@ -120,4 +123,13 @@ parts_are_small ps items entry ws qs fits few_blocks few_items few_procedures =
       blocks = omega (arith, few_blocks, length-blocks_of_parts 0 ps items);
       items = omega (arith, few_items, ap (λ xs. length xs) (all_items_of_parts ps items entry ws qs fits));
       procedures = omega (arith, few_procedures, length-procedures_of_parts qs (drop (length_of_blocks ps) items));
+    }
+
+pub parts_make_graph : (ps : List BlockPart) (items : List Item) (entry : ℕ) (ws : List CodeRef) (qs : List ProcedurePart) → PartsAreRight ps items entry ws qs → length ps < 2 ^ 29 → length items < 2 ^ 29 → length qs < 2 ^ 29 → MakeGraph ps items entry ws qs
+parts_make_graph ps items entry ws qs right few_blocks few_items few_procedures =
+    let lengths = parts_fit ps items qs right.own right.others in
+    record {
+      lengths = lengths;
+      rules = parts_keep_rules ps items entry ws qs right;
+      small = parts_are_small ps items entry ws qs lengths few_blocks few_items few_procedures;
     }
