@@ -1,11 +1,10 @@
 -- The graph of its parts, in which a block's name is its position.
-use Rattle.std.specs.Prelude.{◌≡◌, ℕ, ◌+◌, List, [], ◌∷◌, take, drop, length, map, slice_index, sum_by}
+use Rattle.std.specs.Prelude.{◌≡◌, ℕ, ◌+◌, List, [], ◌∷◌, take, drop, length, map, sum_by}
 use Rattle.sq_graph.specs.declared.item.Item.{Item}
 use Rattle.sq_graph.specs.declared.parts.BlockPart.{BlockPart}
 use Rattle.sq_graph.specs.declared.parts.ProcedurePart.{ProcedurePart}
 use Rattle.sq_graph.specs.declared.parts.CodeRef.{CodeRef}
 use Rattle.sq_graph.specs.Graph.{Block, Procedure, Graph}
-use Rattle.sq_graph.specs.Renames.{renamed}
 
 -- the blocks that have these items in order, named from this position on
 abbrev pub blocks_of_parts : ℕ → List BlockPart → List Item → List Block
@@ -40,7 +39,3 @@ graph_of_parts blocks items entry code_words procedures =
 
 abbrev pub names_of : Graph → List ℕ
 names_of g = map (λ b. b.name) g.blocks
-
--- a graph of parts but for the names of blocks: each position is the name of the block that stands there
-abbrev pub IsNamed : Graph → Graph → Type 0
-IsNamed parts g = g ≡ renamed (slice_index (names_of g)) parts

@@ -17,8 +17,10 @@ use Rattle.sq_program.specs.Programs.{Word, Text, Note, Program, is_word}
 use Rattle.sq_program.specs.Notes.{used_notes, is_in_procedures}
 use Rattle.sq_program.specs.Lifted.{is_kept, is_leader, cut, procedure_of, code_ref, lifted_with}
 use Rattle.sq_lift.proofs.Placed.{place_at, word_by_place}
-use Rattle.sq_lift.specs.Cuts.{part_of, ShowsBlocks, note_part, body_of, position_in, starts}
-use Rattle.sq_lift.proofs.Numbering.{AreNumbered, starts_numbered}
+use Rattle.sq_lift.specs.Cuts.{part_of, ShowsBlocks, note_part, body_of, starts}
+use Rattle.sq_graph.specs.Slotted.{position_in, slotted}
+use Rattle.sq_graph.proofs.Slotting.{AreNumbered}
+use Rattle.sq_lift.proofs.Numbering.{starts_numbered}
 use Rattle.sq_lift.proofs.Cutting.{names_are, same_cut}
 
 -- LISTS
@@ -143,7 +145,7 @@ module _ (is : ℕ → Bool) (ns : List Note) (p : Program) (inside leaders : �
   names_cut = sym (names_are keeps leaders ns p.text p.text.lo p.text.words) ∙ ap (map (λ (b : Block). b.name)) blocks_cut
 
   -- the parts make the graph
-  pub parts_make : (f : ℕ → ℕ) (begin : List ℕ) (block_items items : List Item) (parts : List BlockPart) (procedures : List ProcedurePart) (made_entry : ℕ) (made_refs : List CodeRef) → begin ≡ starts keeps leaders p.text.lo p.text.words → ((x : ℕ) → f x ≡ position_in begin x) → ShowsBlocks f (cut keeps leaders ns p.text p.text.lo p.text.words).blocks block_items parts → items ≡ block_items ++ retargeted_items f (flat_map (body_of p.text) ns) → procedures ≡ map (note_part p.text) ns → AllByRecursion (λ n. n.link < 32) ns → made_entry ≡ f p.entry → made_refs ≡ retargeted_words f (map code_ref p.code_words) → graph_of_parts parts items made_entry made_refs procedures ≡ renamed (position_in (names_of (lifted_with is ns p))) (lifted_with is ns p)
+  pub parts_make : (f : ℕ → ℕ) (begin : List ℕ) (block_items items : List Item) (parts : List BlockPart) (procedures : List ProcedurePart) (made_entry : ℕ) (made_refs : List CodeRef) → begin ≡ starts keeps leaders p.text.lo p.text.words → ((x : ℕ) → f x ≡ position_in begin x) → ShowsBlocks f (cut keeps leaders ns p.text p.text.lo p.text.words).blocks block_items parts → items ≡ block_items ++ retargeted_items f (flat_map (body_of p.text) ns) → procedures ≡ map (note_part p.text) ns → AllByRecursion (λ n. n.link < 32) ns → made_entry ≡ f p.entry → made_refs ≡ retargeted_words f (map code_ref p.code_words) → graph_of_parts parts items made_entry made_refs procedures ≡ slotted (lifted_with is ns p)
   parts_make f begin block_items items parts procedures made_entry made_refs begins by shows all listed links at words =
       let same_f : f ≡ position_in (starts keeps leaders p.text.lo p.text.words) = λ i x. (by x ∙ ap (λ xs. position_in xs x) begins) i in
       let bs : List Block = (cut keeps leaders ns p.text p.text.lo p.text.words).blocks in

@@ -1,14 +1,16 @@
 -- The numbers of notes and of blocks.
-use Rattle.std.proofs.Common.{◌≡◌, ℕ, suc, ◌+◌, ◌<◌, ◌≤◌, Bool, true, false, ◌==◌, ◌&&◌, ◌*◌, List, [], ◌∷◌, ◌++◌, length, drop, get_or, Option, Some, None, refl, sym, ap, ◌∙◌, arith, append_assoc, if◌then◌else◌}
-use Rattle.std.specs.List.{AllByRecursion}
-use Rattle.std.specs.Option.{option_map, unwrap_or}
-use Rattle.std.proofs.lemmas.Bool.{eq-eqb, ne_eqb}
+use Rattle.std.proofs.Common.{◌≡◌, ℕ, suc, ◌+◌, ◌<◌, ◌≤◌, Bool, true, false, ◌==◌, nat_eq, ◌&&◌, ◌*◌, List, [], ◌∷◌, ◌++◌, length, drop, get_or, Option, Some, None, refl, sym, ap, ◌∙◌, arith, append_assoc, if◌then◌else◌}
+use Rattle.std.specs.List.{AllByRecursion, IsDistinct}
+use Rattle.std.specs.Option.{option_map}
+use Rattle.std.proofs.lemmas.Bool.{ne_eqb}
 use Rattle.std.proofs.lemmas.List.{length-append}
 use Rattle.std.proofs.Math.Seq.{drop-cons}
 use Rattle.sq_program.specs.Programs.{Word, Note}
 use Rattle.sq_program.specs.Notes.{used_notes}
 use Rattle.sq_program.specs.Lifted.{procedure_at}
-use Rattle.sq_lift.specs.Cuts.{number_in, note_number_in, position_in, starts}
+use Rattle.sq_graph.specs.Slotted.{position_in}
+use Rattle.sq_graph.proofs.Slotting.{AreNumbered, numbered_from}
+use Rattle.sq_lift.specs.Cuts.{note_number_in, starts}
 
 -- NOTES
 
@@ -46,29 +48,19 @@ used_not is ns used i n h at false_at =
 
 -- BLOCKS
 
--- these names have the numbers from k on
-abbrev pub AreNumbered : (ℕ → ℕ) → ℕ → List ℕ → Type 0
-AreNumbered f k [] = Unit {0}
-AreNumbered f k (n ∷ names) = (f n ≡ k) × AreNumbered f (k + 1) names
-
 abbrev pub Ascend : List ℕ → Type 0
 Ascend [] = Unit {0}
 Ascend (n ∷ names) = AllByRecursion (λ m. n < m) names × Ascend names
 
-numbered_same : (f g : ℕ → ℕ) (k : ℕ) (names : List ℕ) → AllByRecursion (λ m. f m ≡ g m) names → AreNumbered f k names → AreNumbered g k names
-numbered_same f g k [] same h = tt
-numbered_same f g k (n ∷ names) same h = (sym same.0 ∙ h.0, numbered_same f g (k + 1) names same.1 h.1)
-
-pub numbered_from : (k : ℕ) (names : List ℕ) → Ascend names → AreNumbered (λ x. unwrap_or (number_in names k x) 0) k names
-numbered_from k [] up = tt
-numbered_from k (n ∷ names) up = (
-  rw (eq-eqb n n refl) refl,
-  numbered_same (λ x. unwrap_or (number_in names (k + 1) x) 0) (λ x. unwrap_or (number_in (n ∷ names) k x) 0) (k + 1) names (later names up.0) (numbered_from (k + 1) names up.1),
-)
+-- names that ascend are distinct
+ascending_distinct : (names : List ℕ) → Ascend names → IsDistinct nat_eq names
+unfolding IsDistinct
+ascending_distinct [] up = tt
+ascending_distinct (n ∷ names) up = (apart names up.0, ascending_distinct names up.1)
   where
-    later : (ms : List ℕ) → AllByRecursion (λ m. n < m) ms → AllByRecursion (λ m. unwrap_or (number_in names (k + 1) m) 0 ≡ unwrap_or (number_in (n ∷ names) k m) 0) ms
-    later [] above = tt
-    later (m ∷ ms) above = (let h = above.0 in rw (ne_eqb n m (λ e. omega (arith, e, h))) refl, later ms above.1)
+    apart : (ms : List ℕ) → AllByRecursion (λ m. n < m) ms → AllByRecursion (λ m. nat_eq n m ≡ false) ms
+    apart [] above = tt
+    apart (m ∷ ms) above = (let h = above.0 in ne_eqb n m (λ e. omega (arith, e, h)), apart ms above.1)
 
 starts_from : (keeps leads : ℕ → Bool) (at : ℕ) (words : List Word) → AllByRecursion (λ m. at ≤ m) (starts keeps leads at words) × Ascend (starts keeps leads at words)
 starts_from keeps leads at [] = (tt, tt)
@@ -124,4 +116,4 @@ one_start x begins list pushed n push few =
     at_most false = omega arith
 
 pub starts_numbered : (keeps leads : ℕ → Bool) (at : ℕ) (words : List Word) → AreNumbered (position_in (starts keeps leads at words)) 0 (starts keeps leads at words)
-starts_numbered keeps leads at words = numbered_from 0 (starts keeps leads at words) (starts_from keeps leads at words).1
+starts_numbered keeps leads at words = numbered_from 0 (starts keeps leads at words) (ascending_distinct (starts keeps leads at words) (starts_from keeps leads at words).1)

@@ -16,21 +16,12 @@ use Rattle.sq_program.specs.Programs.{Word, Text, Note}
 use Rattle.sq_program.specs.Readings.{Reading}
 use Rattle.sq_program.specs.Lifted.{Form, ItemForm, TermForm, form_of, Rest, body_from}
 
--- the number of a name, where these stand from number k on
-abbrev pub number_in : List ℕ → ℕ → ℕ → Option ℕ
-number_in [] k name = None
-number_in (n ∷ names) k name = if n == name then Some k else number_in names (k + 1) name
-
 -- the number of the procedure that is noted at an address, where these notes have the numbers from k on
 abbrev pub note_number_in : List Note → ℕ → ℕ → Option ℕ
 note_number_in [] k x = None
 note_number_in (note ∷ notes) k x = if note.address == x then Some k else note_number_in notes (k + 1) x
 
--- the position of a block by its address, and 0 where there is no such block
-abbrev pub position_in : List ℕ → ℕ → ℕ
-position_in names x = unwrap_or (number_in names 0 x) 0
-
--- the same by a table of the numbers
+-- the position of a block by its address, by a table of the numbers, and 0 where there is no such block
 abbrev pub position_by : List (ℕ × ℕ) → ℕ → ℕ
 position_by entries x = unwrap_or (lookup (nat_eq x) entries) 0
 

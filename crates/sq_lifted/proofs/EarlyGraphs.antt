@@ -12,7 +12,10 @@ use Rattle.sq_reloc.specs.declared.mark.CodeWord.{CodeWord}
 use Rattle.sq_reloc.specs.CodeWords.{AreCodeWords}
 use Rattle.sq_graph.specs.Graph.{Block, Procedure, Graph}
 use Rattle.sq_graph.specs.Blocks.{items_of_blocks, items_of_bodies}
-use Rattle.sq_graph.specs.Parts.{names_of, IsNamed}
+use Rattle.sq_graph.specs.Parts.{names_of}
+use Rattle.sq_graph.specs.Slotted.{position_in, slotted}
+use Rattle.sq_graph.proofs.Renamed.{renamed_rules}
+use Rattle.sq_graph.proofs.Slotting.{positions_apart, slotted_alike}
 use Rattle.sq_graph.specs.Rules.{IsGraph}
 use Rattle.sq_graph.specs.Renames.{retargeted_item, retargeted_items, retargeted_procedure, renamed_block, renamed}
 use Rattle.sq_graph.specs.declared.parts.Room.{Room}
@@ -27,8 +30,7 @@ use Rattle.sq_program.specs.FilePrograms.{text_of, early_refusal, IsProgramOf, I
 use Rattle.sq_lift.specs.Flags.{Flags, is_flagged}
 use Rattle.sq_lift.specs.Refused.{IsReadNoted}
 use Rattle.sq_lift.proofs.FilePrograms.{program_with, is_program, one_program}
-use Rattle.sq_lift.specs.Cuts.{position_in, starts}
-use Rattle.sq_lift.proofs.Numbering.{AreNumbered, starts_numbered}
+use Rattle.sq_lift.specs.Cuts.{starts}
 use Rattle.sq_lift.proofs.Cutting.{names_are}
 use Rattle.sq_lifting.specs.Lifting.{IsReadable}
 use Rattle.sq_lifted.specs.Files.{IsLinkedProgram}
@@ -37,7 +39,6 @@ use Rattle.sq_lifted.proofs.Graphs.{is_graph}
 use Rattle.sq_lifted.proofs.Counting.{words_fit}
 use Rattle.sq_lifted.proofs.Files.{files_linked}
 use Rattle.sq_lifted.proofs.FileWorlds.{early_readable}
-use Rattle.sq_lifted.proofs.Named.{numbered_rules, parts_alike}
 
 -- HOW MUCH IT HAS
 
@@ -124,21 +125,16 @@ module _ (bytes : List ℕ) (is : ℕ → Bool) (p : Program) (fit : AllByRecurs
   pub rules : IsGraph g
   rules = is_graph p is linked.linked read.reached readable linked.code_words
 
-  numbered : AreNumbered (position_in (names_of g)) 0 (names_of g)
-  numbered =
-      let ns = used_notes is p.notes in
-      subst (λ names. AreNumbered (position_in names) 0 names) (sym (names_are (is_kept is ns) (is_leader is ns p) ns p.text p.text.lo p.text.words)) (starts_numbered (is_kept is ns) (is_leader is ns p) p.text.lo p.text.words)
-
-  pub part_rules : IsGraph (renamed (position_in (names_of g)) g)
-  part_rules = numbered_rules (position_in (names_of g)) g rules numbered
+  pub part_rules : IsGraph (slotted g)
+  part_rules = renamed_rules (position_in (names_of g)) g (positions_apart g) rules
 
   few : (f : ℕ → ℕ) → Covers (room_for p.text) (count_of (renamed f g))
   few f =
       let ns = used_notes is p.notes in
       few_enough f g p.text (blocks_count (is_kept is ns) (is_leader is ns p) ns p.text p.text.lo p.text.words) (words_fit p is linked.linked read.reached readable)
 
-  pub part_count : IsSmall (count_of (renamed (position_in (names_of g)) g))
-  part_count = small_count p.text (count_of (renamed (position_in (names_of g)) g)) linked.short.short (few (position_in (names_of g)))
+  pub part_count : IsSmall (count_of (slotted g))
+  part_count = small_count p.text (count_of (slotted g)) linked.short.short (few (position_in (names_of g)))
 
   pub room_left : (made : Graph) → AreAlike g made → IsSmall (sum_of (count_of made) (room_for p.text))
   room_left made alike =
@@ -189,20 +185,18 @@ module _ (bytes : List ℕ) (t : Text) (f : Flags) (notes : List Note) (words : 
   pub seen_early : early_refusal bytes (is_flagged f) seen ≡ None
   seen_early = here.noted.fine seen seen_program
 
-  -- the graph as it is named by positions
-  abbrev pub by_positions : Graph
-  by_positions = renamed (position_in (names_of (lifted (is_flagged f) seen))) (lifted (is_flagged f) seen)
-
-  pub seen_rules : (parts : Graph) → parts ≡ by_positions → IsGraph parts
+  pub seen_rules : (parts : Graph) → parts ≡ slotted (lifted (is_flagged f) seen) → IsGraph parts
   seen_rules parts is = subst IsGraph (sym is) (part_rules bytes (is_flagged f) seen here.fit seen_read seen_early)
 
-  pub seen_count : (parts : Graph) → parts ≡ by_positions → IsSmall (count_of parts)
+  pub seen_count : (parts : Graph) → parts ≡ slotted (lifted (is_flagged f) seen) → IsSmall (count_of parts)
   seen_count parts is = subst (λ (g : Graph). IsSmall (count_of g)) (sym is) (part_count bytes (is_flagged f) seen here.fit seen_read seen_early)
 
-  pub seen_alike : (parts made : Graph) → parts ≡ by_positions → IsNamed parts made → IsGraph made → (p : Program) → IsProgramOf bytes p → AreAlike (lifted (is_flagged f) p) made
-  seen_alike parts made is named rules p of =
-      let same : seen ≡ p = seen_is ∙ sym (one_program bytes words p here.code_words of) in
-      subst (λ p. AreAlike (lifted (is_flagged f) p) made) same (parts_alike (lifted (is_flagged f) seen) made (subst (λ (g : Graph). IsNamed g made) is named) rules)
+  pub seen_slotted : (made : Graph) → made ≡ slotted (lifted (is_flagged f) seen) → (p : Program) → IsProgramOf bytes p → made ≡ slotted (lifted (is_flagged f) p)
+  seen_slotted made is p of = is ∙ ap (λ p. slotted (lifted (is_flagged f) p)) (seen_is ∙ sym (one_program bytes words p here.code_words of))
+
+-- the slotted graph of each program of a file is alike it
+pub early_alike : (bytes : List ℕ) (is : ℕ → Bool) (made : Graph) → ((p : Program) → IsProgramOf bytes p → made ≡ slotted (lifted is p)) → (p : Program) → IsProgramOf bytes p → AreAlike (lifted is p) made
+early_alike bytes is made same p of = subst (AreAlike (lifted is p)) (sym (same p of)) (slotted_alike (lifted is p))
 
 -- the numbers of bytes
 pub each_fits : (xs : List ℕ) → ((i : ℕ) → Fits w8 (get_or xs i 0)) → AllByRecursion (λ b. b < 256) xs

@@ -9,7 +9,6 @@ pub mod FileWorlds
 pub mod FileLayouts
 pub mod PlainCells
 pub mod PlainStarts
-pub mod Named
 pub mod EarlyGraphs
 pub mod RenamedLinks
 pub mod Dying

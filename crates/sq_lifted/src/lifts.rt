@@ -4,7 +4,7 @@ ghost use Rattle.std.specs.Prelude.{◌≡◌, ◌⊎◌, ◌<◌, ◌^◌, leng
 ghost use Rattle.std.specs.List.{AllByRecursion};
 ghost use Rattle.sq_program.specs.Programs.{Program as FileProgram};
 ghost use Rattle.sq_program.specs.Lifted.{lifted};
-ghost use Rattle.sq_graph.specs.Alike.{AreAlike};
+ghost use Rattle.sq_graph.specs.Slotted.{slotted, IsSlotted};
 ghost use Rattle.sq_graph.specs.Room.{Covers};
 ghost use Rattle.sq_program.specs.FilePrograms.{text_of, IsProgramOf};
 ghost use Rattle.sq_lift.specs.Flags.{is_flagged};
@@ -37,7 +37,8 @@ fn early_graph(
     requires noted { IsReadNoted elf.now noted.now.program.text noted.now.program.reached noted.now.notes.items }
     requires count { length noted.now.notes.items < 2 ^ 32 }
     requires links { AllByRecursion (λ note. note.link < 32) noted.now.notes.items }
-    ensures { IfOk result (λ graph. (p : FileProgram) → IsProgramOf elf.now p → AreAlike (lifted (is_flagged noted.now.program.reached) p) graph.graph) }
+    ensures graph { IfOk result (λ graph. (p : FileProgram) → IsProgramOf elf.now p → graph.graph ≡ slotted (lifted (is_flagged noted.now.program.reached) p)) }
+    ensures slotted { IfOk result (λ graph. IsSlotted graph.graph) }
 {
     bytes_fit(elf.bytes());
     let code_words = relocs.code_words();
@@ -60,10 +61,11 @@ fn text_room(text: &Text) -> Room
     }
 }
 
-/// The graph of the file, with room for as much again as its text has words, or its refusal: by its text, or by the first entry of its note that is not as it is to be.
+/// The graph of the file, whose blocks are named by their positions, with room for as much again as its text has words, or its refusal: by its text, or by the first entry of its note that is not as it is to be.
 pub fn lift(alloc: Global, elf: &Elf<'_>, relocs: &Relocs<'_>) -> Result<Graph, Denied>
     requires { relocs.now ≡ elf.now }
     ensures lifted { IfOk result (λ graph. IsLiftedFile elf.now graph.graph) }
+    ensures slotted { IfOk result (λ graph. IsSlotted graph.graph) }
     ensures runs { IfOk result (λ graph. KeepsRunsOf elf.now graph.graph) }
     ensures shows { IfOk result (λ graph. IsAlikeShown elf.now graph.graph) }
     ensures fits { IfOk result (λ graph. FitsFile elf.now graph.graph) }

@@ -75,7 +75,8 @@ impl Model for Positions {
 impl Positions {
     ghost use Rattle.std.specs.Prelude.{◌≡◌, ◌<◌, ◌^◌, ◌++◌, ◌∷◌, [], ℕ, IfOk, OnOk, length};
     ghost use Rattle.sq_graph.specs.Renames.{retargeted_item, retargeted_term};
-    ghost use Rattle.sq_lift.specs.Cuts.{position_in, position_by};
+    ghost use Rattle.sq_graph.specs.Slotted.{position_in};
+    ghost use Rattle.sq_lift.specs.Cuts.{position_by};
 
     /// The positions of blocks that begin at these addresses. Of equal ones the first would count.
     pub(crate) fn new(alloc: Global, starts: &[u32]) -> Result<Positions, Memory>

@@ -2,11 +2,12 @@
 
 ghost use Rattle.std.specs.Prelude.{◌≡◌, ◌<◌, ◌^◌, length, map, IfOk};
 ghost use Rattle.std.specs.List.{AllByRecursion};
-ghost use Rattle.sq_graph.specs.Parts.{LengthsFit, graph_of_parts, names_of};
-ghost use Rattle.sq_graph.specs.Renames.{renamed, retargeted_words};
+ghost use Rattle.sq_graph.specs.Parts.{LengthsFit, graph_of_parts};
+ghost use Rattle.sq_graph.specs.Renames.{retargeted_words};
+ghost use Rattle.sq_graph.specs.Slotted.{slotted};
 ghost use Rattle.sq_program.specs.Lifted.{code_ref, lifted};
 ghost use Rattle.sq_lift.specs.Flags.{is_flagged};
-ghost use Rattle.sq_lift.specs.Cuts.{position_by, position_in};
+ghost use Rattle.sq_lift.specs.Cuts.{position_by};
 
 use crate::cut::bodies::push_bodies;
 use crate::cut::cuts::cut_words;
@@ -79,7 +80,7 @@ pub fn parts_of(
 ) -> Result<GraphParts, Memory>
     requires count { length notes.now < 2 ^ 32 }
     requires links { AllByRecursion (λ note. note.link < 32) notes.now }
-    ensures graph { IfOk result (λ made. graph_of_parts made.blocks.items made.items.items made.entry made.code_words.items made.procedures.items ≡ renamed (position_in (names_of (lifted (is_flagged reached.now) (record { text = text.now; entry = entry; code_words = code_words.now; notes = notes.now })))) (lifted (is_flagged reached.now) (record { text = text.now; entry = entry; code_words = code_words.now; notes = notes.now }))) }
+    ensures graph { IfOk result (λ made. graph_of_parts made.blocks.items made.items.items made.entry made.code_words.items made.procedures.items ≡ slotted (lifted (is_flagged reached.now) (record { text = text.now; entry = entry; code_words = code_words.now; notes = notes.now }))) }
     ensures lengths { IfOk result (λ made. LengthsFit made.blocks.items made.items.items made.procedures.items) }
 {
     let procedures = procedures_of(alloc, reached, notes)?;

@@ -6,7 +6,9 @@ use Rattle.sq_num.specs.declared.refusal.Denied.TheVariants.{Refused}
 use Rattle.sq_elf.specs.Headers.{entry_of}
 use Rattle.sq_graph.specs.Room.{IsSmall, Covers, count_of, sum_of}
 use Rattle.sq_lifted.specs.LiftedFiles.{IsLiftedFile, IsRefusedFile}
-use Rattle.sq_lifted.proofs.EarlyGraphs.{found_noted}
+use Rattle.sq_lifted.proofs.EarlyGraphs.{found_noted, early_alike}
+use Rattle.sq_lift.specs.Flags.{is_flagged}
+use Rattle.sq_graph.specs.Slotted.{IsSlotted}
 use Rattle.sq_lifted.proofs.LiftedFiles.{refused_early, room_fits, room_covers, early_answer, procedures_are, is_lifted, in_notes, is_refused, one_refusal, no_refusal}
 use Rattle.sq_lifted.proofs.GoodGraphs.{lifted_fits}
 use Rattle.sq_lifted.proofs.SameFiles.{lifted_runs, lifted_shows}
@@ -28,12 +30,12 @@ returns-in_err-noted-clause-exact c = λ refusal refused.
 pub first_live-requires-clause-procedures : goal.first_live-requires-clause-procedures
 first_live-requires-clause-procedures c =
     let found = found_noted c.args.elf.now c.bytes.result.now c.args.relocs.now c.in_ok-noted.noted.program.text c.in_ok-noted.noted.program.reached c.deref.result.now c.in_ok-noted.noted.notes.items c.code_words-code_words.result.now (entry_of c.args.elf.now) c.bytes.ensures.value c.bytes_fit.ensures c.requires c.code_words-code_words.ensures.accepted c.code_words-code_words.ensures.value c.deref.ensures.value c.in_ok-noted.ensures.read c.bytes.ensures.accepted refl in
-    procedures_are c.args.elf.now c.in_ok-noted.noted.program.text c.in_ok-noted.noted.program.reached c.deref.result.now c.code_words-code_words.result.now found c.in_ok-graph.graph.graph c.in_ok-graph.ensures
+    procedures_are c.args.elf.now c.in_ok-noted.noted.program.text c.in_ok-noted.noted.program.reached c.deref.result.now c.code_words-code_words.result.now found c.in_ok-graph.graph.graph (early_alike c.args.elf.now (is_flagged c.in_ok-noted.noted.program.reached) c.in_ok-graph.graph.graph c.in_ok-graph.ensures.graph)
 
 pub overflow_add-result : goal.overflow_add-result
 overflow_add-result c =
     let found = found_noted c.args.elf.now c.bytes.result.now c.args.relocs.now c.in_ok-noted.noted.program.text c.in_ok-noted.noted.program.reached c.deref.result.now c.in_ok-noted.noted.notes.items c.code_words-code_words.result.now (entry_of c.args.elf.now) c.bytes.ensures.value c.bytes_fit.ensures c.requires c.code_words-code_words.ensures.accepted c.code_words-code_words.ensures.value c.deref.ensures.value c.in_ok-noted.ensures.read c.bytes.ensures.accepted refl in
-    let below = in_notes c.args.elf.now c.in_ok-noted.noted.program.text c.in_ok-noted.noted.program.reached c.deref.result.now c.code_words-code_words.result.now found c.in_ok-graph.graph.graph c.in_ok-graph.ensures c.in_ok-number.field-0 c.in_ok-number.ensures c.in-Some.number c.in-Some.is in
+    let below = in_notes c.args.elf.now c.in_ok-noted.noted.program.text c.in_ok-noted.noted.program.reached c.deref.result.now c.code_words-code_words.result.now found c.in_ok-graph.graph.graph (early_alike c.args.elf.now (is_flagged c.in_ok-noted.noted.program.reached) c.in_ok-graph.graph.graph c.in_ok-graph.ensures.graph) c.in_ok-number.field-0 c.in_ok-number.ensures c.in-Some.number c.in-Some.is in
     let count = c.in_ok-noted.ensures.count in
     omega (arith, below, count, ap length c.deref.ensures.value)
 
@@ -41,22 +43,25 @@ pub returns-in-Some-clause-refused : goal.returns-in-Some-clause-refused
 returns-in-Some-clause-refused c = λ refusal is.
     let found = found_noted c.args.elf.now c.bytes.result.now c.args.relocs.now c.in_ok-noted.noted.program.text c.in_ok-noted.noted.program.reached c.deref.result.now c.in_ok-noted.noted.notes.items c.code_words-code_words.result.now (entry_of c.args.elf.now) c.bytes.ensures.value c.bytes_fit.ensures c.requires c.code_words-code_words.ensures.accepted c.code_words-code_words.ensures.value c.deref.ensures.value c.in_ok-noted.ensures.read c.bytes.ensures.accepted refl in
     let same : BadNote (c.in-Some.number + 1) ≡ refusal = (cc) in
-    subst (IsRefusedFile c.args.elf.now) same (is_refused c.args.elf.now c.in_ok-noted.noted.program.text c.in_ok-noted.noted.program.reached c.deref.result.now c.code_words-code_words.result.now found c.in_ok-graph.graph.graph c.in_ok-graph.ensures c.in_ok-number.field-0 c.in_ok-number.ensures c.in-Some.number c.in-Some.is)
+    subst (IsRefusedFile c.args.elf.now) same (is_refused c.args.elf.now c.in_ok-noted.noted.program.text c.in_ok-noted.noted.program.reached c.deref.result.now c.code_words-code_words.result.now found c.in_ok-graph.graph.graph (early_alike c.args.elf.now (is_flagged c.in_ok-noted.noted.program.reached) c.in_ok-graph.graph.graph c.in_ok-graph.ensures.graph) c.in_ok-number.field-0 c.in_ok-number.ensures c.in-Some.number c.in-Some.is)
 
 pub returns-in-Some-clause-exact : goal.returns-in-Some-clause-exact
 returns-in-Some-clause-exact c = λ refusal refused.
     let found = found_noted c.args.elf.now c.bytes.result.now c.args.relocs.now c.in_ok-noted.noted.program.text c.in_ok-noted.noted.program.reached c.deref.result.now c.in_ok-noted.noted.notes.items c.code_words-code_words.result.now (entry_of c.args.elf.now) c.bytes.ensures.value c.bytes_fit.ensures c.requires c.code_words-code_words.ensures.accepted c.code_words-code_words.ensures.value c.deref.ensures.value c.in_ok-noted.ensures.read c.bytes.ensures.accepted refl in
-    inl (ap (λ r. Err (Refused r)) (one_refusal c.args.elf.now c.in_ok-noted.noted.program.text c.in_ok-noted.noted.program.reached c.deref.result.now c.code_words-code_words.result.now found c.in_ok-graph.graph.graph c.in_ok-graph.ensures c.in_ok-number.field-0 c.in_ok-number.ensures c.in-Some.number c.in-Some.is refusal refused))
+    inl (ap (λ r. Err (Refused r)) (one_refusal c.args.elf.now c.in_ok-noted.noted.program.text c.in_ok-noted.noted.program.reached c.deref.result.now c.code_words-code_words.result.now found c.in_ok-graph.graph.graph (early_alike c.args.elf.now (is_flagged c.in_ok-noted.noted.program.reached) c.in_ok-graph.graph.graph c.in_ok-graph.ensures.graph) c.in_ok-number.field-0 c.in_ok-number.ensures c.in-Some.number c.in-Some.is refusal refused))
 
 pub reserve-requires : goal.reserve-requires
 reserve-requires c =
     let found = found_noted c.args.elf.now c.bytes.result.now c.args.relocs.now c.in_ok-noted.noted.program.text c.in_ok-noted.noted.program.reached c.deref.result.now c.in_ok-noted.noted.notes.items c.code_words-code_words.result.now (entry_of c.args.elf.now) c.bytes.ensures.value c.bytes_fit.ensures c.requires c.code_words-code_words.ensures.accepted c.code_words-code_words.ensures.value c.deref.ensures.value c.in_ok-noted.ensures.read c.bytes.ensures.accepted refl in
-    subst (λ room. IsSmall (sum_of (count_of c.in_ok-graph.graph.graph) room)) (sym c.text_room.ensures) (room_fits c.args.elf.now c.in_ok-noted.noted.program.text c.in_ok-noted.noted.program.reached c.deref.result.now c.code_words-code_words.result.now found c.in_ok-graph.graph.graph c.in_ok-graph.ensures)
+    subst (λ room. IsSmall (sum_of (count_of c.in_ok-graph.graph.graph) room)) (sym c.text_room.ensures) (room_fits c.args.elf.now c.in_ok-noted.noted.program.text c.in_ok-noted.noted.program.reached c.deref.result.now c.code_words-code_words.result.now found c.in_ok-graph.graph.graph (early_alike c.args.elf.now (is_flagged c.in_ok-noted.noted.program.reached) c.in_ok-graph.graph.graph c.in_ok-graph.ensures.graph))
 
 pub returns-clause-lifted : goal.returns-clause-lifted
 returns-clause-lifted c =
     let found = found_noted c.args.elf.now c.bytes.result.now c.args.relocs.now c.in_ok-noted.noted.program.text c.in_ok-noted.noted.program.reached c.deref.result.now c.in_ok-noted.noted.notes.items c.code_words-code_words.result.now (entry_of c.args.elf.now) c.bytes.ensures.value c.bytes_fit.ensures c.requires c.code_words-code_words.ensures.accepted c.code_words-code_words.ensures.value c.deref.ensures.value c.in_ok-noted.ensures.read c.bytes.ensures.accepted refl in
-    subst (IsLiftedFile c.args.elf.now) (sym c.reserve.ensures.graph) (is_lifted c.args.elf.now c.in_ok-noted.noted.program.text c.in_ok-noted.noted.program.reached c.deref.result.now c.code_words-code_words.result.now found c.in_ok-graph.graph.graph c.in_ok-graph.ensures c.in_ok-number.field-0 c.in_ok-number.ensures c.in-None.is)
+    subst (IsLiftedFile c.args.elf.now) (sym c.reserve.ensures.graph) (is_lifted c.args.elf.now c.in_ok-noted.noted.program.text c.in_ok-noted.noted.program.reached c.deref.result.now c.code_words-code_words.result.now found c.in_ok-graph.graph.graph (early_alike c.args.elf.now (is_flagged c.in_ok-noted.noted.program.reached) c.in_ok-graph.graph.graph c.in_ok-graph.ensures.graph) c.in_ok-number.field-0 c.in_ok-number.ensures c.in-None.is)
+
+pub returns-clause-slotted : goal.returns-clause-slotted
+returns-clause-slotted c = subst IsSlotted (sym c.reserve.ensures.graph) c.in_ok-graph.ensures.slotted
 
 pub returns-clause-runs : goal.returns-clause-runs
 returns-clause-runs c = lifted_runs c.args.elf.now c.reserve.new.self.graph (subst (AllByRecursion (λ b. b < 256)) c.bytes.ensures.value c.bytes_fit.ensures) (returns-clause-lifted c)
@@ -70,9 +75,9 @@ returns-clause-fits c = lifted_fits c.args.elf.now c.reserve.new.self.graph (sub
 pub returns-clause-spare : goal.returns-clause-spare
 returns-clause-spare c =
     let found = found_noted c.args.elf.now c.bytes.result.now c.args.relocs.now c.in_ok-noted.noted.program.text c.in_ok-noted.noted.program.reached c.deref.result.now c.in_ok-noted.noted.notes.items c.code_words-code_words.result.now (entry_of c.args.elf.now) c.bytes.ensures.value c.bytes_fit.ensures c.requires c.code_words-code_words.ensures.accepted c.code_words-code_words.ensures.value c.deref.ensures.value c.in_ok-noted.ensures.read c.bytes.ensures.accepted refl in
-    room_covers c.args.elf.now c.in_ok-noted.noted.program.text c.in_ok-noted.noted.program.reached c.deref.result.now c.code_words-code_words.result.now found c.in_ok-graph.graph.graph c.in_ok-graph.ensures c.reserve.new.self.spare (subst (λ room. Covers c.reserve.new.self.spare room) c.text_room.ensures c.in_ok-reserve-in-None.ensures.ok)
+    room_covers c.args.elf.now c.in_ok-noted.noted.program.text c.in_ok-noted.noted.program.reached c.deref.result.now c.code_words-code_words.result.now found c.in_ok-graph.graph.graph (early_alike c.args.elf.now (is_flagged c.in_ok-noted.noted.program.reached) c.in_ok-graph.graph.graph c.in_ok-graph.ensures.graph) c.reserve.new.self.spare (subst (λ room. Covers c.reserve.new.self.spare room) c.text_room.ensures c.in_ok-reserve-in-None.ensures.ok)
 
 pub returns-clause-exact : goal.returns-clause-exact
 returns-clause-exact c = λ refusal refused.
     let found = found_noted c.args.elf.now c.bytes.result.now c.args.relocs.now c.in_ok-noted.noted.program.text c.in_ok-noted.noted.program.reached c.deref.result.now c.in_ok-noted.noted.notes.items c.code_words-code_words.result.now (entry_of c.args.elf.now) c.bytes.ensures.value c.bytes_fit.ensures c.requires c.code_words-code_words.ensures.accepted c.code_words-code_words.ensures.value c.deref.ensures.value c.in_ok-noted.ensures.read c.bytes.ensures.accepted refl in
-    absurd (no_refusal c.args.elf.now c.in_ok-noted.noted.program.text c.in_ok-noted.noted.program.reached c.deref.result.now c.code_words-code_words.result.now found c.in_ok-graph.graph.graph c.in_ok-graph.ensures c.in_ok-number.field-0 c.in_ok-number.ensures c.in-None.is refusal refused)
+    absurd (no_refusal c.args.elf.now c.in_ok-noted.noted.program.text c.in_ok-noted.noted.program.reached c.deref.result.now c.code_words-code_words.result.now found c.in_ok-graph.graph.graph (early_alike c.args.elf.now (is_flagged c.in_ok-noted.noted.program.reached) c.in_ok-graph.graph.graph c.in_ok-graph.ensures.graph) c.in_ok-number.field-0 c.in_ok-number.ensures c.in-None.is refusal refused)

@@ -5,7 +5,8 @@ use Rattle.sq_graph.specs.Renames.{renamed}
 use Rattle.sq_program.specs.Programs.{Note, Program}
 use Rattle.sq_program.specs.Lifted.{cut, lifted_with}
 use Rattle.sq_lift.specs.Flags.{is_flagged}
-use Rattle.sq_lift.specs.Cuts.{kept_by, position_by, position_in}
+use Rattle.sq_lift.specs.Cuts.{kept_by, position_by}
+use Rattle.sq_graph.specs.Slotted.{position_in}
 use Rattle.sq_lift.proofs.Assembling.{parts_make, lengths_fit, used_links}
 use Rattle.sq_lift.proofs.cut.parts.parts_of.Goals as goal
 

@@ -1,6 +1,6 @@
 use Rattle.std.proofs.Common.{◌≡◌, ℕ, drop, nat_eq}
 use Rattle.std.specs.HashMap.{get}
-use Rattle.sq_lift.specs.Cuts.{number_in}
+use Rattle.sq_graph.specs.Slotted.{number_in}
 use Rattle.sq_lift.proofs.cut.names.Positions.new.Given as goal
 
 abbrev pub invariant-loop-k : goal.invariant-loop-k
