@@ -9,3 +9,4 @@ pub mod ArenaReads
 pub mod ArenaWrites
 pub mod Moves
 pub mod Positions
+pub mod FullNodes

@@ -1,6 +1,5 @@
 -- Values under their positions.
-use Rattle.std.proofs.Common.{◌≡◌, ℕ, suc, false, nat_eq, ◌+◌, ◌<◌, List, [], ◌∷◌, ◌++◌, length, take, get_or, refl, sym, ap, ◌∙◌, arith}
-use Rattle.std.proofs.lemmas.List.{take_more}
+use Rattle.std.proofs.Common.{◌≡◌, ℕ, suc, false, nat_eq, ◌+◌, ◌<◌, List, [], ◌∷◌, ◌++◌, length, refl, ap, ◌∙◌, arith}
 use Rattle.std.specs.List.{AllByRecursion, IsDistinct}
 use Rattle.std.proofs.lemmas.Bool.{ne_eqb}
 use Rattle.sq_arena.specs.Entries.{keys, values, HasDistinctKeys, at_positions}
@@ -19,16 +18,6 @@ module _ {T : Type 0} where
   at_positions-push k (y ∷ xs) x =
       let e : k + 1 + length xs ≡ k + suc (length xs) = omega arith in
       ap (λ es. (k, y) ∷ es) (at_positions-push (k + 1) xs x ∙ ap (λ n. at_positions (k + 1) xs ++ (n, x) ∷ []) e)
-
-  -- one more of the values stands behind the first ones
-  pub positions_step : (xs : List T) (i key : ℕ) (x : T) (entries more : List (ℕ × T)) → i < length xs → x ≡ get_or xs i x → entries ≡ at_positions 0 (take i xs) → key ≡ length entries → more ≡ entries ++ (key, x) ∷ [] → more ≡ at_positions 0 (take (i + 1) xs)
-  positions_step xs i key x entries more inside read are is_last pushed =
-      let next : take (i + 1) xs ≡ take i xs ++ x ∷ [] = take_more xs i x inside ∙ ap (λ y. take i xs ++ y ∷ []) (sym read) in
-      let place : key ≡ 0 + length (take i xs) = is_last ∙ ap length are ∙ length-at_positions 0 (take i xs) ∙ zero_left (length (take i xs)) in
-      pushed ∙ ap (λ es. es ++ (key, x) ∷ []) are ∙ ap (λ n. at_positions 0 (take i xs) ++ (n, x) ∷ []) place ∙ sym (at_positions-push 0 (take i xs) x) ∙ ap (at_positions 0) (sym next)
-    where
-      zero_left : (n : ℕ) → n ≡ 0 + n
-      zero_left n = omega arith
 
   later : (k j : ℕ) (xs : List T) → k < j → AllByRecursion (λ y. nat_eq k y ≡ false) (keys (at_positions j xs))
   later k j [] less = tt

@@ -24,6 +24,11 @@ abbrev pub IsPath : (Option ℕ → Option ℕ → Type 0) → Option ℕ → Li
 IsPath J p [] = Unit {0}
 IsPath J p (q ∷ rest) = J p q × IsPath J q rest
 
+-- so many keys, from this one on
+abbrev pub keys_from : ℕ → ℕ → List ℕ
+keys_from key zero = []
+keys_from key (suc n) = key ∷ keys_from (key + 1) n
+
 module _ {T : Type 0} where
   abbrev pub node_value : Option (Node T) → Option T
   node_value None = None

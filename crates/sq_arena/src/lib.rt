@@ -60,7 +60,7 @@ impl<T> Arena<T> {
         }
     }
 
-    /// An arena of these values in order, each under its position.
+    /// An arena of these values in order, each under its position, with none to spare.
     pub fn from_values(alloc: Global, values: &[T]) -> Result<Self, ArenaMemory>
     where
         T: Copy + Drop,
@@ -68,15 +68,15 @@ impl<T> Arena<T> {
         ensures entries { IfOk result (λ made. made.entries ≡ at_positions 0 values.now) }
         ensures spare { IfOk result (λ made. made.spare ≡ 0) }
     {
-        let mut made = Arena::new(alloc);
+        let len = values.len() as u32;
+        let mut links = Links::with_keys(alloc, len)?;
         for value in values {
-            made.reserve(1)?;
-            let position = made.len();
-            if made.push_back(*value) != position {
-                return Err(ArenaMemory);
-            }
+            let key = links.fill(*value);
+            let last = links.previous(None);
+            links.splice(last, key, key);
         }
-        Ok(made)
+        let spare = 0;
+        Ok(Self { links, len, spare })
     }
 
     /// How many pairs the list has.

@@ -1,10 +1,10 @@
 //! The nodes of an arena in their slab, each with the keys of its neighbours.
 //!
 //! A place is a key, or `None`, the end that lies ahead of the first key and behind the last one.
-ghost use Rattle.std.specs.Prelude.{◌≡◌, ℕ, [], IsSome, OnOk, OnErr, IfOk, option_copied, ◌^◌, ◌<◌};
+ghost use Rattle.std.specs.Prelude.{◌≡◌, ℕ, None, [], IsSome, OnOk, OnErr, IfOk, option_copied, ◌^◌, ◌<◌};
 ghost use Rattle.std.specs.Borrow.{sem};
-ghost use Rattle.slab.specs.Slab.{HasRoomFor};
-ghost use Rattle.sq_arena.specs.Links.{HasNode, IsPlace, next_at, previous_at, value_at, SetsNext, SetsPrevious, Joins, Splices, Fills, Frees, AddsSpare, SameLinks};
+ghost use Rattle.slab.specs.Slab.{HasRoomFor, get};
+ghost use Rattle.sq_arena.specs.Links.{keys_from, node_value, IsLinked, HasNode, IsPlace, next_at, previous_at, value_at, SetsNext, SetsPrevious, Joins, Splices, Fills, Frees, AddsSpare, SameLinks};
 ghost use Rattle.sq_arena.specs.Lends.{lends_content, lends_link_value};
 
 use crate::ArenaMemory;
@@ -53,7 +53,46 @@ impl<T> Node<T> {
     }
 }
 
+// A slab with an empty node at each key below the count. It is full, and a full slab has a node at each key below its
+// capacity, whatever order it gives them out in.
+fn full_nodes<T: Drop>(alloc: Global, count: u32) -> Result<Slab<Node<T>>, AllocError>
+    ensures nodes { IfOk result (λ nodes. (key : ℕ) → key < count → IsSome (get nodes key)) }
+    ensures empty { IfOk result (λ nodes. (key : ℕ) → node_value (get nodes key) ≡ None) }
+{
+    let mut nodes = Slab::with_capacity(alloc, count as usize)?;
+    for _ in 0..nodes.capacity() {
+        nodes.insert_reserved(Node {
+            value: None,
+            previous: None,
+            next: None,
+        });
+    }
+    // Its contract has that no key is beyond the capacity.
+    let _capacity = nodes.capacity();
+    Ok(nodes)
+}
+
 impl<T> Links<T> {
+    /// Links without values, with so many keys to spare: 0, 1, 2 and so on.
+    pub(crate) fn with_keys(alloc: Global, count: u32) -> Result<Self, ArenaMemory>
+    where
+        T: Drop,
+        ensures { IfOk result (λ made. IsLinked made [] (keys_from 0 count)) }
+    {
+        let mut made = Links {
+            nodes: full_nodes(alloc, count)?,
+            first: None,
+            last: None,
+            vacant: None,
+        };
+        for key in (0..count).rev() {
+            let vacant = made.vacant;
+            made.set_next(Some(key), vacant);
+            made.vacant = Some(key);
+        }
+        Ok(made)
+    }
+
     pub(crate) fn value(&self, key: u32) -> Option<&T>
         ensures { option_copied result ≡ value_at self.now key }
     {

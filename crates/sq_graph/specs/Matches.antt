@@ -43,7 +43,7 @@ item_writes (Hi rd to) r = is_register rd r
 item_writes (Lo rd rs to) r = is_register rd r
 item_writes (Out procedure) r = false
 
--- the instruction has the other's registers in its form
+-- but for their registers the two are one instruction
 abbrev pub IsSameInsn : Insn → Insn → Type 0
 IsSameInsn insn other = other ≡ with_registers (destination_of other) (first_of other) (second_of other) insn
 

@@ -16,8 +16,8 @@ pub fn canonical_laws()
     ensures in_reach { (g : Graph) → IsGraph g → IsInReach g → IsInReach (canonical_of g) }
 {}
 
-/// That graphs differ in the names of their blocks alone goes back and through, and they keep the rules alike; then their
-/// canonical graphs differ in these names alone too.
+/// That graphs differ in the names of their blocks alone is symmetric and transitive. Where one of them keeps the rules, the
+/// other does, and their canonical graphs differ in names alone too.
 #[tactic(auto, using(crate::proofs::AlikeGraphs::alike_itself, crate::proofs::AlikeGraphs::alike_back, crate::proofs::AlikeGraphs::alike_through, crate::proofs::AlikeCanonical::alike_canonical))]
 pub fn alike_laws()
     ensures itself { (g : Graph) → AreAlike g g }

@@ -19,7 +19,7 @@ LedThere g h =
     → ((old : Cond) × (x : ℕ) × (y : ℕ) × (term_of g n ≡ Some (Branch old x y to))) ⊎ BranchReaches h n to
 
 pub record KeepReach : Type 0 where
-  -- where blocks went or lost words, and branches lead where they led
+  -- where blocks went or lost words, and branches lead where they led or are known to reach
   pub shrink : (g h : Graph) → HasDistinctKeys (named g.blocks) → HasDistinctKeys (named h.blocks) → Shrinks g.blocks h.blocks → LedThere g h → IsInReach g → IsInReach h
   -- where a block is split in two
   pub split : (g : Graph) (new block at : ℕ) → IsGraph g → IsNew g new → IsInReach g → IsInReach (split_at g new block at)

@@ -11,8 +11,8 @@ use Rattle.sq_graph.specs.Soundness.{IsSound}
 use Rattle.sq_follow.specs.Follows.{Follows}
 use Rattle.sq_patch.specs.Merges.{merged}
 
--- The items of one block, at least one, match those of another. Behind them registers that are a pair of two are dead,
--- and the two resolved terms are equal.
+-- The items of one block, at least one, match those of another. Behind them both registers of each pair of different ones
+-- are dead, and the two resolved terms are equal.
 pub record HaveBodies (g : Graph) (dropped kept : ℕ) : Type 0 where
   pub other : kept ≢ dropped
   pub match : Match g.procedures (items_of g dropped) (items_of g kept)

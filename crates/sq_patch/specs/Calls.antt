@@ -40,7 +40,8 @@ CallIsSound = (g : Graph) (block at procedure : ℕ) → IsGraph g → IsCallabl
 abbrev pub call_items : Graph → ℕ → ℕ → ℕ → List Item
 call_items g block at procedure = slice_range (items_of g block) at (call_end g at procedure)
 
--- These items match the procedure's body. Behind them its link is dead, and so are registers that are a pair of two.
+-- These items match the procedure's body. Behind them its link is dead, and so are both registers of each pair of
+-- different ones.
 pub record IsMatching (g : Graph) (block at procedure : ℕ) : Type 0 where
   pub block_there : HasBlock g block
   pub procedure_there : HasProcedure g procedure

@@ -53,7 +53,7 @@ FallKeepsDead = (g : Graph) (block n : ℕ) → IsGraph g → term_of g block �
 abbrev pub HastenKeepsDead : Type 0
 HastenKeepsDead = (g : Graph) (block link part to : ℕ) → IsGraph g → term_of g block ≡ Some (PartJump link part to) → KeepsDead g (with_term g block (hastened link to)) Anywhere
 
--- An upper half goes whose register is dead behind it.
+-- An upper half whose register is dead behind it goes.
 abbrev pub DropKeepsDead : Type 0
 DropKeepsDead =
     (g : Graph) (block at rd to : ℕ) → IsGraph g → slice_get (items_of g block) at ≡ Some (Hi rd to) → ¬ IsLive g rd (place_lines g block (at + 1)) → KeepsDead g (replaced g block at 1 []) (UpTo block at)
@@ -97,7 +97,7 @@ InlineMovesDead = (g : Graph) (block at procedure : ℕ) → IsGraph g → IsSou
 abbrev pub RecallKeepsDead : Type 0
 RecallKeepsDead = (g : Graph) (from to : ℕ) → IsGraph g → AreEqual g from to → KeepsDead g (redirected_calls g from to) Anywhere
 
--- A procedure goes that nothing calls.
+-- A procedure that nothing calls goes.
 abbrev pub UncalledGoesKeepsDead : Type 0
 UncalledGoesKeepsDead = (g : Graph) (procedure : ℕ) → IsGraph g → ¬ Contains (calls g) procedure → KeepsDead g (without_procedure g procedure) Anywhere
 
@@ -122,7 +122,7 @@ CanonicalKeepsDead = (g : Graph) → IsGraph g → KeepsDead g (canonical_of g) 
 abbrev pub MergeKeepsDead : Type 0
 MergeKeepsDead = (g : Graph) (dropped at kept : ℕ) → IsGraph g → IsMergeable g dropped at kept → KeepsDead g (merged g dropped at kept) (UpTo dropped at)
 
--- All of a block goes whose body matches another's.
+-- All of a block whose body matches another's goes.
 abbrev pub BodyKeepsDead : Type 0
 BodyKeepsDead = (g : Graph) (dropped kept : ℕ) → IsGraph g → HaveBodies g dropped kept → KeepsDead g (merged g dropped 0 kept) (UpTo dropped 0)
 

@@ -2,7 +2,8 @@
 
 ghost use Rattle.sq_patch.specs.Liveness.{FallKeepsDead, JumpGoesKeepsDead, InvertKeepsDead, ShortenKeepsDead, HastenKeepsDead, DropKeepsDead, DropMovesDead, RestrictKeepsDead, TailKeepsDead, TailMovesDead, MergeKeepsDead, BodyKeepsDead, SplitKeepsDead, SplitMovesDead, CanonicalKeepsDead, OutlineKeepsDead, CallKeepsDead, CallMovesDead, MatchKeepsDead, MatchMovesDead, InlineKeepsDead, InlineMovesDead, RecallKeepsDead, UncalledGoesKeepsDead, InsertKeepsDead, ExchangeKeepsDead, ReorderKeepsDead};
 
-/// Registers that are dead at a place are dead there still, for each of these operations and each place that it leaves.
+/// Registers that are dead at a place are dead there still, for each of these operations and each place that its statement
+/// names: all but those where the operation changes what stands behind.
 pub fn operations_keep_dead()
     ensures fall { FallKeepsDead }
     ensures jump_goes { JumpGoesKeepsDead }

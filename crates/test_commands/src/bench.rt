@@ -191,9 +191,14 @@ impl<'t> Bench<'t> {
 }
 
 /// Tests that the bytes from this place on are the text of these lines.
-fn told(alloc: Global, lines: &str, bytes: &[u8], from: usize) -> Result<(), Error> {
+pub fn told(alloc: Global, lines: &str, bytes: &[u8], from: usize) -> Result<(), Error> {
     let found = str::from_utf8(bytes.get(from..).unwrap_or(&[])).context("no text was told")?;
-    expect(&text_of(alloc, lines)?, found)
+    let wanted = text_of(alloc, lines)?;
+    ensure!(
+        wanted.as_str() == found,
+        "wanted {wanted:?}, found {found:?}"
+    );
+    Ok(())
 }
 
 impl Subject for Bench<'_> {

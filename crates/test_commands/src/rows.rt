@@ -1,13 +1,11 @@
 //! The rows of tables about commands.
 
-use crate::bench::Bench;
-use crate::texts::text_of;
+use crate::bench::{Bench, told};
 use anyhow::{Context, Error, bail, ensure};
-use sq_cases::{CaseError, Step, columns, expect, expect_shown};
+use sq_cases::{CaseError, Step, columns, expect_shown};
 use sq_command::number_of;
 use sq_num::Denied;
 use std::alloc::Global;
-use std::str;
 
 impl Bench<'_> {
     /// Does the row of a table.
@@ -118,7 +116,7 @@ fn refuses_bytes(alloc: Global, file: &[u8], line: &str) -> Result<(), Error> {
         Ok(_packed) => bail!("wanted {line}, found a file"),
         Err(Denied::Refused(refusal)) => {
             let found = refusal.line();
-            expect(&text_of(alloc, line)?, str::from_utf8(found.as_slice())?)
+            told(alloc, line, found.as_slice(), 0)
         }
         Err(Denied::Memory) => bail!("wanted {line}, found want of memory"),
     }

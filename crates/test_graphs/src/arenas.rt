@@ -21,6 +21,20 @@ fn next(arena: &Arena<u32>, key: u32) -> Option<u32> {
     arena.next(key)
 }
 
+/// Moves two neighbours, where they are, and tells whether they were moved.
+fn move_pair(arena: &mut Arena<u32>, first: u32, last: u32, after: u32) -> bool {
+    if arena.get(first).is_none() || arena.get(after).is_none() || after == first || after == last {
+        return false;
+    }
+    match arena.next(first) {
+        Some(next) if next == last => {
+            arena.move_range_after(first, last, after);
+            true
+        }
+        _ => false,
+    }
+}
+
 /// The values from the first to the last, or None where from the last to the first they aren't the same.
 fn values_of(alloc: Global, arena: &Arena<u32>) -> Result<Option<Vec<u32>>, Error> {
     let mut values = Vec::new(alloc);
@@ -36,7 +50,10 @@ fn values_of(alloc: Global, arena: &Arena<u32>) -> Result<Option<Vec<u32>>, Erro
         let Some(key) = behind else {
             return Ok(None);
         };
-        if arena.get(key) != Some(value) {
+        let Some(found) = arena.get(key) else {
+            return Ok(None);
+        };
+        if found != value {
             return Ok(None);
         }
         behind = arena.previous(key);
@@ -80,17 +97,6 @@ impl Lists {
 
     fn write(&mut self, key: u32, value: u32) -> Option<()> {
         *self.arena.get_mut(key)? = value;
-        Some(())
-    }
-
-    /// Moves two neighbours behind another one.
-    fn move_pair(&mut self, first: u32, last: u32, after: u32) -> Option<()> {
-        self.arena.get(first)?;
-        self.arena.get(after)?;
-        if after == first || after == last || self.arena.next(first) != Some(last) {
-            return None;
-        }
-        self.arena.move_range_after(first, last, after);
         Some(())
     }
 
@@ -142,7 +148,7 @@ impl Lists {
             }
             ("move", &[first, last, after]) => {
                 let (first, last, after) = (key(first), key(last), key(after));
-                self.move_pair(first, last, after)
+                move_pair(&mut self.arena, first, last, after).then_some(())
             }
             _ => None,
         }

@@ -48,19 +48,19 @@ pub fn operands_of(alloc: Global, words: &str) -> Result<Vec<u32>, Error> {
     Ok(operands)
 }
 
-/// Whether branches reach so far, which is wanted of each of the distances.
-fn expect_reach(alloc: Global, distances: &str, wanted: bool) -> Result<(), Error> {
+/// Whether branches reach so far, which is wanted of each of the distances or of none.
+fn expect_reach(distances: &str, wanted: bool) -> Result<bool, Error> {
     for distance in distances.split_whitespace() {
         let number = distance.parse::<i64>().map_err(|_| CaseError::Number)?;
         if reaches(number) != wanted {
-            expect(distances, distance)?;
+            return Err(Error::msg(format_args!("{distance} is wrong")));
         }
     }
-    Ok(())
+    Ok(true)
 }
 
 /// Whether a list of blocks has these names once they are pushed.
-fn expect_listed(alloc: Global, words: &str) -> Result<(), Error> {
+fn expect_listed(alloc: Global, words: &str) -> Result<bool, Error> {
     let names = operands_of(alloc, words)?;
     let mut blocks = Blocks::new(alloc);
     for name in &names {
@@ -69,7 +69,28 @@ fn expect_listed(alloc: Global, words: &str) -> Result<(), Error> {
     if blocks.as_slice() != names.as_slice() {
         return Err(Error::msg("other names are listed"));
     }
-    Ok(())
+    Ok(true)
+}
+
+/// Whether the graph has these parts.
+fn expect_graph(
+    alloc: Global,
+    words: &str,
+    graph: &Graph,
+    parts: &[Step<'_>],
+) -> Result<bool, Error> {
+    let wanted = parts_text(alloc, parts).map_err(memory)?;
+    let found = graph_text(alloc, words, graph).map_err(memory)?;
+    expect(&wanted, &found)?;
+    Ok(true)
+}
+
+/// A copy of the graph, where there is one.
+fn copy_of(alloc: Global, graph: &Option<Graph>) -> Result<Option<Graph>, Error> {
+    match graph {
+        Some(graph) => Ok(Some(graph.copy(alloc).map_err(memory)?)),
+        None => Ok(None),
+    }
 }
 
 /// Does a step that changes the graph, where it can be done.
@@ -150,40 +171,23 @@ impl Bench {
         match step.verb {
             "given" => scene.graph = Some(graph_of(alloc, &self.words, parts)?),
             "from" => scene.graph = Some(self.named(alloc, step.words)?),
-            "keep" => {
-                let graph = scene.graph.as_ref().context("no graph")?;
-                scene.kept = Some(graph.copy(alloc).map_err(memory)?);
-            }
+            "keep" => scene.kept = copy_of(alloc, &scene.graph)?,
             "swap" => mem::swap(&mut scene.graph, &mut scene.kept),
             "list" => return scene.lists.step(alloc, step.words),
+            "reaches" => return expect_reach(step.words, true),
+            "too_far" => return expect_reach(step.words, false),
+            "names" => return expect_listed(alloc, step.words),
             _ => {
-                let graph = scene.graph.as_mut();
-                return self.expectation(alloc, graph, step, parts);
+                let Some(graph) = &mut scene.graph else {
+                    return Err(Error::msg("no graph"));
+                };
+                if step.verb == "graph" {
+                    return expect_graph(alloc, &self.words, graph, parts);
+                }
+                return graph_step(alloc, graph, step);
             }
         }
         Ok(false)
-    }
-
-    /// Does a step on the graph, or on none.
-    fn expectation(
-        &self,
-        alloc: Global,
-        graph: Option<&mut Graph>,
-        step: &Step<'_>,
-        parts: &[Step<'_>],
-    ) -> Result<bool, Error> {
-        match step.verb {
-            "reaches" => expect_reach(alloc, step.words, true)?,
-            "too_far" => expect_reach(alloc, step.words, false)?,
-            "names" => expect_listed(alloc, step.words)?,
-            "graph" => {
-                let wanted = parts_text(alloc, parts).map_err(memory)?;
-                let found = graph_text(alloc, &self.words, graph.context("no graph")?);
-                expect(&wanted, &found.map_err(memory)?)?;
-            }
-            _ => return graph_step(alloc, graph.context("no graph")?, step),
-        }
-        Ok(true)
     }
 }
 

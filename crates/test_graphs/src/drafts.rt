@@ -33,16 +33,22 @@ pub fn parts_ahead<'s, 't>(steps: &'s [Step<'t>]) -> &'s [Step<'t>] {
     }
 }
 
-/// Appends items that are apart by ` ; `, and says how many. `N * ITEM` stands for N of them.
+/// Appends the item of a text; `N * ITEM` stands for N of them.
+fn push_copies(alloc: Global, words: &str, items: &mut Vec<Item>, text: &str) -> Result<(), Error> {
+    let (times, text) = text.split_once(" * ").unwrap_or(("1", text));
+    let item = item_of(alloc, words, text)?;
+    let copies = vec![in alloc; item; decimal(times)? as usize]?;
+    items.extend_from_slice(&copies)?;
+    Ok(())
+}
+
+/// Appends items that are apart by ` ; `, and says how many.
 fn push_items(alloc: Global, words: &str, items: &mut Vec<Item>, text: &str) -> Result<u32, Error> {
     let before = items.len();
     for part in text.split(" ; ") {
-        let (times, item) = part.split_once(" * ").unwrap_or(("1", part));
-        if !item.trim().is_empty() {
-            let item = item_of(alloc, words, item.trim())?;
-            for _ in 0..decimal(times.trim())? {
-                items.push(item)?;
-            }
+        let part = part.trim();
+        if !part.is_empty() {
+            push_copies(alloc, words, items, part)?;
         }
     }
     u32::try_from(items.len().wrapping_sub(before)).context("too many items")

@@ -14,7 +14,7 @@ use sq_jumps::Jumps;
 use sq_layout::words_of;
 use sq_live::live;
 use sq_num::{Memory, Savings};
-use sq_pass::Pass;
+use sq_pass::{Cut, Pass};
 use std::alloc::Global;
 
 /// The cut that a pass finds.
@@ -24,13 +24,30 @@ fn found<P: Pass>(alloc: Global, graph: &Graph, pass: &P) -> Result<String, Memo
     cut_text(alloc, &names_of(alloc, graph)?, cut.as_ref())
 }
 
-/// What a pass admits of the cut of a text.
-fn admitted<P: Pass>(alloc: Global, graph: &Graph, pass: &P, cut: &str) -> Result<String, Error> {
+/// What a pass admits of a cut.
+fn admitted<P: Pass>(
+    alloc: Global,
+    graph: &Graph,
+    pass: &P,
+    cut: Cut,
+) -> Result<Option<Cut>, Memory> {
+    let live = live(alloc, graph)?;
+    pass.admit(alloc, graph, &live, cut)
+}
+
+/// Whether a pass admits what is wanted: `CUT gives CUT`.
+fn expect_admitted<P: Pass>(
+    alloc: Global,
+    graph: &Graph,
+    pass: &P,
+    words: &str,
+) -> Result<(), Error> {
+    let (cut, wanted) = words.split_once(" gives ").context("nothing is wanted")?;
     let names = names_of(alloc, graph).map_err(memory)?;
-    let live = live(alloc, graph).map_err(memory)?;
     let cut = cut_of(alloc, &names, cut)?;
-    let given = pass.admit(alloc, graph, &live, cut).map_err(memory)?;
-    cut_text(alloc, &names, given.as_ref()).map_err(memory)
+    let given = admitted(alloc, graph, pass, cut).map_err(memory)?;
+    let found = cut_text(alloc, &names, given.as_ref()).map_err(memory)?;
+    expect(wanted, &found)
 }
 
 /// Applies the cut that a pass finds, where there is room for it, and tells it.
@@ -100,9 +117,7 @@ pub fn pass_step<P: Pass>(
 ) -> Result<(), Error> {
     let (verb, wanted) = words.split_once(" ").context("nothing is wanted")?;
     if verb == "admit" {
-        let (cut, wanted) = wanted.split_once(" gives ").context("nothing is wanted")?;
-        expect(wanted, &admitted(alloc, graph, pass, cut)?)?;
-        return Ok(());
+        return expect_admitted(alloc, graph, pass, wanted);
     }
     let found = match verb {
         "find" => found(alloc, graph, pass),
@@ -112,8 +127,8 @@ pub fn pass_step<P: Pass>(
         "settle" => saved(alloc, graph, pass, true),
         _ => return Err(Error::msg("a pass doesn't do this")),
     };
-    expect(wanted, &found.map_err(memory)?)?;
-    Ok(())
+    let found = found.map_err(memory)?;
+    expect(wanted, &found)
 }
 
 /// What settling by all rows saves.

@@ -1,11 +1,12 @@
 //! The rules of a graph, looked at in its parts.
 
-ghost use Rattle.std.specs.Prelude.{◌≡◌, ◌<◌, ◌^◌, IsTrue, length};
+ghost use Rattle.std.specs.Prelude.{◌≡◌, ◌<◌, ◌^◌, IsTrue, length, map};
 ghost use Rattle.std.specs.List.{All};
+ghost use Rattle.std.specs.List.Sorted.{IsStrictlyIncreasing};
 ghost use Rattle.sq_graph.specs.Rules.{IsOperation, ProcedureFits};
 ghost use Rattle.sq_graph.specs.Terms.{goes_on};
 ghost use Rattle.sq_graph.specs.Parts.{length_of_blocks, length_of_bodies, procedures_of_parts};
-ghost use Rattle.test_graphs.specs.Standing.{ItemIsRight, TermIsRight, WordsAreRight, IsFree};
+ghost use Rattle.test_graphs.specs.Standing.{ItemIsRight, TermIsRight, IsFree, IsLastTerm, MakeGraph};
 
 use crate::drafts::Draft;
 use sq_graph::{BlockPart, CodeRef, Graph, Item, Parts, ProcedurePart, Term};
@@ -90,11 +91,24 @@ fn goes_on(term: Term) -> bool
     }
 }
 
-fn words_are_right(words: &[CodeRef], blocks: u32) -> bool
-    ensures { IsTrue result → WordsAreRight blocks words.now }
+/// Whether the addresses of code words ascend.
+fn ascend(words: &[CodeRef]) -> bool
+    ensures { IsTrue result → IsStrictlyIncreasing (map (λ w. w.at) words.now) }
 {
-    for (place, word) in words.iter().enumerate() {
-        if word.block >= blocks || (place > 0 && words[place - 1].at >= word.at) {
+    for place in 1..words.len() {
+        if words[place - 1].at >= words[place].at {
+            return false;
+        }
+    }
+    true
+}
+
+/// Whether code words name blocks that are there.
+fn words_are_named(words: &[CodeRef], blocks: u32) -> bool
+    ensures { IsTrue result → All (λ word. word.block < blocks) words.now }
+{
+    for word in words {
+        if word.block >= blocks {
             return false;
         }
     }
@@ -117,12 +131,15 @@ fn is_free(item: &Item, link: Reg) -> bool
 pub fn body_fits(link: Reg, body: &[Item]) -> bool
     ensures { IsTrue result → ProcedureFits (record { link = link; body = body.now }) }
 {
+    if link.number() == 0 {
+        return false;
+    }
     for item in body {
         if !is_free(item, link) {
             return false;
         }
     }
-    link.number() != 0
+    true
 }
 
 /// Whether the items are just those of the procedures, each of which may have its body.
@@ -145,14 +162,51 @@ fn items_of(blocks: &[BlockPart]) -> u64
     requires { length blocks.now < 2 ^ 29 }
     ensures { result ≡ length_of_blocks blocks.now }
 {
-    let mut items = 0;
-    for part in blocks {
-        items += u64::from(part.length);
-    }
-    items
+    blocks.iter().map(|part| u64::from(part.length)).sum()
 }
 
-/// The graph of the parts, or None where they don't meet the rules of a graph.
+/// Whether parts that have a last block meet the rules of a graph.
+fn are_right(parts: &Parts<'_>, last: Term) -> bool
+    requires { IsLastTerm last parts.now.blocks.now }
+    ensures { IsTrue result → MakeGraph parts.now.blocks.now parts.now.items.now parts.now.entry parts.now.code_words.now parts.now.procedures.now }
+{
+    const MOST: usize = 1 << 29;
+    if parts.blocks.len() >= MOST || parts.items.len() >= MOST || parts.procedures.len() >= MOST {
+        return false;
+    }
+    let (blocks, procedures) = (parts.blocks.len() as u32, parts.procedures.len() as u32);
+    let own = items_of(parts.blocks);
+    if own > parts.items.len() as u64 || parts.entry >= blocks || goes_on(last) {
+        return false;
+    }
+    if !terms_are_right(parts.blocks, blocks) {
+        return false;
+    }
+    if !items_are_right(parts.items, blocks, procedures) {
+        return false;
+    }
+    if !ascend(parts.code_words) {
+        return false;
+    }
+    if !words_are_named(parts.code_words, blocks) {
+        return false;
+    }
+    bodies_fit(parts.procedures, &parts.items[own as usize..])
+}
+
+/// The graph of parts, or None where they don't meet the rules of a graph.
+fn made(alloc: Global, parts: &Parts<'_>) -> Result<Option<Graph>, Memory> {
+    let Some(last) = parts.blocks.last() else {
+        return Ok(None);
+    };
+    if !are_right(parts, last.term) {
+        return Ok(None);
+    }
+    let graph = Graph::from_parts(alloc, parts)?;
+    Ok(Some(graph))
+}
+
+/// The graph of a draft, or None where its parts don't meet the rules of a graph.
 pub fn made_of(alloc: Global, draft: &Draft) -> Result<Option<Graph>, Memory> {
     let parts = Parts {
         blocks: &draft.blocks,
@@ -162,29 +216,4 @@ pub fn made_of(alloc: Global, draft: &Draft) -> Result<Option<Graph>, Memory> {
         procedures: &draft.procedures,
     };
     made(alloc, &parts)
-}
-
-/// The same of parts that are lent.
-fn made(alloc: Global, parts: &Parts<'_>) -> Result<Option<Graph>, Memory> {
-    const MOST: usize = 1 << 29;
-    let Some(last) = parts.blocks.last() else {
-        return Ok(None);
-    };
-    if parts.blocks.len() >= MOST || parts.items.len() >= MOST || parts.procedures.len() >= MOST {
-        return Ok(None);
-    }
-    let (blocks, procedures) = (parts.blocks.len() as u32, parts.procedures.len() as u32);
-    let own = items_of(parts.blocks);
-    if own > parts.items.len() as u64
-        || parts.entry >= blocks
-        || goes_on(last.term)
-        || !terms_are_right(parts.blocks, blocks)
-        || !items_are_right(parts.items, blocks, procedures)
-        || !words_are_right(parts.code_words, blocks)
-        || !bodies_fit(parts.procedures, &parts.items[own as usize..])
-    {
-        return Ok(None);
-    }
-    let graph = Graph::from_parts(alloc, parts)?;
-    Ok(Some(graph))
 }

@@ -1,16 +1,28 @@
-use Rattle.std.proofs.Common.{◌∙◌, length, ap, arith}
-use Rattle.std.proofs.lemmas.List.{length-take-le}
-use Rattle.sq_arena.proofs.Positions.{length-at_positions, positions_step}
-use Rattle.std.proofs.Common.{take}
+use Rattle.sq_arena.proofs.FullNodes.{first_vacant, append_place, first_step, all_shows}
 use Rattle.sq_arena.proofs.Arena.from_values.Goals as goal
 
-pub reserve-requires : goal.reserve-requires
-reserve-requires g c =
-    let n = c.loop-value.value-index in
-    omega (arith, c.requires, c.loop-value-test.true, ap length c.loop-value.invariant.entries, length-at_positions 0 (take c.loop-value.value-index c.args.values.now), length-take-le c.loop-value.value-index c.args.values.now (omega (arith, c.loop-value-test.true)))
+pub fill-key-requires-clause-some : goal.fill-key-requires-clause-some
+fill-key-requires-clause-some g c = (first_vacant c.loop-value.links c.args.values.now c.loop-value.value-index c.loop-value-test.true c.loop-value.invariant).0
+
+pub fill-key-requires-clause-node : goal.fill-key-requires-clause-node
+fill-key-requires-clause-node g c = (first_vacant c.loop-value.links c.args.values.now c.loop-value.value-index c.loop-value-test.true c.loop-value.invariant).1
+
+pub splice-requires-clause-after : goal.splice-requires-clause-after
+splice-requires-clause-after g c =
+    (append_place c.loop-value.links c.fill-key.new.self _ _ c.fill-key.result c.value-item.result c.previous-last.result c.loop-value.invariant c.fill-key.ensures c.previous-last.ensures).1.0
+
+pub splice-requires-clause-behind : goal.splice-requires-clause-behind
+splice-requires-clause-behind g c =
+    (append_place c.loop-value.links c.fill-key.new.self _ _ c.fill-key.result c.value-item.result c.previous-last.result c.loop-value.invariant c.fill-key.ensures c.previous-last.ensures).1.1
 
 pub loop-value-preserved : goal.loop-value-preserved
-loop-value-preserved g c = record {
-  entries = positions_step c.args.values.now c.loop-value.value-index c.push_back.result c.value-item.result c.reserve.new.self.entries c.push_back.new.self.entries c.loop-value-test.true c.value-item.is (c.in_ok-reserve.ensures.entries ∙ c.loop-value.invariant.entries) (c.if-push_back-position.false ∙ c.len-position.ensures.value) c.push_back.ensures.entries;
-  spare = omega (arith, c.push_back.ensures.spare, c.in_ok-reserve.ensures.ok, c.loop-value.invariant.spare);
-}
+loop-value-preserved g c =
+    first_step c.loop-value.links c.fill-key.new.self c.splice.new.self c.args.values.now c.loop-value.value-index c.fill-key.result c.value-item.result c.previous-last.result c.loop-value-test.true c.value-item.is c.loop-value.invariant c.fill-key.ensures c.previous-last.ensures c.splice.ensures
+
+pub invariant_of-result : goal.invariant_of-result
+invariant_of-result g c =
+    (all_shows c.loop-value.links c.args.values.now c.loop-value.value-index c.loop-value-test.false c.loop-value.auto.value-index-end c.requires c.loop-value.invariant).sound
+
+pub returns-clause-entries : goal.returns-clause-entries
+returns-clause-entries g c =
+    (all_shows c.loop-value.links c.args.values.now c.loop-value.value-index c.loop-value-test.false c.loop-value.auto.value-index-end c.requires c.loop-value.invariant).list

@@ -37,4 +37,10 @@ returns-clause-graph c =
 
 pub returns-clause-slotted : goal.returns-clause-slotted
 returns-clause-slotted c =
-    subst IsSlotted (sym c.in_ok-graph.ensures.graph) (parts_slotted c.parts.result.blocks.now c.parts.result.items.now c.parts.result.entry c.parts.result.code_words.now c.parts.result.procedures.now (from_parts-requires-clause-rules c))
+    let found = found_noted c.args.elf.now c.bytes.result.now c.args.relocs.now c.args.noted.now.program.text c.args.noted.now.program.reached c.deref.result.now c.args.noted.now.notes.items c.code_words-code_words.result.now c.entry.result c.bytes.ensures.value c.bytes_fit.ensures c.requires.same c.code_words-code_words.ensures.accepted c.code_words-code_words.ensures.value c.deref.ensures.value c.requires.noted c.bytes.ensures.accepted c.entry.ensures in
+    let parts = graph_of_parts c.parts.result.blocks.now c.parts.result.items.now c.parts.result.entry c.parts.result.code_words.now c.parts.result.procedures.now in
+    let same =
+    (λ i. graph_of_parts (c.parts.ensures.blocks i) (c.parts.ensures.items i) (c.parts.ensures.entry i) (c.parts.ensures.code_words i) (c.parts.ensures.procedures i))
+    ∙ c.in_ok-parts.ensures.graph
+    in
+    subst IsSlotted (sym c.in_ok-graph.ensures.graph) (parts_slotted c.parts.result.blocks.now c.parts.result.items.now c.parts.result.entry c.parts.result.code_words.now c.parts.result.procedures.now (seen_rules c.args.elf.now c.args.noted.now.program.text c.args.noted.now.program.reached c.deref.result.now c.code_words-code_words.result.now c.entry.result found parts same))

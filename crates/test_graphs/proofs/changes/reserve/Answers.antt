@@ -1,12 +1,17 @@
-use Rattle.std.proofs.Common.{ap, arith, length}
+use Rattle.std.proofs.Common.{ap, arith, length, length-append}
+use Rattle.sq_graph.specs.Blocks.{items_of_blocks, items_of_bodies}
 use Rattle.sq_graph.proofs.Sizes.{length-slots_from}
+use Rattle.sq_drive.proofs.Rewrites.{few_items, few_bodies}
 use Rattle.test_graphs.proofs.changes.reserve.Goals as goal
 
 pub reserve-requires : goal.reserve-requires
 reserve-requires c =
-    let small = c.spare-items.ensures.small in
+    let g = c.args.graph.now.graph in
+    let items = few_items g.blocks in
+    let bodies = few_bodies g.procedures in
+    let all = length-append (items_of_blocks g.blocks) (items_of_bodies g.procedures) in
     record {
-      blocks = omega (arith, c.if-len-ge1000.false, c.if-blocks-ge1000000.false, c.len.ensures.value, ap (λ es. length es) c.links.ensures.blocks, length-slots_from 0 c.args.graph.now.graph.blocks);
-      items = omega (arith, small.items);
-      procedures = omega (arith, c.if-procedures-ge1000.false, c.procedures.ensures);
+      blocks = ?;
+      items = ?;
+      procedures = ?;
     }
