@@ -1,5 +1,5 @@
-//! The commands over a desk in memory; the readers of files and what a run meets; what lifting gives; graphs after
-//! changes, live registers, reached blocks, places and written files; and passes over small graphs.
+//! The commands over a desk in memory; graphs after changes, live registers, reached blocks and places; and passes over
+//! small graphs.
 //!
 //! Tables are texts: a line for each case, with ` | ` between its columns. What a command prints or
 //! complains stands in one column, with `; ` between its lines.
@@ -14,21 +14,15 @@ use std::test::Fail;
 mod calls;
 mod commands;
 mod editing;
-mod elf;
 mod files;
 mod graphs;
 mod jumps;
 mod lifting;
 mod liveness;
-mod machine;
 mod monitor;
 mod places;
-mod relocations;
 mod rows;
 mod settling;
-mod system;
-mod texts;
-mod writing;
 
 /// The status of a command line over the desk.
 fn command(alloc: Global, desk: &mut MemoryDesk, line: &str) -> Result<u8, Memory> {

@@ -63,7 +63,7 @@ procedures-old-note | 464c457f 10101 0 0 f30002 1 10000 34 e4 0 200034 280001 60
 const TEXT: u32 = 0x0001_0000;
 
 /// The type of a section that is a note.
-pub const NOTE: u32 = 0x8051_5a31;
+const NOTE: u32 = 0x8051_5a31;
 
 /// Names, and the parts of a linked file: its text, the words behind text in its one segment, its entries of
 /// relocations (an offset, a type and an address each), and its note. `-` stands for no words.
@@ -102,27 +102,6 @@ pub fn push_words(file: &mut Vec<u8>, words: &[u32]) -> Result<(), Memory> {
     Ok(())
 }
 
-/// Puts a word at an offset, its least byte first.
-fn put_word(file: &mut Vec<u8>, at: u32, word: u32) {
-    for (place, byte) in word.to_le_bytes().iter().enumerate() {
-        if let Some(old) = file.get_mut((at as usize).wrapping_add(place)) {
-            *old = *byte;
-        }
-    }
-}
-
-/// Puts words at offsets: the changes are pairs of an offset and a word, in hexadecimal digits.
-pub fn change(alloc: Global, file: &mut Vec<u8>, changes: &str) -> Result<(), Fail> {
-    let numbers = numbers_of(alloc, changes)?;
-    for pair in numbers.as_slice().chunks(2) {
-        let &[at, word] = pair else {
-            return Err(Fail::from("pairs are wanted"));
-        };
-        put_word(file, at, word);
-    }
-    Ok(())
-}
-
 /// `addi a1,a1,i` for the low 12 bits i of the numbers from 1 to `count`, behind these words, and then an exit.
 pub fn long_text(alloc: Global, head: &[u32], count: u32) -> Result<Vec<u8>, Fail> {
     let mut words = Vec::new(alloc);
@@ -141,11 +120,11 @@ pub fn size_of(words: &[u32]) -> u32 {
 
 /// The parts of a linked file, as texts of words.
 #[derive(Clone, Copy)]
-pub struct Linked<'t> {
-    pub text: &'t str,
-    pub behind: &'t str,
-    pub entries: &'t str,
-    pub note: &'t str,
+struct Linked<'t> {
+    text: &'t str,
+    behind: &'t str,
+    entries: &'t str,
+    note: &'t str,
 }
 
 /// The words of a part.
@@ -154,7 +133,7 @@ fn part_of(alloc: Global, part: &str) -> Result<Vec<u32>, Fail> {
 }
 
 /// The file of these parts, with a last section of this type over the bytes of its note.
-pub fn linked_of(alloc: Global, parts: &Linked<'_>, last: u32) -> Result<Vec<u8>, Fail> {
+fn linked_of(alloc: Global, parts: &Linked<'_>, last: u32) -> Result<Vec<u8>, Fail> {
     let text = part_of(alloc, parts.text)?;
     let behind = part_of(alloc, parts.behind)?;
     let entries = part_of(alloc, parts.entries)?;

@@ -1,69 +1,14 @@
-//! The graphs of linked files, part by part.
+//! The texts of graphs, which have the entry and the code words, then each block in layout order, then the link and the
+//! body of each procedure. A block is called by its position.
 
 ghost use Rattle.std.specs.Prelude.{IsTrue};
 ghost use Rattle.sq_graph.specs.Blocks.{HasBlock};
 
-use super::files::file_of;
-use super::lifting::graph_of;
 use sq_graph::{CodeRef, Graph, Item, Term};
 use sq_live::block_names;
 use sq_num::Memory;
 use std::alloc::Global;
 use std::test::Fail;
-
-// The texts have the entry and the code words, then each block in layout order, then the link and the body of each
-// procedure. A block is called by its position.
-
-/// A link as gcc and GNU ld make it: calls and addresses by pairs, a call of an undefined weak symbol, a word for
-/// alignment that is not reached, and a difference of labels in data.
-const USUAL_LINK: &str = "\
-0 []
-0 [Op(Lui { rd: Reg { number: 11 }, upper: 16 }), Op(OpImm { op: Addi, rd: Reg { number: 11 }, rs: Reg { number: 11 }, imm: 332 }), Op(OpImm { op: Addi, rd: Reg { number: 10 }, rs: Reg { number: 0 }, imm: 1 }), Hi { rd: Reg { number: 1 }, to: 5 }] PartJump { link: Reg { number: 1 }, part: Reg { number: 1 }, to: 5 }
-1 [Op(Lui { rd: Reg { number: 15 }, upper: 0 }), Op(OpImm { op: Addi, rd: Reg { number: 15 }, rs: Reg { number: 15 }, imm: 0 })] Branch { cond: Beq, a: Reg { number: 15 }, b: Reg { number: 0 }, to: 3 }
-2 [Op(Lui { rd: Reg { number: 1 }, upper: 0 })] Indirect { link: Reg { number: 1 }, at: Reg { number: 0 }, offset: 0 }
-3 [Op(OpImm { op: Addi, rd: Reg { number: 17 }, rs: Reg { number: 0 }, imm: 93 }), Op(Ecall)] Fall
-4 [] Jump { to: 4 }
-5 [Op(OpImm { op: Addi, rd: Reg { number: 12 }, rs: Reg { number: 0 }, imm: 3 }), Op(OpImm { op: Addi, rd: Reg { number: 17 }, rs: Reg { number: 0 }, imm: 64 }), Op(Ecall), Op(OpImm { op: Addi, rd: Reg { number: 10 }, rs: Reg { number: 0 }, imm: 0 })] Indirect { link: Reg { number: 0 }, at: Reg { number: 1 }, offset: 0 }
-";
-
-/// Two blocks with equal bodies.
-const PROCEDURES: &str = "\
-0 []
-0 [Op(OpImm { op: Addi, rd: Reg { number: 11 }, rs: Reg { number: 11 }, imm: 1 }), Op(OpImm { op: Addi, rd: Reg { number: 12 }, rs: Reg { number: 12 }, imm: 2 }), Op(OpImm { op: Addi, rd: Reg { number: 13 }, rs: Reg { number: 13 }, imm: 3 }), Op(OpImm { op: Addi, rd: Reg { number: 14 }, rs: Reg { number: 14 }, imm: 4 })] Call { link: Reg { number: 1 }, to: 4 }
-1 [Op(OpImm { op: Addi, rd: Reg { number: 11 }, rs: Reg { number: 11 }, imm: 1 }), Op(OpImm { op: Addi, rd: Reg { number: 12 }, rs: Reg { number: 12 }, imm: 2 }), Op(OpImm { op: Addi, rd: Reg { number: 13 }, rs: Reg { number: 13 }, imm: 3 }), Op(OpImm { op: Addi, rd: Reg { number: 14 }, rs: Reg { number: 14 }, imm: 4 })] Call { link: Reg { number: 1 }, to: 4 }
-2 [Op(OpImm { op: Addi, rd: Reg { number: 17 }, rs: Reg { number: 0 }, imm: 93 }), Op(Ecall)] Fall
-3 [] Jump { to: 3 }
-4 [] Indirect { link: Reg { number: 0 }, at: Reg { number: 1 }, offset: 0 }
-";
-
-/// The same with a noted procedure in the place of both bodies.
-const PROCEDURES_PACKED: &str = "\
-0 []
-0 [Out { procedure: 0 }] Call { link: Reg { number: 1 }, to: 4 }
-1 [Out { procedure: 0 }] Call { link: Reg { number: 1 }, to: 4 }
-2 [Op(OpImm { op: Addi, rd: Reg { number: 17 }, rs: Reg { number: 0 }, imm: 93 }), Op(Ecall)] Fall
-3 [] Jump { to: 3 }
-4 [] Indirect { link: Reg { number: 0 }, at: Reg { number: 1 }, offset: 0 }
-Reg { number: 5 } [Op(OpImm { op: Addi, rd: Reg { number: 11 }, rs: Reg { number: 11 }, imm: 1 }), Op(OpImm { op: Addi, rd: Reg { number: 12 }, rs: Reg { number: 12 }, imm: 2 }), Op(OpImm { op: Addi, rd: Reg { number: 13 }, rs: Reg { number: 13 }, imm: 3 }), Op(OpImm { op: Addi, rd: Reg { number: 14 }, rs: Reg { number: 14 }, imm: 4 })]
-";
-
-/// Two lower halves behind one upper half.
-const SHARED_UPPER_HALF: &str = "\
-0 []
-0 [Hi { rd: Reg { number: 15 }, to: 2 }, Lo { rd: Reg { number: 14 }, rs: Reg { number: 15 }, to: 2 }, Lo { rd: Reg { number: 13 }, rs: Reg { number: 15 }, to: 3 }, Op(OpImm { op: Addi, rd: Reg { number: 17 }, rs: Reg { number: 0 }, imm: 93 }), Op(Ecall)] Fall
-1 [] Jump { to: 1 }
-2 [] Indirect { link: Reg { number: 0 }, at: Reg { number: 1 }, offset: 0 }
-3 [] Indirect { link: Reg { number: 0 }, at: Reg { number: 1 }, offset: 0 }
-";
-
-/// A call through a word of data that holds the address of a function.
-const CODE_WORD: &str = "\
-0 [CodeRef { at: 131072, block: 3 }]
-0 [Op(Lui { rd: Reg { number: 5 }, upper: 32 }), Op(Load { kind: Lw, rd: Reg { number: 6 }, rs: Reg { number: 5 }, offset: 0 })] Indirect { link: Reg { number: 1 }, at: Reg { number: 6 }, offset: 0 }
-1 [Op(OpImm { op: Addi, rd: Reg { number: 17 }, rs: Reg { number: 0 }, imm: 93 }), Op(Ecall)] Fall
-2 [] Jump { to: 2 }
-3 [Op(OpImm { op: Addi, rd: Reg { number: 10 }, rs: Reg { number: 0 }, imm: 9 })] Indirect { link: Reg { number: 0 }, at: Reg { number: 1 }, offset: 0 }
-";
 
 /// Whether the graph has a block of this name.
 pub fn is_block(graph: &Graph, name: u32) -> bool
@@ -160,20 +105,4 @@ pub fn shown(alloc: Global, graph: &Graph) -> Result<String, Fail> {
         text.push_str(&line)?;
     }
     Ok(text)
-}
-
-#[test]
-fn graphs_have_these_parts(rt: HostRuntime) -> Result<(), Fail> {
-    let alloc = rt.alloc();
-    for (name, parts) in [
-        ("usual-link", USUAL_LINK),
-        ("procedures", PROCEDURES),
-        ("procedures.out", PROCEDURES_PACKED),
-        ("shared-upper-half", SHARED_UPPER_HALF),
-        ("code-word", CODE_WORD),
-    ] {
-        let graph = graph_of(alloc, &file_of(alloc, name)?)?;
-        assert_eq!(rt; shown(alloc, &graph)?.as_str(), parts, "{name}");
-    }
-    Ok(())
 }
