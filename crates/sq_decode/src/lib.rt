@@ -10,8 +10,6 @@ ghost use Rattle.sq_isa.specs.Ranges.{FieldsFit};
 
 mod fields;
 mod groups;
-#[cfg(test)]
-mod tests;
 
 use fields::{immediate_j, immediate_u, opcode, rd};
 use sq_isa::Insn;

@@ -9,8 +9,6 @@ ghost use Rattle.sq_isa.specs.Table.{insn_of};
 ghost use Rattle.sq_isa.specs.Ranges.{FieldsFit};
 
 mod formats;
-#[cfg(test)]
-mod tests;
 mod words;
 
 use sq_isa::Insn;

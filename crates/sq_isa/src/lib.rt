@@ -8,8 +8,6 @@
 pub mod instructions;
 pub mod ranges;
 pub mod registers;
-#[cfg(test)]
-mod tests;
 pub mod uses;
 pub mod values;
 

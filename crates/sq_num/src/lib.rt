@@ -22,6 +22,3 @@ pub use memory::Memory;
 pub use packed::{Packed, Savings};
 pub use refusal::{Denied, Refusal};
 pub use word_list::WordList;
-
-#[cfg(test)]
-mod tests;

@@ -24,6 +24,3 @@ pub use rows::{AddressHalf, row};
 pub use setting::Setting;
 pub use store::Store;
 pub use values::{Cell, Tag, Value};
-
-#[cfg(test)]
-mod tests;
