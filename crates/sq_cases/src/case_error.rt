@@ -1,5 +1,6 @@
 //! What is wrong with a text.
 
+use sq_num::Memory;
 use std::alloc::{AllocError, AllocFailed};
 use thiserror::Error;
 
@@ -22,6 +23,12 @@ pub enum CaseError {
     Offset,
     #[error("out of memory")]
     Memory,
+}
+
+impl From<Memory> for CaseError {
+    fn from(_error: Memory) -> CaseError {
+        CaseError::Memory
+    }
 }
 
 impl From<AllocError> for CaseError {

@@ -50,13 +50,23 @@ fn words_of(alloc: Global, words: &str) -> Result<Vec<u8>, CaseError> {
     Ok(file)
 }
 
-/// The file of a form: `words HEX ..` are its words; `plain HEX ..` those of the text of a plain file; `linked TEXT |
-/// BEHIND | ENTRIES | NOTE` the parts of a linked one; `long HEX .. COUNT` stands for a long text; and `zeros COUNT` for
-/// so many bytes.
+/// The file of these bytes.
+fn bytes_of(alloc: Global, bytes: &str) -> Result<Vec<u8>, CaseError> {
+    let mut file = Vec::new(alloc);
+    for number in numbers_of(alloc, bytes)? {
+        file.push(u8::try_from(number).map_err(|_| CaseError::Number)?)?;
+    }
+    Ok(file)
+}
+
+/// The file of a form: `words HEX ..` are its words and `bytes HEX ..` its bytes; `plain HEX ..` are the words of the
+/// text of a plain file; `linked TEXT | BEHIND | ENTRIES | NOTE` the parts of a linked one; `long HEX .. COUNT` stands
+/// for a long text; and `zeros COUNT` for so many bytes.
 pub fn file_of_form(alloc: Global, form: &str) -> Result<Vec<u8>, CaseError> {
     let (verb, words) = form.split_once(" ").ok_or(CaseError::Form)?;
     match verb {
         "words" => words_of(alloc, words),
+        "bytes" => bytes_of(alloc, words),
         "plain" => {
             let text = numbers_of(alloc, words)?;
             plain_of(alloc, &text)
