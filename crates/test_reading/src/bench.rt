@@ -1,10 +1,10 @@
 //! What the steps of a case work on.
 
 use crate::built::{append, crowd_file, set, set_text};
-use crate::graphs::{graph_text, has_spare, written};
+use crate::graphs::{graph_text, spare_told, written};
 use crate::reading::words_in;
 use crate::running::{Tagged, machine_of, machine_told, memory_of, memory_told};
-use crate::system::{event_of, lines_of};
+use crate::system::{lines_of, push_event};
 use crate::words::{sure, two};
 use crate::{numbers, reading, system, values};
 use anyhow::{Result, anyhow};
@@ -68,12 +68,9 @@ impl<'f> Bench<'f> {
     fn makes_file(&mut self, alloc: Global, verb: &str, words: &str) -> Result<bool> {
         match verb {
             "file" => self.file = file_of(alloc, self.files, words)?,
-            "linked" => self.file = file_of_form(alloc, &format!(in alloc; "linked {words}")?)?,
+            "linked" => self.file = linked_file(alloc, words)?,
             "plain" => self.file = plain_of(alloc, words)?,
-            "crowd" => {
-                let (crowd, other) = words.split_once(" | ").unwrap_or((words, ""));
-                self.file = crowd_file(alloc, crowd, other)?;
-            }
+            "crowd" => self.file = crowd_file(alloc, words)?,
             "written" => self.file = sure(written(alloc, &self.file))?,
             "set" => set(alloc, &mut self.file, words)?,
             "code" => set_text(alloc, &mut self.file, words)?,
@@ -88,7 +85,7 @@ impl<'f> Bench<'f> {
     fn shows(&mut self, alloc: Global, verb: &str, words: &str) -> Result<bool> {
         match verb {
             "graph" => self.shown = graph_text(alloc, &self.file)?,
-            "event" => sure(self.log.push(event_of(alloc, words)?))?,
+            "event" => push_event(alloc, &mut self.log, words)?,
             "lines" => self.shown = lines_of(alloc, &self.log)?,
             _ => return Ok(false),
         }
@@ -123,19 +120,18 @@ impl<'f> Bench<'f> {
             "line" => self.next_line(alloc)?,
             "events" => format!(in alloc; "{}", self.log.events().len())?,
             "length" => format!(in alloc; "{}", self.file.len())?,
-            "words" => {
-                let (from, to) = two(words)?;
-                let range = decimal(from)? as usize..decimal(to)? as usize;
-                let bytes = self.file.as_slice().get(range);
-                words_in(alloc, bytes.ok_or(anyhow!("too short a file"))?)?
-            }
-            "same" => {
-                let other = file_of(alloc, self.files, words)?;
-                format!(in alloc; "{}", self.file == other)?
-            }
-            "spare" => format!(in alloc; "{}", has_spare(alloc, &self.file, decimal(words)?)?)?,
+            "words" => words_between(alloc, &self.file, words)?,
+            "same" => self.is_file(alloc, words)?,
+            "spare" => spare_told(alloc, &self.file, words)?,
             _ => reading::told(alloc, &self.file, verb, words)?,
         })
+    }
+
+    /// Whether the file is that of a name.
+    fn is_file(&self, alloc: Global, name: &str) -> Result<String> {
+        let other = file_of(alloc, self.files, name)?;
+        let same = self.file.as_slice() == other.as_slice();
+        Ok(format!(in alloc; "{same}")?)
     }
 
     /// The next line of the text that is shown, or `none` behind the last one.
@@ -144,6 +140,20 @@ impl<'f> Bench<'f> {
         self.line = self.line.saturating_add(1);
         Ok(String::from_str(alloc, line)?)
     }
+}
+
+/// The linked file of these parts.
+fn linked_file(alloc: Global, parts: &str) -> Result<Vec<u8>> {
+    let form = format!(in alloc; "linked {parts}")?;
+    Ok(file_of_form(alloc, &form)?)
+}
+
+/// The words from one offset of a file up to another.
+fn words_between(alloc: Global, file: &[u8], offsets: &str) -> Result<String> {
+    let (from, to) = two(offsets)?;
+    let (from, to) = (decimal(from)?, decimal(to)?);
+    let bytes = file.get(from as usize..to as usize);
+    words_in(alloc, bytes.ok_or(anyhow!("too short a file"))?)
 }
 
 /// The plain file of these words.

@@ -90,7 +90,8 @@ impl Crowd {
 }
 
 /// A file of many headers, with zeros behind them. The section headers behind that of text are alike.
-pub fn crowd_file(alloc: Global, crowd: &str, other: &str) -> Result<Vec<u8>> {
+pub fn crowd_file(alloc: Global, words: &str) -> Result<Vec<u8>> {
+    let (crowd, other) = words.split_once(" | ").unwrap_or((words, ""));
     let crowd = Crowd::of_words(alloc, crowd)?;
     let other = numbers_of(alloc, other)?;
     let mut file = Vec::new(alloc);

@@ -11,19 +11,31 @@ use std::str;
 pub fn told(alloc: Global, verb: &str, words: &str) -> Result<Option<String>> {
     Ok(Some(match verb {
         "u16" | "u32" => field(alloc, verb, words)?,
-        "halves" => {
-            let address = hexadecimal(words)?;
-            format!(in alloc; "{:x} {}", hi20(address), lo12(address))?
-        }
+        "halves" => halves(alloc, words)?,
         "bytes" => byte_list(alloc, words)?,
         "list" => word_list(alloc, words)?,
         "short" => short_line(alloc, words)?,
-        "refusal" => {
-            let line = refusal(words)?.line();
-            String::from_str(alloc, str::from_utf8(line.as_slice())?.trim_end())?
-        }
+        "refusal" => refusal_line(alloc, words)?,
         _ => return Ok(None),
     }))
+}
+
+/// The text of a line, without its newline.
+pub fn line_text(alloc: Global, line: &Line) -> Result<String> {
+    let text = str::from_utf8(line.as_slice())?;
+    Ok(String::from_str(alloc, text.trim_end())?)
+}
+
+/// The line of a refusal.
+fn refusal_line(alloc: Global, words: &str) -> Result<String> {
+    let refusal = refusal(words)?;
+    line_text(alloc, &refusal.line())
+}
+
+/// The upper and the lower half of an address.
+fn halves(alloc: Global, address: &str) -> Result<String> {
+    let address = hexadecimal(address)?;
+    Ok(format!(in alloc; "{:x} {}", hi20(address), lo12(address))?)
 }
 
 /// Numbers as bytes.

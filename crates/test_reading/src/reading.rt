@@ -26,7 +26,7 @@ pub fn told(alloc: Global, file: &[u8], verb: &str, words: &str) -> Result<Strin
         return answer(alloc, read);
     }
     let Ok(elf) = read else {
-        return answer(alloc, read);
+        return Err(anyhow!("the file is refused"));
     };
     match verb {
         "text" | "entry" | "loaded" => Ok(limits(alloc, &elf, verb)?),
@@ -96,7 +96,7 @@ fn relocs_told(alloc: Global, elf: &Elf<'_>, verb: &str, words: &str) -> Result<
         return answer(alloc, read);
     }
     let Ok(relocs) = read else {
-        return answer(alloc, read);
+        return Err(anyhow!("the relocations are refused"));
     };
     match verb {
         "mark" => mark(alloc, elf, &relocs, hexadecimal(words)?),

@@ -36,20 +36,25 @@ pub fn memory_told(
     verb: &str,
     words: &str,
 ) -> Result<Option<String>> {
-    let (first, rest) = words.split_once(" ").unwrap_or((words, ""));
+    let (first, rest) = words.split_once(" ").unwrap_or((words, "0"));
+    let (Ok(address), Ok(rest)) = (hexadecimal(first), numbers_of(alloc, rest)) else {
+        return Ok(None);
+    };
+    let rest = rest.as_slice();
+    let count = rest.first().copied().unwrap_or(0);
     Ok(Some(match verb {
-        "cell" => shown(alloc, memory.get(hexadecimal(first)?))?,
-        "cells" => cells_told(alloc, memory, hexadecimal(first)?, hexadecimal(rest)?)?,
-        "put" => {
-            memory.put(hexadecimal(first)?, hexadecimal(rest)?);
-            String::new(alloc)
-        }
-        "fill" => {
-            fill(memory, hexadecimal(first)?, &numbers_of(alloc, rest)?)?;
-            String::new(alloc)
-        }
+        "cell" => shown(alloc, memory.get(address))?,
+        "cells" => cells_told(alloc, memory, address, count)?,
+        "put" => put(alloc, memory, address, count),
+        "fill" => fill(alloc, memory, address, rest)?,
         _ => return Ok(None),
     }))
+}
+
+/// Writes a cell.
+fn put(alloc: Global, memory: &mut Contents<u32>, address: u32, cell: u32) -> String {
+    memory.put(address, cell);
+    String::new(alloc)
 }
 
 /// How many addresses there are from one on.
@@ -76,12 +81,12 @@ fn cells_told(
 }
 
 /// Writes cells from an address on.
-fn fill(memory: &mut Contents<u32>, address: u32, cells: &[u32]) -> Result<()> {
+fn fill(alloc: Global, memory: &mut Contents<u32>, address: u32, cells: &[u32]) -> Result<String> {
     if addresses_from(address) < cells.len() as u64 {
         return Err(anyhow!("too many cells"));
     }
     memory.put_all(address, cells);
-    Ok(())
+    Ok(String::new(alloc))
 }
 
 /// A machine over a program at 0x10000, or why there is none. The words are where RAM is, its size, and the program.
@@ -123,15 +128,31 @@ pub fn machine_told(
     words: &str,
 ) -> Result<Option<String>> {
     Ok(Some(match verb {
-        "pc" => format!(in alloc; "{:x}", machine.pc())?,
-        "holds" => format!(in alloc; "{:x}", machine.register(register(words)?))?,
-        "step" => format!(in alloc; "{:?}", sure(machine.step(log))?)?,
-        "run" => {
-            let steps = u64::from(decimal(words)?);
-            format!(in alloc; "{:?}", sure(machine.run(log, steps))?)?
-        }
+        "pc" => shown(alloc, Some(machine.pc()))?,
+        "holds" => held(alloc, machine, words)?,
+        "step" => stepped(alloc, machine, log)?,
+        "run" => ran(alloc, machine, log, words)?,
         _ => return Ok(None),
     }))
+}
+
+/// The number in a register.
+fn held(alloc: Global, machine: &Machine, name: &str) -> Result<String> {
+    let register = register(name)?;
+    shown(alloc, Some(machine.register(register)))
+}
+
+/// What a step does.
+fn stepped(alloc: Global, machine: &mut Machine, log: &mut Log) -> Result<String> {
+    let moved = sure(machine.step(log))?;
+    Ok(format!(in alloc; "{moved:?}")?)
+}
+
+/// How a run of so many steps stands.
+fn ran(alloc: Global, machine: &mut Machine, log: &mut Log, steps: &str) -> Result<String> {
+    let steps = decimal(steps)?;
+    let outcome = sure(machine.run(log, u64::from(steps)))?;
+    Ok(format!(in alloc; "{outcome:?}")?)
 }
 
 /// What an instruction on tagged values meets.
@@ -209,15 +230,7 @@ impl Tagged {
     /// What the instruction of a word makes, with a half of an address where that is said.
     fn row(&mut self, alloc: Global, log: &mut Log, word: &str, half: &str) -> Result<String> {
         let insn = decode(hexadecimal(word)?).ok_or(anyhow!("no instruction"))?;
-        let half = match half.split_once(" ") {
-            None => AddressHalf::Plain,
-            Some(("upper", to)) => AddressHalf::Upper {
-                to: hexadecimal(to)?,
-                word: None,
-            },
-            Some(("lower", to)) => AddressHalf::Lower(hexadecimal(to)?),
-            Some(_) => return Err(anyhow!("no half {half:?}")),
-        };
+        let half = half_of(half)?;
         let made = row(
             &self.setting,
             &self.registers,
@@ -226,19 +239,34 @@ impl Tagged {
             half,
             &insn,
         );
-        Ok(format!(in alloc; "{:?}", sure(made)?)?)
+        let made = sure(made)?;
+        Ok(format!(in alloc; "{made:?}")?)
     }
 }
 
 /// A number, the address of code, or the upper half of an address.
 fn value_of(words: &str) -> Result<Value> {
-    Ok(match words.split_once(" ") {
-        None => Value::Num(hexadecimal(words)?),
-        Some(("code", to)) => Value::Tagged(Tag::Code(hexadecimal(to)?)),
-        Some(("part", to)) => Value::Tagged(Tag::Part {
-            to: hexadecimal(to)?,
+    let (kind, number) = words.split_once(" ").unwrap_or(("number", words));
+    let number = hexadecimal(number)?;
+    Ok(match kind {
+        "number" => Value::Num(number),
+        "code" => Value::Tagged(Tag::Code(number)),
+        "part" => Value::Tagged(Tag::Part {
+            to: number,
             word: None,
         }),
-        Some(_) => return Err(anyhow!("no value {words:?}")),
+        _ => return Err(anyhow!("no value {kind:?}")),
+    })
+}
+
+/// An upper or a lower half of an address, or none.
+fn half_of(words: &str) -> Result<AddressHalf> {
+    let (kind, to) = words.split_once(" ").unwrap_or((words, "0"));
+    let to = hexadecimal(to)?;
+    Ok(match kind {
+        "" => AddressHalf::Plain,
+        "upper" => AddressHalf::Upper { to, word: None },
+        "lower" => AddressHalf::Lower(to),
+        _ => return Err(anyhow!("no half {kind:?}")),
     })
 }

@@ -1,6 +1,6 @@
 //! Starts, system calls, and the lines of events and ends.
 
-use crate::numbers::bytes_of;
+use crate::numbers::{bytes_of, line_text};
 use crate::reading::words_in;
 use crate::words::{number, sure, two};
 use anyhow::{Result, anyhow};
@@ -17,17 +17,24 @@ use std::str;
 pub fn told(alloc: Global, verb: &str, words: &str) -> Result<Option<String>> {
     Ok(Some(match verb {
         "start" | "area" | "ram" => start_told(alloc, verb, words)?,
-        "fit" => {
-            let (base, size) = two(words)?;
-            format!(in alloc; "{}", start_fits(hexadecimal(base)?, hexadecimal(size)?))?
-        }
+        "fit" => fit(alloc, words)?,
         "call" => call_told(alloc, words)?,
-        "end" => {
-            let line = end_line(halt_of(words)?);
-            String::from_str(alloc, str::from_utf8(line.as_slice())?.trim_end())?
-        }
+        "end" => end_told(alloc, words)?,
         _ => return Ok(None),
     }))
+}
+
+/// Whether a start can have RAM there.
+fn fit(alloc: Global, words: &str) -> Result<String> {
+    let (base, size) = two(words)?;
+    let (base, size) = (hexadecimal(base)?, hexadecimal(size)?);
+    Ok(format!(in alloc; "{}", start_fits(base, size))?)
+}
+
+/// The line of an end.
+fn end_told(alloc: Global, words: &str) -> Result<String> {
+    let halt = halt_of(words)?;
+    line_text(alloc, &end_line(halt))
 }
 
 /// Of a start its stack pointer and whether it is bad over a piece of 16 bytes at 0x10000; its arguments as words; or how
@@ -110,8 +117,14 @@ fn halt_of(words: &str) -> Result<Option<Halt>> {
     }))
 }
 
+/// Appends an event to a log.
+pub fn push_event(alloc: Global, log: &mut Log, words: &str) -> Result<()> {
+    let event = event_of(alloc, words)?;
+    sure(log.push(event))
+}
+
 /// The event of a name, with numbers or bytes.
-pub fn event_of(alloc: Global, words: &str) -> Result<Event> {
+fn event_of(alloc: Global, words: &str) -> Result<Event> {
     let (name, rest) = words.split_once(" ").unwrap_or((words, ""));
     let (first, second) = rest.split_once(" ").unwrap_or((rest, "0"));
     Ok(match name {

@@ -1,7 +1,7 @@
 //! Instructions as words, and what they compute, read, write and hold.
 
 use crate::texts::{instruction, name, named};
-use crate::words::{number, two};
+use crate::words::{number, operand, shown, two};
 use anyhow::{Result, anyhow};
 use sq_cases::hexadecimal;
 use sq_decode::decode;
@@ -74,16 +74,8 @@ pub fn told(alloc: Global, verb: &str, words: &str) -> Result<Option<String>> {
         "instruction" => decoded(alloc, words)?,
         "value" | "immediate" | "atomic" | "branch" => computed(alloc, verb, words)?,
         "reads" | "writes" | "mentions" => used(alloc, verb, words)?,
-        "fits" => {
-            let (field, text) = two(words)?;
-            let insn = with_field(field, number(text)?)?;
-            format!(in alloc; "{}", fits(&insn))?
-        }
-        "register" => {
-            let register = Reg::new(number(words)?);
-            let register = register.map_or("none", name);
-            String::from_str(alloc, register)?
-        }
+        "fits" => fits_told(alloc, words)?,
+        "register" => register_told(alloc, words)?,
         _ => return Ok(None),
     }))
 }
@@ -102,23 +94,39 @@ fn decoded(alloc: Global, word: &str) -> Result<String> {
 fn computed(alloc: Global, verb: &str, words: &str) -> Result<String> {
     let (operation, words) = two(words)?;
     let (a, b) = two(words)?;
-    let (a, imm) = (hexadecimal(a)?, number(b));
-    if verb == "immediate" {
-        let op = named(alloc, &IMM_OPS, operation)?;
-        return Ok(format!(in alloc; "{:x}", value_imm(op, a, imm?.cast_signed()))?);
-    }
-    let b = hexadecimal(b)?;
-    Ok(match verb {
-        "value" => format!(in alloc; "{:x}", value(named(alloc, &REG_OPS, operation)?, a, b))?,
+    let (a, b) = (hexadecimal(a)?, operand(b)?);
+    match verb {
+        "value" => {
+            let op = named(alloc, &REG_OPS, operation)?;
+            shown(alloc, Some(value(op, a, b)))
+        }
+        "immediate" => {
+            let op = named(alloc, &IMM_OPS, operation)?;
+            shown(alloc, Some(value_imm(op, a, b.cast_signed())))
+        }
         "atomic" => {
             let op = named(alloc, &ATOMIC_OPS, operation)?;
-            format!(in alloc; "{:x}", atomic_value(op, a, b))?
+            shown(alloc, Some(atomic_value(op, a, b)))
         }
         _ => {
             let cond = named(alloc, &CONDS, operation)?;
-            format!(in alloc; "{} {}", taken(cond, a, b), taken(inverse(cond), a, b))?
+            let (taken, inverse) = (taken(cond, a, b), taken(inverse(cond), a, b));
+            Ok(format!(in alloc; "{taken} {inverse}")?)
         }
-    })
+    }
+}
+
+/// The register of a number.
+fn register_told(alloc: Global, words: &str) -> Result<String> {
+    let register = Reg::new(number(words)?);
+    Ok(String::from_str(alloc, register.map_or("none", name))?)
+}
+
+/// Whether an instruction can have a number in a field.
+fn fits_told(alloc: Global, words: &str) -> Result<String> {
+    let (field, text) = two(words)?;
+    let insn = with_field(field, number(text)?)?;
+    Ok(format!(in alloc; "{}", fits(&insn))?)
 }
 
 /// The registers that the instruction of a word reads, writes or mentions.

@@ -10,11 +10,19 @@ pub fn two(text: &str) -> Result<(&str, &str)> {
     text.split_once(" ").ok_or(anyhow!("two words are wanted"))
 }
 
-/// A number: in hexadecimal digits behind `0x`, in decimal ones behind `-`, which wraps, or else.
+/// A number in hexadecimal digits, or in decimal ones behind `-`, which wraps.
+pub fn operand(text: &str) -> Result<u32> {
+    if text.starts_with("-") {
+        return Ok(text.parse::<i32>()?.cast_unsigned());
+    }
+    Ok(hexadecimal(text)?)
+}
+
+/// A number in hexadecimal digits behind `0x`, or else in decimal ones, which may be negative and wrap.
 pub fn number(text: &str) -> Result<u32> {
     match text.strip_prefix("0x") {
         Some(digits) => Ok(hexadecimal(digits)?),
-        None if text.starts_with("-") => Ok(text.parse::<i32>()?.cast_unsigned()),
+        None if text.starts_with("-") => operand(text),
         None => Ok(decimal(text)?),
     }
 }
