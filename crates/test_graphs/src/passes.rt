@@ -100,7 +100,7 @@ fn saved<P: Pass>(
         return Ok(String::from_str(alloc, "too many words")?);
     }
     let savings = if settled {
-        settle_by(alloc, graph, pass)?
+        settle_by(alloc, graph, pass, Savings::NONE)?
     } else {
         pass.sweep(alloc, graph, Savings::NONE)?
     };
@@ -139,7 +139,7 @@ pub fn settled(alloc: Global, graph: &mut Graph) -> Result<String, Memory> {
     savings_text(alloc, &settle(alloc, graph)?)
 }
 
-/// How many words settling by a list of so many passes saves.
+/// What settling by a list of so many passes saves.
 pub fn settled_with(alloc: Global, graph: &mut Graph, count: &str) -> Result<String, Error> {
     let mut passes: Vec<Box<dyn Pass>> = Vec::new(alloc);
     for _ in 0..decimal(count)? {
@@ -148,6 +148,6 @@ pub fn settled_with(alloc: Global, graph: &mut Graph, count: &str) -> Result<Str
     if !is_ready(graph) {
         return Err(Error::msg("too many words"));
     }
-    let saved = settle_with(alloc, graph, &passes).map_err(memory)?;
-    Ok(format!(in alloc; "{saved}")?)
+    let savings = settle_with(alloc, graph, &passes).map_err(memory)?;
+    savings_text(alloc, &savings).map_err(memory)
 }
