@@ -1,9 +1,8 @@
 -- The lifted graph of a file fits the file, whatever its blocks are called.
-use Rattle.std.proofs.Common.{◌≡◌, ◌≢◌, ℕ, zero, suc, ◌+◌, ◌*◌, ◌<◌, ◌≤◌, ◌==◌, ◌&&◌, ◌||◌, not, Bool, inl, inr, true, false, nat_eq, List, [], ◌∷◌, map, length, Some, IsSome, slice_get, refl, sym, ap, ◌∙◌, subst, arith}
+use Rattle.std.proofs.Common.{◌≡◌, ℕ, ◌+◌, ◌*◌, ◌<◌, ◌≤◌, inl, inr, nat_eq, List, [], ◌∷◌, map, length, IsSome, refl, sym, ap, subst, arith}
 use Rattle.std.specs.List.{All, AllByRecursion}
-use Rattle.std.proofs.lemmas.Bool.{cases_Bool, eq-eqb, eqb-true, or_right}
+use Rattle.std.proofs.lemmas.Bool.{cases_Bool, eq-eqb}
 use Rattle.std.proofs.lemmas.List.Elements.{All-from_recursion, recursion_from_All}
-use Rattle.sq_isa.specs.Registers.{is_among}
 use Rattle.sq_elf.specs.Text.{text_of}
 use Rattle.sq_reloc.specs.declared.mark.CodeWord.{CodeWord}
 use Rattle.sq_reloc.specs.CodeWords.{AreCodeWords, listed_at}
@@ -14,15 +13,8 @@ use Rattle.sq_graph.specs.declared.item.Term.{Term}
 use Rattle.sq_graph.specs.declared.item.Term.TheVariants.{Fall, Jump, Branch, Call, PartJump, Indirect, Stop}
 use Rattle.sq_graph.specs.declared.parts.CodeRef.{CodeRef}
 use Rattle.sq_graph.specs.Graph.{Block, Procedure, Graph}
-use Rattle.sq_graph.specs.Alike.{AreAlike, IsOneToOne}
-use Rattle.sq_graph.specs.Leaders.{is_fall, has_no_items, is_bare, follows_a_term, is_leader, FallsIntoLeaders, IsCanonical}
-use Rattle.sq_graph.specs.Lines.{Line, Name, Do, Enter, Return, End, line_of, lines_of}
-use Rattle.sq_graph.specs.Renames.{retargeted_item, retargeted_items, retargeted_term, retargeted_procedure, renamed_block, renamed}
-use Rattle.sq_graph.specs.Rules.{IsGraph}
-use Rattle.sq_graph.specs.Soundness.{IsFreeOf, IsSoundBody, LinksDieIn, IsSound}
-use Rattle.sq_graph.specs.Terms.{goes_on}
-use Rattle.sq_graph.specs.Uses.{uses}
-use Rattle.sq_graph.specs.Walks.{IsLive}
+use Rattle.sq_graph.specs.Alike.{AreAlike}
+use Rattle.sq_graph.specs.Renames.{retargeted_item, retargeted_items, retargeted_term, retargeted_procedure, renamed_block}
 use Rattle.sq_graph.specs.Words.{words_of}
 use Rattle.sq_graph.proofs.RenamedSound.{canonical_kept, sound_kept}
 use Rattle.sq_program.specs.Programs.{Text}

@@ -1,5 +1,5 @@
 -- Behind the calls of a procedure its link is dead under other names of blocks where it was.
-use Rattle.std.proofs.Common.{◌≡◌, ℕ, List, [], ◌∷◌, refl, sym, subst}
+use Rattle.std.proofs.Common.{ℕ, List, [], ◌∷◌, refl, sym, subst}
 use Rattle.sq_graph.specs.Alike.{IsOneToOne}
 use Rattle.sq_graph.specs.Graph.{Graph}
 use Rattle.sq_graph.specs.Lines.{Line, Name, Do, Enter, Return, End, lines_of}
