@@ -83,11 +83,12 @@ fn run_and_complain<D: Desk>(alloc: Global, desk: &mut D, words: &WordList) -> E
     ending
 }
 
-/// Does the command of the words.
+/// Does the command of the words. Where they have no form, the desk is as it was handed in.
 fn run<D: Desk>(alloc: Global, desk: &mut D, words: &WordList) -> Ending
     ensures leaves { Leaves (form_of words.now) result (D.outside desk.old) (D.outside desk.new) }
     ensures complained { KeepsComplained (D.outside desk.old) (D.outside desk.new) }
     ensures faults { NoneFall (D.outside desk.old) (D.outside desk.new) }
+    ensures unformed { form_of words.now ≡ None → desk.new ≡ desk.old }
 {
     match command_of(words) {
         None => Ending::Words,
