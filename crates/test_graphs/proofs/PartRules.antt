@@ -1,5 +1,5 @@
 -- A graph of parts keeps the rules where each part is right.
-use Rattle.std.proofs.Common.{◌≡◌, ◌≢◌, ℕ, zero, suc, ◌+◌, ◌-◌, ◌<◌, ◌≤◌, ◌^◌, ◌==◌, nat_eq, false, List, [], ◌∷◌, map, length, take, drop, get_or, IsSome, length-drop, refl, sym, subst, ap, ◌∙◌, inl, inr, arith}
+use Rattle.std.proofs.Common.{◌≡◌, ℕ, zero, suc, ◌+◌, ◌-◌, ◌<◌, ◌≤◌, ◌^◌, ◌==◌, nat_eq, false, List, [], ◌∷◌, map, length, take, drop, get_or, IsSome, length-drop, refl, subst, ap, ◌∙◌, inl, inr, arith}
 use Rattle.std.specs.List.{All, AllByRecursion, IsDistinct}
 use Rattle.std.specs.List.Sorted.{IsStrictlyIncreasing}
 use Rattle.std.proofs.lemmas.Bool.{cases_Bool, eqb-false, ne_eqb}
@@ -9,14 +9,14 @@ use Rattle.sq_graph.specs.declared.item.Item.{Item}
 use Rattle.sq_graph.specs.declared.parts.BlockPart.{BlockPart}
 use Rattle.sq_graph.specs.declared.parts.ProcedurePart.{ProcedurePart}
 use Rattle.sq_graph.specs.declared.parts.CodeRef.{CodeRef}
-use Rattle.sq_graph.specs.Graph.{Block, Procedure, Graph}
+use Rattle.sq_graph.specs.Graph.{Procedure}
 use Rattle.sq_graph.specs.Blocks.{named, HasBlock, HasProcedure}
 use Rattle.sq_graph.specs.Terms.{goes_on}
 use Rattle.sq_graph.specs.Rules.{IsGraph, ProcedureFits, last_goes_on}
 use Rattle.sq_graph.specs.Parts.{blocks_of_parts, procedures_of_parts, length_of_blocks, length_of_bodies, LengthsFit, graph_of_parts}
 use Rattle.sq_graph.specs.Room.{IsSmall, count_of}
 use Rattle.sq_graph.proofs.FromParts.{all_items_of_parts, length-blocks_of_parts, length-procedures_of_parts}
-use Rattle.sq_graph.proofs.RulesByBlock.{ItemStands, BlockStands, BodyStands, IsByBlock, from_blocks, by_stays}
+use Rattle.sq_graph.proofs.RulesByBlock.{ItemStands, BlockStands, BodyStands, from_blocks, by_stays}
 use Rattle.test_graphs.specs.Standing.{ItemIsRight, TermIsRight, MakeGraph}
 
 -- each position is the name of a block, and no other one's
@@ -115,7 +115,9 @@ parts_keep_rules ps items entry ws qs right =
   where
     ended : (ps : List BlockPart) (items : List Item) → entry < length ps → ((d : BlockPart) → goes_on (get_or ps (length ps - 1) d).term ≡ false) → last_goes_on (blocks_of_parts 0 ps items) ≡ false
     ended [] items there ends = absurd (omega (arith, there))
-    ended (p ∷ ps) items there ends = ends_with 0 p ps items ∙ ends p
+    ended (p ∷ ps) items there ends =
+        let e : length (p ∷ ps) - 1 ≡ length ps = omega arith in
+        ends_with 0 p ps items ∙ subst (λ n. goes_on (get_or (p ∷ ps) n p).term ≡ false) e (ends p)
 
 pub parts_are_small : (ps : List BlockPart) (items : List Item) (entry : ℕ) (ws : List CodeRef) (qs : List ProcedurePart) → LengthsFit ps items qs → length ps < 2 ^ 29 → length items < 2 ^ 29 → length qs < 2 ^ 29 → IsSmall (count_of (graph_of_parts ps items entry ws qs))
 parts_are_small ps items entry ws qs fits few_blocks few_items few_procedures =

@@ -195,9 +195,11 @@ fn remove_procedure(graph: &mut Graph, procedure: u32, to: u32) -> Option<()> {
 /// Makes room, in a graph of less than a million words.
 pub fn reserve(graph: &mut Graph, room: Room) -> Result<(), Error> {
     const MOST: u32 = 1_000_000;
-    let asked = room.blocks.max(room.items).max(room.procedures);
-    if graph.links().len() >= MOST || words_of(graph) >= MOST || asked >= MOST {
-        return Err(Error::msg("a graph or a room of less is wanted"));
+    if graph.links().len() >= MOST || words_of(graph) >= MOST {
+        return Err(Error::msg("a graph of fewer words is wanted"));
+    }
+    if room.blocks >= MOST || room.items >= MOST || room.procedures >= MOST {
+        return Err(Error::msg("less room is wanted"));
     }
     graph.reserve(room).map_err(memory)
 }

@@ -1,17 +1,13 @@
-use Rattle.std.proofs.Common.{ap, arith, length, length-append}
-use Rattle.sq_graph.specs.Blocks.{items_of_blocks, items_of_bodies}
+use Rattle.std.proofs.Common.{ap, arith, length}
 use Rattle.sq_graph.proofs.Sizes.{length-slots_from}
-use Rattle.sq_drive.proofs.Rewrites.{few_items, few_bodies}
+use Rattle.test_graphs.proofs.Counts.{few_items}
 use Rattle.test_graphs.proofs.changes.reserve.Goals as goal
 
 pub reserve-requires : goal.reserve-requires
 reserve-requires c =
-    let g = c.args.graph.now.graph in
-    let items = few_items g.blocks in
-    let bodies = few_bodies g.procedures in
-    let all = length-append (items_of_blocks g.blocks) (items_of_bodies g.procedures) in
+    let few = few_items c.args.graph.now.graph in
     record {
-      blocks = ?;
-      items = ?;
-      procedures = ?;
+      blocks = omega (arith, c.if-room-ge-MOST.false, c.if-len-ge-MOST.false, c.len.ensures.value, ap (λ es. length es) c.links.ensures.blocks, length-slots_from 0 c.args.graph.now.graph.blocks);
+      items = omega (arith, few, c.if-room-ge-MOST-2.false, c.if-words_of-ge-MOST.false, c.words_of.ensures);
+      procedures = omega (arith, few, c.if-room-ge-MOST-3.false, c.if-words_of-ge-MOST.false, c.words_of.ensures);
     }
