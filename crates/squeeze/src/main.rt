@@ -1,11 +1,11 @@
 //! The program `squeeze`: the top call over the files and streams of the host.
 //!
-//! It collects the words of the command line, calls `squeeze` over a desk of the host, and ends
-//! with the answer as its status. What it promises above that call is only that a word which is not
-//! UTF-8, and want of memory while the words are collected, are complained and end with 1 and 4.
+//! It takes the arguments of the program but for its name as the words of a command line, calls `squeeze` over a desk of
+//! the host, and ends with the answer as its status. What it promises above that call is only that an argument which is
+//! not UTF-8, and want of memory before the call, are complained and end with 1 and 4.
 #![tactic(auto)]
 
-ghost use Rattle.std.specs.Prelude.{◌≡◌, IfOk, codes};
+ghost use Rattle.std.specs.Prelude.{◌≡◌, ◌⊎◌, List, ℕ, drop, map, codes, string_bytes, IfOk};
 ghost use Rattle.sq_top.specs.declared.ending.Ending.{Ending};
 ghost use Rattle.sq_top.specs.Statuses.{status_of};
 ghost use Rattle.sq_top.specs.Promises.{Ends};
@@ -21,56 +21,72 @@ use std::env;
 use std::io::ErrorKind;
 use std::process::ExitCode;
 
-/// Why the words of the command line were not collected.
+/// Why the arguments of the program were not read.
 #[derive(Clone, Copy, Debug, PartialEq, Eq)]
-enum WordsFault {
+enum ArgumentsFault {
     NotUtf8,
     Memory,
 }
 
-impl From<Memory> for WordsFault {
-    fn from(_error: Memory) -> WordsFault {
-        WordsFault::Memory
-    }
-}
-
-/// The words of the command line without the program's name.
-fn collect_words(rt: &HostRuntime, alloc: Global) -> Result<WordList, WordsFault> {
-    let args = match env::args(rt) {
-        Ok(args) => args,
-        Err(error) if error.kind() == ErrorKind::OutOfMemory => return Err(WordsFault::Memory),
-        Err(_) => return Err(WordsFault::NotUtf8),
-    };
+/// The words of a command line: the arguments but for the first, which is the program's name.
+fn words_of(alloc: Global, arguments: &[String]) -> Result<WordList, Memory>
+    ensures { IfOk result (λ words. words ≡ map string_bytes (drop 1 arguments.now)) }
+{
     let mut words = WordList::new(alloc);
-    for word in args.skip(1) {
-        words.push(word.as_str())?;
+    if let Some((_name, rest)) = arguments.split_first() {
+        for argument in rest {
+            words.push(argument.as_str())?;
+        }
     }
     Ok(words)
 }
 
-/// The status of the words, or of the fault that kept them from being collected, which is complained
-/// and touches nothing else.
-fn status_of<D: Desk>(alloc: Global, desk: &mut D, words: Result<WordList, WordsFault>) -> u8
-    ensures collected { IfOk words (λ words. (ending : Ending) × (result ≡ status_of ending) × Ends words ending (D.outside desk.old) (D.outside desk.new)) }
-    ensures not_utf8 { words ≡ Err WordsFault.NotUtf8 → (result ≡ 1) × OnlyComplains (codes "words\n") (D.outside desk.old) (D.outside desk.new) }
-    ensures memory { words ≡ Err WordsFault.Memory → (result ≡ 4) × OnlyComplains (codes "memory\n") (D.outside desk.old) (D.outside desk.new) }
+/// Complains the line of a fault before the call, which touches nothing else.
+fn complain<D: Desk>(alloc: Global, desk: &mut D, fault: ArgumentsFault) -> u8
+    ensures not_utf8 { fault ≡ ArgumentsFault.NotUtf8 → (result ≡ 1) × OnlyComplains (codes "words\n") (D.outside desk.old) (D.outside desk.new) }
+    ensures memory { fault ≡ ArgumentsFault.Memory → (result ≡ 4) × OnlyComplains (codes "memory\n") (D.outside desk.old) (D.outside desk.new) }
 {
-    match words {
-        Ok(words) => sq_top::squeeze(alloc, desk, &words),
-        Err(WordsFault::NotUtf8) => {
+    match fault {
+        ArgumentsFault::NotUtf8 => {
             let _ = desk.complain(alloc, b"words\n");
             1
         }
-        Err(WordsFault::Memory) => {
+        ArgumentsFault::Memory => {
             let _ = desk.complain(alloc, b"memory\n");
             4
         }
     }
 }
 
+/// The status of the command line with these arguments: that of its words, or 4 where there was no memory for them.
+fn status_of<D: Desk>(alloc: Global, desk: &mut D, arguments: &[String]) -> u8
+    ensures { ((ending : Ending) × (result ≡ status_of ending) × Ends (map string_bytes (drop 1 arguments.now)) ending (D.outside desk.old) (D.outside desk.new)) ⊎ ((result ≡ 4) × OnlyComplains (codes "memory\n") (D.outside desk.old) (D.outside desk.new)) }
+{
+    match words_of(alloc, arguments) {
+        Ok(words) => sq_top::squeeze(alloc, desk, &words),
+        Err(Memory) => complain(alloc, desk, ArgumentsFault::Memory),
+    }
+}
+
+/// The arguments of the program, its name first.
+fn arguments_of(rt: &HostRuntime, alloc: Global) -> Result<Vec<String>, ArgumentsFault> {
+    let arguments = match env::args(rt) {
+        Ok(arguments) => arguments,
+        Err(error) if error.kind() == ErrorKind::OutOfMemory => return Err(ArgumentsFault::Memory),
+        Err(_) => return Err(ArgumentsFault::NotUtf8),
+    };
+    let mut all = Vec::new(alloc);
+    for argument in arguments {
+        all.push(argument).map_err(|_| ArgumentsFault::Memory)?;
+    }
+    Ok(all)
+}
+
 fn main(rt: HostRuntime) -> ExitCode {
     let alloc = rt.alloc();
     let mut desk = HostDesk::new(&rt);
-    let words = collect_words(&rt, alloc);
-    ExitCode::from(status_of(alloc, &mut desk, words))
+    ExitCode::from(match arguments_of(&rt, alloc) {
+        Ok(arguments) => status_of(alloc, &mut desk, &arguments),
+        Err(fault) => complain(alloc, &mut desk, fault),
+    })
 }

@@ -1,0 +1,119 @@
+#!/bin/sh
+# Runs the built program from outside, once for each status and for each way in which the host can fail it, and compares
+# what it prints, what it complains, and what files hold.
+#
+#     SQUEEZE=crates/squeeze/out/squeeze examples/check.sh
+#
+# SQUEEZE is the built program: `rt run` in crates/squeeze leaves it there. It needs a shell, python3 and diff.
+set -u
+
+SQUEEZE=$(realpath "$SQUEEZE")
+top=$(realpath "$(dirname "$0")/..")
+folder=$(mktemp -d)
+trap 'chmod -R u+w "$folder"; rm -rf "$folder"' EXIT
+cd "$folder"
+failed=0
+passed=0
+
+# Small files whose words stand among the cases of the commands.
+python3 - "$top/crates/test_commands/data/files.txt" <<'PYTHON'
+import sys
+for line in open(sys.argv[1]):
+    name, _, form = line.strip().partition(" | ")
+    if form.startswith("words ") and name in ("byte-by-byte", "usual-link"):
+        words = []
+        for word in form.split()[1:]:
+            number, _, times = word.partition("*")
+            words += [int(number, 16)] * (int(times, 16) if times else 1)
+        open(name, "wb").write(b"".join(w.to_bytes(4, "little") for w in words))
+PYTHON
+cp "$top/examples/meter/meter.elf" meter
+cp "$top/crates/squeeze/data/a" smallest
+: > empty
+machine="1000 1048576 65536"
+
+# check STATUS PRINTED COMPLAINED WORD..
+check() {
+    status=$1 printed=$2 complained=$3
+    shift 3
+    "$SQUEEZE" "$@" > printed 2> complained
+    found=$?
+    if [ "$found" = "$status" ] && [ "$(tail -n 1 printed)" = "$printed" ] && [ "$(cat complained)" = "$complained" ]; then
+        passed=$((passed + 1))
+    else
+        failed=$((failed + 1))
+        echo "squeeze $(echo "$*" | cut -c 1-80): wanted $status '$printed' '$complained', found $found '$(tail -n 1 printed)' '$(cat complained)'"
+    fi
+}
+
+# holds FILE OTHER: the two files are the same
+holds() {
+    if cmp -s "$1" "$2"; then passed=$((passed + 1)); else failed=$((failed + 1)); echo "$1 is not $2"; fi
+}
+
+many=$(seq 1 3000 | tr '\n' ' ')
+
+# 0
+check 0 "text 820 -> 692, loaded 1044 -> 916" "" pack meter out
+check 0 "text 692 -> 692, loaded 916 -> 916" "" pack out again
+holds again out
+check 0 "text 16 -> 16, loaded 16 -> 16" "" pack smallest out
+holds out smallest
+check 0 "exit 7" "" run smallest empty $machine
+check 0 "exit 7" "" watch smallest empty $machine
+check 0 "exit 0" "" run usual-link empty $machine
+# shellcheck disable=SC2086
+check 0 "exit 7" "" run smallest empty $machine $many
+
+# 1: words without a form, many of them, and one that is no text
+check 1 "" "words"
+check 1 "" "words" pack smallest
+check 1 "" "words" pack smallest out more
+# shellcheck disable=SC2086
+check 1 "" "words" pack $many
+check 1 "" "words" run smallest empty 010 1048576 65536
+check 1 "" "words" pack "$(printf 'a\377')" out
+
+# 2: a file that isn't there, a folder, a name that is too long, and an OUT that can't be written
+check 2 "" "desk load" pack missing out
+check 2 "" "desk load" pack . out
+check 2 "" "desk load" pack "$(printf 'n%.0s' $(seq 1 5000))" out
+check 2 "" "desk store" pack smallest missing/out
+check 2 "" "desk store" pack smallest .
+check 2 "" "desk load" run smallest missing $machine
+
+# 3
+check 3 "" "refused 2 0x00000000" pack empty out
+check 3 "" "refused 2 0x00000000" run empty missing $machine
+holds out smallest
+
+# 4: more than there is memory for
+head -c 134217728 /dev/zero > big
+(
+    ulimit -v 100000
+    check 4 "" "memory" pack big out
+    [ "$failed" = 0 ]
+) && passed=$((passed + 1)) || failed=$((failed + 1))
+rm big
+holds out smallest
+
+# 5, 6, 7
+check 5 "break fragment at 0x00010018" "" watch byte-by-byte empty $machine
+check 6 "limit" "" run smallest empty 2 1048576 65536
+check 6 "limit" "" watch smallest empty 2 1048576 65536
+check 7 "" "bad start" run smallest empty 10 65536 16
+
+# Printing to a full device
+if [ -e /dev/full ]; then
+    "$SQUEEZE" pack smallest out > /dev/full 2> complained
+    if [ $? = 2 ] && [ "$(cat complained)" = "desk print" ]; then
+        passed=$((passed + 1))
+    else
+        failed=$((failed + 1))
+        echo "a full device: $(cat complained)"
+    fi
+    holds out smallest
+fi
+
+echo "$passed passed, $failed failed"
+[ "$failed" = 0 ]
