@@ -76,8 +76,9 @@ fn byte_list(alloc: Global, words: &str) -> Result<String> {
     }
     let copied = sure(Bytes::from_slice(alloc, &bytes))?;
     let text = numbers_in(alloc, list.as_slice())?;
-    let moved = Bytes::from_vec(list.into_vec());
-    if copied.as_slice() != bytes.as_slice() || moved.as_slice() != bytes.as_slice() {
+    let same = copied.as_slice() == bytes.as_slice();
+    let moved = Bytes::from_vec(bytes);
+    if !same || moved.as_slice() != copied.as_slice() {
         return Err(anyhow!("another list"));
     }
     Ok(text)
