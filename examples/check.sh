@@ -20,7 +20,7 @@ python3 - "$top/crates/test_commands/data/files.txt" <<'PYTHON'
 import sys
 for line in open(sys.argv[1]):
     name, _, form = line.strip().partition(" | ")
-    if form.startswith("words ") and name in ("byte-by-byte", "usual-link"):
+    if form.startswith("words ") and name in ("shared-upper-half", "usual-link"):
         words = []
         for word in form.split()[1:]:
             number, _, times = word.partition("*")
@@ -98,7 +98,7 @@ rm big
 holds out smallest
 
 # 5, 6, 7
-check 5 "break fragment at 0x00010018" "" watch byte-by-byte empty $machine
+check 5 "break half at 0x00010008" "" watch shared-upper-half empty $machine
 check 6 "limit" "" run smallest empty 2 1048576 65536
 check 6 "limit" "" watch smallest empty 2 1048576 65536
 check 7 "" "bad start" run smallest empty 10 65536 16
