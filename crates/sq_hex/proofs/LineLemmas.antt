@@ -1,5 +1,5 @@
 -- Lines of a text, from its first line on.
-use Rattle.std.proofs.Common.{◌≡◌, ◌≢◌, ℕ, zero, suc, ◌+◌, ◌<◌, ◌≤◌, Bool, true, false, ◌&&◌, if◌then◌else◌, List, [], ◌∷◌, length, get_or, take, drop, refl, ap, ◌∙◌, arith}
+use Rattle.std.proofs.Common.{◌≡◌, ◌≢◌, ℕ, zero, suc, ◌<◌, Bool, true, false, ◌&&◌, if◌then◌else◌, List, [], ◌∷◌, length, get_or, take, drop, refl, ap, ◌∙◌, arith}
 use Rattle.std.proofs.lemmas.Bool.Decides.{nat_tests}
 use Rattle.std.specs.Prelude.{nat_eq}
 use Rattle.sq_hex.specs.Lines.{is_at_newline, in_front, lines_of}
@@ -40,7 +40,7 @@ pub record EndsAt (text : List ℕ) (end : ℕ) : Type 0 where
   pub newline : get_or text end 0 ≡ 10
 
 -- the lines from a byte on that is no newline, where these are the lines behind it
-abbrev lines_with : ℕ → List ℕ → List (List ℕ) → List (List ℕ)
+abbrev pub lines_with : ℕ → List ℕ → List (List ℕ) → List (List ℕ)
 lines_with byte bytes lines = if nat_eq byte 13 && is_at_newline bytes then lines else in_front byte lines
 
 pub lines_step : (byte : ℕ) (bytes : List ℕ) → byte ≢ 10 → lines_of (byte ∷ bytes) ≡ lines_with byte bytes (lines_of bytes)

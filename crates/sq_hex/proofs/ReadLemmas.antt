@@ -1,11 +1,11 @@
 -- Texts and records, as far as they are read.
-use Rattle.std.proofs.Common.{◌≡◌, ℕ, suc, ◌+◌, ◌<◌, ◌≤◌, Bool, true, false, List, [], ◌∷◌, length, get_or, drop, Option, Some, None, Result, Ok, Err, refl, sym, ap, ◌∙◌, add-one, arith, drop-cons}
+use Rattle.std.proofs.Common.{◌≡◌, ℕ, suc, ◌+◌, ◌<◌, ◌≤◌, true, false, List, [], ◌∷◌, length, get_or, drop, Some, None, Ok, Err, refl, ap, add-one, arith, drop-cons}
 use Rattle.std.proofs.lemmas.Grind.{common_steps}
 use Rattle.std.specs.Option.{is_some}
 use Rattle.std.specs.Ordering.{nat_cmp}
 use Rattle.std.specs.BTreeMap.{insert_entry}
 use Rattle.sq_hex.specs.Lines.{lines_of}
-use Rattle.sq_hex.specs.Meaning.{HexMeaning, HexState, byte_at, with_bytes, after_line, or_fault, meaning_from}
+use Rattle.sq_hex.specs.Meaning.{HexState, byte_at, with_bytes, after_line, or_fault, meaning_from}
 use Rattle.sq_hex.proofs.LineLemmas.{lines_end}
 
 -- from a byte on whose address has none

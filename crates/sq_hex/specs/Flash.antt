@@ -1,5 +1,5 @@
 -- What flash holds of a file: the file bytes of each PT_LOAD with memsz above 0, at its load address.
-use Rattle.std.specs.Prelude.{◌≡◌, ℕ, ◌+◌, ◌↔◌, List, [], ◌∷◌, map, Some}
+use Rattle.std.specs.Prelude.{◌≡◌, ℕ, ◌+◌, ◌↔◌, List, [], ◌∷◌, map, flat_map, Some}
 use Rattle.std.specs.List.{Contains}
 use Rattle.std.specs.List.Sorted.{IsPermutation, IsNonDecreasingBy, IsStrictlySortedBy}
 use Rattle.std.specs.Ordering.{nat_cmp}
@@ -40,3 +40,7 @@ Range = ℕ × List ℕ
 -- the ranges of flash
 abbrev pub ranges_of : List ℕ → List Segment → List Range
 ranges_of file segments = map (λ s. (s.load_address, file_bytes_of file s)) segments
+
+-- their bytes, each at its address
+abbrev pub bytes_of : List Range → List (ℕ × ℕ)
+bytes_of ranges = flat_map (λ range. placed range.0 range.1) ranges

@@ -1,5 +1,7 @@
 -- What the reader of a text works with.
-use Rattle.std.specs.Prelude.{◌≡◌, ℕ, ◌+◌, ◌^◌, ◌≤◌, nat_eq, if◌then◌else◌, List, [], ◌∷◌, Option}
+use Rattle.std.specs.Prelude.{ℕ, ◌+◌, ◌^◌, ◌≤◌, nat_eq, if◌then◌else◌, List, [], ◌∷◌, Option}
+use Rattle.std.specs.List.{All}
+use Rattle.sq_elf.specs.declared.segment.Segment.{Segment}
 use Rattle.sq_hex.specs.declared.command.Command.{Command}
 use Rattle.sq_hex.specs.declared.command.Command.TheVariants.{Data, End, Base, Start}
 use Rattle.sq_hex.specs.declared.read.Reader.{Reader}
@@ -27,3 +29,7 @@ state_of r = record { bytes = r.bytes.entries; start = r.start; base = r.base; e
 
 abbrev pub FitsMemory : Reader → Type 0
 FitsMemory r = r.base + 65536 ≤ 2 ^ 32
+
+-- no load range passes the end of memory
+abbrev pub AreBounded : List Segment → Type 0
+AreBounded segments = All (λ s. s.load_address + s.filesz ≤ 2 ^ 32) segments

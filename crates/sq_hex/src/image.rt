@@ -1,10 +1,15 @@
 //! What a text of Intel HEX means.
 
-ghost use Rattle.std.specs.Prelude.{◌≡◌, ◌<◌, ◌^◌, length};
+ghost use Rattle.std.specs.Prelude.{◌≡◌, ◌<◌, ◌^◌, ◌↔◌, length, IfOk, IsTrue};
 ghost use Rattle.std.specs.BTreeMap.{btree_map_len};
+ghost use Rattle.sq_hex.specs.Flash.{IsFlashOf};
 ghost use Rattle.sq_hex.specs.Meaning.{byte_at};
 ghost use Rattle.sq_hex.specs.States.{meaning};
 
+use crate::flash::{holds_exactly, loads_of};
+use sq_elf::Elf;
+use sq_num::Memory;
+use std::alloc::Global;
 use std::collections::BTreeMap;
 use std::marker::Model;
 
@@ -54,5 +59,24 @@ impl HexImage {
         ensures { result ≡ length self.now.bytes }
     {
         self.bytes.len() as u32
+    }
+
+    /// Whether this is exactly the flash and the entry of the file.
+    pub fn is_flash_of(&self, alloc: Global, elf: &Elf) -> Result<bool, Memory>
+        ensures { IfOk result (λ same. IsTrue same ↔ IsFlashOf elf.now self.now) }
+    {
+        let file = elf.bytes();
+        let loads = loads_of(alloc, elf)?;
+        let same = holds_exactly(&self.bytes, file, &loads);
+        Ok(same && starts_at(self.start, elf.entry()))
+    }
+}
+
+fn starts_at(start: Option<u32>, entry: u32) -> bool
+    ensures { IsTrue result ↔ (start ≡ Some entry) }
+{
+    match start {
+        Some(address) => address == entry,
+        None => false,
     }
 }

@@ -6,11 +6,14 @@
 #![tactic(auto)]
 
 mod command;
+mod flash;
 mod image;
 mod line;
 mod read;
 mod record;
+mod write;
 
 pub use image::HexImage;
 pub use line::line_count;
 pub use read::{HexFault, read_hex};
+pub use write::hex_text;

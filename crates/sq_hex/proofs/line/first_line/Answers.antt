@@ -1,7 +1,5 @@
-use Rattle.std.proofs.Common.{◌≡◌, ◌∷◌, ◌+◌, ◌-◌, ◌<◌, suc, length, take, drop, arith, ap, sym, ◌∙◌, add-one}
+use Rattle.std.proofs.Common.{◌≡◌, ◌+◌, ◌-◌, ◌<◌, suc, length, take, drop, arith}
 use Rattle.std.proofs.lemmas.Grind.{common_steps}
-use Rattle.sq_hex.specs.Lines.{lines_of}
-use Rattle.sq_hex.specs.States.{without_return}
 use Rattle.sq_hex.proofs.LineLemmas.{EndsAt, first_line_ended, first_line_last, lines_end}
 use Rattle.sq_hex.proofs.line.first_line.Goals as goal
 

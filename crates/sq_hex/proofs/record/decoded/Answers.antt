@@ -1,5 +1,5 @@
 -- digits are twice as many as their bytes
-use Rattle.std.proofs.Common.{◌≡◌, ◌*◌, length, arith, ap}
+use Rattle.std.proofs.Common.{length, arith, ap}
 use Rattle.hex.proofs.HexLemmas.{decode_of-ok}
 use Rattle.sq_hex.proofs.record.decoded.Goals as goal
 use Rattle.sq_hex.proofs.record.decoded.Goals.{then-whole, else-whole}
