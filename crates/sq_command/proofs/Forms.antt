@@ -8,7 +8,7 @@ use Rattle.std.specs.Option.{option_map}
 use Rattle.std.specs.Str.{bytes_eq}
 use Rattle.sq_system.specs.Starts.{StartFits}
 use Rattle.sq_command.specs.Numbers.{number_of}
-use Rattle.sq_command.specs.Commands.{RunRequest, PackForm, RunForm, WatchForm, most_steps, start_fits, run_of, pack_form, run_request, form_of, AsksRun, IsPack, IsRun, IsWatch}
+use Rattle.sq_command.specs.Commands.{RunRequest, Form, PackForm, RunForm, WatchForm, HexForm, HexcheckForm, most_steps, start_fits, run_of, pair_form, run_request, form_of, AsksRun, IsPack, IsRun, IsWatch, IsHex, IsHexcheck}
 use Rattle.sq_command.proofs.NumberTexts.{number_is, number_back}
 use Rattle.sq_command.proofs.Words.{dropped}
 
@@ -32,21 +32,29 @@ few_back : (limit : ℕ) → nat_le limit most_steps ≡ true → limit ≤ most
 few_back limit t = grind (arith, nat_tests)
 
 -- by the first word
-pub at_pack : (words : List (List ℕ)) (verb : List ℕ) → slice_get words 0 ≡ Some verb → bytes_eq verb (codes "pack") ≡ true → form_of words ≡ pack_form (drop 1 words)
+pub at_pack : (words : List (List ℕ)) (verb : List ℕ) → slice_get words 0 ≡ Some verb → bytes_eq verb (codes "pack") ≡ true → form_of words ≡ pair_form PackForm (drop 1 words)
 unfolding form_of
 at_pack words verb there is = ap form_of (dropped words 0 verb there) ∙ rw is refl
 
 pub at_run : (words : List (List ℕ)) (verb : List ℕ) → slice_get words 0 ≡ Some verb → bytes_eq verb (codes "pack") ≡ false → bytes_eq verb (codes "run") ≡ true → form_of words ≡ option_map RunForm (run_request (drop 1 words))
 unfolding form_of
-at_run words verb there other is = ap form_of (dropped words 0 verb there) ∙ rw (other, is) refl
+at_run words verb there one is = ap form_of (dropped words 0 verb there) ∙ rw (one, is) refl
 
 pub at_watch : (words : List (List ℕ)) (verb : List ℕ) → slice_get words 0 ≡ Some verb → bytes_eq verb (codes "pack") ≡ false → bytes_eq verb (codes "run") ≡ false → bytes_eq verb (codes "watch") ≡ true → form_of words ≡ option_map WatchForm (run_request (drop 1 words))
 unfolding form_of
-at_watch words verb there other more is = ap form_of (dropped words 0 verb there) ∙ rw (other, more, is) refl
+at_watch words verb there one two is = ap form_of (dropped words 0 verb there) ∙ rw (one, two, is) refl
 
-pub at_other : (words : List (List ℕ)) (verb : List ℕ) → slice_get words 0 ≡ Some verb → bytes_eq verb (codes "pack") ≡ false → bytes_eq verb (codes "run") ≡ false → bytes_eq verb (codes "watch") ≡ false → form_of words ≡ None
+pub at_hex : (words : List (List ℕ)) (verb : List ℕ) → slice_get words 0 ≡ Some verb → bytes_eq verb (codes "pack") ≡ false → bytes_eq verb (codes "run") ≡ false → bytes_eq verb (codes "watch") ≡ false → bytes_eq verb (codes "hex") ≡ true → form_of words ≡ pair_form HexForm (drop 1 words)
 unfolding form_of
-at_other words verb there other more last = ap form_of (dropped words 0 verb there) ∙ rw (other, more, last) refl
+at_hex words verb there one two three is = ap form_of (dropped words 0 verb there) ∙ rw (one, two, three, is) refl
+
+pub at_hexcheck : (words : List (List ℕ)) (verb : List ℕ) → slice_get words 0 ≡ Some verb → bytes_eq verb (codes "pack") ≡ false → bytes_eq verb (codes "run") ≡ false → bytes_eq verb (codes "watch") ≡ false → bytes_eq verb (codes "hex") ≡ false → bytes_eq verb (codes "hexcheck") ≡ true → form_of words ≡ pair_form HexcheckForm (drop 1 words)
+unfolding form_of
+at_hexcheck words verb there one two three four is = ap form_of (dropped words 0 verb there) ∙ rw (one, two, three, four, is) refl
+
+pub at_other : (words : List (List ℕ)) (verb : List ℕ) → slice_get words 0 ≡ Some verb → bytes_eq verb (codes "pack") ≡ false → bytes_eq verb (codes "run") ≡ false → bytes_eq verb (codes "watch") ≡ false → bytes_eq verb (codes "hex") ≡ false → bytes_eq verb (codes "hexcheck") ≡ false → form_of words ≡ None
+unfolding form_of
+at_other words verb there one two three four five = ap form_of (dropped words 0 verb there) ∙ rw (one, two, three, four, five) refl
 
 pub at_none : (words : List (List ℕ)) → slice_get words 0 ≡ None → form_of words ≡ None
 unfolding form_of
@@ -87,22 +95,23 @@ asks file input None base size arguments request e = absurd (cc e)
 asks file input (Some limit) None size arguments request e = absurd (cc e)
 asks file input (Some limit) (Some base) None arguments request e = absurd (cc e)
 
--- words behind `run` or `watch` are no words of another form
-run_no_pack : (asked : Option RunRequest) (input output : List ℕ) → option_map RunForm asked ≡ Some (PackForm input output) → ⊥
-run_no_pack (Some request) input output e = absurd (cc e)
-run_no_pack None input output e = absurd (cc e)
+-- which form it is
+tag : Form → ℕ
+tag (PackForm input output) = 0
+tag (RunForm request) = 1
+tag (WatchForm request) = 2
+tag (HexForm input output) = 3
+tag (HexcheckForm input text) = 4
 
-watch_no_pack : (asked : Option RunRequest) (input output : List ℕ) → option_map WatchForm asked ≡ Some (PackForm input output) → ⊥
-watch_no_pack (Some request) input output e = absurd (cc e)
-watch_no_pack None input output e = absurd (cc e)
+tag_pair : (make : List ℕ → List ℕ → Form) (number : ℕ) → ((first second : List ℕ) → tag (make first second) ≡ number) → (words : List (List ℕ)) (f : Form) → pair_form make words ≡ Some f → tag f ≡ number
+tag_pair make number is (first ∷ second ∷ []) f e = let same : make first second ≡ f = cc e in sym (ap tag same) ∙ is first second
+tag_pair make number is (first ∷ second ∷ word ∷ words) f e = absurd (cc e)
+tag_pair make number is (first ∷ []) f e = absurd (cc e)
+tag_pair make number is [] f e = absurd (cc e)
 
-watch_no_run : (asked : Option RunRequest) (request : RunRequest) → option_map WatchForm asked ≡ Some (RunForm request) → ⊥
-watch_no_run (Some other) request e = absurd (cc e)
-watch_no_run None request e = absurd (cc e)
-
-run_no_watch : (asked : Option RunRequest) (request : RunRequest) → option_map RunForm asked ≡ Some (WatchForm request) → ⊥
-run_no_watch (Some other) request e = absurd (cc e)
-run_no_watch None request e = absurd (cc e)
+tag_map : (make : RunRequest → Form) (number : ℕ) → ((request : RunRequest) → tag (make request) ≡ number) → (asked : Option RunRequest) (f : Form) → option_map make asked ≡ Some f → tag f ≡ number
+tag_map make number is (Some request) f e = let same : make request ≡ f = cc e in sym (ap tag same) ∙ is request
+tag_map make number is None f e = absurd (cc e)
 
 run_asked : (asked : Option RunRequest) (request : RunRequest) → option_map RunForm asked ≡ Some (RunForm request) → asked ≡ Some request
 run_asked (Some other) request e = cc e
@@ -112,23 +121,23 @@ watch_asked : (asked : Option RunRequest) (request : RunRequest) → option_map 
 watch_asked (Some other) request e = cc e
 watch_asked None request e = absurd (cc e)
 
-pack_words : (words : List (List ℕ)) (input output : List ℕ) → pack_form words ≡ Some (PackForm input output) → words ≡ input ∷ output ∷ []
+pack_words : (words : List (List ℕ)) (input output : List ℕ) → pair_form PackForm words ≡ Some (PackForm input output) → words ≡ input ∷ output ∷ []
 pack_words (given ∷ taken ∷ []) input output e = cc e
 pack_words (given ∷ taken ∷ word ∷ words) input output e = absurd (cc e)
 pack_words (given ∷ []) input output e = absurd (cc e)
 pack_words [] input output e = absurd (cc e)
 
-pack_no_run : (words : List (List ℕ)) (request : RunRequest) → pack_form words ≡ Some (RunForm request) → ⊥
-pack_no_run (given ∷ taken ∷ []) request e = absurd (cc e)
-pack_no_run (given ∷ taken ∷ word ∷ words) request e = absurd (cc e)
-pack_no_run (given ∷ []) request e = absurd (cc e)
-pack_no_run [] request e = absurd (cc e)
+hex_words : (words : List (List ℕ)) (input output : List ℕ) → pair_form HexForm words ≡ Some (HexForm input output) → words ≡ input ∷ output ∷ []
+hex_words (given ∷ taken ∷ []) input output e = cc e
+hex_words (given ∷ taken ∷ word ∷ words) input output e = absurd (cc e)
+hex_words (given ∷ []) input output e = absurd (cc e)
+hex_words [] input output e = absurd (cc e)
 
-pack_no_watch : (words : List (List ℕ)) (request : RunRequest) → pack_form words ≡ Some (WatchForm request) → ⊥
-pack_no_watch (given ∷ taken ∷ []) request e = absurd (cc e)
-pack_no_watch (given ∷ taken ∷ word ∷ words) request e = absurd (cc e)
-pack_no_watch (given ∷ []) request e = absurd (cc e)
-pack_no_watch [] request e = absurd (cc e)
+hexcheck_words : (words : List (List ℕ)) (input output : List ℕ) → pair_form HexcheckForm words ≡ Some (HexcheckForm input output) → words ≡ input ∷ output ∷ []
+hexcheck_words (given ∷ taken ∷ []) input output e = cc e
+hexcheck_words (given ∷ taken ∷ word ∷ words) input output e = absurd (cc e)
+hexcheck_words (given ∷ []) input output e = absurd (cc e)
+hexcheck_words [] input output e = absurd (cc e)
 
 -- the words behind `run` or `watch`
 record RunTail (words : List (List ℕ)) (request : RunRequest) : Type 0 where
@@ -153,21 +162,49 @@ run_tail (file ∷ given ∷ []) request e = absurd (cc e)
 run_tail (file ∷ []) request e = absurd (cc e)
 run_tail [] request e = absurd (cc e)
 
-pack_there : (verb : List ℕ) (words : List (List ℕ)) (input output : List ℕ) (packs runs watches : Bool) → bytes_eq verb (codes "pack") ≡ packs →
-    (if packs then pack_form words else if runs then option_map RunForm (run_request words) else if watches then option_map WatchForm (run_request words) else None) ≡ Some (PackForm input output) →
-    verb ∷ words ≡ codes "pack" ∷ input ∷ output ∷ []
-pack_there verb words input output true runs watches first e =
-    let v : verb ≡ codes "pack" = (bytes_eq-Decides verb (codes "pack")).0 first in
-    λ i. v i ∷ pack_words words input output e i
-pack_there verb words input output false true watches first e = absurd (run_no_pack (run_request words) input output e)
-pack_there verb words input output false false true first e = absurd (watch_no_pack (run_request words) input output e)
-pack_there verb words input output false false false first e = absurd (cc e)
+-- a form comes by its verb
+data Chosen (verb : List ℕ) (words : List (List ℕ)) (f : Form) : Type 0 where
+  packs : verb ≡ codes "pack" → pair_form PackForm words ≡ Some f → Chosen verb words f
+  runs : verb ≡ codes "run" → option_map RunForm (run_request words) ≡ Some f → Chosen verb words f
+  watches : verb ≡ codes "watch" → option_map WatchForm (run_request words) ≡ Some f → Chosen verb words f
+  hexes : verb ≡ codes "hex" → pair_form HexForm words ≡ Some f → Chosen verb words f
+  checks : verb ≡ codes "hexcheck" → pair_form HexcheckForm words ≡ Some f → Chosen verb words f
+
+by_tests : (verb : List ℕ) (words : List (List ℕ)) (f : Form) (p r w h c : Bool) → bytes_eq verb (codes "pack") ≡ p → bytes_eq verb (codes "run") ≡ r → bytes_eq verb (codes "watch") ≡ w → bytes_eq verb (codes "hex") ≡ h → bytes_eq verb (codes "hexcheck") ≡ c →
+    (if p then pair_form PackForm words else if r then option_map RunForm (run_request words) else if w then option_map WatchForm (run_request words) else if h then pair_form HexForm words else if c then pair_form HexcheckForm words else None) ≡ Some f →
+    Chosen verb words f
+by_tests verb words f true r w h c one two three four five e = packs ((bytes_eq-Decides verb (codes "pack")).0 one) e
+by_tests verb words f false true w h c one two three four five e = runs ((bytes_eq-Decides verb (codes "run")).0 two) e
+by_tests verb words f false false true h c one two three four five e = watches ((bytes_eq-Decides verb (codes "watch")).0 three) e
+by_tests verb words f false false false true c one two three four five e = hexes ((bytes_eq-Decides verb (codes "hex")).0 four) e
+by_tests verb words f false false false false true one two three four five e = checks ((bytes_eq-Decides verb (codes "hexcheck")).0 five) e
+by_tests verb words f false false false false false one two three four five e = absurd (cc e)
+
+chosen : (verb : List ℕ) (words : List (List ℕ)) (f : Form) → form_of (verb ∷ words) ≡ Some f → Chosen verb words f
+unfolding form_of
+chosen verb words f e =
+    by_tests verb words f (bytes_eq verb (codes "pack")) (bytes_eq verb (codes "run")) (bytes_eq verb (codes "watch")) (bytes_eq verb (codes "hex")) (bytes_eq verb (codes "hexcheck")) refl refl refl refl refl e
+
+none_asked : (f : Form) → form_of [] ≡ Some f → ⊥
+unfolding form_of
+none_asked f e = cc e
+
+asks_run : (verb is : List ℕ) (words : List (List ℕ)) (request : RunRequest) → verb ≡ is → run_request words ≡ Some request → AsksRun is (verb ∷ words) request
+asks_run verb is words request v e =
+    let tail : RunTail words request = run_tail words request e in
+    record { words_are = λ i. v i ∷ tail.tail_is i; limit = tail.few; fits = tail.fits }
+
+pack_chosen : (verb : List ℕ) (words : List (List ℕ)) (input output : List ℕ) → Chosen verb words (PackForm input output) → verb ∷ words ≡ codes "pack" ∷ input ∷ output ∷ []
+unfolding tag
+pack_chosen verb words input output (packs v e) = λ i. v i ∷ pack_words words input output e i
+pack_chosen verb words input output (runs v e) = absurd (omega (arith, tag_map RunForm 1 (λ request. refl) (run_request words) (PackForm input output) e))
+pack_chosen verb words input output (watches v e) = absurd (omega (arith, tag_map WatchForm 2 (λ request. refl) (run_request words) (PackForm input output) e))
+pack_chosen verb words input output (hexes v e) = absurd (omega (arith, tag_pair HexForm 3 (λ first second. refl) words (PackForm input output) e))
+pack_chosen verb words input output (checks v e) = absurd (omega (arith, tag_pair HexcheckForm 4 (λ first second. refl) words (PackForm input output) e))
 
 pack_from : (words : List (List ℕ)) (input output : List ℕ) → form_of words ≡ Some (PackForm input output) → IsPack words input output
-unfolding form_of
-pack_from [] input output e = absurd (cc e)
-pack_from (verb ∷ words) input output e =
-    pack_there verb words input output (bytes_eq verb (codes "pack")) (bytes_eq verb (codes "run")) (bytes_eq verb (codes "watch")) refl e
+pack_from [] input output e = absurd (none_asked (PackForm input output) e)
+pack_from (verb ∷ words) input output e = pack_chosen verb words input output (chosen verb words (PackForm input output) e)
 
 pack_to : (words : List (List ℕ)) (input output : List ℕ) → IsPack words input output → form_of words ≡ Some (PackForm input output)
 unfolding form_of
@@ -176,40 +213,67 @@ pack_to words input output e = ap form_of e
 pub pack_is : (words : List (List ℕ)) (input output : List ℕ) → (form_of words ≡ Some (PackForm input output)) ↔ IsPack words input output
 pack_is words input output = (pack_from words input output, pack_to words input output)
 
-asks_run : (verb is : List ℕ) (words : List (List ℕ)) (request : RunRequest) → verb ≡ is → run_request words ≡ Some request → AsksRun is (verb ∷ words) request
-asks_run verb is words request v e =
-    let tail : RunTail words request = run_tail words request e in
-    record { words_are = λ i. v i ∷ tail.tail_is i; limit = tail.few; fits = tail.fits }
+hex_chosen : (verb : List ℕ) (words : List (List ℕ)) (input output : List ℕ) → Chosen verb words (HexForm input output) → verb ∷ words ≡ codes "hex" ∷ input ∷ output ∷ []
+unfolding tag
+hex_chosen verb words input output (packs v e) = absurd (omega (arith, tag_pair PackForm 0 (λ first second. refl) words (HexForm input output) e))
+hex_chosen verb words input output (runs v e) = absurd (omega (arith, tag_map RunForm 1 (λ request. refl) (run_request words) (HexForm input output) e))
+hex_chosen verb words input output (watches v e) = absurd (omega (arith, tag_map WatchForm 2 (λ request. refl) (run_request words) (HexForm input output) e))
+hex_chosen verb words input output (hexes v e) = λ i. v i ∷ hex_words words input output e i
+hex_chosen verb words input output (checks v e) = absurd (omega (arith, tag_pair HexcheckForm 4 (λ first second. refl) words (HexForm input output) e))
 
-run_there : (verb : List ℕ) (words : List (List ℕ)) (request : RunRequest) (packs runs watches : Bool) → bytes_eq verb (codes "run") ≡ runs →
-    (if packs then pack_form words else if runs then option_map RunForm (run_request words) else if watches then option_map WatchForm (run_request words) else None) ≡ Some (RunForm request) →
-    IsRun (verb ∷ words) request
-run_there verb words request true runs watches second e = absurd (pack_no_run words request e)
-run_there verb words request false true watches second e =
-    asks_run verb (codes "run") words request ((bytes_eq-Decides verb (codes "run")).0 second) (run_asked (run_request words) request e)
-run_there verb words request false false true second e = absurd (watch_no_run (run_request words) request e)
-run_there verb words request false false false second e = absurd (cc e)
+hex_from : (words : List (List ℕ)) (input output : List ℕ) → form_of words ≡ Some (HexForm input output) → IsHex words input output
+hex_from [] input output e = absurd (none_asked (HexForm input output) e)
+hex_from (verb ∷ words) input output e = hex_chosen verb words input output (chosen verb words (HexForm input output) e)
+
+hex_to : (words : List (List ℕ)) (input output : List ℕ) → IsHex words input output → form_of words ≡ Some (HexForm input output)
+unfolding form_of
+hex_to words input output e = ap form_of e
+
+pub hex_is : (words : List (List ℕ)) (input output : List ℕ) → (form_of words ≡ Some (HexForm input output)) ↔ IsHex words input output
+hex_is words input output = (hex_from words input output, hex_to words input output)
+
+hexcheck_chosen : (verb : List ℕ) (words : List (List ℕ)) (input output : List ℕ) → Chosen verb words (HexcheckForm input output) → verb ∷ words ≡ codes "hexcheck" ∷ input ∷ output ∷ []
+unfolding tag
+hexcheck_chosen verb words input output (packs v e) = absurd (omega (arith, tag_pair PackForm 0 (λ first second. refl) words (HexcheckForm input output) e))
+hexcheck_chosen verb words input output (runs v e) = absurd (omega (arith, tag_map RunForm 1 (λ request. refl) (run_request words) (HexcheckForm input output) e))
+hexcheck_chosen verb words input output (watches v e) = absurd (omega (arith, tag_map WatchForm 2 (λ request. refl) (run_request words) (HexcheckForm input output) e))
+hexcheck_chosen verb words input output (hexes v e) = absurd (omega (arith, tag_pair HexForm 3 (λ first second. refl) words (HexcheckForm input output) e))
+hexcheck_chosen verb words input output (checks v e) = λ i. v i ∷ hexcheck_words words input output e i
+
+hexcheck_from : (words : List (List ℕ)) (input output : List ℕ) → form_of words ≡ Some (HexcheckForm input output) → IsHexcheck words input output
+hexcheck_from [] input output e = absurd (none_asked (HexcheckForm input output) e)
+hexcheck_from (verb ∷ words) input output e = hexcheck_chosen verb words input output (chosen verb words (HexcheckForm input output) e)
+
+hexcheck_to : (words : List (List ℕ)) (input output : List ℕ) → IsHexcheck words input output → form_of words ≡ Some (HexcheckForm input output)
+unfolding form_of
+hexcheck_to words input output e = ap form_of e
+
+pub hexcheck_is : (words : List (List ℕ)) (input output : List ℕ) → (form_of words ≡ Some (HexcheckForm input output)) ↔ IsHexcheck words input output
+hexcheck_is words input output = (hexcheck_from words input output, hexcheck_to words input output)
+
+run_chosen : (verb : List ℕ) (words : List (List ℕ)) (request : RunRequest) → Chosen verb words (RunForm request) → IsRun (verb ∷ words) request
+unfolding tag
+run_chosen verb words request (packs v e) = absurd (omega (arith, tag_pair PackForm 0 (λ first second. refl) words (RunForm request) e))
+run_chosen verb words request (runs v e) = asks_run verb (codes "run") words request v (run_asked (run_request words) request e)
+run_chosen verb words request (watches v e) = absurd (omega (arith, tag_map WatchForm 2 (λ request. refl) (run_request words) (RunForm request) e))
+run_chosen verb words request (hexes v e) = absurd (omega (arith, tag_pair HexForm 3 (λ first second. refl) words (RunForm request) e))
+run_chosen verb words request (checks v e) = absurd (omega (arith, tag_pair HexcheckForm 4 (λ first second. refl) words (RunForm request) e))
 
 run_from : (words : List (List ℕ)) (request : RunRequest) → form_of words ≡ Some (RunForm request) → IsRun words request
-unfolding form_of
-run_from [] request e = absurd (cc e)
-run_from (verb ∷ words) request e =
-    run_there verb words request (bytes_eq verb (codes "pack")) (bytes_eq verb (codes "run")) (bytes_eq verb (codes "watch")) refl e
+run_from [] request e = absurd (none_asked (RunForm request) e)
+run_from (verb ∷ words) request e = run_chosen verb words request (chosen verb words (RunForm request) e)
 
-watch_there : (verb : List ℕ) (words : List (List ℕ)) (request : RunRequest) (packs runs watches : Bool) → bytes_eq verb (codes "watch") ≡ watches →
-    (if packs then pack_form words else if runs then option_map RunForm (run_request words) else if watches then option_map WatchForm (run_request words) else None) ≡ Some (WatchForm request) →
-    IsWatch (verb ∷ words) request
-watch_there verb words request true runs watches third e = absurd (pack_no_watch words request e)
-watch_there verb words request false true watches third e = absurd (run_no_watch (run_request words) request e)
-watch_there verb words request false false true third e =
-    asks_run verb (codes "watch") words request ((bytes_eq-Decides verb (codes "watch")).0 third) (watch_asked (run_request words) request e)
-watch_there verb words request false false false third e = absurd (cc e)
+watch_chosen : (verb : List ℕ) (words : List (List ℕ)) (request : RunRequest) → Chosen verb words (WatchForm request) → IsWatch (verb ∷ words) request
+unfolding tag
+watch_chosen verb words request (packs v e) = absurd (omega (arith, tag_pair PackForm 0 (λ first second. refl) words (WatchForm request) e))
+watch_chosen verb words request (runs v e) = absurd (omega (arith, tag_map RunForm 1 (λ request. refl) (run_request words) (WatchForm request) e))
+watch_chosen verb words request (watches v e) = asks_run verb (codes "watch") words request v (watch_asked (run_request words) request e)
+watch_chosen verb words request (hexes v e) = absurd (omega (arith, tag_pair HexForm 3 (λ first second. refl) words (WatchForm request) e))
+watch_chosen verb words request (checks v e) = absurd (omega (arith, tag_pair HexcheckForm 4 (λ first second. refl) words (WatchForm request) e))
 
 watch_from : (words : List (List ℕ)) (request : RunRequest) → form_of words ≡ Some (WatchForm request) → IsWatch words request
-unfolding form_of
-watch_from [] request e = absurd (cc e)
-watch_from (verb ∷ words) request e =
-    watch_there verb words request (bytes_eq verb (codes "pack")) (bytes_eq verb (codes "run")) (bytes_eq verb (codes "watch")) refl e
+watch_from [] request e = absurd (none_asked (WatchForm request) e)
+watch_from (verb ∷ words) request e = watch_chosen verb words request (chosen verb words (WatchForm request) e)
 
 -- the words that ask for a run are read as its request
 read_so : (request : RunRequest) → request.limit ≤ most_steps → StartFits request.base request.size →

@@ -5,7 +5,7 @@ use Rattle.std.specs.Str.{bytes_eq}
 use Rattle.sq_system.specs.Starts.{StartFits}
 use Rattle.sq_command.specs.Numbers.{number_of}
 use Rattle.sq_command.specs.declared.command.Command.{Command}
-use Rattle.sq_command.specs.declared.command.Command.TheVariants.{Pack, Run, Watch}
+use Rattle.sq_command.specs.declared.command.Command.TheVariants.{Pack, Run, Watch, Hex, Hexcheck}
 use Rattle.sq_command.specs.declared.run_words.RunWords.{RunWords}
 
 -- what `run` or `watch` asks for
@@ -25,6 +25,10 @@ pub data Form : Type 0 where
   RunForm : RunRequest → Form
   -- watch FILE INPUT LIMIT BASE SIZE ARG*
   WatchForm : RunRequest → Form
+  -- hex IN OUT
+  HexForm : List ℕ → List ℕ → Form
+  -- hexcheck IN HEX
+  HexcheckForm : List ℕ → List ℕ → Form
 
 -- at most so many steps
 abbrev pub most_steps : ℕ
@@ -43,10 +47,10 @@ run_of file input (Some limit) (Some base) (Some size) arguments =
     else None
 run_of file input limit base size arguments = None
 
--- the words behind `pack`
-abbrev pub pack_form : List (List ℕ) → Option Form
-pack_form (input ∷ output ∷ []) = Some (PackForm input output)
-pack_form words = None
+-- the words behind `pack`, `hex` or `hexcheck`: two names
+abbrev pub pair_form : (List ℕ → List ℕ → Form) → List (List ℕ) → Option Form
+pair_form make (first ∷ second ∷ []) = Some (make first second)
+pair_form make words = None
 
 -- the words behind `run` or `watch`
 abbrev pub run_request : List (List ℕ) → Option RunRequest
@@ -58,9 +62,11 @@ run_request words = None
 unfoldable pub form_of : List (List ℕ) → Option Form
 form_of [] = None
 form_of (verb ∷ words) =
-    if bytes_eq verb (codes "pack") then pack_form words
+    if bytes_eq verb (codes "pack") then pair_form PackForm words
     else if bytes_eq verb (codes "run") then option_map RunForm (run_request words)
     else if bytes_eq verb (codes "watch") then option_map WatchForm (run_request words)
+    else if bytes_eq verb (codes "hex") then pair_form HexForm words
+    else if bytes_eq verb (codes "hexcheck") then pair_form HexcheckForm words
     else None
 
 -- the words are `VERB FILE INPUT LIMIT BASE SIZE ARG*`: numbers in decimal, each in its range
@@ -81,6 +87,14 @@ IsWatch = AsksRun (codes "watch")
 abbrev pub IsPack : List (List ℕ) → List ℕ → List ℕ → Type 0
 IsPack words input output = words ≡ codes "pack" ∷ input ∷ output ∷ []
 
+-- the words are `hex IN OUT`
+abbrev pub IsHex : List (List ℕ) → List ℕ → List ℕ → Type 0
+IsHex words input output = words ≡ codes "hex" ∷ input ∷ output ∷ []
+
+-- the words are `hexcheck IN HEX`
+abbrev pub IsHexcheck : List (List ℕ) → List ℕ → List ℕ → Type 0
+IsHexcheck words input text = words ≡ codes "hexcheck" ∷ input ∷ text ∷ []
+
 -- what the words of a run ask for
 abbrev pub request_of : List (List ℕ) → RunWords → RunRequest
 request_of words run =
@@ -91,3 +105,5 @@ abbrev pub form : List (List ℕ) → Command → Form
 form words (Pack input output) = PackForm input.now output.now
 form words (Run run) = RunForm (request_of words run)
 form words (Watch run) = WatchForm (request_of words run)
+form words (Hex input output) = HexForm input.now output.now
+form words (Hexcheck input text) = HexcheckForm input.now text.now

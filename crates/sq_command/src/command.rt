@@ -2,7 +2,7 @@
 
 ghost use Rattle.std.specs.Prelude.{◌≡◌, ◌↔◌, ℕ, List, drop};
 ghost use Rattle.std.specs.Option.{option_map};
-ghost use Rattle.sq_command.specs.Commands.{Form, PackForm, RunForm, WatchForm, RunRequest, form, form_of, pack_form, run_request, run_of, request_of, IsPack, IsRun, IsWatch};
+ghost use Rattle.sq_command.specs.Commands.{Form, PackForm, RunForm, WatchForm, HexForm, HexcheckForm, RunRequest, form, form_of, pair_form, run_request, run_of, request_of, IsPack, IsRun, IsWatch, IsHex, IsHexcheck};
 
 use crate::number::number_of;
 use crate::run_words::RunWords;
@@ -18,6 +18,10 @@ pub enum Command<'w> {
     Run(RunWords<'w>),
     /// `watch FILE INPUT LIMIT BASE SIZE ARG*`
     Watch(RunWords<'w>),
+    /// `hex IN OUT`
+    Hex { input: &'w str, output: &'w str },
+    /// `hexcheck IN HEX`
+    Hexcheck { input: &'w str, text: &'w str },
 }
 
 /// The most steps that a run is allowed.
@@ -25,7 +29,7 @@ const MOST_STEPS: u32 = 10_000_000;
 
 /// `pack` with the words behind it.
 fn pack_words(words: &WordList) -> Option<Command<'_>>
-    ensures { option_map (form words.now) result ≡ pack_form (drop 1 words.now) }
+    ensures { option_map (form words.now) result ≡ pair_form PackForm (drop 1 words.now) }
 {
     if words.len() != 3 {
         return None;
@@ -33,6 +37,30 @@ fn pack_words(words: &WordList) -> Option<Command<'_>>
     let input = words.get(1)?;
     let output = words.get(2)?;
     Some(Command::Pack { input, output })
+}
+
+/// `hex` with the words behind it.
+fn hex_words(words: &WordList) -> Option<Command<'_>>
+    ensures { option_map (form words.now) result ≡ pair_form HexForm (drop 1 words.now) }
+{
+    if words.len() != 3 {
+        return None;
+    }
+    let input = words.get(1)?;
+    let output = words.get(2)?;
+    Some(Command::Hex { input, output })
+}
+
+/// `hexcheck` with the words behind it.
+fn hexcheck_words(words: &WordList) -> Option<Command<'_>>
+    ensures { option_map (form words.now) result ≡ pair_form HexcheckForm (drop 1 words.now) }
+{
+    if words.len() != 3 {
+        return None;
+    }
+    let input = words.get(1)?;
+    let text = words.get(2)?;
+    Some(Command::Hexcheck { input, text })
 }
 
 /// A run with these numbers, where the words have them and they are in their ranges.
@@ -99,6 +127,8 @@ pub fn command_of(words: &WordList) -> Option<Command<'_>>
     ensures pack { (input output : List ℕ) → (form_of words.now ≡ Some (PackForm input output)) ↔ IsPack words.now input output }
     ensures run { (request : RunRequest) → (form_of words.now ≡ Some (RunForm request)) ↔ IsRun words.now request }
     ensures watch { (request : RunRequest) → (form_of words.now ≡ Some (WatchForm request)) ↔ IsWatch words.now request }
+    ensures hex { (input output : List ℕ) → (form_of words.now ≡ Some (HexForm input output)) ↔ IsHex words.now input output }
+    ensures hexcheck { (input text : List ℕ) → (form_of words.now ≡ Some (HexcheckForm input text)) ↔ IsHexcheck words.now input text }
 {
     let verb = words.get(0)?;
     if verb == "pack" {
@@ -107,6 +137,10 @@ pub fn command_of(words: &WordList) -> Option<Command<'_>>
         run_command(words)
     } else if verb == "watch" {
         watch_command(words)
+    } else if verb == "hex" {
+        hex_words(words)
+    } else if verb == "hexcheck" {
+        hexcheck_words(words)
     } else {
         None
     }

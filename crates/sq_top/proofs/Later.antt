@@ -4,13 +4,14 @@ use Rattle.std.proofs.lemmas.Bool.{cases_lt}
 use Rattle.sq_num.specs.declared.packed.Packed.{Packed}
 use Rattle.sq_desk.specs.Outside.{Outside, Place, Rose, NoneFall, Complaining, KeepsFiles, KeepsPrinted, KeepsComplained, extended_text}
 use Rattle.sq_top.specs.declared.ending.Ending.{Ending}
-use Rattle.sq_top.specs.declared.ending.Ending.TheVariants.{Done, Words, Desk, Refused, Memory, Break, Limit, BadStart}
+use Rattle.sq_top.specs.declared.ending.Ending.TheVariants.{Done, Words, Desk, Refused, Memory, Break, Limit, BadStart, Differs}
 use Rattle.sq_top.specs.declared.ending.DeskCall.TheVariants.{Load, Store, Print}
-use Rattle.sq_command.specs.Commands.{RunRequest, Form, PackForm, RunForm, WatchForm, form_of}
+use Rattle.sq_command.specs.Commands.{RunRequest, Form, PackForm, RunForm, WatchForm, HexForm, HexcheckForm, form_of}
 use Rattle.sq_top.specs.Statuses.{complaint_of}
 use Rattle.sq_top.specs.Endings.{StoresPacked, LeavesPack, Leaves, ComplainsLine}
 use Rattle.sq_top.specs.RunEndings.{FailsToLoad, IsReadable, RunLeft}
 use Rattle.sq_top.specs.WatchEndings.{WatchLeft}
+use Rattle.sq_top.specs.HexEndings.{StoresText, LeavesHex, FailsToCheck, CheckLeft}
 use Rattle.sq_program.specs.FilePrograms.{IsAcceptedFile}
 use Rattle.sq_top.specs.Promises.{Ends}
 
@@ -49,6 +50,7 @@ module _ (before middle after : Outside) (first : NoneFall before middle) (quiet
   pack_on input output Break left = left
   pack_on input output Limit left = left
   pack_on input output BadStart left = left
+  pack_on input output (Differs line) left = absurd left
 
   fails_on : (Accepts : List ℕ → Type 0) (request : RunRequest) → FailsToLoad Accepts request before middle → FailsToLoad Accepts request before after
   fails_on Accepts request (inl file) = inl (rose_on _ before middle after first quiet.faults file)
@@ -66,6 +68,7 @@ module _ (before middle after : Outside) (first : NoneFall before middle) (quiet
   run_left_on request Break left = left
   run_left_on request Limit left = (left.0, left.1, quiet.printed ∙ left.2)
   run_left_on request BadStart left = (quiet.printed ∙ left.0, left.1)
+  run_left_on request (Differs line) left = absurd left
 
   watch_left_on : (request : RunRequest) (ending : Ending) → WatchLeft request ending before middle → WatchLeft request ending before after
   watch_left_on request Done left = (left.0, left.1, quiet.printed ∙ left.2)
@@ -79,12 +82,52 @@ module _ (before middle after : Outside) (first : NoneFall before middle) (quiet
   watch_left_on request Break left = (left.0, left.1, quiet.printed ∙ left.2)
   watch_left_on request Limit left = (left.0, left.1, quiet.printed ∙ left.2)
   watch_left_on request BadStart left = (quiet.printed ∙ left.0, left.1)
+  watch_left_on request (Differs line) left = absurd left
+
+  text_on : {input output text : List ℕ} → StoresText input output text before middle → StoresText input output text before after
+  text_on stored = record { writes = stored.writes; stores = quiet.files ∙ stored.stores }
+
+  hex_on : (input output : List ℕ) (ending : Ending) → LeavesHex input output ending before middle → LeavesHex input output ending before after
+  hex_on input output Done left = (left.0, text_on left.1, quiet.printed ∙ left.2)
+  hex_on input output Words left = left
+  hex_on input output (Desk Load) left = (rose_on _ before middle after first quiet.faults left.0, quiet.files ∙ left.1, quiet.printed ∙ left.2)
+  hex_on input output (Desk Store) left =
+      (left.0, left.1, rose_on _ before middle after first quiet.faults left.2, (left.3.0, quiet.files ∙ left.3.1), quiet.printed ∙ left.4)
+  hex_on input output (Desk Print) left =
+      (left.0, text_on left.1, rose_on _ before middle after first quiet.faults left.2, (left.3.0, quiet.printed ∙ left.3.1))
+  hex_on input output (Refused refusal) left = (left.0, quiet.files ∙ left.1, quiet.printed ∙ left.2)
+  hex_on input output Memory left =
+      (elim left.0 [ inl kept ↦ inl (quiet.files ∙ kept) | inr stored ↦ inr (stored.0, text_on stored.1) ], quiet.printed ∙ left.1)
+  hex_on input output Break left = left
+  hex_on input output Limit left = left
+  hex_on input output BadStart left = left
+  hex_on input output (Differs line) left = left
+
+  check_fails_on : (input text : List ℕ) → FailsToCheck input text before middle → FailsToCheck input text before after
+  check_fails_on input text (inl file) = inl (rose_on _ before middle after first quiet.faults file)
+  check_fails_on input text (inr other) = inr (other.0, rose_on _ before middle after first quiet.faults other.1)
+
+  check_on : (input text : List ℕ) (ending : Ending) → CheckLeft input text ending before middle → CheckLeft input text ending before after
+  check_on input text Done left = (left.0, quiet.printed ∙ left.1)
+  check_on input text Words left = left
+  check_on input text (Desk Load) left = (quiet.printed ∙ left.0, check_fails_on input text left.1)
+  check_on input text (Desk Store) left = left
+  check_on input text (Desk Print) left =
+      (rose_on _ before middle after first quiet.faults left.0, left.1, (left.2.0, quiet.printed ∙ left.2.1))
+  check_on input text (Refused refusal) left = (quiet.printed ∙ left.0, left.1)
+  check_on input text Memory left = quiet.printed ∙ left
+  check_on input text Break left = left
+  check_on input text Limit left = left
+  check_on input text BadStart left = left
+  check_on input text (Differs line) left = (quiet.printed ∙ left.0, left.1)
 
   leaves_on : (form : Option Form) (ending : Ending) → Leaves form ending before middle → Leaves form ending before after
   leaves_on None ending left = (left.0, quiet.files ∙ left.1, quiet.printed ∙ left.2)
   leaves_on (Some (PackForm input output)) ending left = pack_on input output ending left
   leaves_on (Some (RunForm request)) ending left = (quiet.files ∙ left.0, run_left_on request ending left.1)
   leaves_on (Some (WatchForm request)) ending left = (quiet.files ∙ left.0, watch_left_on request ending left.1)
+  leaves_on (Some (HexForm input output)) ending left = hex_on input output ending left
+  leaves_on (Some (HexcheckForm input text)) ending left = (quiet.files ∙ left.0, check_on input text ending left.1)
 
   complains_on : (line : Option (List ℕ)) → KeepsComplained before middle → ComplainsLine line middle after → ComplainsLine line before after
   complains_on None silent said = said ∙ silent

@@ -1,6 +1,8 @@
 pub mod WholeGraphs
 pub mod ReadBack
 pub mod EarlyEndings
+pub mod HexPromised
+pub mod HexWritten
 pub mod Later
 pub mod PackedFile
 pub mod Promised

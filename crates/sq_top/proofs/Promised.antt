@@ -4,13 +4,14 @@ use Rattle.std.specs.Option.{option_map}
 use Rattle.sq_num.specs.declared.packed.Packed.{Packed}
 use Rattle.sq_desk.specs.Outside.{Outside, Files, content_of, with_file}
 use Rattle.sq_top.specs.declared.ending.Ending.{Ending}
-use Rattle.sq_top.specs.declared.ending.Ending.TheVariants.{Done, Words, Desk, Refused, Memory, Break, Limit, BadStart}
+use Rattle.sq_top.specs.declared.ending.Ending.TheVariants.{Done, Words, Desk, Refused, Memory, Break, Limit, BadStart, Differs}
 use Rattle.sq_top.specs.declared.ending.DeskCall.TheVariants.{Load, Store, Print}
-use Rattle.sq_command.specs.Commands.{Form, PackForm, RunForm, WatchForm, form_of}
+use Rattle.sq_command.specs.Commands.{Form, PackForm, RunForm, WatchForm, HexForm, HexcheckForm, form_of}
 use Rattle.sq_top.specs.Packing.{Packs, Headline, packed_text, sizes_text}
 use Rattle.sq_top.specs.Statuses.{status_of, complaint_of}
 use Rattle.sq_top.specs.Endings.{StoresPacked, LeavesPack, Leaves, ComplainsLine}
-use Rattle.sq_top.specs.Promises.{Ends, ForPack, IsDone, HoldsOutput, StayOrHold, HasRefusal, IsComplete}
+use Rattle.sq_top.specs.HexEndings.{StoresText, LeavesHex}
+use Rattle.sq_top.specs.Promises.{Ends, ForPack, IsDone, HoldsOutput, HoldsText, StayOrHold, HasRefusal, IsComplete}
 
 same_sizes : {a b c d e f g h : ℕ} → a ≡ e → b ≡ f → c ≡ g → d ≡ h → sizes_text a b c d ≡ sizes_text e f g h
 same_sizes first second third fourth = λ i. sizes_text (first i) (second i) (third i) (fourth i)
@@ -30,6 +31,13 @@ in_place {output} {packed} stored files told = stored.stores ∙ ap (option_map 
 holds : {input output : List ℕ} {packed : Packed} {before after : Outside} → StoresPacked input output packed before after → HoldsOutput input output before after
 holds {packed = packed} stored files told = (packed.bytes, (stored.packs files told).good, in_place stored files told)
 
+-- where files are told, the stored text is in its place
+text_in_place : {input output text : List ℕ} {before after : Outside} → StoresText input output text before after → (files : Files) → before.files ≡ Some files → after.files ≡ Some (with_file output (Some text) files)
+text_in_place {output = output} {text = text} stored files told = stored.stores ∙ ap (option_map (with_file output (Some text))) told
+
+holds_text : {input output text : List ℕ} {before after : Outside} → StoresText input output text before after → HoldsText input output before after
+holds_text {text = text} stored files told = (text, stored.writes files told, text_in_place stored files told)
+
 module _ (words : List (List ℕ)) (ending : Ending) (before after : Outside) (ends : Ends words ending before after) (input output : List ℕ) (form : form_of words ≡ Some (PackForm input output)) where
   left : LeavesPack input output ending before after
   left = rw form at ends.leaves
@@ -47,6 +55,7 @@ done_promised words ending before after ends input output form status files told
     by_case Break other gone = absurd gone
     by_case Limit other gone = absurd gone
     by_case BadStart other gone = absurd gone
+    by_case (Differs line) other gone = absurd gone
 
 pub refused_promised : (words : List (List ℕ)) (ending : Ending) (before after : Outside) → Ends words ending before after → ForPack words (λ input _. status_of ending ≡ 3 → HasRefusal input before after)
 refused_promised words ending before after ends input output form status = by_case ending status (left words ending before after ends input output form) ends.complains
@@ -60,6 +69,7 @@ refused_promised words ending before after ends input output form status = by_ca
     by_case Break other gone said = absurd gone
     by_case Limit other gone said = absurd gone
     by_case BadStart other gone said = absurd gone
+    by_case (Differs line) other gone said = absurd gone
 
 pub complete_promised : (words : List (List ℕ)) (ending : Ending) (before after : Outside) → Ends words ending before after → ForPack words (λ input output. IsComplete input output (status_of ending) before after)
 complete_promised words ending before after ends input output form no_fault files told accepted = by_case ending (left words ending before after ends input output form)
@@ -75,24 +85,41 @@ complete_promised words ending before after ends input output form no_fault file
     by_case Break gone = absurd gone
     by_case Limit gone = absurd gone
     by_case BadStart gone = absurd gone
+    by_case (Differs line) gone = absurd gone
 
 pub files_promised : (words : List (List ℕ)) (ending : Ending) (before after : Outside) → Ends words ending before after → StayOrHold words (status_of ending) before after
 files_promised words ending before after ends = by_form (form_of words) refl ends.leaves
   where
     by_case : (input output : List ℕ) → form_of words ≡ Some (PackForm input output) → (e : Ending) → LeavesPack input output e before after → StayOrHold words (status_of e) before after
-    by_case input output form Done gone = inr ((λ same. cc same), (λ same. cc same), input, output, form, inl (holds gone.1))
+    by_case input output form Done gone = inr (inl ((λ same. cc same), (λ same. cc same), input, output, form, inl (holds gone.1)))
     by_case input output form Words gone = absurd gone
     by_case input output form (Desk Load) gone = inl gone.1
-    by_case input output form (Desk Store) gone = inr ((λ same. cc same), (λ same. cc same), input, output, form, inr (refl, gone.2, gone.3))
-    by_case input output form (Desk Print) gone = inr ((λ same. cc same), (λ same. cc same), input, output, form, inl (holds gone.1))
+    by_case input output form (Desk Store) gone = inr (inl ((λ same. cc same), (λ same. cc same), input, output, form, inr (refl, gone.2, gone.3)))
+    by_case input output form (Desk Print) gone = inr (inl ((λ same. cc same), (λ same. cc same), input, output, form, inl (holds gone.1)))
     by_case input output form (Refused refusal) gone = inl gone.1
     by_case input output form Break gone = absurd gone
     by_case input output form Limit gone = absurd gone
     by_case input output form BadStart gone = absurd gone
-    by_case input output form Memory gone = elim gone.0 [ inl kept ↦ inl kept | inr stored ↦ inr ((λ same. cc same), (λ same. cc same), input, output, form, inl (holds stored.1)) ]
+    by_case input output form (Differs line) gone = absurd gone
+    by_case input output form Memory gone = elim gone.0 [ inl kept ↦ inl kept | inr stored ↦ inr (inl ((λ same. cc same), (λ same. cc same), input, output, form, inl (holds stored.1))) ]
+
+    hex_case : (input output : List ℕ) → form_of words ≡ Some (HexForm input output) → (e : Ending) → LeavesHex input output e before after → StayOrHold words (status_of e) before after
+    hex_case input output form Done gone = inr (inr ((λ same. cc same), (λ same. cc same), input, output, form, inl (holds_text gone.1)))
+    hex_case input output form Words gone = absurd gone
+    hex_case input output form (Desk Load) gone = inl gone.1
+    hex_case input output form (Desk Store) gone = inr (inr ((λ same. cc same), (λ same. cc same), input, output, form, inr (refl, gone.2, gone.3)))
+    hex_case input output form (Desk Print) gone = inr (inr ((λ same. cc same), (λ same. cc same), input, output, form, inl (holds_text gone.1)))
+    hex_case input output form (Refused refusal) gone = inl gone.1
+    hex_case input output form Break gone = absurd gone
+    hex_case input output form Limit gone = absurd gone
+    hex_case input output form BadStart gone = absurd gone
+    hex_case input output form (Differs line) gone = absurd gone
+    hex_case input output form Memory gone = elim gone.0 [ inl kept ↦ inl kept | inr stored ↦ inr (inr ((λ same. cc same), (λ same. cc same), input, output, form, inl (holds_text stored.1))) ]
 
     by_form : (f : Option Form) → form_of words ≡ f → Leaves f ending before after → StayOrHold words (status_of ending) before after
     by_form None form gone = inl gone.1
     by_form (Some (PackForm input output)) form gone = by_case input output form ending gone
     by_form (Some (RunForm request)) form gone = inl gone.0
     by_form (Some (WatchForm request)) form gone = inl gone.0
+    by_form (Some (HexForm input output)) form gone = hex_case input output form ending gone
+    by_form (Some (HexcheckForm input text)) form gone = inl gone.0

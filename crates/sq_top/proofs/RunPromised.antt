@@ -7,7 +7,7 @@ use Rattle.sq_system.specs.declared.event.Halt.{Halt}
 use Rattle.sq_command.specs.Commands.{RunRequest, RunForm, form_of}
 use Rattle.sq_desk.specs.Outside.{Outside, Files, KeepsFiles}
 use Rattle.sq_top.specs.declared.ending.Ending.{Ending}
-use Rattle.sq_top.specs.declared.ending.Ending.TheVariants.{Done, Words, Desk, Refused, Memory, Break, Limit, BadStart}
+use Rattle.sq_top.specs.declared.ending.Ending.TheVariants.{Done, Words, Desk, Refused, Memory, Break, Limit, BadStart, Differs}
 use Rattle.sq_top.specs.declared.ending.DeskCall.TheVariants.{Load, Store, Print}
 use Rattle.sq_top.specs.Statuses.{status_of, complaint_of}
 use Rattle.sq_top.specs.Endings.{ComplainsLine}
@@ -31,6 +31,7 @@ same_status request files Done Done one other = refl
 same_status request files Done Break one other = absurd other
 same_status request files Done Limit one other = absurd (not_both (trace_in request files) one.1 other.1)
 same_status request files Done BadStart one other = absurd (one.0.valid other.bad)
+same_status request files Done (Differs line) one other = absurd other
 same_status request files Done (Refused refusal) one other = absurd (not_accepted request files refusal other one.0.accepted)
 same_status request files Done Words one other = absurd other
 same_status request files Done (Desk call) one other = absurd other
@@ -39,6 +40,7 @@ same_status request files Limit Done one other = absurd (not_both (trace_in requ
 same_status request files Limit Break one other = absurd other
 same_status request files Limit Limit one other = refl
 same_status request files Limit BadStart one other = absurd (one.0.valid other.bad)
+same_status request files Limit (Differs line) one other = absurd other
 same_status request files Limit (Refused refusal) one other = absurd (not_accepted request files refusal other one.0.accepted)
 same_status request files Limit Words one other = absurd other
 same_status request files Limit (Desk call) one other = absurd other
@@ -47,6 +49,7 @@ same_status request files BadStart Done one other = absurd (other.0.valid one.ba
 same_status request files BadStart Break one other = absurd other
 same_status request files BadStart Limit one other = absurd (other.0.valid one.bad)
 same_status request files BadStart BadStart one other = refl
+same_status request files BadStart (Differs line) one other = absurd other
 same_status request files BadStart (Refused refusal) one other = absurd (not_accepted request files refusal other one.accepted)
 same_status request files BadStart Words one other = absurd other
 same_status request files BadStart (Desk call) one other = absurd other
@@ -55,6 +58,7 @@ same_status request files (Refused refusal) Done one other = absurd (not_accepte
 same_status request files (Refused refusal) Break one other = absurd other
 same_status request files (Refused refusal) Limit one other = absurd (not_accepted request files refusal one other.0.accepted)
 same_status request files (Refused refusal) BadStart one other = absurd (not_accepted request files refusal one other.accepted)
+same_status request files (Refused refusal) (Differs line) one other = absurd other
 same_status request files (Refused refusal) (Refused more) one other = refl
 same_status request files (Refused refusal) Words one other = absurd other
 same_status request files (Refused refusal) (Desk call) one other = absurd other
@@ -63,6 +67,7 @@ same_status request files Break second one other = absurd one
 same_status request files Words second one other = absurd one
 same_status request files (Desk call) second one other = absurd one
 same_status request files Memory second one other = absurd one
+same_status request files (Differs line) second one other = absurd one
 
 module _ (words : List (List ℕ)) (ending : Ending) (before after : Outside) (ends : Ends words ending before after) where
   left : (request : RunRequest) → form_of words ≡ Some (RunForm request) → LeavesRun request ending before after
@@ -83,6 +88,7 @@ module _ (words : List (List ℕ)) (ending : Ending) (before after : Outside) (e
       by_case Break is gone = absurd gone
       by_case Limit is gone = absurd (cc is)
       by_case BadStart is gone = absurd (cc is)
+      by_case (Differs line) is gone = absurd gone
 
   pub run_limit_promised : ForRun words (λ request. status_of ending ≡ 6 → PrintsRun request IsAtLimit before after)
   run_limit_promised request form status = by_case ending status (left request form).1
@@ -96,6 +102,7 @@ module _ (words : List (List ℕ)) (ending : Ending) (before after : Outside) (e
       by_case Break is gone = absurd gone
       by_case Limit is gone = gone
       by_case BadStart is gone = absurd (cc is)
+      by_case (Differs line) is gone = absurd gone
 
   pub run_bad_promised : ForRun words (λ request. status_of ending ≡ 7 → IsBadRun request before after)
   run_bad_promised request form status = by_case ending status (left request form).1 ends.complains
@@ -109,6 +116,7 @@ module _ (words : List (List ℕ)) (ending : Ending) (before after : Outside) (e
       by_case Break is gone said = absurd gone
       by_case Limit is gone said = absurd (cc is)
       by_case BadStart is gone said = (gone.0, gone.1, said)
+      by_case (Differs line) is gone said = absurd gone
 
   pub run_fault_promised : ForRun words (λ request. status_of ending ≡ 2 → HasRunFault request before after)
   run_fault_promised request form status = by_case ending status (left request form).1 ends.complains
@@ -124,6 +132,7 @@ module _ (words : List (List ℕ)) (ending : Ending) (before after : Outside) (e
       by_case Break is gone said = absurd gone
       by_case Limit is gone said = absurd (cc is)
       by_case BadStart is gone said = absurd (cc is)
+      by_case (Differs line) is gone said = absurd gone
 
   pub run_refused_promised : ForRun words (λ request. status_of ending ≡ 3 → HasRunRefusal request before after)
   run_refused_promised request form status = by_case ending status (left request form).1 ends.complains
@@ -137,6 +146,7 @@ module _ (words : List (List ℕ)) (ending : Ending) (before after : Outside) (e
       by_case Break is gone said = absurd gone
       by_case Limit is gone said = absurd (cc is)
       by_case BadStart is gone said = absurd (cc is)
+      by_case (Differs line) is gone said = absurd gone
 
   pub run_exact_promised : ForRun words (λ request. RunsExactly request (status_of ending) before after)
   run_exact_promised request form files told cause_of causes = by_case ending (left request form).1
@@ -155,6 +165,7 @@ module _ (words : List (List ℕ)) (ending : Ending) (before after : Outside) (e
       by_case Break gone = absurd gone
       by_case Limit gone = by_cause Limit ((gone.1 files told).0.can, (gone.1 files told).1)
       by_case BadStart gone = by_cause BadStart (gone.1 files told)
+      by_case (Differs line) gone = absurd gone
 
   pub run_complete_promised : ForRun words (λ request. IsRunComplete request (status_of ending) before after)
   run_complete_promised request form no_fault files told accepted = by_case ending (left request form).1
@@ -170,3 +181,4 @@ module _ (words : List (List ℕ)) (ending : Ending) (before after : Outside) (e
       by_case Break gone = absurd gone
       by_case Limit gone = inr (inr (inl refl))
       by_case BadStart gone = inr (inr (inr refl))
+      by_case (Differs line) gone = absurd gone

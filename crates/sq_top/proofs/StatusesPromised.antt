@@ -2,15 +2,16 @@
 use Rattle.std.proofs.Common.{◌≡◌, ◌≢◌, ◌↔◌, ℕ, ◌≤◌, ◌⊎◌, inl, inr, List, Option, Some, None, refl, ap, arith}
 use Rattle.std.specs.Prelude.{⊤}
 use Rattle.sq_num.specs.declared.packed.Packed.{Packed}
-use Rattle.sq_command.specs.Commands.{RunRequest, Form, PackForm, RunForm, WatchForm, form_of}
+use Rattle.sq_command.specs.Commands.{RunRequest, Form, PackForm, RunForm, WatchForm, HexForm, HexcheckForm, form_of}
 use Rattle.sq_desk.specs.Outside.{Outside, Place, ForFiles, content_of, Loading, Storing, Printing, Rose}
 use Rattle.sq_top.specs.declared.ending.Ending.{Ending}
-use Rattle.sq_top.specs.declared.ending.Ending.TheVariants.{Done, Words, Desk, Refused, Memory, Break, Limit, BadStart}
+use Rattle.sq_top.specs.declared.ending.Ending.TheVariants.{Done, Words, Desk, Refused, Memory, Break, Limit, BadStart, Differs}
 use Rattle.sq_top.specs.declared.ending.DeskCall.TheVariants.{Load, Store, Print}
 use Rattle.sq_top.specs.Statuses.{status_of, complaint_of, IsStatusOf}
 use Rattle.sq_top.specs.Endings.{PacksFile, LeavesPack, Leaves, ComplainsLine}
 use Rattle.sq_top.specs.RunEndings.{RunLeft}
 use Rattle.sq_top.specs.WatchEndings.{WatchLeft}
+use Rattle.sq_top.specs.HexEndings.{LeavesHex, CheckLeft}
 use Rattle.sq_top.specs.Watching.{HasWatched}
 use Rattle.sq_runs.specs.Runs.{Trace}
 use Rattle.sq_system.specs.declared.event.Event.{Event}
@@ -40,6 +41,7 @@ module _ (words : List (List ℕ)) (ending : Ending) (before after : Outside) (e
       pack_else input output Break gone one = absurd (cc one)
       pack_else input output Limit gone one = absurd (cc one)
       pack_else input output BadStart gone one = absurd (cc one)
+      pack_else input output (Differs line) gone one = absurd gone
 
       run_else : (request : RunRequest) (e : Ending) → RunLeft request e before after → status_of e ≡ 1 → ⊥
       run_else request Done gone one = absurd (cc one)
@@ -50,6 +52,7 @@ module _ (words : List (List ℕ)) (ending : Ending) (before after : Outside) (e
       run_else request Break gone one = gone
       run_else request Limit gone one = absurd (cc one)
       run_else request BadStart gone one = absurd (cc one)
+      run_else request (Differs line) gone one = absurd gone
 
       watch_else : (request : RunRequest) (e : Ending) → WatchLeft request e before after → status_of e ≡ 1 → ⊥
       watch_else request Done gone one = absurd (cc one)
@@ -60,12 +63,37 @@ module _ (words : List (List ℕ)) (ending : Ending) (before after : Outside) (e
       watch_else request Break gone one = absurd (cc one)
       watch_else request Limit gone one = absurd (cc one)
       watch_else request BadStart gone one = absurd (cc one)
+      watch_else request (Differs line) gone one = absurd gone
+
+      hex_else : (input output : List ℕ) (e : Ending) → LeavesHex input output e before after → status_of e ≡ 1 → ⊥
+      hex_else input output Done gone one = absurd (cc one)
+      hex_else input output Words gone one = gone
+      hex_else input output (Desk call) gone one = absurd (cc one)
+      hex_else input output (Refused refusal) gone one = absurd (cc one)
+      hex_else input output Memory gone one = absurd (cc one)
+      hex_else input output Break gone one = gone
+      hex_else input output Limit gone one = gone
+      hex_else input output BadStart gone one = gone
+      hex_else input output (Differs line) gone one = gone
+
+      check_else : (input text : List ℕ) (e : Ending) → CheckLeft input text e before after → status_of e ≡ 1 → ⊥
+      check_else input text Done gone one = absurd (cc one)
+      check_else input text Words gone one = gone
+      check_else input text (Desk call) gone one = absurd (cc one)
+      check_else input text (Refused refusal) gone one = absurd (cc one)
+      check_else input text Memory gone one = absurd (cc one)
+      check_else input text Break gone one = gone
+      check_else input text Limit gone one = gone
+      check_else input text BadStart gone one = gone
+      check_else input text (Differs line) gone one = absurd (cc one)
 
       only : (form : Option Form) → form_of words ≡ form → Leaves form ending before after → status_of ending ≡ 1 → form_of words ≡ None
       only None is gone one = is
       only (Some (PackForm input output)) is gone one = absurd (pack_else input output ending gone one)
       only (Some (RunForm request)) is gone one = absurd (run_else request ending gone.1 one)
       only (Some (WatchForm request)) is gone one = absurd (watch_else request ending gone.1 one)
+      only (Some (HexForm input output)) is gone one = absurd (hex_else input output ending gone one)
+      only (Some (HexcheckForm input text)) is gone one = absurd (check_else input text ending gone.1 one)
 
   -- each form has its statuses
   pub statuses_promised : IsStatusOf (form_of words) (status_of ending)
@@ -80,6 +108,7 @@ module _ (words : List (List ℕ)) (ending : Ending) (before after : Outside) (e
       pack_status input output Break gone = absurd gone
       pack_status input output Limit gone = absurd gone
       pack_status input output BadStart gone = absurd gone
+      pack_status input output (Differs line) gone = absurd gone
 
       run_status : (request : RunRequest) (e : Ending) → RunLeft request e before after → (status_of e ≤ 4) ⊎ (status_of e ≡ 6) ⊎ (status_of e ≡ 7)
       run_status request Done gone = inl (omega arith)
@@ -90,22 +119,48 @@ module _ (words : List (List ℕ)) (ending : Ending) (before after : Outside) (e
       run_status request Break gone = absurd gone
       run_status request Limit gone = inr (inl refl)
       run_status request BadStart gone = inr (inr refl)
+      run_status request (Differs line) gone = absurd gone
 
-      watch_status : (e : Ending) → (status_of e ≤ 4) ⊎ (status_of e ≡ 5) ⊎ (status_of e ≡ 6) ⊎ (status_of e ≡ 7)
-      watch_status Done = inl (omega arith)
-      watch_status Words = inl (omega arith)
-      watch_status (Desk call) = inl (omega arith)
-      watch_status (Refused refusal) = inl (omega arith)
-      watch_status Memory = inl (omega arith)
-      watch_status Break = inr (inl refl)
-      watch_status Limit = inr (inr (inl refl))
-      watch_status BadStart = inr (inr (inr refl))
+      watch_status : (request : RunRequest) (e : Ending) → WatchLeft request e before after → (status_of e ≤ 4) ⊎ (status_of e ≡ 5) ⊎ (status_of e ≡ 6) ⊎ (status_of e ≡ 7)
+      watch_status request Done gone = inl (omega arith)
+      watch_status request Words gone = inl (omega arith)
+      watch_status request (Desk call) gone = inl (omega arith)
+      watch_status request (Refused refusal) gone = inl (omega arith)
+      watch_status request Memory gone = inl (omega arith)
+      watch_status request Break gone = inr (inl refl)
+      watch_status request Limit gone = inr (inr (inl refl))
+      watch_status request BadStart gone = inr (inr (inr refl))
+      watch_status request (Differs line) gone = absurd gone
+
+      hex_status : (input output : List ℕ) (e : Ending) → LeavesHex input output e before after → status_of e ≤ 4
+      hex_status input output Done gone = omega arith
+      hex_status input output Words gone = omega arith
+      hex_status input output (Desk call) gone = omega arith
+      hex_status input output (Refused refusal) gone = omega arith
+      hex_status input output Memory gone = omega arith
+      hex_status input output Break gone = absurd gone
+      hex_status input output Limit gone = absurd gone
+      hex_status input output BadStart gone = absurd gone
+      hex_status input output (Differs line) gone = absurd gone
+
+      check_status : (input text : List ℕ) (e : Ending) → CheckLeft input text e before after → (status_of e ≤ 4) ⊎ (status_of e ≡ 8)
+      check_status input text Done gone = inl (omega arith)
+      check_status input text Words gone = inl (omega arith)
+      check_status input text (Desk call) gone = inl (omega arith)
+      check_status input text (Refused refusal) gone = inl (omega arith)
+      check_status input text Memory gone = inl (omega arith)
+      check_status input text Break gone = absurd gone
+      check_status input text Limit gone = absurd gone
+      check_status input text BadStart gone = absurd gone
+      check_status input text (Differs line) gone = inr refl
 
       by_form : (form : Option Form) → Leaves form ending before after → IsStatusOf form (status_of ending)
       by_form None gone = ap status_of gone.0
       by_form (Some (PackForm input output)) gone = pack_status input output ending gone
       by_form (Some (RunForm request)) gone = run_status request ending gone.1
-      by_form (Some (WatchForm request)) gone = watch_status ending
+      by_form (Some (WatchForm request)) gone = watch_status request ending gone.1
+      by_form (Some (HexForm input output)) gone = hex_status input output ending gone
+      by_form (Some (HexcheckForm input text)) gone = check_status input text ending gone.1
 
   -- without faults the status is not 2
   pub sound_promised : ((place : Place) → after.faults place ≡ 0) → status_of ending ≢ 2
@@ -122,6 +177,7 @@ module _ (words : List (List ℕ)) (ending : Ending) (before after : Outside) (e
       pack_sound input output Break gone is = gone
       pack_sound input output Limit gone is = gone
       pack_sound input output BadStart gone is = gone
+      pack_sound input output (Differs line) gone is = absurd gone
 
       run_sound : (request : RunRequest) (e : Ending) → RunLeft request e before after → status_of e ≡ 2 → ⊥
       run_sound request Done gone is = absurd (cc is)
@@ -135,6 +191,7 @@ module _ (words : List (List ℕ)) (ending : Ending) (before after : Outside) (e
       run_sound request Break gone is = gone
       run_sound request Limit gone is = absurd (cc is)
       run_sound request BadStart gone is = absurd (cc is)
+      run_sound request (Differs line) gone is = absurd gone
 
       watch_sound : (request : RunRequest) (e : Ending) → WatchLeft request e before after → status_of e ≡ 2 → ⊥
       watch_sound request Done gone is = absurd (cc is)
@@ -148,12 +205,42 @@ module _ (words : List (List ℕ)) (ending : Ending) (before after : Outside) (e
       watch_sound request Break gone is = absurd (cc is)
       watch_sound request Limit gone is = absurd (cc is)
       watch_sound request BadStart gone is = absurd (cc is)
+      watch_sound request (Differs line) gone is = absurd gone
+
+      hex_sound : (input output : List ℕ) (e : Ending) → LeavesHex input output e before after → status_of e ≡ 2 → ⊥
+      hex_sound input output Done gone is = absurd (cc is)
+      hex_sound input output Words gone is = gone
+      hex_sound input output (Desk Load) gone is = none_rose (Loading input) before after (none (Loading input)) gone.0
+      hex_sound input output (Desk Store) gone is = none_rose (Storing output) before after (none (Storing output)) gone.2
+      hex_sound input output (Desk Print) gone is = none_rose Printing before after (none Printing) gone.2
+      hex_sound input output (Refused refusal) gone is = absurd (cc is)
+      hex_sound input output Memory gone is = absurd (cc is)
+      hex_sound input output Break gone is = gone
+      hex_sound input output Limit gone is = gone
+      hex_sound input output BadStart gone is = gone
+      hex_sound input output (Differs line) gone is = gone
+
+      check_sound : (input text : List ℕ) (e : Ending) → CheckLeft input text e before after → status_of e ≡ 2 → ⊥
+      check_sound input text Done gone is = absurd (cc is)
+      check_sound input text Words gone is = gone
+      check_sound input text (Desk Load) gone is =
+          elim gone.1 [ inl file ↦ none_rose (Loading input) before after (none (Loading input)) file | inr other ↦ none_rose (Loading text) before after (none (Loading text)) other.1 ]
+      check_sound input text (Desk Store) gone is = gone
+      check_sound input text (Desk Print) gone is = none_rose Printing before after (none Printing) gone.0
+      check_sound input text (Refused refusal) gone is = absurd (cc is)
+      check_sound input text Memory gone is = absurd (cc is)
+      check_sound input text Break gone is = gone
+      check_sound input text Limit gone is = gone
+      check_sound input text BadStart gone is = gone
+      check_sound input text (Differs line) gone is = absurd (cc is)
 
       by_form : (form : Option Form) → Leaves form ending before after → ⊥
       by_form None gone = absurd (cc (gone.0, two))
       by_form (Some (PackForm input output)) gone = pack_sound input output ending gone two
       by_form (Some (RunForm request)) gone = run_sound request ending gone.1 two
       by_form (Some (WatchForm request)) gone = watch_sound request ending gone.1 two
+      by_form (Some (HexForm input output)) gone = hex_sound input output ending gone two
+      by_form (Some (HexcheckForm input text)) gone = check_sound input text ending gone.1 two
 
   left : (input output : List ℕ) → form_of words ≡ Some (PackForm input output) → LeavesPack input output ending before after
   left input output form = rw form at ends.leaves
@@ -172,6 +259,7 @@ module _ (words : List (List ℕ)) (ending : Ending) (before after : Outside) (e
       by_case Break is gone said = absurd gone
       by_case Limit is gone said = absurd gone
       by_case BadStart is gone said = absurd gone
+      by_case (Differs line) is gone said = absurd gone
 
   pub exact_promised : ForPack words (λ input _. RefusesExactly input (status_of ending) before after)
   exact_promised input output form files told refusal refused = by_case ending (left input output form)
@@ -190,6 +278,7 @@ module _ (words : List (List ℕ)) (ending : Ending) (before after : Outside) (e
       by_case Break gone = absurd gone
       by_case Limit gone = absurd gone
       by_case BadStart gone = absurd gone
+      by_case (Differs line) gone = absurd gone
 
   -- what each command prints
   pub printed_promised : PrintsAsSaid words (status_of ending) before after
@@ -206,6 +295,7 @@ module _ (words : List (List ℕ)) (ending : Ending) (before after : Outside) (e
       pack_printed input output form Break gone = absurd gone
       pack_printed input output form Limit gone = absurd gone
       pack_printed input output form BadStart gone = absurd gone
+      pack_printed input output form (Differs line) gone = absurd gone
 
       run_printed : (request : RunRequest) → form_of words ≡ Some (RunForm request) → (e : Ending) → RunLeft request e before after → PrintsAsSaid words (status_of e) before after
       run_printed request form Done gone = inr (inr (inl (request, form, gone.0, (λ files told. (gone.1 files told).0), inl (inl refl, gone.2))))
@@ -218,24 +308,54 @@ module _ (words : List (List ℕ)) (ending : Ending) (before after : Outside) (e
       run_printed request form Break gone = absurd gone
       run_printed request form Limit gone = inr (inr (inl (request, form, gone.0, (λ files told. (gone.1 files told).0), inl (inr refl, gone.2))))
       run_printed request form BadStart gone = inl ((λ is. cc is), (λ is. cc is), (λ is. cc is), gone.0)
+      run_printed request form (Differs line) gone = absurd gone
 
       watch_seen : (request : RunRequest) (P : Trace Event Halt → Type 0) (text : List ℕ) → ForFiles before (λ files. HasWatched request P files text) → ForFiles before (λ files. HasWatched request (λ trace. ⊤) files text)
       watch_seen request P text seen files told = let w = seen files told in record { can = w.can; seen = tt; text_is = w.text_is; plain = w.plain }
 
       watch_printed : (request : RunRequest) → form_of words ≡ Some (WatchForm request) → (e : Ending) → WatchLeft request e before after → PrintsAsSaid words (status_of e) before after
-      watch_printed request form Done gone = inr (inr (inr (request, form, gone.0, watch_seen request _ gone.0 gone.1, inl (inl refl, gone.2))))
+      watch_printed request form Done gone = inr (inr (inr (inl (request, form, gone.0, watch_seen request _ gone.0 gone.1, inl (inl refl, gone.2)))))
       watch_printed request form Words gone = absurd gone
       watch_printed request form (Desk Load) gone = inl ((λ is. cc is), (λ is. cc is), (λ is. cc is), gone.0)
       watch_printed request form (Desk Store) gone = absurd gone
-      watch_printed request form (Desk Print) gone = inr (inr (inr (request, form, gone.1.0, gone.1.1, inr (refl, gone.0, gone.1.2))))
+      watch_printed request form (Desk Print) gone = inr (inr (inr (inl (request, form, gone.1.0, gone.1.1, inr (refl, gone.0, gone.1.2)))))
       watch_printed request form (Refused refusal) gone = inl ((λ is. cc is), (λ is. cc is), (λ is. cc is), gone.0)
       watch_printed request form Memory gone = inl ((λ is. cc is), (λ is. cc is), (λ is. cc is), gone)
-      watch_printed request form Break gone = inr (inr (inr (request, form, gone.0, watch_seen request _ gone.0 gone.1, inl (inr (inl refl), gone.2))))
-      watch_printed request form Limit gone = inr (inr (inr (request, form, gone.0, watch_seen request _ gone.0 gone.1, inl (inr (inr refl), gone.2))))
+      watch_printed request form Break gone = inr (inr (inr (inl (request, form, gone.0, watch_seen request _ gone.0 gone.1, inl (inr (inl refl), gone.2)))))
+      watch_printed request form Limit gone = inr (inr (inr (inl (request, form, gone.0, watch_seen request _ gone.0 gone.1, inl (inr (inr refl), gone.2)))))
       watch_printed request form BadStart gone = inl ((λ is. cc is), (λ is. cc is), (λ is. cc is), gone.0)
+      watch_printed request form (Differs line) gone = absurd gone
+
+      hex_printed : (input output : List ℕ) → form_of words ≡ Some (HexForm input output) → (e : Ending) → LeavesHex input output e before after → PrintsAsSaid words (status_of e) before after
+      hex_printed input output form Done gone = inr (inr (inr (inr (inl (input, output, form, gone.0, gone.1.writes, inl (refl, gone.2))))))
+      hex_printed input output form Words gone = absurd gone
+      hex_printed input output form (Desk Load) gone = inl ((λ is. cc is), (λ is. cc is), (λ is. cc is), gone.2)
+      hex_printed input output form (Desk Store) gone = inl ((λ is. cc is), (λ is. cc is), (λ is. cc is), gone.4)
+      hex_printed input output form (Desk Print) gone = inr (inr (inr (inr (inl (input, output, form, gone.0, gone.1.writes, inr (refl, gone.2, gone.3))))))
+      hex_printed input output form (Refused refusal) gone = inl ((λ is. cc is), (λ is. cc is), (λ is. cc is), gone.2)
+      hex_printed input output form Memory gone = inl ((λ is. cc is), (λ is. cc is), (λ is. cc is), gone.1)
+      hex_printed input output form Break gone = absurd gone
+      hex_printed input output form Limit gone = absurd gone
+      hex_printed input output form BadStart gone = absurd gone
+      hex_printed input output form (Differs line) gone = absurd gone
+
+      check_printed : (input text : List ℕ) → form_of words ≡ Some (HexcheckForm input text) → (e : Ending) → CheckLeft input text e before after → PrintsAsSaid words (status_of e) before after
+      check_printed input text form Done gone = inr (inr (inr (inr (inr (input, text, form, gone.0, inl (refl, gone.1))))))
+      check_printed input text form Words gone = absurd gone
+      check_printed input text form (Desk Load) gone = inl ((λ is. cc is), (λ is. cc is), (λ is. cc is), gone.0)
+      check_printed input text form (Desk Store) gone = absurd gone
+      check_printed input text form (Desk Print) gone = inr (inr (inr (inr (inr (input, text, form, gone.1, inr (refl, gone.0, gone.2))))))
+      check_printed input text form (Refused refusal) gone = inl ((λ is. cc is), (λ is. cc is), (λ is. cc is), gone.0)
+      check_printed input text form Memory gone = inl ((λ is. cc is), (λ is. cc is), (λ is. cc is), gone)
+      check_printed input text form Break gone = absurd gone
+      check_printed input text form Limit gone = absurd gone
+      check_printed input text form BadStart gone = absurd gone
+      check_printed input text form (Differs line) gone = inl ((λ is. cc is), (λ is. cc is), (λ is. cc is), gone.0)
 
       by_form : (form : Option Form) → form_of words ≡ form → Leaves form ending before after → PrintsAsSaid words (status_of ending) before after
       by_form None is gone = inl ((λ zero. cc (gone.0, zero)), (λ five. cc (gone.0, five)), (λ six. cc (gone.0, six)), gone.2)
       by_form (Some (PackForm input output)) is gone = pack_printed input output is ending gone
       by_form (Some (RunForm request)) is gone = run_printed request is ending gone.1
       by_form (Some (WatchForm request)) is gone = watch_printed request is ending gone.1
+      by_form (Some (HexForm input output)) is gone = hex_printed input output is ending gone
+      by_form (Some (HexcheckForm input text)) is gone = check_printed input text is ending gone.1

@@ -10,7 +10,7 @@ use Rattle.sq_lifted.proofs.Accepting.{not_refused}
 use Rattle.sq_command.specs.Commands.{RunRequest, WatchForm, form_of}
 use Rattle.sq_desk.specs.Outside.{Outside, Files, KeepsFiles}
 use Rattle.sq_top.specs.declared.ending.Ending.{Ending}
-use Rattle.sq_top.specs.declared.ending.Ending.TheVariants.{Done, Words, Desk, Refused, Memory, Break, Limit, BadStart}
+use Rattle.sq_top.specs.declared.ending.Ending.TheVariants.{Done, Words, Desk, Refused, Memory, Break, Limit, BadStart, Differs}
 use Rattle.sq_top.specs.declared.ending.DeskCall.TheVariants.{Load, Store, Print}
 use Rattle.sq_top.specs.Statuses.{status_of, complaint_of}
 use Rattle.sq_top.specs.Endings.{ComplainsLine}
@@ -54,6 +54,7 @@ same_status request files Done Done one other = refl
 same_status request files Done Break one other = absurd (apart halted_not_broken request files one.0 other.0 one.1 other.1)
 same_status request files Done Limit one other = absurd (apart not_both request files one.0 other.0 one.1 other.1)
 same_status request files Done BadStart one other = absurd (bad_or_valid request files other one.0)
+same_status request files Done (Differs line) one other = absurd other
 same_status request files Done (Refused refusal) one other = absurd (not_accepted request files refusal other one.0.accepted)
 same_status request files Done Words one other = absurd other
 same_status request files Done (Desk call) one other = absurd other
@@ -62,6 +63,7 @@ same_status request files Break Done one other = absurd (apart halted_not_broken
 same_status request files Break Break one other = refl
 same_status request files Break Limit one other = absurd (apart limit_not_broken request files other.0 one.0 other.1 one.1)
 same_status request files Break BadStart one other = absurd (bad_or_valid request files other one.0)
+same_status request files Break (Differs line) one other = absurd other
 same_status request files Break (Refused refusal) one other = absurd (not_accepted request files refusal other one.0.accepted)
 same_status request files Break Words one other = absurd other
 same_status request files Break (Desk call) one other = absurd other
@@ -70,6 +72,7 @@ same_status request files Limit Done one other = absurd (apart not_both request 
 same_status request files Limit Break one other = absurd (apart limit_not_broken request files one.0 other.0 one.1 other.1)
 same_status request files Limit Limit one other = refl
 same_status request files Limit BadStart one other = absurd (bad_or_valid request files other one.0)
+same_status request files Limit (Differs line) one other = absurd other
 same_status request files Limit (Refused refusal) one other = absurd (not_accepted request files refusal other one.0.accepted)
 same_status request files Limit Words one other = absurd other
 same_status request files Limit (Desk call) one other = absurd other
@@ -78,6 +81,7 @@ same_status request files BadStart Done one other = absurd (bad_or_valid request
 same_status request files BadStart Break one other = absurd (bad_or_valid request files one other.0)
 same_status request files BadStart Limit one other = absurd (bad_or_valid request files one other.0)
 same_status request files BadStart BadStart one other = refl
+same_status request files BadStart (Differs line) one other = absurd other
 same_status request files BadStart (Refused refusal) one other = absurd (not_accepted request files refusal other one.accepted)
 same_status request files BadStart Words one other = absurd other
 same_status request files BadStart (Desk call) one other = absurd other
@@ -86,6 +90,7 @@ same_status request files (Refused refusal) Done one other = absurd (not_accepte
 same_status request files (Refused refusal) Break one other = absurd (not_accepted request files refusal one other.0.accepted)
 same_status request files (Refused refusal) Limit one other = absurd (not_accepted request files refusal one other.0.accepted)
 same_status request files (Refused refusal) BadStart one other = absurd (not_accepted request files refusal one other.accepted)
+same_status request files (Refused refusal) (Differs line) one other = absurd other
 same_status request files (Refused refusal) (Refused more) one other = refl
 same_status request files (Refused refusal) Words one other = absurd other
 same_status request files (Refused refusal) (Desk call) one other = absurd other
@@ -93,6 +98,7 @@ same_status request files (Refused refusal) Memory one other = absurd other
 same_status request files Words second one other = absurd one
 same_status request files (Desk call) second one other = absurd one
 same_status request files Memory second one other = absurd one
+same_status request files (Differs line) second one other = absurd one
 
 module _ (words : List (List ℕ)) (ending : Ending) (before after : Outside) (ends : Ends words ending before after) where
   left : (request : RunRequest) → form_of words ≡ Some (WatchForm request) → LeavesWatch request ending before after
@@ -113,6 +119,7 @@ module _ (words : List (List ℕ)) (ending : Ending) (before after : Outside) (e
       by_case Break is gone = absurd (cc is)
       by_case Limit is gone = absurd (cc is)
       by_case BadStart is gone = absurd (cc is)
+      by_case (Differs line) is gone = absurd gone
 
   pub watch_limit_promised : ForWatch words (λ request. status_of ending ≡ 6 → PrintsWatch request IsAtLimit before after)
   watch_limit_promised request form status = by_case ending status (left request form).1
@@ -126,6 +133,7 @@ module _ (words : List (List ℕ)) (ending : Ending) (before after : Outside) (e
       by_case Break is gone = absurd (cc is)
       by_case Limit is gone = gone
       by_case BadStart is gone = absurd (cc is)
+      by_case (Differs line) is gone = absurd gone
 
   pub watch_break_promised : ForWatch words (λ request. status_of ending ≡ 5 → PrintsWatch request HasBroken before after)
   watch_break_promised request form status = by_case ending status (left request form).1
@@ -139,6 +147,7 @@ module _ (words : List (List ℕ)) (ending : Ending) (before after : Outside) (e
       by_case Break is gone = gone
       by_case Limit is gone = absurd (cc is)
       by_case BadStart is gone = absurd (cc is)
+      by_case (Differs line) is gone = absurd gone
 
   pub watch_bad_promised : ForWatch words (λ request. status_of ending ≡ 7 → IsBadWatch request before after)
   watch_bad_promised request form status = by_case ending status (left request form).1 ends.complains
@@ -152,6 +161,7 @@ module _ (words : List (List ℕ)) (ending : Ending) (before after : Outside) (e
       by_case Break is gone said = absurd (cc is)
       by_case Limit is gone said = absurd (cc is)
       by_case BadStart is gone said = (gone.0, gone.1, said)
+      by_case (Differs line) is gone said = absurd gone
 
   pub watch_fault_promised : ForWatch words (λ request. status_of ending ≡ 2 → HasRunFault request before after)
   watch_fault_promised request form status = by_case ending status (left request form).1 ends.complains
@@ -167,6 +177,7 @@ module _ (words : List (List ℕ)) (ending : Ending) (before after : Outside) (e
       by_case Break is gone said = absurd (cc is)
       by_case Limit is gone said = absurd (cc is)
       by_case BadStart is gone said = absurd (cc is)
+      by_case (Differs line) is gone said = absurd gone
 
   pub watch_refused_promised : ForWatch words (λ request. status_of ending ≡ 3 → HasWatchRefusal request before after)
   watch_refused_promised request form status = by_case ending status (left request form).1 ends.complains
@@ -180,6 +191,7 @@ module _ (words : List (List ℕ)) (ending : Ending) (before after : Outside) (e
       by_case Break is gone said = absurd (cc is)
       by_case Limit is gone said = absurd (cc is)
       by_case BadStart is gone said = absurd (cc is)
+      by_case (Differs line) is gone said = absurd gone
 
   pub watch_exact_promised : ForWatch words (λ request. WatchesExactly request (status_of ending) before after)
   watch_exact_promised request form files told cause_of causes = by_case ending (left request form).1
@@ -198,6 +210,7 @@ module _ (words : List (List ℕ)) (ending : Ending) (before after : Outside) (e
       by_case (Refused refusal) gone = by_cause (Refused refusal) (gone.1 files told)
       by_case Memory gone = inr (inr refl)
       by_case BadStart gone = by_cause BadStart (gone.1 files told)
+      by_case (Differs line) gone = absurd gone
 
   pub watch_complete_promised : ForWatch words (λ request. IsWatchComplete request (status_of ending) before after)
   watch_complete_promised request form no_fault files told accepted = by_case ending (left request form).1
@@ -213,3 +226,4 @@ module _ (words : List (List ℕ)) (ending : Ending) (before after : Outside) (e
       by_case Break gone = inr (inr (inl refl))
       by_case Limit gone = inr (inr (inr (inl refl)))
       by_case BadStart gone = inr (inr (inr (inr refl)))
+      by_case (Differs line) gone = absurd gone

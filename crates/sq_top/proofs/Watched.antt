@@ -27,7 +27,7 @@ use Rattle.sq_monitor.specs.declared.transcript.WatchTranscript.{WatchTranscript
 use Rattle.sq_command.specs.Commands.{RunRequest}
 use Rattle.sq_desk.specs.Outside.{Outside, Files, ForFiles, NoneFall, KeepsFiles, KeepsPrinted, extended_text}
 use Rattle.sq_top.specs.declared.ending.Ending.{Ending}
-use Rattle.sq_top.specs.declared.ending.Ending.TheVariants.{Done, Words, Desk, Refused, Memory, Break, Limit, BadStart}
+use Rattle.sq_top.specs.declared.ending.Ending.TheVariants.{Done, Words, Desk, Refused, Memory, Break, Limit, BadStart, Differs}
 use Rattle.sq_top.specs.declared.ending.DeskCall.TheVariants.{Load, Store, Print}
 use Rattle.sq_top.specs.Denials.{watch_fault_ending}
 use Rattle.sq_top.specs.Running.{file_of, input_of, start_at, start_in, longest_input, IsAtLimit}
@@ -140,6 +140,7 @@ module _ (request : RunRequest) (transcript : WatchTranscript) (before middle af
   shown_left Limit left =
       (transcript.text, seen_so request (IsToldAs transcript.outcome) IsAtLimit transcript.text before (at_limit transcript.outcome left.0) watched, left.1 ∙ ap (extended_text transcript.text) kept)
   shown_left BadStart left = absurd left
+  shown_left (Differs line) left = absurd left
 
   pub shown : (ending : Ending) → KeepsFiles before middle → KeepsFiles middle after → LeavesTold transcript ending middle after → LeavesWatch request ending before after
   shown ending one other left = (other ∙ one, shown_left ending left)

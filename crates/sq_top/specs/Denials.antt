@@ -1,12 +1,14 @@
--- How a command ends where a file is denied, a run, or a watch.
+-- How a command ends where a file is denied, a run, a watch, or a text of Intel HEX.
 use Rattle.sq_num.specs.declared.refusal.Denied.{Denied}
 use Rattle.sq_num.specs.declared.refusal.Denied.TheVariants.{Refused as DeniedFile, Memory as NoMemory}
 use Rattle.sq_run.specs.declared.fault.RunFault.{RunFault}
 use Rattle.sq_run.specs.declared.fault.RunFault.TheVariants.{BadStart as NoStart, Memory as NoRoom}
 use Rattle.sq_monitor.specs.declared.fault.WatchFault.{WatchFault}
 use Rattle.sq_monitor.specs.declared.fault.WatchFault.TheVariants.{BadStart as NoWatch, Memory as NoSpace}
+use Rattle.sq_hex.specs.declared.read.HexFault.{HexFault}
+use Rattle.sq_hex.specs.declared.read.HexFault.TheVariants.{Line as FaultyLine, Memory as NoPlace}
 use Rattle.sq_top.specs.declared.ending.Ending.{Ending}
-use Rattle.sq_top.specs.declared.ending.Ending.TheVariants.{Refused, Memory, BadStart}
+use Rattle.sq_top.specs.declared.ending.Ending.TheVariants.{Refused, Memory, BadStart, Differs}
 
 abbrev pub denied_ending : Denied → Ending
 denied_ending (DeniedFile refusal) = Refused refusal
@@ -19,3 +21,10 @@ fault_ending NoRoom = Memory
 abbrev pub watch_fault_ending : WatchFault → Ending
 watch_fault_ending NoWatch = BadStart
 watch_fault_ending NoSpace = Memory
+
+abbrev pub memory_ending : Ending
+memory_ending = Memory
+
+abbrev pub hex_fault_ending : HexFault → Ending
+hex_fault_ending (FaultyLine line) = Differs line
+hex_fault_ending NoPlace = Memory

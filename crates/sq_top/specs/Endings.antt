@@ -3,13 +3,14 @@ use Rattle.std.specs.Prelude.{◌≡◌, ℕ, ◌⊎◌, List, Option, Some, Non
 use Rattle.sq_num.specs.declared.packed.Packed.{Packed}
 use Rattle.sq_desk.specs.Outside.{Outside, content_of, Rose, Loading, Storing, Printing, Complaining, KeepsFiles, SetsFile, LosesFile, KeepsPrinted, KeepsComplained, Prints, PrintsPrefix, Complains, ComplainsPrefix, ForFiles}
 use Rattle.sq_top.specs.declared.ending.Ending.{Ending}
-use Rattle.sq_top.specs.declared.ending.Ending.TheVariants.{Done, Words, Desk, Refused, Memory, Break, Limit, BadStart}
+use Rattle.sq_top.specs.declared.ending.Ending.TheVariants.{Done, Words, Desk, Refused, Memory, Break, Limit, BadStart, Differs}
 use Rattle.sq_top.specs.declared.ending.DeskCall.TheVariants.{Load, Store, Print}
-use Rattle.sq_command.specs.Commands.{Form, PackForm, RunForm, WatchForm}
+use Rattle.sq_command.specs.Commands.{Form, PackForm, RunForm, WatchForm, HexForm, HexcheckForm}
 use Rattle.sq_top.specs.Packing.{Packs, packed_text}
 use Rattle.sq_program.specs.FilePrograms.{IsRefusalOf}
 use Rattle.sq_top.specs.RunEndings.{LeavesRun}
 use Rattle.sq_top.specs.WatchEndings.{LeavesWatch}
+use Rattle.sq_top.specs.HexEndings.{LeavesHex, LeavesCheck}
 
 -- what the named file holds was packed so
 abbrev pub PacksFile : List ℕ → Packed → Outside → Type 0
@@ -34,15 +35,15 @@ LeavesPrinted line (Desk Print) before after = PrintsPrefix line before after ×
 LeavesPrinted line Memory before after = KeepsPrinted before after
 LeavesPrinted line other before after = ⊥
 
--- what the storing of a packing and the printing of its line leave
-abbrev pub LeavesDelivered : List ℕ → Packed → Ending → Outside → Outside → Type 0
-LeavesDelivered output packed Done before after = SetsFile output (Some packed.bytes) before after × Prints (packed_text packed) before after
-LeavesDelivered output packed (Desk Store) before after = LosesFile output before after × KeepsPrinted before after × Rose (Storing output) before after
-LeavesDelivered output packed (Desk Print) before after =
-    SetsFile output (Some packed.bytes) before after × PrintsPrefix (packed_text packed) before after × Rose Printing before after
-LeavesDelivered output packed Memory before after =
-    (KeepsFiles before after ⊎ SetsFile output (Some packed.bytes) before after) × KeepsPrinted before after
-LeavesDelivered output packed other before after = ⊥
+-- what the storing of bytes and the printing of a line leave
+abbrev pub LeavesDelivered : List ℕ → List ℕ → List ℕ → Ending → Outside → Outside → Type 0
+LeavesDelivered output bytes line Done before after = SetsFile output (Some bytes) before after × Prints line before after
+LeavesDelivered output bytes line (Desk Store) before after = LosesFile output before after × KeepsPrinted before after × Rose (Storing output) before after
+LeavesDelivered output bytes line (Desk Print) before after =
+    SetsFile output (Some bytes) before after × PrintsPrefix line before after × Rose Printing before after
+LeavesDelivered output bytes line Memory before after =
+    (KeepsFiles before after ⊎ SetsFile output (Some bytes) before after) × KeepsPrinted before after
+LeavesDelivered output bytes line other before after = ⊥
 
 -- what `pack` leaves, by how it ends
 abbrev pub LeavesPack : List ℕ → List ℕ → Ending → Outside → Outside → Type 0
@@ -62,6 +63,7 @@ LeavesPack input output Memory before after =
 LeavesPack input output Break before after = ⊥
 LeavesPack input output Limit before after = ⊥
 LeavesPack input output BadStart before after = ⊥
+LeavesPack input output (Differs line) before after = ⊥
 
 -- what a command leaves, by how it ends: words without a form touch nothing
 abbrev pub Leaves : Option Form → Ending → Outside → Outside → Type 0
@@ -69,6 +71,8 @@ Leaves None ending before after = (ending ≡ Words) × KeepsFiles before after 
 Leaves (Some (PackForm input output)) ending before after = LeavesPack input output ending before after
 Leaves (Some (RunForm request)) ending before after = LeavesRun request ending before after
 Leaves (Some (WatchForm request)) ending before after = LeavesWatch request ending before after
+Leaves (Some (HexForm input output)) ending before after = LeavesHex input output ending before after
+Leaves (Some (HexcheckForm input text)) ending before after = LeavesCheck input text ending before after
 
 -- the line was complained, or a prefix of it where complaining failed, or nothing for want of memory
 abbrev pub ComplainsLine : Option (List ℕ) → Outside → Outside → Type 0

@@ -1,5 +1,8 @@
 pub mod Denials
 pub mod Endings
+pub mod HexEndings
+pub mod HexPromises
+pub mod Hexing
 pub mod Packing
 pub mod Promises
 pub mod RunEndings

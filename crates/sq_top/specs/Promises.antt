@@ -7,13 +7,14 @@ use Rattle.sq_desk.specs.Outside.{Outside, Place, Loading, Storing, Printing, co
 use Rattle.sq_top.specs.declared.ending.Ending.{Ending}
 use Rattle.sq_top.specs.declared.ending.DeskCall.{DeskCall}
 use Rattle.sq_top.specs.declared.ending.DeskCall.TheVariants.{Load, Store, Print}
-use Rattle.sq_command.specs.Commands.{RunRequest, PackForm, RunForm, WatchForm, form_of}
+use Rattle.sq_command.specs.Commands.{RunRequest, PackForm, RunForm, WatchForm, HexForm, HexcheckForm, form_of}
 use Rattle.sq_top.specs.Packing.{GoodOutput, Headline, packed_text}
 use Rattle.sq_program.specs.FilePrograms.{IsRefusalOf}
 use Rattle.sq_top.specs.Statuses.{call_text, complaint_of}
 use Rattle.sq_top.specs.Endings.{PacksFile, Leaves, ComplainsLine}
 use Rattle.sq_top.specs.Running.{HasRun}
 use Rattle.sq_top.specs.Watching.{HasWatched}
+use Rattle.sq_top.specs.Hexing.{HasHexText, hex_line, same_line, IsSame}
 
 -- the call ended so: with what the form leaves, and with the ending's complaint
 pub record Ends (words : List (List ℕ)) (ending : Ending) (before after : Outside) : Type 0 where
@@ -42,13 +43,20 @@ IsDone input output before after =
     ForFiles before (λ files.
     (packed : List ℕ) × (line : List ℕ) × Headline (content_of files input) packed line × (after.files ≡ Some (with_file output (Some packed) files)) × Prints line before after)
 
--- files stay; or with status 0, 2 or 4 the output's holds a good output; or with status 2 it is not
--- known, where its storing failed
+-- the output's file holds the text of the input's, and every other file is as before
+abbrev pub HoldsText : List ℕ → List ℕ → Outside → Outside → Type 0
+HoldsText input output before after =
+    ForFiles before (λ files. (text : List ℕ) × HasHexText (content_of files input) text × (after.files ≡ Some (with_file output (Some text) files)))
+
+-- files stay; or with status 0, 2 or 4 the output's holds a good output or the text of the input's; or with
+-- status 2 it is not known, where its storing failed
 abbrev pub StayOrHold : List (List ℕ) → ℕ → Outside → Outside → Type 0
 StayOrHold words status before after =
     KeepsFiles before after
     ⊎ ((status ≢ 1) × (status ≢ 3) × (input : List ℕ) × (output : List ℕ) × (form_of words ≡ Some (PackForm input output))
     × (HoldsOutput input output before after ⊎ ((status ≡ 2) × Rose (Storing output) before after × LosesFile output before after)))
+    ⊎ ((status ≢ 1) × (status ≢ 3) × (input : List ℕ) × (output : List ℕ) × (form_of words ≡ Some (HexForm input output))
+    × (HoldsText input output before after ⊎ ((status ≡ 2) × Rose (Storing output) before after × LosesFile output before after)))
 
 -- what was printed of a packing: the line with status 0, or a prefix of it where printing failed
 abbrev pub PrintsSizes : List (List ℕ) → ℕ → Outside → Outside → Type 0
@@ -68,13 +76,27 @@ PrintsWatchLines words status before after =
     (request : RunRequest) × (form_of words ≡ Some (WatchForm request)) × (text : List ℕ) × ForFiles before (λ files. HasWatched request (λ trace. ⊤) files text)
     × ((((status ≡ 0) ⊎ (status ≡ 5) ⊎ (status ≡ 6)) × Prints text before after) ⊎ ((status ≡ 2) × Rose Printing before after × PrintsPrefix text before after))
 
--- nothing was printed, but with status 0, 5 or 6; or what a packing, a run or a watch prints
+-- what was printed of a text: the line with status 0, or a prefix of it where printing failed
+abbrev pub PrintsRecords : List (List ℕ) → ℕ → Outside → Outside → Type 0
+PrintsRecords words status before after =
+    (input : List ℕ) × (output : List ℕ) × (form_of words ≡ Some (HexForm input output)) × (text : List ℕ) × ForFiles before (λ files. HasHexText (content_of files input) text)
+    × (((status ≡ 0) × Prints (hex_line text) before after) ⊎ ((status ≡ 2) × Rose Printing before after × PrintsPrefix (hex_line text) before after))
+
+-- what was printed of a check: `same` with status 0, or a prefix of it where printing failed
+abbrev pub PrintsSame : List (List ℕ) → ℕ → Outside → Outside → Type 0
+PrintsSame words status before after =
+    (input : List ℕ) × (text : List ℕ) × (form_of words ≡ Some (HexcheckForm input text)) × ForFiles before (IsSame input text)
+    × (((status ≡ 0) × Prints same_line before after) ⊎ ((status ≡ 2) × Rose Printing before after × PrintsPrefix same_line before after))
+
+-- nothing was printed, but with status 0, 5 or 6; or what a packing, a run, a watch, a text or a check prints
 abbrev pub PrintsAsSaid : List (List ℕ) → ℕ → Outside → Outside → Type 0
 PrintsAsSaid words status before after =
     ((status ≢ 0) × (status ≢ 5) × (status ≢ 6) × KeepsPrinted before after)
     ⊎ PrintsSizes words status before after
     ⊎ PrintsLines words status before after
     ⊎ PrintsWatchLines words status before after
+    ⊎ PrintsRecords words status before after
+    ⊎ PrintsSame words status before after
 
 -- status 2 has its cause, and its line names it
 abbrev pub HasFault : List ℕ → List ℕ → Outside → Outside → Type 0

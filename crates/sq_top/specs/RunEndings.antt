@@ -12,7 +12,7 @@ use Rattle.sq_run.specs.declared.run.Transcript.{Transcript}
 use Rattle.sq_command.specs.Commands.{RunRequest}
 use Rattle.sq_desk.specs.Outside.{Outside, Rose, Loading, Printing, KeepsFiles, KeepsPrinted, Prints, PrintsPrefix, ForFiles, content_of}
 use Rattle.sq_top.specs.declared.ending.Ending.{Ending}
-use Rattle.sq_top.specs.declared.ending.Ending.TheVariants.{Done, Words, Desk, Refused, Memory, Break, Limit, BadStart}
+use Rattle.sq_top.specs.declared.ending.Ending.TheVariants.{Done, Words, Desk, Refused, Memory, Break, Limit, BadStart, Differs}
 use Rattle.sq_top.specs.declared.ending.DeskCall.TheVariants.{Load, Store, Print}
 use Rattle.sq_top.specs.Running.{file_of, trace_in, IsAtLimit, IsRunRefused, HasBadStart, HasRun}
 
@@ -82,6 +82,7 @@ RunLeft request Memory before after = KeepsPrinted before after
 RunLeft request Break before after = ⊥
 RunLeft request Limit before after = PrintsRun request IsAtLimit before after
 RunLeft request BadStart before after = KeepsPrinted before after × ForFiles before (HasBadStart request)
+RunLeft request (Differs line) before after = ⊥
 
 -- what `run` leaves, by how it ends: no file changes
 abbrev pub LeavesRun : RunRequest → Ending → Outside → Outside → Type 0

@@ -10,7 +10,7 @@ use Rattle.sq_monitor.specs.declared.transcript.WatchTranscript.{WatchTranscript
 use Rattle.sq_command.specs.Commands.{RunRequest}
 use Rattle.sq_desk.specs.Outside.{Outside, Rose, Printing, KeepsFiles, KeepsPrinted, Prints, PrintsPrefix, ForFiles}
 use Rattle.sq_top.specs.declared.ending.Ending.{Ending}
-use Rattle.sq_top.specs.declared.ending.Ending.TheVariants.{Done, Words, Desk, Refused, Memory, Break, Limit, BadStart}
+use Rattle.sq_top.specs.declared.ending.Ending.TheVariants.{Done, Words, Desk, Refused, Memory, Break, Limit, BadStart, Differs}
 use Rattle.sq_top.specs.declared.ending.DeskCall.TheVariants.{Load, Store, Print}
 use Rattle.sq_top.specs.Running.{IsAtLimit}
 use Rattle.sq_top.specs.RunEndings.{FailsToLoad}
@@ -71,6 +71,7 @@ WatchLeft request Memory before after = KeepsPrinted before after
 WatchLeft request Break before after = PrintsWatch request HasBroken before after
 WatchLeft request Limit before after = PrintsWatch request IsAtLimit before after
 WatchLeft request BadStart before after = KeepsPrinted before after × ForFiles before (HasBadWatch request)
+WatchLeft request (Differs line) before after = ⊥
 
 -- what `watch` leaves, by how it ends: no file changes
 abbrev pub LeavesWatch : RunRequest → Ending → Outside → Outside → Type 0

@@ -1,11 +1,12 @@
 //! What is complained.
 
-ghost use Rattle.std.specs.Prelude.{◌≡◌, ◌≤◌, length};
+ghost use Rattle.std.specs.Prelude.{◌≡◌, ◌≤◌, ◌++◌, codes, decimal, length};
 ghost use Rattle.sq_desk.specs.Outside.{KeepsFiles, KeepsPrinted, NoneFall};
 ghost use Rattle.sq_top.specs.Endings.{ComplainsLine};
 ghost use Rattle.sq_top.specs.Statuses.{complaint_of};
 
 use crate::ending::{DeskCall, Ending};
+use crate::lines::push_labelled;
 use sq_desk::Desk;
 use sq_num::Line;
 use std::alloc::Global;
@@ -17,6 +18,16 @@ fn line_of(text: &str) -> Line
 {
     let mut line = Line::new();
     line.push_text(text);
+    line
+}
+
+/// `no LINE` and a newline.
+fn difference_line(number: u32) -> Line
+    ensures { result ≡ codes "no " ++ decimal number ++ codes "\n" }
+{
+    let mut line = Line::new();
+    push_labelled(&mut line, "no ", number);
+    line.push_text("\n");
     line
 }
 
@@ -33,6 +44,7 @@ fn complaint_of(ending: &Ending) -> Option<Line>
         Ending::Refused(refusal) => Some(refusal.line()),
         Ending::Memory => Some(line_of("memory\n")),
         Ending::BadStart => Some(line_of("bad start\n")),
+        Ending::Differs(line) => Some(difference_line(*line)),
     }
 }
 

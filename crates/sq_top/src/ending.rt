@@ -3,8 +3,9 @@
 ghost use Rattle.std.specs.Prelude.{◌≡◌};
 ghost use Rattle.sq_top.specs.Statuses.{status_of};
 
+use sq_hex::HexFault;
 use sq_monitor::WatchFault;
-use sq_num::{Denied, Refusal};
+use sq_num::{Denied, Memory, Refusal};
 use sq_run::RunFault;
 
 /// A call on the desk.
@@ -34,6 +35,8 @@ pub enum Ending {
     Limit,
     /// The program cannot be started so.
     BadStart,
+    /// A text of Intel HEX is at fault in this line, or (0) does not mean what is in flash.
+    Differs(u32),
 }
 
 impl Ending {
@@ -50,6 +53,7 @@ impl Ending {
             Ending::Break => 5,
             Ending::Limit => 6,
             Ending::BadStart => 7,
+            Ending::Differs(_) => 8,
         }
     }
 }
@@ -92,6 +96,31 @@ impl From<WatchFault> for Ending {
         match fault {
             WatchFault::BadStart => Ending::BadStart,
             WatchFault::Memory => Ending::Memory,
+        }
+    }
+}
+
+impl From<Memory> for Ending {
+    ghost use Rattle.std.specs.Prelude.{◌≡◌};
+    ghost use Rattle.sq_top.specs.Denials.{memory_ending};
+
+    ghost from_gives = { λ _ ending. ending ≡ memory_ending };
+
+    fn from(_error: Memory) -> Ending {
+        Ending::Memory
+    }
+}
+
+impl From<HexFault> for Ending {
+    ghost use Rattle.std.specs.Prelude.{◌≡◌};
+    ghost use Rattle.sq_top.specs.Denials.{hex_fault_ending};
+
+    ghost from_gives = { λ fault ending. ending ≡ hex_fault_ending fault };
+
+    fn from(fault: HexFault) -> Ending {
+        match fault {
+            HexFault::Line(line) => Ending::Differs(line),
+            HexFault::Memory => Ending::Memory,
         }
     }
 }

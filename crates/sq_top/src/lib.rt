@@ -8,7 +8,10 @@
 #![tactic(auto)]
 
 mod complaint;
+mod delivery;
 mod ending;
+mod hex_command;
+mod hexcheck_command;
 mod laws;
 mod lines;
 mod loading;

@@ -2,7 +2,9 @@
 
 ghost use Rattle.std.specs.Prelude.{◌≡◌, ◌+◌, ◌≤◌, ◌++◌, length, decimal};
 ghost use Rattle.sq_top.specs.Packing.{packed_text, sizes_text};
+ghost use Rattle.sq_top.specs.Hexing.{hex_line};
 
+use sq_hex::line_count;
 use sq_num::{Line, Packed};
 
 /// The line that tells the sizes of a packing.
@@ -31,8 +33,20 @@ fn sizes_line(text_before: u32, text_after: u32, loaded_before: u32, loaded_afte
     line
 }
 
+/// `hex N`, N the records of the text, and a newline: at most 25 bytes.
+#[tactic(auto, unfolding(crate::specs::Hexing::hex_line))]
+pub fn hex_line(text: &[u8]) -> Line
+    ensures { result ≡ hex_line text.now }
+{
+    let mut line = Line::new();
+    line.push_text("hex ");
+    line.push_number(line_count(text) as u64);
+    line.push_text("\n");
+    line
+}
+
 /// Appends a label and a number of at most ten digits.
-fn push_labelled(line: &mut Line, label: &str, number: u32)
+pub fn push_labelled(line: &mut Line, label: &str, number: u32)
     requires { length line.old + length label.now + 10 ≤ 96 }
     ensures text { line.new ≡ line.old ++ label.now ++ decimal number }
     ensures short { length line.new ≤ length line.old + length label.now + 10 }

@@ -12,12 +12,13 @@ ghost use Rattle.sq_top.specs.Running.{IsAtLimit};
 ghost use Rattle.sq_top.specs.Watching.{HasBroken};
 ghost use Rattle.sq_top.specs.WatchEndings.{PrintsWatch};
 ghost use Rattle.sq_top.specs.WatchPromises.{ForWatch, HasWatchRefusal, IsBadWatch, WatchesExactly, IsWatchComplete};
+ghost use Rattle.sq_top.specs.HexPromises.{ForHex, ForHexcheck, IsHexDone, HasHexRefusal, HexRefusesExactly, IsHexComplete, IsCheckDone, HasDifference, HasCheckFault, HasCheckRefusal, ChecksExactly, IsCheckComplete};
 ghost use Rattle.sq_top.specs.RunEndings.{PrintsRun};
 ghost use Rattle.sq_top.specs.RunPromises.{ForRun, HasRunFault, HasRunRefusal, IsBadRun, RunsExactly, IsRunComplete};
 
 use crate::complaint::complain;
 use crate::ending::Ending;
-use crate::{pack_command, run_command, watch_command};
+use crate::{hex_command, hexcheck_command, pack_command, run_command, watch_command};
 use sq_command::{Command, command_of};
 use sq_desk::Desk;
 use sq_num::WordList;
@@ -25,10 +26,11 @@ use std::alloc::Global;
 
 /// Does what the words of a command line ask for, over a desk, and answers the status: 0 done, 1
 /// words without a form, 2 a fault of the desk, 3 refused, 4 out of memory, 5 a break of what is watched,
-/// 6 a run at its limit, 7 a bad start. The words are those behind the program's name: `pack IN OUT` loads IN, packs it, stores
+/// 6 a run at its limit, 7 a bad start, 8 a text that differs. The words are those behind the program's name: `pack IN OUT` loads IN, packs it, stores
 /// OUT, and prints the sizes; `run FILE INPUT LIMIT BASE SIZE ARG*` loads FILE and INPUT, runs FILE
 /// for at most LIMIT steps, and prints the events and the end; `watch` with the same words does so under the
-/// monitor, which refuses all that `pack` refuses and ends at the first break too.
+/// monitor, which refuses all that `pack` refuses and ends at the first break too; `hex IN OUT` loads IN, stores its
+/// text of Intel HEX, and prints the number of records; `hexcheck IN HEX` prints `same` where HEX means what IN has in flash.
 pub fn squeeze<D: Desk>(alloc: Global, desk: &mut D, words: &WordList) -> u8
     // Status 0: the headline.
     ensures done { ForPack words.now (λ input output. result ≡ 0 → IsDone input output (D.outside desk.old) (D.outside desk.new)) }
@@ -59,6 +61,22 @@ pub fn squeeze<D: Desk>(alloc: Global, desk: &mut D, words: &WordList) -> u8
     ensures watch_exact { ForWatch words.now (λ request. WatchesExactly request result (D.outside desk.old) (D.outside desk.new)) }
     ensures watch_complete { ForWatch words.now (λ request. IsWatchComplete request result (D.outside desk.old) (D.outside desk.new)) }
     ensures watch_files { ForWatch words.now (λ _. KeepsFiles (D.outside desk.old) (D.outside desk.new)) }
+
+    // `hex`: with 0 OUT holds the text of IN, which means its flash and its entry; each other status has its cause.
+    ensures hex_done { ForHex words.now (λ input output. result ≡ 0 → IsHexDone input output (D.outside desk.old) (D.outside desk.new)) }
+    ensures hex_fault { ForHex words.now (λ input output. result ≡ 2 → HasFault input output (D.outside desk.old) (D.outside desk.new)) }
+    ensures hex_refused { ForHex words.now (λ input _. result ≡ 3 → HasHexRefusal input (D.outside desk.old) (D.outside desk.new)) }
+    ensures hex_exact { ForHex words.now (λ input _. HexRefusesExactly input result (D.outside desk.old) (D.outside desk.new)) }
+    ensures hex_complete { ForHex words.now (λ input output. IsHexComplete input output result (D.outside desk.old) (D.outside desk.new)) }
+
+    // `hexcheck`: 0 where HEX means the flash and the entry of IN, 8 where it does not.
+    ensures check_done { ForHexcheck words.now (λ input text. result ≡ 0 → IsCheckDone input text (D.outside desk.old) (D.outside desk.new)) }
+    ensures check_differs { ForHexcheck words.now (λ input text. result ≡ 8 → HasDifference input text (D.outside desk.old) (D.outside desk.new)) }
+    ensures check_fault { ForHexcheck words.now (λ input text. result ≡ 2 → HasCheckFault input text (D.outside desk.old) (D.outside desk.new)) }
+    ensures check_refused { ForHexcheck words.now (λ input text. result ≡ 3 → HasCheckRefusal input text (D.outside desk.old) (D.outside desk.new)) }
+    ensures check_exact { ForHexcheck words.now (λ input text. ChecksExactly input text result (D.outside desk.old) (D.outside desk.new)) }
+    ensures check_complete { ForHexcheck words.now (λ input text. IsCheckComplete input text result (D.outside desk.old) (D.outside desk.new)) }
+    ensures check_files { ForHexcheck words.now (λ _ _. KeepsFiles (D.outside desk.old) (D.outside desk.new)) }
 
     // Words without a form, and statuses.
     ensures words { (result ≡ 1) ↔ (form_of words.now ≡ None) }
@@ -95,5 +113,9 @@ fn run<D: Desk>(alloc: Global, desk: &mut D, words: &WordList) -> Ending
         Some(Command::Pack { input, output }) => pack_command::pack(alloc, desk, input, output),
         Some(Command::Run(asked)) => run_command::run(alloc, desk, words, &asked),
         Some(Command::Watch(asked)) => watch_command::watch(alloc, desk, words, &asked),
+        Some(Command::Hex { input, output }) => hex_command::hex(alloc, desk, input, output),
+        Some(Command::Hexcheck { input, text }) => {
+            hexcheck_command::hexcheck(alloc, desk, input, text)
+        }
     }
 }

@@ -10,6 +10,8 @@ use Rattle.sq_top.proofs.StatusesPromised.{words_promised, statuses_promised, so
 use Rattle.sq_top.proofs.RunPromised.{run_files_promised, run_done_promised, run_limit_promised, run_bad_promised, run_fault_promised, run_refused_promised, run_exact_promised, run_complete_promised}
 use Rattle.sq_top.specs.WatchPromises.{ForWatch, WatchesExactly, IsWatchComplete}
 use Rattle.sq_top.proofs.WatchPromised.{watch_files_promised, watch_done_promised, watch_break_promised, watch_limit_promised, watch_bad_promised, watch_fault_promised, watch_refused_promised, watch_exact_promised, watch_complete_promised}
+use Rattle.sq_top.specs.HexPromises.{ForHex, ForHexcheck, HexRefusesExactly, IsHexComplete, ChecksExactly, IsCheckComplete}
+use Rattle.sq_top.proofs.HexPromised.{hex_done_promised, hex_fault_promised, hex_refused_promised, hex_exact_promised, hex_complete_promised, check_done_promised, check_differs_promised, check_fault_promised, check_refused_promised, check_exact_promised, check_complete_promised, check_files_promised}
 use Rattle.sq_top.proofs.top.squeeze.Goals as goal
 
 pub returns-clause-done : goal.returns-clause-done
@@ -115,6 +117,65 @@ returns-clause-watch_complete g c =
 
 pub returns-clause-watch_files : goal.returns-clause-watch_files
 returns-clause-watch_files g c = watch_files_promised c.args.words.now c.run_and_complain-ending.result _ _ c.run_and_complain-ending.ensures
+
+pub returns-clause-hex_done : goal.returns-clause-hex_done
+returns-clause-hex_done g c = λ input output form status.
+    hex_done_promised c.args.words.now c.run_and_complain-ending.result _ _ c.run_and_complain-ending.ensures input output form (sym c.status.ensures ∙ status)
+
+pub returns-clause-hex_fault : goal.returns-clause-hex_fault
+returns-clause-hex_fault g c = λ input output form status.
+    hex_fault_promised c.args.words.now c.run_and_complain-ending.result _ _ c.run_and_complain-ending.ensures input output form (sym c.status.ensures ∙ status)
+
+pub returns-clause-hex_refused : goal.returns-clause-hex_refused
+returns-clause-hex_refused g c = λ input output form status.
+    hex_refused_promised c.args.words.now c.run_and_complain-ending.result _ _ c.run_and_complain-ending.ensures input output form (sym c.status.ensures ∙ status)
+
+pub returns-clause-check_done : goal.returns-clause-check_done
+returns-clause-check_done g c = λ input text form status.
+    check_done_promised c.args.words.now c.run_and_complain-ending.result _ _ c.run_and_complain-ending.ensures input text form (sym c.status.ensures ∙ status)
+
+pub returns-clause-check_differs : goal.returns-clause-check_differs
+returns-clause-check_differs g c = λ input text form status.
+    check_differs_promised c.args.words.now c.run_and_complain-ending.result _ _ c.run_and_complain-ending.ensures input text form (sym c.status.ensures ∙ status)
+
+pub returns-clause-check_fault : goal.returns-clause-check_fault
+returns-clause-check_fault g c = λ input text form status.
+    check_fault_promised c.args.words.now c.run_and_complain-ending.result _ _ c.run_and_complain-ending.ensures input text form (sym c.status.ensures ∙ status)
+
+pub returns-clause-check_refused : goal.returns-clause-check_refused
+returns-clause-check_refused g c = λ input text form status.
+    check_refused_promised c.args.words.now c.run_and_complain-ending.result _ _ c.run_and_complain-ending.ensures input text form (sym c.status.ensures ∙ status)
+
+pub returns-clause-hex_exact : goal.returns-clause-hex_exact
+returns-clause-hex_exact g c =
+    let before : Outside = g.D.Desk.outside c.args.desk.now in
+    let after : Outside = g.D.Desk.outside c.run_and_complain-ending.new.desk in
+    let P : ℕ → Type 0 = λ status. ForHex c.args.words.now (λ input _. HexRefusesExactly input status before after) in
+    subst P (sym c.status.ensures) (hex_exact_promised c.args.words.now c.run_and_complain-ending.result before after c.run_and_complain-ending.ensures)
+
+pub returns-clause-hex_complete : goal.returns-clause-hex_complete
+returns-clause-hex_complete g c =
+    let before : Outside = g.D.Desk.outside c.args.desk.now in
+    let after : Outside = g.D.Desk.outside c.run_and_complain-ending.new.desk in
+    let P : ℕ → Type 0 = λ status. ForHex c.args.words.now (λ input output. IsHexComplete input output status before after) in
+    subst P (sym c.status.ensures) (hex_complete_promised c.args.words.now c.run_and_complain-ending.result before after c.run_and_complain-ending.ensures)
+
+pub returns-clause-check_exact : goal.returns-clause-check_exact
+returns-clause-check_exact g c =
+    let before : Outside = g.D.Desk.outside c.args.desk.now in
+    let after : Outside = g.D.Desk.outside c.run_and_complain-ending.new.desk in
+    let P : ℕ → Type 0 = λ status. ForHexcheck c.args.words.now (λ input text. ChecksExactly input text status before after) in
+    subst P (sym c.status.ensures) (check_exact_promised c.args.words.now c.run_and_complain-ending.result before after c.run_and_complain-ending.ensures)
+
+pub returns-clause-check_complete : goal.returns-clause-check_complete
+returns-clause-check_complete g c =
+    let before : Outside = g.D.Desk.outside c.args.desk.now in
+    let after : Outside = g.D.Desk.outside c.run_and_complain-ending.new.desk in
+    let P : ℕ → Type 0 = λ status. ForHexcheck c.args.words.now (λ input text. IsCheckComplete input text status before after) in
+    subst P (sym c.status.ensures) (check_complete_promised c.args.words.now c.run_and_complain-ending.result before after c.run_and_complain-ending.ensures)
+
+pub returns-clause-check_files : goal.returns-clause-check_files
+returns-clause-check_files g c = check_files_promised c.args.words.now c.run_and_complain-ending.result _ _ c.run_and_complain-ending.ensures
 
 pub returns-clause-words : goal.returns-clause-words
 returns-clause-words g c =
