@@ -51,9 +51,12 @@ impl<'t> Bench<'t> {
         Ok(())
     }
 
-    /// The file that is given by its name or its form.
+    /// The file that is given by its name or its form, or by `lines LINE; LINE ..` of a text.
     pub fn described(&self, alloc: Global, file: &str) -> Result<Vec<u8>, CaseError> {
-        if file.contains(" ") {
+        if let Some(lines) = file.strip_prefix("lines ") {
+            let text = text_of(alloc, lines)?;
+            Ok(Vec::from_slice(alloc, text.as_bytes())?)
+        } else if file.contains(" ") {
             file_of_form(alloc, file)
         } else {
             file_of(alloc, self.files, file)
