@@ -1,0 +1,6 @@
+mod Equals
+mod Forms
+mod Joining
+mod Places
+mod Exchanges
+mod Bodies
