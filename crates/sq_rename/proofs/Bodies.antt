@@ -70,6 +70,7 @@ match_has ps items others Lives m = record {
   there r s t (inl x) (inr y) = x.1 ∙ sym (m.match.zero_there t (subst (λ z. IsPair ps items others z t) x.0 y))
   there r s t (inr x) (inl y) = m.match.zero_there s (subst (λ z. IsPair ps items others z s) y.0 x) ∙ sym y.1
   there r s t (inr x) (inr y) = m.match.there r s t x y
+
   back : (q r s : ℕ) → PairOrZero ps items others q s → PairOrZero ps items others r s → q ≡ r
   back q r s (inl x) (inl y) = x.0 ∙ sym y.0
   back q r s (inl x) (inr y) = x.0 ∙ sym (m.match.zero_back r (subst (λ z. IsPair ps items others r z) x.1 y))
@@ -100,14 +101,17 @@ module _ (ps : List Procedure) (items others : List Item) (dead : ℕ) (Lives : 
   } where
     small : (r s : ℕ) → IsPair ps items others r s → r < 32
     small r s p = let w = slice_get_within to r s (m.pairs r s p) in let c = m.permutation.count in omega arith
+
     small_back : (r s : ℕ) → IsPair ps items others r s → s < 32
     small_back r s p =
         let at = get_or_from_slice_get to r s 0 (m.pairs r s p) in
         let b = m.permutation.below r (small r s p) in
         omega arith
+
     known : (r : ℕ) → (¬ MayLive dead r) → 0 < r → r < 32 → (b : Bool) → is_member dead r ≡ b → is_member dead r ≡ true
     known r n k l true e = e
     known r n k l false e = absurd (n (k, (l, e)))
+
     still : (r : ℕ) → (¬ MayLive dead r) → r ≢ 0 → r < 32 → ¬ Lives r
     still r n z l = (exact r (omega arith) l).0 (known r n (omega arith) l (is_member dead r) refl)
 

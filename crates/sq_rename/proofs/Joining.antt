@@ -78,10 +78,10 @@ half : (t u : Table) (r s : ℕ) → r < length t → s < length u → slice_get
 half t u r s l m none h x y e =
     ⊎_elim
     (λ at. let f : slice_get (slice_set u s (Some r)) s ≡ Some (Some x) = subst (λ z. slice_get (slice_set u s (Some r)) z ≡ Some (Some x)) at e in
-        let g : r ≡ x = one r x (slice_get (slice_set u s (Some r)) s) (set_get u s (Some r) m) f in
-        subst (λ z. slice_get (slice_set t r (Some s)) z ≡ Some (Some y)) g (subst (λ z. slice_get (slice_set t r (Some s)) r ≡ Some (Some z)) (sym at) (set_get t r (Some s) l)))
+    let g : r ≡ x = one r x (slice_get (slice_set u s (Some r)) s) (set_get u s (Some r) m) f in
+    subst (λ z. slice_get (slice_set t r (Some s)) z ≡ Some (Some y)) g (subst (λ z. slice_get (slice_set t r (Some s)) r ≡ Some (Some z)) (sym at) (set_get t r (Some s) l)))
     (λ ne. let old = h x y (sym (set_get_other u s y (Some r) ne) ∙ e) in
-        set_get_other t r x (Some s) (λ at. empty y (slice_get t r) none (subst (λ z. slice_get t z ≡ Some (Some y)) at old)) ∙ old)
+    set_get_other t r x (Some s) (λ at. empty y (slice_get t r) none (subst (λ z. slice_get t z ≡ Some (Some y)) at old)) ∙ old)
     (cases_eq y s)
 
 pub pair_new : (old : Pairs) (r s : ℕ) → AreTables old → r < 32 → s < 32 → slice_get old.there r ≡ Some None → slice_get old.back s ≡ Some None → Joins true old (Single r s) (record { there = slice_set old.there r (Some s); back = slice_set old.back s (Some r) })
@@ -98,12 +98,16 @@ pair_new old r s h l m e f = record {
 } where
   new : Table
   new = slice_set old.there r (Some s)
+
   in_there : r < length old.there
   in_there = subst (λ n. r < n) (sym h.there_count) l
+
   in_back : s < length old.back
   in_back = subst (λ n. s < n) (sym h.back_count) m
+
   kept : (x y : ℕ) → GoWith old x y → slice_get (slice_set old.there r (Some s)) x ≡ Some (Some y)
   kept x y g = set_get_other old.there r x (Some s) (λ at. empty y (slice_get old.there r) e (subst (λ z. slice_get old.there z ≡ Some (Some y)) at g)) ∙ g
+
   before : (x y : ℕ) → slice_get (slice_set old.there r (Some s)) x ≡ Some (Some y) → Joined old (Single r s) x y
   before x y g = ⊎_elim
       (λ at. inr (at, one y s (slice_get (slice_set old.there r (Some s)) r) (subst (λ z. slice_get (slice_set old.there r (Some s)) z ≡ Some (Some y)) at g) (set_get old.there r (Some s) in_there)))
@@ -222,9 +226,9 @@ joins_link b a m c x xs h j k =
     let P : ℕ → ℕ → Type 0 = IsPairIn (x ∷ xs) (x ∷ xs) in
     let first : IsJoining a P m (IsPairIn xs xs) = join_step a a P P (Single x x) (IsPairIn xs xs) (join_start a P h) (λ q t p. inr (inl p)) m (λ q t p. inr p) (λ q t p. p) j in
     joins_rest b a m c P (IsPairIn xs xs) first k where
-  joins_rest : (b : Bool) (a m c : Pairs) (P Q : ℕ → ℕ → Type 0) → IsJoining a P m Q → Joins b m Q c → Joins b a P c
-  joins_rest true a m c P Q j k = join_step a m P Q Q Nothing j (λ q t p. inr p) c (λ q t i. absurd i) (λ q t p. inl p) k
-  joins_rest false a m c P Q j k = join_fail a m P Q Q Nothing j (λ q t p. inr p) k
+      joins_rest : (b : Bool) (a m c : Pairs) (P Q : ℕ → ℕ → Type 0) → IsJoining a P m Q → Joins b m Q c → Joins b a P c
+      joins_rest true a m c P Q j k = join_step a m P Q Q Nothing j (λ q t p. inr p) c (λ q t i. absurd i) (λ q t p. inl p) k
+      joins_rest false a m c P Q j k = join_fail a m P Q Q Nothing j (λ q t p. inr p) k
 
 pub link_fails : (b : Bool) (a c : Pairs) (x : ℕ) (xs : List ℕ) → AreTables a → b ≡ false → ¬ IsOneToOne (Joined a (Single x x)) → Joins b a (IsPairIn (x ∷ xs) (x ∷ xs)) c
 link_fails b a c x xs h e n =

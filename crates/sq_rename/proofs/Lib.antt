@@ -4,3 +4,5 @@ mod Joining
 mod Places
 mod Exchanges
 mod Bodies
+mod Dead
+mod Sizes

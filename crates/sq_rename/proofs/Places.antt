@@ -36,7 +36,6 @@ registers_few (Hi rd to) = omega arith
 registers_few (Lo rd rs to) = omega arith
 registers_few (Out p) = omega arith
 
-
 count_with : (d a b : ℕ) (insn : Insn) → length (destination_of insn ∷ sources_of insn) ≡ length (destination_of (with_registers d a b insn) ∷ sources_of (with_registers d a b insn))
 count_with d a b (Lui rd u) = refl
 count_with d a b (Auipc rd u) = refl
@@ -71,7 +70,7 @@ pub plain_joins : (b : Bool) (a c : Pairs) (ps : List Procedure) (item other : I
 plain_joins b a c ps item other rs ss h n f e d j =
     let p = same_plain ps item other n f in
     let k : Joins b a (IsPairIn (padded 5 (item_registers item)) (padded 5 (item_registers other))) c =
-        subst (λ z. Joins b a (IsPairIn (padded 5 (item_registers item)) z) c) d (subst (λ z. Joins b a (IsPairIn z ss) c) e j) in
+    subst (λ z. Joins b a (IsPairIn (padded 5 (item_registers item)) z) c) d (subst (λ z. Joins b a (IsPairIn z ss) c) e j) in
     let m = joins_padded b a c 5 (item_registers item) (item_registers other) h (registers_same item other f) (registers_few item) k in
     subst (λ z. Joins b a (IsPairIn z (registers_of ps other)) c) (sym p.0) (subst (λ z. Joins b a (IsPairIn (item_registers item) z) c) (sym p.1) m)
 

@@ -27,10 +27,12 @@ fn insn_registers(insn: &Insn) -> [Reg; 5]
 {
     let zero = Reg::from_low_bits(0);
     match *insn {
-        Insn::Lui { rd, .. } | Insn::Auipc { rd, .. } | Insn::Jal { rd, .. } =>
-            [rd, zero, zero, zero, zero],
-        Insn::Jalr { rd, rs, .. } | Insn::Load { rd, rs, .. } | Insn::OpImm { rd, rs, .. } =>
-            [rd, rs, zero, zero, zero],
+        Insn::Lui { rd, .. } | Insn::Auipc { rd, .. } | Insn::Jal { rd, .. } => [
+            rd, zero, zero, zero, zero,
+        ],
+        Insn::Jalr { rd, rs, .. } | Insn::Load { rd, rs, .. } | Insn::OpImm { rd, rs, .. } => [
+            rd, rs, zero, zero, zero,
+        ],
         Insn::Branch { a, b, .. } => [zero, a, b, zero, zero],
         Insn::Store { rs, src, .. } => [zero, rs, src, zero, zero],
         Insn::Op { rd, a, b, .. } => [rd, a, b, zero, zero],

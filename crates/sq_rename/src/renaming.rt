@@ -33,14 +33,20 @@ impl Renaming {
     /// A permutation that gives each register the one that it goes with, where no two go with one. It is made from the
     /// identity by exchanges, each of which gives one register its own.
     pub(crate) fn from_pairs(there: &[Option<Reg>; 32]) -> Renaming
-        requires { (q r s : ℕ) → slice_get there.now q ≡ Some (Some s) → slice_get there.now r ≡ Some (Some s) → q ≡ r }
+        requires count { length there.now ≡ 32 }
+        requires one_way { (q r s : ℕ) → slice_get there.now q ≡ Some (Some s) → slice_get there.now r ≡ Some (Some s) → q ≡ r }
         ensures permutation { IsPermutation result }
         ensures pairs { (r s : ℕ) → slice_get there.now r ≡ Some (Some s) → slice_get result r ≡ Some s }
     {
         let mut to = identity();
         let mut from = identity();
         for number in 0..32 {
-            exchange(&mut to, &mut from, Reg::from_low_bits(number), there[number as usize]);
+            exchange(
+                &mut to,
+                &mut from,
+                Reg::from_low_bits(number),
+                there[number as usize],
+            );
         }
         Renaming { to }
     }

@@ -7,5 +7,5 @@ abbrev pub invariant-loop-k : goal.invariant-loop-k
 invariant-loop-k l = record {
   up : AreSameForms l.items l.others → AreSameForms (drop l.k l.items) (drop l.k l.others);
   down : AreSameForms (drop l.k l.items) (drop l.k l.others) → AreSameForms l.items l.others;
-  joining : IsJoining l.initial.pairs (IsPair l.g.graph.procedures l.items l.others) l.pairs (IsPair l.g.graph.procedures (drop l.k l.items) (drop l.k l.others))
+  joining : IsJoining l.initial.pairs (IsPair l.g.graph.procedures l.items l.others) l.pairs (IsPair l.g.graph.procedures (drop l.k l.items) (drop l.k l.others));
 }

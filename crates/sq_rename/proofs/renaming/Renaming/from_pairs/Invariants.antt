@@ -5,5 +5,5 @@ use Rattle.sq_rename.proofs.renaming.Renaming.from_pairs.Given as goal
 abbrev pub invariant-loop-number : goal.invariant-loop-number
 invariant-loop-number l = record {
   inverse : AreInverse l.to l.from;
-  pairs : (r s : ℕ) → r < l.number → slice_get l.there r ≡ Some (Some s) → slice_get l.to r ≡ Some s
+  pairs : (r s : ℕ) → r < l.number → slice_get l.there r ≡ Some (Some s) → slice_get l.to r ≡ Some s;
 }
