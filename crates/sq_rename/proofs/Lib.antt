@@ -1,0 +1,8 @@
+mod Equals
+mod Forms
+mod Joining
+mod Places
+mod Exchanges
+mod Bodies
+mod Dead
+mod Sizes

@@ -1,0 +1,6 @@
+pub mod Shapes
+pub mod Renamings
+pub mod Bodies
+pub mod Reservations
+pub mod Pairs
+pub mod Inverses
