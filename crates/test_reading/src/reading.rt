@@ -1,5 +1,7 @@
 //! What the readers of files, of relocations, of text and of notes find in a file.
 
+ghost use Rattle.std.specs.Prelude.{◌≡◌};
+
 use crate::words::{joined, shown, sure, two};
 use anyhow::{Result, anyhow};
 use sq_cases::hexadecimal;
@@ -110,7 +112,9 @@ fn relocs_told(alloc: Global, elf: &Elf<'_>, verb: &str, words: &str) -> Result<
 }
 
 /// The mark of a word of text.
-fn mark(alloc: Global, elf: &Elf<'_>, relocs: &Relocs<'_>, address: u32) -> Result<String> {
+fn mark(alloc: Global, elf: &Elf<'_>, relocs: &Relocs<'_>, address: u32) -> Result<String>
+    requires { relocs.now ≡ elf.now }
+{
     if !is_text_word(elf.text(), address) {
         return Err(anyhow!("a word of text is wanted"));
     }
@@ -150,7 +154,9 @@ fn code_words(alloc: Global, relocs: &Relocs<'_>) -> Result<String> {
 }
 
 /// The note, or the addresses of text that are reached.
-fn text_told(alloc: Global, elf: &Elf<'_>, relocs: &Relocs<'_>, verb: &str) -> Result<String> {
+fn text_told(alloc: Global, elf: &Elf<'_>, relocs: &Relocs<'_>, verb: &str) -> Result<String>
+    requires { relocs.now ≡ elf.now }
+{
     let Ok(text) = read_text(alloc, elf, relocs) else {
         return Err(anyhow!("out of memory"));
     };
