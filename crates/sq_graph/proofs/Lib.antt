@@ -13,6 +13,7 @@ pub mod SlotPasses
 pub mod BlockPasses
 pub mod CanonicalShows
 pub mod RulesByBlock
+pub mod Fitting
 pub mod OperationRules
 pub mod SlotWalks
 pub mod Changes

@@ -236,6 +236,7 @@ module _ (Named Called Called' : ℕ → Type 0) (f : ℕ → ℕ) (goes : (k : 
         items = items_recalled p.body old.items;
         fits =
             record {
+              register = old.fits.register;
               link = old.fits.link;
               no_calls = All-map {X = Item} (λ item. item_calls item ≡ []) (recalled_item f) p.body (All-weaker {X = Item} (λ item. item_calls item ≡ []) (λ item. item_calls (recalled_item f item) ≡ []) calls_none p.body old.fits.no_calls);
               no_mention = All-map {X = Item} (λ item. mentions item p.link ≡ false) (recalled_item f) p.body (All-weaker {X = Item} (λ item. mentions item p.link ≡ false) (λ item. mentions (recalled_item f item) p.link ≡ false) (λ item none. mentions-recalled item p.link ∙ none) p.body old.fits.no_mention);

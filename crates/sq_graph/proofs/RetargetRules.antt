@@ -84,9 +84,9 @@ module _ (f : ℕ → ℕ) (nm : Block → ℕ) where
 
   item_fits : (item : Item) → ItemFits item → ItemFits (retargeted_item f item)
   item_fits (Op insn) fits = fits
-  item_fits (Hi rd to) fits = tt
-  item_fits (Lo rd rs to) fits = tt
-  item_fits (Out p) fits = tt
+  item_fits (Hi rd to) fits = fits
+  item_fits (Lo rd rs to) fits = fits
+  item_fits (Out p) fits = fits
 
   term_fits : (t : Term) → TermFits t → TermFits (retargeted_term f t)
   term_fits Fall fits = fits
@@ -123,6 +123,7 @@ module _ (f : ℕ → ℕ) (nm : Block → ℕ) where
 
   procedure_fits : (p : Procedure) → ProcedureFits p → ProcedureFits (retargeted_procedure f p)
   procedure_fits p fits = record {
+    register = fits.register;
     link = fits.link;
     no_calls = All-map {X = Item} (λ item. item_calls item ≡ []) (retargeted_item f) p.body (All-weaker {X = Item} (λ item. item_calls item ≡ []) (λ item. item_calls (retargeted_item f item) ≡ []) (λ item none. item_calls-other item ∙ none) p.body fits.no_calls);
     no_mention = All-map {X = Item} (λ item. mentions item p.link ≡ false) (retargeted_item f) p.body (All-weaker {X = Item} (λ item. mentions item p.link ≡ false) (λ item. mentions (retargeted_item f item) p.link ≡ false) (λ item none. mentions-other item p.link ∙ none) p.body fits.no_mention);

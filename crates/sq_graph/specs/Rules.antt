@@ -3,7 +3,7 @@ use Rattle.std.specs.Prelude.{◌≡◌, ◌≢◌, ℕ, ◌⊎◌, Bool, false,
 use Rattle.std.specs.List.{All}
 use Rattle.std.specs.List.Sorted.{IsStrictlyIncreasing}
 use Rattle.sq_arena.specs.Entries.{HasDistinctKeys}
-use Rattle.sq_isa.specs.Ranges.{FieldsFit, IsSigned, IsUnimp}
+use Rattle.sq_isa.specs.Ranges.{FieldsFit, IsRegister, IsSigned, IsUnimp}
 use Rattle.sq_isa.specs.Registers.{is_among_but_x0}
 use Rattle.sq_isa.specs.Uses.{is_mentioned}
 use Rattle.sq_isa.specs.declared.instructions.Insn.{Insn}
@@ -34,25 +34,26 @@ IsOperation Ebreak = ⊥
 IsOperation (Unimp word) = ⊥
 IsOperation (Atomic op order rd rs src) = Unit {0}
 
--- an Op holds an OpImm, Op, Lui, Load, Store, Fence, Ecall or Atomic whose fields fit
+-- an Op holds an OpImm, Op, Lui, Load, Store, Fence, Ecall or Atomic whose fields fit, and registers are x0 to x31
 abbrev pub ItemFits : Item → Type 0
 ItemFits (Op insn) = IsOperation insn × FieldsFit insn
-ItemFits (Hi rd to) = Unit {0}
-ItemFits (Lo rd rs to) = Unit {0}
+ItemFits (Hi rd to) = IsRegister rd
+ItemFits (Lo rd rs to) = IsRegister rd × IsRegister rs
 ItemFits (Out procedure) = Unit {0}
 
 -- EBREAK, or a word that stands for no instruction
 abbrev pub IsStop : ℕ → Type 0
 IsStop word = (word ≡ 0x00100073) ⊎ IsUnimp word
 
--- the link of a Call isn't x0, an Indirect's offset is from -2048 to 2047, and a Stop's word is one of three
+-- registers are x0 to x31, the link of a Call isn't x0, an Indirect's offset is from -2048 to 2047, and a Stop's word
+-- is one of three
 abbrev pub TermFits : Term → Type 0
 TermFits Fall = Unit {0}
 TermFits (Jump to) = Unit {0}
-TermFits (Branch c a b to) = Unit {0}
-TermFits (Call link to) = link ≢ 0
-TermFits (PartJump link part to) = Unit {0}
-TermFits (Indirect link at offset) = IsSigned 12 offset
+TermFits (Branch c a b to) = IsRegister a × IsRegister b
+TermFits (Call link to) = IsRegister link × (link ≢ 0)
+TermFits (PartJump link part to) = IsRegister link × IsRegister part
+TermFits (Indirect link at offset) = IsRegister link × IsRegister at × IsSigned 12 offset
 TermFits (Stop word) = IsStop word
 
 -- whether an item mentions the register: reads or writes it. An ECALL mentions its four registers
@@ -62,8 +63,9 @@ mentions (Hi rd to) r = is_among_but_x0 (rd ∷ []) r
 mentions (Lo rd rs to) r = is_among_but_x0 (rd ∷ rs ∷ []) r
 mentions (Out procedure) r = false
 
--- a procedure's link isn't x0, and its body has no Out and doesn't mention the link
+-- a procedure's link is one of x1 to x31, and its body has no Out and doesn't mention the link
 pub record ProcedureFits (p : Procedure) : Type 0 where
+  pub register : IsRegister p.link
   pub link : p.link ≢ 0
   pub no_calls : All (λ item. item_calls item ≡ []) p.body
   pub no_mention : All (λ item. mentions item p.link ≡ false) p.body

@@ -21,10 +21,10 @@ use Rattle.sq_graph.proofs.AlikeGraphs.{alike_itself}
 use Rattle.sq_patch.specs.Operations.{IsShortable, hastened as short_jump, shortened}
 use Rattle.sq_patch.specs.LoneJumps.{without_jump, IsJumpedOver, inverted_over}
 use Rattle.sq_patch.proofs.OneBlock.{fall_follows, fall_sound}
-use Rattle.sq_patch.proofs.Passing.{jump_goes_follows, jump_goes_sound}
+use Rattle.sq_patch.proofs.Passing.{detour_follows, detour_sound}
 use Rattle.sq_patch.proofs.Inverting.{invert_follows, invert_sound, invert_saves}
 use Rattle.sq_patch.proofs.Shortening.{shorten_follows, shorten_sound}
-use Rattle.sq_patch.proofs.Saving.{fall_saves, jump_goes_saves, drop_saves, hasten_saves}
+use Rattle.sq_patch.proofs.Saving.{fall_saves, detour_saves, drop_saves, hasten_saves}
 use Rattle.sq_pass.specs.Applied.{IsApplied}
 use Rattle.sq_layout.specs.Branches.{BranchReaches}
 use Rattle.sq_jumps.specs.Fall.{JumpsToNext, falling}
@@ -122,10 +122,10 @@ pass_applied g block rules d =
     subst (λ h. IsApplied 1 h g h) (sym (passing_is g block d.to d.passable.jump))
     (record {
       rules = passed_rules g block d.to rules d.passable;
-      follows = jump_goes_follows g block d.to rules d.passable;
-      sound = λ sound. jump_goes_sound g block d.to rules d.passable sound;
+      follows = detour_follows g block d.to rules d.passable;
+      sound = λ sound. detour_sound g block d.to rules d.passable sound;
       reach = λ reach. shrunk_in_reach g (without_jump g block d.to) rules.distinct (passed_rules g block d.to rules d.passable).distinct (pass_shrinks g block d.to) led reach;
-      words = jump_goes_saves g block d.to d.passable;
+      words = detour_saves g block d.to d.passable;
       described = alike_itself (without_jump g block d.to);
     })
   where

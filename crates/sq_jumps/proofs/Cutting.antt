@@ -15,7 +15,7 @@ use Rattle.sq_pass.specs.Cuts.{IsCompleted}
 use Rattle.sq_num.specs.declared.memory.Memory.{Memory}
 use Rattle.sq_jumps.specs.Candidates.{HasRow, IsJumpCut, IsUnreachedCut, IsCandidate, rewritten, described}
 use Rattle.sq_jumps.specs.Unreached.{words_gone, without_all}
-use Rattle.sq_jumps.proofs.Leaving.{unreached_applied}
+use Rattle.sq_jumps.proofs.UnreachedLeft.{unreached_applied}
 use Rattle.sq_lookup.proofs.Targets.{name_listed, has_term, lone, has_lone}
 
 -- a row that is known is applied at its block

@@ -16,16 +16,18 @@ use Rattle.sq_graph.specs.Operations.{with_blocks, with_term, replaced, replaced
 use Rattle.sq_graph.specs.Renames.{retargeted_term, retargeted_block, swapped}
 use Rattle.sq_graph.specs.Resolve.{jump_from}
 use Rattle.sq_graph.specs.Room.{GraphAndRoom, KeepsTotal, count_of, sum_of}
-use Rattle.sq_graph.specs.Rules.{IsGraph, TermFits, last_goes_on}
+use Rattle.sq_graph.specs.Rules.{IsGraph, last_goes_on}
 use Rattle.sq_graph.specs.Terms.{goes_on}
 use Rattle.sq_graph.specs.Uses.{term_uses, uses}
 use Rattle.sq_graph.proofs.Located.{located}
 use Rattle.sq_graph.proofs.SlotReads.{block_at}
 use Rattle.sq_graph.proofs.SplitRules.{last_goes_on-append}
 use Rattle.sq_graph.proofs.RulesByBlock.{ItemStands}
+use Rattle.sq_graph.proofs.Fitting.{term_fits}
 use Rattle.sq_graph.proofs.OperationRules.{with_term_rules, replaced_rules, redirected_rules, redirected_unused, without_block_rules}
 use Rattle.sq_patch.specs.Operations.{IsShortable, hastened}
 use Rattle.sq_patch.specs.LoneJumps.{IsPassable, IsJumpedOver}
+use Rattle.sq_patch.proofs.Shortening.{hastened_fits}
 use Rattle.sq_jumps.proofs.Ruled.{IsEntered, behind_it, ends_without, without_rules, still_unused}
 use Rattle.sq_jumps.proofs.Totals.{term_total, without_total, redirected_total, replaced_total}
 use Rattle.sq_layout.proofs.Standing.{block_of-retargeted, block_of-changed, block_of-changed_here}
@@ -205,7 +207,7 @@ module _ (g : Graph) (block : ℕ) (cond : Cond) (a b over behind to : ℕ) (new
 
   pub turned_rules : IsGraph (with_term g block (Branch new a b to))
   turned_rules =
-      with_term_rules g block (Branch new a b to) rules (has_term g block (Branch cond a b behind) jumped.branch) tt
+      with_term_rules g block (Branch new a b to) rules (has_term g block (Branch cond a b behind) jumped.branch) (term_fits g block (Branch cond a b behind) rules jumped.branch)
       (All-cons (HasBlock g) to [] (jump_there g over to rules jumped.jump) (All-nil (HasBlock g))) (λ on. ap is_some jumped.next)
 
   pub over_there : HasBlock (with_term g block (Branch new a b to)) over
@@ -215,7 +217,7 @@ module _ (g : Graph) (block : ℕ) (cond : Cond) (a b over behind to : ℕ) (new
   inverted_rules =
       without_block_rules (with_term g block (Branch new a b to)) over turned_rules over_there
       (still_unused g block over (Branch new a b to) rules turned_rules (has_term g block (Branch cond a b behind) jumped.branch) (all_apart (uses g) over jumped.unused)
-      (All-cons (λ n. n ≢ over) to [] to_apart (All-nil (λ n. n ≢ over))) tt)
+      (All-cons (λ n. n ≢ over) to [] to_apart (All-nil (λ n. n ≢ over))) (term_fits g block (Branch cond a b behind) rules jumped.branch))
       (ap is_some (next-term g block over (Branch new a b to) ∙ jumped.slot))
 
   pub inverted_total : (spare : Room) → sum_of (count_of (without_block (with_term g block (Branch new a b to)) over)) (record spare { blocks = spare.blocks + 1; items = spare.items + length (items_of (with_term g block (Branch new a b to)) over) }) ≡ sum_of (count_of g) spare
@@ -237,10 +239,6 @@ shortable_to g block at at' link link' part part' to to' items can are last jump
 
 pub has_part : (g : Graph) (block at link part to : ℕ) → IsShortable g block at link part to → HasBlock g block
 has_part g block at link part to can = has_term g block (PartJump link part to) can.jump
-
-hastened_fits : (link to : ℕ) → TermFits (hastened link to)
-hastened_fits zero to = tt
-hastened_fits (suc link) to = λ same. omega (arith, same)
 
 hastened_uses : (P : ℕ → Type 0) (link to : ℕ) → P to → All P (term_uses (hastened link to))
 hastened_uses P zero to p = All-cons P to [] p (All-nil P)
@@ -279,7 +277,7 @@ module _ (g : Graph) (block at link part to : ℕ) (rules : IsGraph g) (can : Is
 
   pub shortened_rules : IsGraph (with_term (replaced g block at 1 []) block (hastened link to))
   shortened_rules =
-      with_term_rules (replaced g block at 1 []) block (hastened link to) dropped_rules (dropped_there block has) (hastened_fits link to)
+      with_term_rules (replaced g block at 1 []) block (hastened link to) dropped_rules (dropped_there block has) (hastened_fits link part to (term_fits g block (PartJump link part to) rules can.jump))
       (hastened_uses (HasBlock (replaced g block at 1 [])) link to (dropped_there to (All-head (HasBlock g) to [] (targets_are (HasBlock g) g block (PartJump link part to) rules rules.named_all can.jump))))
       (λ on. subst (λ o. IsSome o) (sym (next-replaced g block at block)) (goes_to_next g block (PartJump link part to) rules can.jump (hastened_goes_on link part to on)))
 

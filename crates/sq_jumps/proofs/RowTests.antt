@@ -28,7 +28,7 @@ use Rattle.sq_jumps.specs.Surveys.{ReachesWithout, Needs, IsSurvey}
 use Rattle.sq_jumps.specs.Detour.{IsDetour}
 use Rattle.sq_jumps.specs.Invert.{BranchesOverJump, IsStillSafe}
 use Rattle.sq_jumps.specs.Shorten.{JumpsByDeadPart}
-use Rattle.sq_jumps.proofs.Distances.{passes, turns}
+use Rattle.sq_jumps.proofs.InvertDistances.{passes, turns}
 use Rattle.sq_lookup.proofs.Targets.{jump_there}
 use Rattle.sq_jumps.proofs.Rewriting.{to_apart, shortable_to}
 use Rattle.sq_layout.proofs.Shrunk.{all_stay}

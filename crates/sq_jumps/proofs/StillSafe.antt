@@ -16,6 +16,7 @@ use Rattle.sq_graph.specs.Places.{address_in, Reaches}
 use Rattle.sq_graph.specs.Rules.{IsGraph}
 use Rattle.sq_graph.specs.Uses.{uses}
 use Rattle.sq_graph.specs.Words.{term_words, block_words}
+use Rattle.sq_graph.proofs.Fitting.{term_fits}
 use Rattle.sq_patch.specs.LoneJumps.{inverted_over}
 use Rattle.sq_jumps.specs.Invert.{inverted, BranchesOverJump, IsStillSafe}
 use Rattle.sq_layout.specs.Shrinks.{Shrinks}
@@ -152,7 +153,7 @@ module _ (g : Graph) (block : ℕ) (rules : IsGraph g) (o : BranchesOverJump g b
       let has = has_term g block (Branch o.cond o.a o.b o.behind) o.jumped.branch in
       not_among (uses (inverted_over g block o.cond o.a o.b o.over o.to)) n
       (without_names N (with_term g block t) o.over turned left there
-      (still_unused g block n t rules turned has apart (All-cons N o.to [] to_apart (All-nil N)) tt))
+      (still_unused g block n t rules turned has apart (All-cons N o.to [] to_apart (All-nil N)) (term_fits g block (Branch o.cond o.a o.b o.behind) rules o.jumped.branch)))
 
   inverted_safe_over : (address : ℕ → Option ℕ) (used : List ℕ) → IsStillSafe address used g → IsStillSafe address used (inverted_over g block o.cond o.a o.b o.over o.to)
   inverted_safe_over address used safe = record {

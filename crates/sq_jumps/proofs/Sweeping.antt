@@ -37,10 +37,10 @@ use Rattle.sq_jumps.specs.Detour.{straightened, IsPlainDetour}
 use Rattle.sq_jumps.specs.Shorten.{hastened, JumpsByDeadPart, IsStillDead}
 use Rattle.sq_jumps.specs.Invert.{inverted, BranchesOverJump}
 use Rattle.sq_jumps.proofs.Applying.{hastening_is, shorten_applied, inverting_is, invert_applied, passing_is, pass_applied, fall_applied}
-use Rattle.sq_jumps.proofs.Fallen.{falling_canonical}
-use Rattle.sq_jumps.proofs.Hastening.{shortened_canonical}
-use Rattle.sq_jumps.proofs.Inverted.{inverted_canonical}
-use Rattle.sq_jumps.proofs.Passed.{detour_canonical}
+use Rattle.sq_jumps.proofs.FallKept.{falling_canonical}
+use Rattle.sq_jumps.proofs.ShortenKept.{shortened_canonical}
+use Rattle.sq_jumps.proofs.InvertKept.{inverted_canonical}
+use Rattle.sq_jumps.proofs.DetourKept.{detour_canonical}
 use Rattle.sq_jumps.proofs.Rewriting.{names-changed, has_names}
 
 -- ONE REWRITE

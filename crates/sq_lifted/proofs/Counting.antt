@@ -21,7 +21,7 @@ use Rattle.sq_lifting.proofs.CutLines.{N, K, L, G, Cut, IsSuffix, tail_suffix, f
 use Rattle.sq_lifted.specs.Lifted.{LiftedIsGood}
 use Rattle.sq_lifted.proofs.Blocks.{item_open}
 use Rattle.sq_lifting.proofs.Whole.{readable}
-use Rattle.sq_lifted.proofs.Graphs.{each_at, is_graph, has_registers, is_sound}
+use Rattle.sq_lifted.proofs.Graphs.{each_at, is_graph, is_sound}
 use Rattle.sq_lifted.proofs.Canonical.{IsReal, form_real, here_is, closed_next, is_canonical}
 use Rattle.sq_lifted.proofs.Reaching.{one_if, real_word, in_reach}
 
@@ -325,7 +325,6 @@ lifted_good p is linked short ascending dec fine =
     let early = readable is p fine in
     record {
       graph = is_graph p is linked dec early ascending;
-      registers = has_registers p is linked dec early;
       canonical = is_canonical p is linked dec early;
       sound = is_sound p is linked dec early fine.dies;
       reach = in_reach p is linked dec early short;

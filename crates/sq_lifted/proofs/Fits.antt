@@ -13,7 +13,6 @@ use Rattle.sq_graph.specs.declared.item.Item.TheVariants.{Op, Hi, Lo}
 use Rattle.sq_graph.specs.declared.item.Term.{Term}
 use Rattle.sq_graph.specs.declared.item.Term.TheVariants.{Fall, Jump, Branch, Call, PartJump, Indirect, Stop}
 use Rattle.sq_graph.specs.Rules.{ItemFits, TermFits}
-use Rattle.sq_write.specs.Registers.{HasItemRegisters, HasTermRegisters}
 use Rattle.sq_program.specs.Programs.{Text, is_in_text}
 use Rattle.sq_program.specs.Reached.{target_from}
 use Rattle.sq_program.specs.Readings.{Reading, IsItem, IsTerm, Links, plain_reading, upper_reading, lower_reading, marked_reading}
@@ -29,9 +28,9 @@ LeadsBy at (Indirect link register offset) = Unit {0}
 LeadsBy at (Stop word) = Unit {0}
 
 abbrev pub ReadingFits : ℕ → Reading → Type 0
-ReadingFits at (IsItem item) = ItemFits item × HasItemRegisters item
-ReadingFits at (IsTerm term) = TermFits term × LeadsBy at term × HasTermRegisters term
-ReadingFits at (Links link to) = (link ≢ 0) × IsRegister link
+ReadingFits at (IsItem item) = ItemFits item
+ReadingFits at (IsTerm term) = TermFits term × LeadsBy at term
+ReadingFits at (Links link to) = IsRegister link × (link ≢ 0)
 
 abbrev FitsWhen : ℕ → Option Reading → Type 0
 FitsWhen at None = Unit {0}
@@ -48,40 +47,40 @@ low_small t = go (nat_lt (t % 4096) 2048) refl
     go false e = (grind (arith, nat_tests), grind (arith, nat_tests))
 
 jal_fits : (b : Bool) (at link to : ℕ) → IsRegister link → (link == 0) ≡ b → ReadingFits at (if b then IsTerm (Jump to) else Links link to)
-jal_fits true at link to f e = (tt, tt, tt)
-jal_fits false at link to f e = (eqb-false link 0 e, f)
+jal_fits true at link to f e = (tt, tt)
+jal_fits false at link to f e = (f, eqb-false link 0 e)
 
 plain_fits : (at : ℕ) (i : Insn) → FieldsFit i → FitsWhen at (plain_reading at i)
-plain_fits at (Lui rd upper) f = ((tt, f), tt)
+plain_fits at (Lui rd upper) f = (tt, f)
 plain_fits at (Auipc rd upper) f = tt
 plain_fits at (Jal rd offset) f = jal_fits (rd == 0) at rd (target_from at offset) f.0 refl
-plain_fits at (Jalr rd rs offset) f = (f.2, tt, (f.0, f.1))
-plain_fits at (BranchInsn cond a b offset) f = (tt, (offset, f.2, refl), (f.0, f.1))
-plain_fits at (Load kind rd rs offset) f = ((tt, f), tt)
-plain_fits at (Store kind rs src offset) f = ((tt, f), tt)
-plain_fits at (OpImm op rd rs imm) f = ((tt, f), tt)
-plain_fits at (OpInsn op rd a b) f = ((tt, f), tt)
-plain_fits at (Fence word) f = ((tt, f), tt)
-plain_fits at Ecall f = ((tt, f), tt)
-plain_fits at Ebreak f = (inl refl, tt, tt)
-plain_fits at (Unimp word) f = (inr f, tt, tt)
-plain_fits at (Atomic op order rd rs src) f = ((tt, f), tt)
+plain_fits at (Jalr rd rs offset) f = (f, tt)
+plain_fits at (BranchInsn cond a b offset) f = ((f.0, f.1), (offset, f.2, refl))
+plain_fits at (Load kind rd rs offset) f = (tt, f)
+plain_fits at (Store kind rs src offset) f = (tt, f)
+plain_fits at (OpImm op rd rs imm) f = (tt, f)
+plain_fits at (OpInsn op rd a b) f = (tt, f)
+plain_fits at (Fence word) f = (tt, f)
+plain_fits at Ecall f = (tt, f)
+plain_fits at Ebreak f = (inl refl, tt)
+plain_fits at (Unimp word) f = (inr f, tt)
+plain_fits at (Atomic op order rd rs src) f = (tt, f)
 
 upper_fits : (b : Bool) (at to rd : ℕ) → rd < 32 → ReadingFits at (IsItem (if b then Hi rd to else Op (Lui rd (high_half to))))
-upper_fits true at to rd f = (tt, f)
-upper_fits false at to rd f = ((tt, (f, high_small to)), tt)
+upper_fits true at to rd f = f
+upper_fits false at to rd f = (tt, (f, high_small to))
 
 addi_fits : (b : Bool) (at to rd rs : ℕ) → rd < 32 → rs < 32 → ReadingFits at (IsItem (if b then Lo rd rs to else Op (OpImm Addi rd rs (low_half to))))
-addi_fits true at to rd rs f g = (tt, (f, g))
-addi_fits false at to rd rs f g = ((tt, (f, g, low_small to)), tt)
+addi_fits true at to rd rs f g = (f, g)
+addi_fits false at to rd rs f g = (tt, (f, g, low_small to))
 
 jalr_fits : (b : Bool) (at to rd rs : ℕ) → rd < 32 → rs < 32 → ReadingFits at (IsTerm (if b then PartJump rd rs to else Indirect rd rs (low_half to)))
-jalr_fits true at to rd rs f g = (tt, tt, (f, g))
-jalr_fits false at to rd rs f g = (low_small to, tt, (f, g))
+jalr_fits true at to rd rs f g = ((f, g), tt)
+jalr_fits false at to rd rs f g = ((f, g, low_small to), tt)
 
 outside_fits : (b : Bool) (at : ℕ) (i : Insn) → ItemFits (Op i) → FitsWhen at (if b then None else Some (IsItem (Op i)))
 outside_fits true at i f = tt
-outside_fits false at i f = (f, tt)
+outside_fits false at i f = f
 
 upper_marked : (t : Text) (at to : ℕ) (i : Insn) → FieldsFit i → FitsWhen at (upper_reading t to i)
 upper_marked t at to (Lui rd upper) f = upper_fits (is_in_text t to) at to rd f.0

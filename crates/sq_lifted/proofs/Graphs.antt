@@ -9,6 +9,7 @@ use Rattle.sq_isa.proofs.Encoded.{FieldsFit-insn_of}
 use Rattle.sq_graph.specs.declared.item.Item.{Item}
 use Rattle.sq_graph.specs.declared.item.Item.TheVariants.{Op, Hi, Lo, Out}
 use Rattle.sq_graph.specs.declared.item.Term.{Term}
+use Rattle.sq_graph.specs.declared.item.Term.TheVariants.{Call}
 use Rattle.sq_graph.specs.Graph.{Block, Graph}
 use Rattle.sq_graph.specs.Blocks.{HasBlock, HasProcedure, all_items, items_of_blocks, items_of_bodies}
 use Rattle.sq_graph.specs.Uses.{item_uses, term_uses, items_uses, terms_uses, code_word_uses, item_calls, calls, uses}
@@ -17,7 +18,6 @@ use Rattle.sq_reloc.specs.declared.mark.CodeWord.{CodeWord}
 use Rattle.sq_reloc.specs.CodeWords.{IsAscending}
 use Rattle.sq_graph.specs.Lines.{line_of, lines_of}
 use Rattle.sq_graph.specs.Soundness.{IsFreeOf, IsSoundBody, IsSound}
-use Rattle.sq_write.specs.Registers.{HasItemRegisters, HasTermRegisters, HasBlockRegisters, HasProcedureRegisters, HasRegisters}
 use Rattle.sq_program.specs.Programs.{Text, Note, Program, target_of}
 use Rattle.sq_program.specs.Reached.{Decides}
 use Rattle.sq_program.specs.Readings.{Reading, IsItem, IsTerm, Links, reading_at}
@@ -60,13 +60,11 @@ each_at P (x ∷ xs) f = (f 0 x refl, each_at P xs (λ q y e. f (suc q) y e))
 -- an item that fits, and whose names and procedures are there
 pub record IsItemGood (g : Graph) (item : Item) : Type 0 where
   pub fits : ItemFits item
-  pub registers : HasItemRegisters item
   pub names : (x : ℕ) → Contains (item_uses item) x → HasBlock g x
   pub calls : (q : ℕ) → Contains (item_calls item) q → HasProcedure g q
 
 pub record IsTermGood (g : Graph) (term : Term) : Type 0 where
   pub fits : TermFits term
-  pub registers : HasTermRegisters term
   pub names : (x : ℕ) → Contains (term_uses term) x → HasBlock g x
 
 abbrev IsFormGoodIn : Graph → Form → Type 0
@@ -127,31 +125,29 @@ module _ (p : Program) (is : ℕ → Bool) (linked : IsLinked p) (dec : Decides 
   form_good : (at : ℕ) → keep at ≡ true → (rd : Read at) → IsFormGoodIn g (form_of ns rd.reading)
   form_good at k rd = go rd.reading refl
     where
-      link_good : (link to : ℕ) (o : Option ℕ) → procedure_at ns to ≡ o → link ≢ 0 → IsRegister link → ((x : ℕ) → Contains (form_uses (link_form link to o)) x → HasBlock g x) → IsFormGoodIn g (link_form link to o)
-      link_good link to None e n small h = record { fits = n; registers = small; names = h }
-      link_good link to (Some q) e n small h = record { fits = tt; registers = tt; names = h; calls = λ c i. called c i }
+      link_good : (link to : ℕ) (o : Option ℕ) → procedure_at ns to ≡ o → TermFits (Call link to) → ((x : ℕ) → Contains (form_uses (link_form link to o)) x → HasBlock g x) → IsFormGoodIn g (link_form link to o)
+      link_good link to None e fits h = record { fits = fits; names = h }
+      link_good link to (Some q) e fits h = record { fits = tt; names = h; calls = λ c i. called c i }
         where
           called : (c : ℕ) → Contains (q ∷ []) c → HasProcedure g c
           called c i = subst (HasProcedure g) (one_is q c i) (procedure_there to q e)
 
       go : (r : Reading) → rd.reading ≡ r → IsFormGoodIn g (form_of ns r)
       go (IsItem item) e = record {
-        fits = (subst (ReadingFits at) e (read_fits at rd)).0;
-        registers = (subst (ReadingFits at) e (read_fits at rd)).1;
+        fits = subst (ReadingFits at) e (read_fits at rd);
         names = subst (λ r. (x : ℕ) → Contains (form_uses (form_of ns r)) x → HasBlock g x) e (names_there at rd k);
         calls = λ q c. none_in q (subst (λ xs. Contains xs q) (read_calls item (item_read p is linked.text dec fine at rd item e)) c);
       }
       go (IsTerm term) e = record {
         fits = (subst (ReadingFits at) e (read_fits at rd)).0;
-        registers = (subst (ReadingFits at) e (read_fits at rd)).2;
         names = subst (λ r. (x : ℕ) → Contains (form_uses (form_of ns r)) x → HasBlock g x) e (names_there at rd k);
       }
       go (Links link to) e =
-          link_good link to (procedure_at ns to) refl (subst (ReadingFits at) e (read_fits at rd)).0 (subst (ReadingFits at) e (read_fits at rd)).1
+          link_good link to (procedure_at ns to) refl (subst (ReadingFits at) e (read_fits at rd))
           (subst (λ r. (x : ℕ) → Contains (form_uses (form_of ns r)) x → HasBlock g x) e (names_there at rd k))
 
   pub blocks_are : EachBlock (IsItemGood g) (IsTermGood g) g.blocks
-  blocks_are = blocks_good p is linked.text dec fine (IsItemGood g) (IsTermGood g) (record { fits = tt; registers = tt; names = λ x c. none_in x c }) form_good
+  blocks_are = blocks_good p is linked.text dec fine (IsItemGood g) (IsTermGood g) (record { fits = tt; names = λ x c. none_in x c }) form_good
 
   -- and of bodies
   abbrev IsBodyItem : Note → Item → Type 0
@@ -163,8 +159,7 @@ module _ (p : Program) (is : ℕ → Bool) (linked : IsLinked p) (dec : Decides 
       each : (at : ℕ) (rd : Read at) → is at ≡ true → (item : Item) → rd.reading ≡ IsItem item → mentions item n.link ≡ false → IsBodyItem n item
       each at rd i item e m = let none = read_calls item (item_read p is linked.text dec fine at rd item e) in (
         record {
-          fits = (subst (ReadingFits at) e (read_fits at rd)).0;
-          registers = (subst (ReadingFits at) e (read_fits at rd)).1;
+          fits = subst (ReadingFits at) e (read_fits at rd);
           names = λ x c. has_block p is linked.text dec fine x (body_name p is linked.text dec fine at rd i item e x c);
           calls = λ q c. none_in q (subst (λ xs. Contains xs q) none c);
         },
@@ -196,12 +191,28 @@ module _ (p : Program) (is : ℕ → Bool) (linked : IsLinked p) (dec : Decides 
   calls_are : AllByRecursion (HasProcedure g) (calls g)
   calls_are = each_flat item_calls (HasProcedure g) (all_items g) (each_weaker (IsItemGood g) (λ item. AllByRecursion (HasProcedure g) (item_calls item)) (λ item h. each_in (HasProcedure g) (item_calls item) h.calls) (all_items g) items_are)
 
-  procedure_is : (n : Note) → IsGoodNote is p n → ProcedureFits (procedure_of t n)
-  procedure_is n good = record {
+  links_are : AllByRecursion (λ n. IsRegister n.link) ns
+  links_are = used_small p.notes (links_small is p None 1 p.notes fine.notes)
+    where
+      used_small : (xs : List Note) → AllByRecursion (λ n. IsRegister n.link) xs → AllByRecursion (λ n. IsRegister n.link) (used_notes is xs)
+      used_small [] h = tt
+      used_small (x ∷ xs) h = keeps (is x.address) (used_small xs h.1)
+        where
+          keeps : (b : Bool) → AllByRecursion (λ n. IsRegister n.link) (used_notes is xs) → AllByRecursion (λ n. IsRegister n.link) (if b then x ∷ used_notes is xs else used_notes is xs)
+          keeps true more = (h.0, more)
+          keeps false more = more
+
+  procedure_is : (n : Note) → IsGoodNote is p n → IsRegister n.link → ProcedureFits (procedure_of t n)
+  procedure_is n good small = record {
+    register = small;
     link = good.link;
     no_calls = All-from_recursion (λ item. item_calls item ≡ []) (body_from t n.address n.length) (each_weaker (IsBodyItem n) (λ item. item_calls item ≡ []) (λ item h. h.1) (body_from t n.address n.length) (body_is n good));
     no_mention = All-from_recursion (λ item. mentions item n.link ≡ false) (body_from t n.address n.length) (each_weaker (IsBodyItem n) (λ item. mentions item n.link ≡ false) (λ item h. h.2) (body_from t n.address n.length) (body_is n good));
   }
+
+  procedures_are : (xs : List Note) → AllByRecursion (IsGoodNote is p) xs → AllByRecursion (λ n. IsRegister n.link) xs → AllByRecursion ProcedureFits (map (procedure_of t) xs)
+  procedures_are [] good small = tt
+  procedures_are (n ∷ xs) good small = (procedure_is n good.0 small.0, procedures_are xs good.1 small.1)
 
   pub is_graph : IsAscending p.code_words → IsGraph g
   is_graph ascending = record {
@@ -212,36 +223,7 @@ module _ (p : Program) (is : ℕ → Bool) (linked : IsLinked p) (dec : Decides 
     code_words = increasing p.code_words ascending;
     items = All-from_recursion ItemFits (all_items g) (each_weaker (IsItemGood g) ItemFits (λ item h. h.fits) (all_items g) items_are);
     terms = All-from_recursion (λ b. TermFits b.term) g.blocks (each_weaker (IsBlockGood (IsItemGood g) (IsTermGood g)) (λ b. TermFits b.term) (λ b h. h.term.fits) g.blocks blocks_are);
-    procedures = All-from_recursion ProcedureFits g.procedures (each_map (procedure_of t) ProcedureFits ns (each_weaker (IsGoodNote is p) (λ n. ProcedureFits (procedure_of t n)) procedure_is ns notes_are));
-  }
-
-  -- REGISTERS
-
-  block_registers : (b : Block) → IsBlockGood (IsItemGood g) (IsTermGood g) b → HasBlockRegisters b
-  block_registers b h = (All-from_recursion HasItemRegisters b.items (each_weaker (IsItemGood g) HasItemRegisters (λ item k. k.registers) b.items h.items), h.term.registers)
-
-  body_registers : (n : Note) → IsGoodNote is p n → All HasItemRegisters (body_from t n.address n.length)
-  body_registers n good = All-from_recursion HasItemRegisters (body_from t n.address n.length) (each_weaker (IsBodyItem n) HasItemRegisters (λ item h. h.0.registers) (body_from t n.address n.length) (body_is n good))
-
-  links_are : AllByRecursion (λ n. n.link < 32) ns
-  links_are = used_small p.notes (links_small is p None 1 p.notes fine.notes)
-    where
-      used_small : (xs : List Note) → AllByRecursion (λ n. n.link < 32) xs → AllByRecursion (λ n. n.link < 32) (used_notes is xs)
-      used_small [] h = tt
-      used_small (x ∷ xs) h = keeps (is x.address) (used_small xs h.1)
-        where
-          keeps : (b : Bool) → AllByRecursion (λ n. n.link < 32) (used_notes is xs) → AllByRecursion (λ n. n.link < 32) (if b then x ∷ used_notes is xs else used_notes is xs)
-          keeps true more = (h.0, more)
-          keeps false more = more
-
-  both_are : (xs : List Note) → AllByRecursion (IsGoodNote is p) xs → AllByRecursion (λ n. n.link < 32) xs → AllByRecursion HasProcedureRegisters (map (procedure_of t) xs)
-  both_are [] a b = tt
-  both_are (n ∷ xs) a b = ((body_registers n a.0, b.0), both_are xs a.1 b.1)
-
-  pub has_registers : HasRegisters g
-  has_registers = record {
-    blocks = All-from_recursion HasBlockRegisters g.blocks (each_weaker (IsBlockGood (IsItemGood g) (IsTermGood g)) HasBlockRegisters block_registers g.blocks blocks_are);
-    procedures = All-from_recursion HasProcedureRegisters g.procedures (both_are ns notes_are links_are);
+    procedures = All-from_recursion ProcedureFits g.procedures (procedures_are ns notes_are links_are);
   }
 
   -- SOUNDNESS

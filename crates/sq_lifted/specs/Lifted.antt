@@ -6,7 +6,6 @@ use Rattle.sq_graph.specs.Leaders.{IsCanonical}
 use Rattle.sq_graph.specs.Soundness.{IsSound}
 use Rattle.sq_graph.specs.Words.{words_of}
 use Rattle.sq_graph.specs.Places.{IsInReach}
-use Rattle.sq_write.specs.Registers.{HasRegisters}
 use Rattle.sq_program.specs.Programs.{Text, Program, end_of}
 use Rattle.sq_program.specs.Reached.{Decides}
 use Rattle.sq_program.specs.Lifted.{lifted}
@@ -17,11 +16,10 @@ pub record IsShort (t : Text) : Type 0 where
   pub short : 4 * length t.words ≤ 2 ^ 20
   pub ends : end_of t ≤ 2 ^ 32
 
--- The graph of a program that is not refused is a graph, whose registers are x0 to x31; it is canonical, sound and in
--- reach, and has no more words than its text.
+-- The graph of a program that is not refused keeps the rules, is canonical, sound and in reach, and has no more words than
+-- its text.
 pub record IsGoodGraph (is : ℕ → Bool) (p : Program) : Type 0 where
   pub graph : IsGraph (lifted is p)
-  pub registers : HasRegisters (lifted is p)
   pub canonical : IsCanonical (lifted is p)
   pub sound : IsSound (lifted is p)
   pub reach : IsInReach (lifted is p)

@@ -15,7 +15,6 @@ use Rattle.sq_graph.specs.Soundness.{IsSound}
 use Rattle.sq_graph.specs.Words.{words_of}
 use Rattle.sq_graph.specs.Places.{IsInReach}
 use Rattle.sq_graph.specs.Slotted.{slotted}
-use Rattle.sq_write.specs.Registers.{HasRegisters}
 use Rattle.sq_program.specs.Programs.{Text, Program}
 use Rattle.sq_follow.specs.Follows.{graph_run}
 use Rattle.sq_program.specs.FilePrograms.{IsProgramOf, IsLiftRefusal, IsLiftedFrom, IsRefusalOf, IsAcceptedFile}
@@ -35,10 +34,9 @@ pub record IsRefusedFile (bytes : List ℕ) (refusal : Refusal) : Type 0 where
   pub program : Program
   pub refuses : IsLiftRefusal bytes is program refusal
 
--- A graph fits a file: its registers are x0 to x31, it is canonical, sound and in reach, its words are no more than those of text, and its code words
+-- A graph fits a file: it is canonical, sound and in reach, its words are no more than those of text, and its code words
 -- stand where the file has some.
 pub record FitsFile (bytes : List ℕ) (g : Graph) : Type 0 where
-  pub registers : HasRegisters g
   pub canonical : IsCanonical g
   pub sound : IsSound g
   pub reach : IsInReach g

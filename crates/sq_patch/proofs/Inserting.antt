@@ -157,8 +157,8 @@ module _ (g : Graph) (new block next : ℕ) (rules : IsGraph g) (fresh : IsNew g
   back = lines_of (w ∷ rest)
 
   -- the slot behind the block goes on like the Jump to it
-  jump_goes : (b : Bool) → Alike C b None back (lines_of (jump ∷ w ∷ rest))
-  jump_goes b =
+  detour : (b : Bool) → Alike C b None back (lines_of (jump ∷ w ∷ rest))
+  detour b =
       name_before (name_after (jump_after (subst (λ lines. Alike C b None (body_lines w (lines_of rest)) lines) (sym next_leads) (next_goes b))))
 
   linked : links x.term ≡ true → MayHold w.name new
@@ -176,7 +176,7 @@ module _ (g : Graph) (new block next : ℕ) (rules : IsGraph g) (fresh : IsNew g
   body : (b : Bool) → Alike C b None (body_lines x back) (body_lines x (lines_of (jump ∷ w ∷ rest)))
   body b =
       subst (λ z. Alike C b None (body_lines x back) (body_lines z (lines_of (jump ∷ w ∷ rest)))) x_is
-      (carry_body C own x back (lines_of (jump ∷ w ∷ rest)) goes (λ f. jump_goes b))
+      (carry_body C own x back (lines_of (jump ∷ w ∷ rest)) goes (λ f. detour b))
 
   jump_passed : (m : ℕ) → Old m → behind_name m (lines_of (jump ∷ w ∷ rest)) ≡ behind_name m back
   jump_passed m k = let apart : (new == m) ≡ false = ne_eqb new m (λ e. k (sym e)) in rw apart refl
@@ -189,7 +189,7 @@ module _ (g : Graph) (new block next : ℕ) (rules : IsGraph g) (fresh : IsNew g
   block_dies backs die die' =
       subst (λ (z : Block). LinksDieIn h (body_lines z (lines_of (jump ∷ w ∷ rest)))) x_is
       (items_die C own backs x.items (term_lines x.term back) (term_lines (carried_block C own x).term (lines_of (jump ∷ w ∷ rest))) goes.items
-      (carry_term C own x.term back (lines_of (jump ∷ w ∷ rest)) goes.term goes.slot (λ f. jump_goes true)) die
+      (carry_term C own x.term back (lines_of (jump ∷ w ∷ rest)) goes.term goes.slot (λ f. detour true)) die
       (term_dies h (carried_block C own x).term (lines_of (jump ∷ w ∷ rest)) die'))
 
   turn : Turn C own Old true true (x ∷ []) (x ∷ jump ∷ []) (w ∷ rest) (w ∷ rest)
@@ -233,7 +233,7 @@ module _ (g : Graph) (new block next : ℕ) (rules : IsGraph g) (fresh : IsNew g
       (λ t.
       subst (λ (z : Block). Alike C true None (drop place (body_lines x back)) (drop place (body_lines z (lines_of (jump ∷ w ∷ rest))))) x_is
       (items_at C own place x.items (term_lines x.term back) (term_lines (carried_block C own x).term (lines_of (jump ∷ w ∷ rest))) goes.items (fits t)
-      (carry_term C own x.term back (lines_of (jump ∷ w ∷ rest)) goes.term goes.slot (λ f. jump_goes true))))
+      (carry_term C own x.term back (lines_of (jump ∷ w ∷ rest)) goes.term goes.slot (λ f. detour true))))
       (subst (λ ys. Alike C true None (drop place (behind_name m back)) (drop place ys)) (sym (jump_passed m k)) q)
 
   -- no more is live at a place of a block that was there

@@ -247,13 +247,13 @@ module _ (g : Graph) (block : ℕ) (cond : Cond) (a b over behind to : ℕ) (rul
       known to (term_use g n to (stands_at g rules (front ++ stand.x ∷ []) n back one) (subst (λ t. Contains (term_uses t) to) (sym stand.lone.1) (contains_first to [])))
 
   -- the slot behind the Branch goes on like the target of the Jump
-  jump_goes : Alike C true None (lines_of (n ∷ back)) (block_lines h to)
-  jump_goes =
+  detour : Alike C true None (lines_of (n ∷ back)) (block_lines h to)
+  detour =
       subst (λ lines. Alike C true None (Name n.name ∷ lines) (block_lines h to)) (sym (lone_lines n.items n.term n.name to (lines_of back) stand.lone.0 stand.lone.1))
       (name_before (jump_before (promised (refl, to_other))))
 
   ended : (t : Bool) → Alike C t None (term_lines stand.x.term (lines_of (n ∷ back))) (term_lines turned (lines_of back))
-  ended t = subst (λ u. Alike C t None (term_lines u (lines_of (n ∷ back))) (End turned ∷ lines_of back)) (sym stand.branch) (both_turned cond a b behind to target_goes jump_goes)
+  ended t = subst (λ u. Alike C t None (term_lines u (lines_of (n ∷ back))) (End turned ∷ lines_of back)) (sym stand.branch) (both_turned cond a b behind to target_goes detour)
 
   skip : (m : ℕ) → Other m → behind_name m (lines_of (n ∷ back)) ≡ behind_name m (lines_of back)
   skip m k = passed n m back (ne_eqb n.name m (λ e. k (sym e ∙ stand.second)))

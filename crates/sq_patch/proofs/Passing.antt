@@ -207,16 +207,16 @@ module _ (g : Graph) (block to : ℕ) (rules : IsGraph g) (passable : IsPassable
   word_held : (i n : ℕ) → slice_get (map word_name g.code_words) i ≡ Some n → (f n ≡ f n) × (every n × Contains (code_targets g) n)
   word_held i n e = (refl, (tt, word_target g n (from_slice (map word_name g.code_words) i n e)))
 
-  pub jump_goes_follows : Follows g h
-  jump_goes_follows = change_follows C steady (refl, tt) (same_addresses f g.code_words) (other_names f g.code_words) word_held
+  pub detour_follows : Follows g h
+  detour_follows = change_follows C steady (refl, tt) (same_addresses f g.code_words) (other_names f g.code_words) word_held
 
-  pub jump_goes_sound : IsSound g → IsSound h
-  jump_goes_sound sound =
+  pub detour_sound : IsSound g → IsSound h
+  detour_sound sound =
       carried_sound C own Other steady (λ xs r l. tt) tt every_block
       (words_held C rules holds may_go refl refl) (bodies_held C rules holds may_go refl refl) sound (procedures_sound C rules holds may_go refl refl sound)
 
   -- no more is live at a place of a block that stays
-  pub jump_goes_live : (n place r : ℕ) → Other n → place ≤ length (items_of g n) → IsLive h r (place_lines h n place) → IsLive g r (place_lines g n place)
-  jump_goes_live n place r other l live =
+  pub detour_live : (n place r : ℕ) → Other n → place ≤ length (items_of g n) → IsLive h r (place_lines h n place) → IsLive g r (place_lines g n place)
+  detour_live n place r other l live =
       live_at C own (carries_back C own Other steady (λ xs r l. tt) tt every_block (words_held C rules holds may_go refl refl) (bodies_held C rules holds may_go refl refl)) n place r
       (all_at n place other l [] g.blocks refl) live

@@ -203,8 +203,8 @@ insert_saves g new block next has =
 lone_words : (b : Block) (to : ℕ) → jump_of b.items b.term ≡ Some to → block_words b ≡ 1
 lone_words b to e = let o = lone_block b.items b.term to e in rw (o.0, o.1) refl
 
-pub jump_goes_saves : (g : Graph) (block to : ℕ) → IsPassable g block to → words_of (without_jump g block to) + 1 ≡ words_of g
-jump_goes_saves g block to passable =
+pub detour_saves : (g : Graph) (block to : ℕ) → IsPassable g block to → words_of (without_jump g block to) + 1 ≡ words_of g
+detour_saves g block to passable =
     let f = swapped block to in
     let o = jumps_from (block_of g block) to passable.jump in
     let at = located g.blocks block (subst IsSome (sym o.1.0) refl) in
@@ -231,7 +231,7 @@ pub saved : SaveWords
 saved = record {
   restrict = restrict_saves;
   fall = fall_saves;
-  jump_goes = jump_goes_saves;
+  detour = detour_saves;
   invert = λ g block cond a b over behind to rules jumped. invert_saves g block cond a b over behind to rules jumped;
   exchange = λ g block cond a b over away to rules over_jump. exchange_saves g block cond a b over away to rules over_jump;
   hasten = hasten_saves;

@@ -18,6 +18,7 @@ use Rattle.sq_graph.specs.Lines.{Line, Name, Do, Enter, Return, End, line_of, te
 use Rattle.sq_graph.specs.Walks.{IsLive, read_here, live_behind, is_register, line_reads}
 use Rattle.sq_graph.specs.Soundness.{IsSound}
 use Rattle.sq_graph.proofs.Located.{IsAt, located}
+use Rattle.sq_graph.proofs.Fitting.{term_fits}
 use Rattle.sq_graph.proofs.Changes.{with_blocks-at}
 use Rattle.sq_graph.proofs.SplitRules.{last_goes_on-append}
 use Rattle.sq_graph.proofs.OperationRules.{with_term_rules}
@@ -52,6 +53,11 @@ hastened_live h zero to r rest (read_here e) = absurd (no_sources r e)
 hastened_live h zero to r rest (live_behind w e l) = (zero_register r, subst (λ lines. IsLive h r lines) e l)
 hastened_live h (suc link) to r rest (read_here e) = absurd (no_sources r e)
 hastened_live h (suc link) to r rest (live_behind w e l) = (w, subst (λ lines. IsLive h r lines) e l)
+
+-- it fits as the longer jump did
+pub hastened_fits : (link part to : ℕ) → TermFits (PartJump link part to) → TermFits (hastened link to)
+hastened_fits zero part to fits = tt
+hastened_fits (suc link) part to fits = (fits.0, λ e. absurd (cc))
 
 -- the order of the two doesn't matter
 commute : (p q : Block → Block) (bs : List Block) (name : ℕ) → ((b : Block) → (p b).name ≡ b.name) → ((b : Block) → (q b).name ≡ b.name) → ((b : Block) → p (q b) ≡ q (p b)) → with_blocks (λ b. p b ∷ []) (with_blocks (λ b. q b ∷ []) bs name) name ≡ with_blocks (λ b. q b ∷ []) (with_blocks (λ b. p b ∷ []) bs name) name
@@ -100,10 +106,6 @@ module _ (g : Graph) (block at link part to : ℕ) (rules : IsGraph g) (can : Is
   absent = absent_from spot.front x back (distinct_at g rules spot.front x back whole)
 
   -- the graph with the shorter jump is one
-  fits : (l : ℕ) → TermFits (hastened l to)
-  fits zero = tt
-  fits (suc l) = λ e. absurd (cc)
-
   target_there : HasBlock g to
   target_there = term_used g rules x to (stands_at g rules spot.front x back whole) (subst (λ t. Contains (term_uses t) to) (sym jump_is) (contains_first to []))
 
@@ -130,7 +132,7 @@ module _ (g : Graph) (block at link part to : ℕ) (rules : IsGraph g) (can : Is
           subst IsSome (sym (ap first_key next ∙ ap (λ cs. first_key (named cs)) (sym i))) refl
 
   h_rules : IsGraph h
-  h_rules = with_term_rules g block new rules (subst IsSome (sym found) refl) (fits link) (uses_there link) next_there
+  h_rules = with_term_rules g block new rules (subst IsSome (sym found) refl) (hastened_fits link part to (term_fits g block (PartJump link part to) rules can.jump)) (uses_there link) next_there
 
   -- what stands in it behind the upper half
   items_same : items_of h block ≡ x.items

@@ -5,7 +5,7 @@ use Rattle.sq_graph.specs.Operations.{replaced, split_at}
 use Rattle.sq_graph.specs.Walks.{IsLive}
 use Rattle.sq_graph.specs.Graph.{Graph}
 use Rattle.sq_patch.specs.Merges.{tailed}
-use Rattle.sq_patch.specs.Liveness.{FallKeepsDead, HastenKeepsDead, DropKeepsDead, DropMovesDead, ShortenKeepsDead, RestrictKeepsDead, JumpGoesKeepsDead, InvertKeepsDead, MergeKeepsDead, BodyKeepsDead, TailKeepsDead, TailMovesDead, SplitKeepsDead, SplitMovesDead, CanonicalKeepsDead, InlineKeepsDead, InlineMovesDead, OutlineKeepsDead, CallKeepsDead, CallMovesDead, MatchKeepsDead, MatchMovesDead, RecallKeepsDead, UncalledGoesKeepsDead, InsertKeepsDead, ExchangeKeepsDead, ReorderKeepsDead}
+use Rattle.sq_patch.specs.Liveness.{FallKeepsDead, HastenKeepsDead, DropKeepsDead, DropMovesDead, ShortenKeepsDead, UnreachedKeepsDead, DetourKeepsDead, InvertKeepsDead, MergeKeepsDead, BodyKeepsDead, TailKeepsDead, TailMovesDead, SplitKeepsDead, SplitMovesDead, CanonicalKeepsDead, InlineKeepsDead, InlineMovesDead, OutlineKeepsDead, CallKeepsDead, CallMovesDead, MatchKeepsDead, MatchMovesDead, RecallKeepsDead, UncalledGoesKeepsDead, InsertKeepsDead, ExchangeKeepsDead, ReorderKeepsDead}
 use Rattle.sq_patch.proofs.OneBlock.{fall_live, hasten_place, drop_live, drop_moves, inline_live, inline_moves, split_live, split_moves}
 use Rattle.sq_patch.proofs.Merging.{can_merge, merge_live}
 use Rattle.sq_patch.proofs.MatchedBodies.{body_live}
@@ -19,7 +19,7 @@ use Rattle.sq_patch.proofs.Exchanging.{exchange_live}
 use Rattle.sq_patch.proofs.Reordering.{reorder_live}
 use Rattle.sq_patch.proofs.Shortening.{shorten_live}
 use Rattle.sq_patch.proofs.Restricting.{restrict_live}
-use Rattle.sq_patch.proofs.Passing.{jump_goes_live}
+use Rattle.sq_patch.proofs.Passing.{detour_live}
 use Rattle.sq_patch.proofs.Inverting.{invert_live}
 
 -- a place of a block, as one behind its start
@@ -32,8 +32,8 @@ fall_dead g block n rules jumps slot other place r has l stays gone live = gone 
 pub hasten_dead : HastenKeepsDead
 hasten_dead g block link part to rules jumps other place r has l stays gone live = gone (hasten_place g block link part to rules jumps other place r l live)
 
-pub jump_goes_dead : JumpGoesKeepsDead
-jump_goes_dead g block to rules passable other place r has l stays gone live = gone (jump_goes_live g block to rules passable other place r stays l live)
+pub detour_dead : DetourKeepsDead
+detour_dead g block to rules passable other place r has l stays gone live = gone (detour_live g block to rules passable other place r stays l live)
 
 pub invert_dead : InvertKeepsDead
 invert_dead g block cond a b over behind to rules jumped other place r has l stays gone live = gone (invert_live g block cond a b over behind to rules jumped other place r stays l live)
@@ -44,7 +44,7 @@ drop_dead g block at rd to rules there dead other place r has l stays gone live 
 pub shorten_dead : ShortenKeepsDead
 shorten_dead g block at link part to rules can other place r has l stays gone live = gone (shorten_live g block at link part to rules can other place r has l stays live)
 
-pub restrict_dead : RestrictKeepsDead
+pub restrict_dead : UnreachedKeepsDead
 restrict_dead g keep held rules closed other place r has l stays gone live = gone (restrict_live g keep held rules closed other place r stays l live)
 
 pub split_dead : SplitKeepsDead

@@ -67,8 +67,8 @@ abbrev pub ShortenKeepsDead : Type 0
 ShortenKeepsDead = (g : Graph) (block at link part to : ℕ) → IsGraph g → IsShortable g block at link part to → KeepsDead g (shortened g block at link to) (UpTo block at)
 
 -- A lone Jump gives its name to its target, and goes.
-abbrev pub JumpGoesKeepsDead : Type 0
-JumpGoesKeepsDead = (g : Graph) (block to : ℕ) → IsGraph g → IsPassable g block to → KeepsDead g (without_jump g block to) (Elsewhere block)
+abbrev pub DetourKeepsDead : Type 0
+DetourKeepsDead = (g : Graph) (block to : ℕ) → IsGraph g → IsPassable g block to → KeepsDead g (without_jump g block to) (Elsewhere block)
 
 -- A Branch over a lone Jump becomes the inverted one to its target.
 abbrev pub InvertKeepsDead : Type 0
@@ -76,8 +76,8 @@ InvertKeepsDead =
     (g : Graph) (block : ℕ) (cond : Cond) (a b over behind to : ℕ) → IsGraph g → IsJumpedOver g block cond a b over behind to → KeepsDead g (inverted_over g block cond a b over to) (Elsewhere over)
 
 -- The blocks of a closed set stay alone, with the procedures that these call.
-abbrev pub RestrictKeepsDead : Type 0
-RestrictKeepsDead = (g : Graph) (keep held : ℕ → Bool) → IsGraph g → IsClosed g keep held → KeepsDead g (restricted keep held g) (λ block place. keep block ≡ true)
+abbrev pub UnreachedKeepsDead : Type 0
+UnreachedKeepsDead = (g : Graph) (keep held : ℕ → Bool) → IsGraph g → IsClosed g keep held → KeepsDead g (restricted keep held g) (λ block place. keep block ≡ true)
 
 -- A block is split. What is dead at a place of its second half is dead at that of the new block.
 abbrev pub SplitKeepsDead : Type 0

@@ -30,11 +30,11 @@ abbrev pub without_jump : Graph → ℕ → ℕ → Graph
 without_jump g block to = without_block (redirected g block to) block
 
 -- A graph in which a lone Jump block gave its name to its target follows it, and is sound where it is.
-abbrev pub JumpGoesFollows : Type 0
-JumpGoesFollows = (g : Graph) (block to : ℕ) → IsGraph g → IsPassable g block to → Follows g (without_jump g block to)
+abbrev pub DetourFollows : Type 0
+DetourFollows = (g : Graph) (block to : ℕ) → IsGraph g → IsPassable g block to → Follows g (without_jump g block to)
 
-abbrev pub JumpGoesIsSound : Type 0
-JumpGoesIsSound = (g : Graph) (block to : ℕ) → IsGraph g → IsPassable g block to → IsSound g → IsSound (without_jump g block to)
+abbrev pub DetourIsSound : Type 0
+DetourIsSound = (g : Graph) (block to : ℕ) → IsGraph g → IsPassable g block to → IsSound g → IsSound (without_jump g block to)
 
 -- A Branch over the next slot, which is a lone Jump block that nothing names, to the slot behind that.
 pub record IsJumpedOver (g : Graph) (block : ℕ) (cond : Cond) (a b over behind to : ℕ) : Type 0 where

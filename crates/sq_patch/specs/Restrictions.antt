@@ -42,11 +42,11 @@ pub record IsClosed (g : Graph) (keep held : ℕ → Bool) : Type 0 where
   pub called : (q : ℕ) → held q ≡ true → IsCalledIn g keep q
 
 -- A graph with the blocks of a closed set alone follows it, and is sound where it is.
-abbrev pub RestrictFollows : Type 0
-RestrictFollows = (g : Graph) (keep held : ℕ → Bool) → IsGraph g → IsClosed g keep held → Follows g (restricted keep held g)
+abbrev pub UnreachedFollows : Type 0
+UnreachedFollows = (g : Graph) (keep held : ℕ → Bool) → IsGraph g → IsClosed g keep held → Follows g (restricted keep held g)
 
-abbrev pub RestrictIsSound : Type 0
-RestrictIsSound = (g : Graph) (keep held : ℕ → Bool) → IsGraph g → IsClosed g keep held → IsSound g → IsSound (restricted keep held g)
+abbrev pub UnreachedIsSound : Type 0
+UnreachedIsSound = (g : Graph) (keep held : ℕ → Bool) → IsGraph g → IsClosed g keep held → IsSound g → IsSound (restricted keep held g)
 
 -- exactly the blocks that are reached are kept, and exactly the procedures that these call are held
 pub record HoldsReached (g : Graph) (keep held : ℕ → Bool) : Type 0 where

@@ -11,8 +11,8 @@
 mod liveness;
 
 ghost use Rattle.sq_patch.specs.LiveAgreement.{StepsAgree, PlacesMakeTargets};
-ghost use Rattle.sq_patch.specs.Restrictions.{RestrictFollows, RestrictIsSound, ReachedAreClosed};
-ghost use Rattle.sq_patch.specs.LoneJumps.{JumpGoesFollows, JumpGoesIsSound, InvertFollows, InvertIsSound, ExchangeFollows, ExchangeIsSound};
+ghost use Rattle.sq_patch.specs.Restrictions.{UnreachedFollows, UnreachedIsSound, ReachedAreClosed};
+ghost use Rattle.sq_patch.specs.LoneJumps.{DetourFollows, DetourIsSound, InvertFollows, InvertIsSound, ExchangeFollows, ExchangeIsSound};
 ghost use Rattle.sq_patch.specs.Operations.{SplitFollows, SplitIsSound, FallFollows, FallIsSound, DropFollows, DropIsSound, HastenFollows, HastenIsSound, InlineFollows, InlineIsSound, CanonicalFollows, CanonicalIsSound, RenameFollows, OutlineFollows, OutlineIsSound, ShortenFollows, ShortenIsSound};
 ghost use Rattle.sq_patch.specs.Calls.{CallFollows, CallIsSound, MatchFollows, MatchIsSound};
 ghost use Rattle.sq_patch.specs.Merges.{MergeFollows, MergeIsSound, TailFollows, TailIsSound};
@@ -92,13 +92,13 @@ pub fn shorten_keeps_soundness()
 {}
 
 /// A graph with the blocks of a closed set alone, and the procedures that these call, follows it.
-pub fn restrict_keeps_runs()
-    ensures { RestrictFollows }
+pub fn unreached_keeps_runs()
+    ensures { UnreachedFollows }
 {}
 
 /// A graph with the blocks of a closed set alone is sound where the graph is.
-pub fn restrict_keeps_soundness()
-    ensures { RestrictIsSound }
+pub fn unreached_keeps_soundness()
+    ensures { UnreachedIsSound }
 {}
 
 /// The blocks that are reached are a closed set.
@@ -107,13 +107,13 @@ pub fn reached_are_closed()
 {}
 
 /// A graph in which a lone Jump block, into which nothing goes on, gave its name to its target and went follows it.
-pub fn jump_goes_keeps_runs()
-    ensures { JumpGoesFollows }
+pub fn detour_keeps_runs()
+    ensures { DetourFollows }
 {}
 
 /// A graph in which a lone Jump block gave its name to its target and went is sound where the graph is.
-pub fn jump_goes_keeps_soundness()
-    ensures { JumpGoesIsSound }
+pub fn detour_keeps_soundness()
+    ensures { DetourIsSound }
 {}
 
 /// A graph in which a Branch over a lone Jump became the inverted one, to the Jump's target, follows it.

@@ -1,18 +1,18 @@
 //! Registers that are dead stay dead under the operations.
 
-ghost use Rattle.sq_patch.specs.Liveness.{FallKeepsDead, JumpGoesKeepsDead, InvertKeepsDead, ShortenKeepsDead, HastenKeepsDead, DropKeepsDead, DropMovesDead, RestrictKeepsDead, TailKeepsDead, TailMovesDead, MergeKeepsDead, BodyKeepsDead, SplitKeepsDead, SplitMovesDead, CanonicalKeepsDead, OutlineKeepsDead, CallKeepsDead, CallMovesDead, MatchKeepsDead, MatchMovesDead, InlineKeepsDead, InlineMovesDead, RecallKeepsDead, UncalledGoesKeepsDead, InsertKeepsDead, ExchangeKeepsDead, ReorderKeepsDead};
+ghost use Rattle.sq_patch.specs.Liveness.{FallKeepsDead, DetourKeepsDead, InvertKeepsDead, ShortenKeepsDead, HastenKeepsDead, DropKeepsDead, DropMovesDead, UnreachedKeepsDead, TailKeepsDead, TailMovesDead, MergeKeepsDead, BodyKeepsDead, SplitKeepsDead, SplitMovesDead, CanonicalKeepsDead, OutlineKeepsDead, CallKeepsDead, CallMovesDead, MatchKeepsDead, MatchMovesDead, InlineKeepsDead, InlineMovesDead, RecallKeepsDead, UncalledGoesKeepsDead, InsertKeepsDead, ExchangeKeepsDead, ReorderKeepsDead};
 
 /// Registers that are dead at a place are dead there still, for each of these operations and each place that its statement
 /// names: all but those where the operation changes what stands behind.
 pub fn operations_keep_dead()
     ensures fall { FallKeepsDead }
-    ensures jump_goes { JumpGoesKeepsDead }
+    ensures detour { DetourKeepsDead }
     ensures invert { InvertKeepsDead }
     ensures shorten { ShortenKeepsDead }
     ensures hasten { HastenKeepsDead }
     ensures drop { DropKeepsDead }
     ensures drop_moves { DropMovesDead }
-    ensures restrict { RestrictKeepsDead }
+    ensures restrict { UnreachedKeepsDead }
     ensures tail { TailKeepsDead }
     ensures tail_moves { TailMovesDead }
     ensures merge { MergeKeepsDead }

@@ -8,10 +8,10 @@ use Rattle.sq_readback.proofs.BlockPlaces.{one_to_one}
 use Rattle.sq_readback.proofs.LiftedBack.{written_graphs_lift_back}
 
 pub lifted_back_is_alike : LiftedBackIsAlike
-lifted_back_is_alike = λ bytes g can registers canonical whole is every.
+lifted_back_is_alike = λ bytes g can canonical whole is every.
     let back : AreAlike g (lifted_back is g (text_of bytes).lo) = record {
       name = new_address g (text_of bytes).lo;
       one_to_one = one_to_one g (text_of bytes).lo canonical;
-      is = written_graphs_lift_back bytes g can registers canonical whole is every;
+      is = written_graphs_lift_back bytes g can canonical whole is every;
     } in
     record { there = alike_back g (lifted_back is g (text_of bytes).lo) can.rules back; back = back }

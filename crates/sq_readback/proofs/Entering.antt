@@ -35,7 +35,7 @@ use Rattle.sq_outputs.proofs.Accepting.{second_fails}
 use Rattle.sq_readback.specs.Programs.{word_at_point}
 use Rattle.sq_readback.specs.Words.{point_mark}
 use Rattle.sq_readback.proofs.Faults.{no_target, stop_facts, own_word, some_room, rest_stops, procedure_placed, block_placed, IsPlaced}
-use Rattle.sq_readback.proofs.Fields.{AllFit}
+use Rattle.sq_write.proofs.PointFields.{AllFit}
 use Rattle.sq_readback.proofs.Readings.{offset_leads}
 
 -- RANGES OF WORDS

@@ -40,7 +40,7 @@ use Rattle.sq_readback.specs.Faults.{WrittenTextIsNotRefused}
 use Rattle.sq_readback.specs.Programs.{word_at_point, graph_text}
 use Rattle.sq_readback.specs.Words.{point_mark}
 use Rattle.sq_readback.proofs.CodeWords.{low_word}
-use Rattle.sq_readback.proofs.Fields.{AllFit, text_fits}
+use Rattle.sq_write.proofs.PointFields.{AllFit, text_fits}
 use Rattle.sq_readback.proofs.Readings.{offset_leads, word_there}
 use Rattle.sq_readback.proofs.Written.{high, few_words}
 
@@ -334,8 +334,8 @@ module _ (g : Graph) (lo : ℕ) (rules : IsGraph g) (few : words_of g ≤ 262144
       (blocks_fine g.blocks lo rules.ends (omega arith) (omega arith) by.blocks) (procedures_fine g.procedures (procedures_at g lo) (omega arith) (omega arith) by.bodies)
 
 pub written_text_is_not_refused : WrittenTextIsNotRefused
-written_text_is_not_refused = λ bytes g can registers is.
+written_text_is_not_refused = λ bytes g can is.
     let ends : (text_of bytes).lo + 4 * words_of g ≤ 2 ^ 32 = omega (arith, can.words, high bytes g can) in
     no_faults is (graph_text g (text_of bytes).lo) (text_of bytes).lo (text_points g (text_of bytes).lo)
-    (text_fits g (text_of bytes).lo registers (text_stands g (text_of bytes).lo can.rules (few_words bytes g can) can.reach))
+    (text_fits g (text_of bytes).lo can.rules (text_stands g (text_of bytes).lo can.rules (few_words bytes g can) can.reach))
     (text_fine g (text_of bytes).lo can.rules (few_words bytes g can) ends (low_word bytes g can))

@@ -31,7 +31,7 @@ use Rattle.sq_readback.specs.Readings.{item_reading, term_readings, block_readin
 use Rattle.sq_readback.specs.Words.{point_mark}
 use Rattle.sq_readback.proofs.Entering.{block_before}
 use Rattle.sq_readback.proofs.Faults.{start_place}
-use Rattle.sq_readback.proofs.Fields.{AllFit}
+use Rattle.sq_write.proofs.PointFields.{AllFit}
 use Rattle.sq_readback.proofs.Readings.{ReadsAs, AreRead}
 
 -- WORDS AS FORMS

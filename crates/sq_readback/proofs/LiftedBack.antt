@@ -35,7 +35,7 @@ use Rattle.sq_readback.proofs.CodeWords.{low_word}
 use Rattle.sq_readback.proofs.Cutting.{none_cut, AreCut, blocks_cut}
 use Rattle.sq_readback.proofs.Entering.{not_below, is_inside}
 use Rattle.sq_readback.proofs.Faults.{placed_word}
-use Rattle.sq_readback.proofs.Fields.{AllFit, text_fits}
+use Rattle.sq_write.proofs.PointFields.{AllFit, text_fits}
 use Rattle.sq_readback.proofs.Forms.{forms_lead, forms_cut, all_lead, all_cut, item_form, procedure_forms, text_forms, forms_are}
 use Rattle.sq_readback.proofs.GraphLeaders.{reached_leads}
 use Rattle.sq_readback.proofs.Parts.{written_parts_lift_back}
@@ -241,10 +241,10 @@ module _ (g : Graph) (lo : ℕ) (rules : IsGraph g) (few : words_of g ≤ 262144
   blocks_back = ap (λ (rest : Rest). rest.blocks) cut_is
 
 pub written_graphs_lift_back : WrittenGraphsLiftBack
-written_graphs_lift_back = λ bytes g can registers canonical whole is every.
+written_graphs_lift_back = λ bytes g can canonical whole is every.
     let few = few_words bytes g can in
     let ends : (text_of bytes).lo + 4 * words_of g ≤ 2 ^ 32 = omega (arith, can.words, high bytes g can) in
-    let fits = text_fits g (text_of bytes).lo registers (text_stands g (text_of bytes).lo can.rules few can.reach) in
+    let fits = text_fits g (text_of bytes).lo can.rules (text_stands g (text_of bytes).lo can.rules few can.reach) in
     let blocks = blocks_back g (text_of bytes).lo can.rules few ends (low_word bytes g can) fits canonical whole is every in
-    let parts = written_parts_lift_back bytes g can registers is in
+    let parts = written_parts_lift_back bytes g can is in
     λ i. record { blocks = blocks i; entry = parts.entry i; code_words = parts.code_words i; procedures = parts.procedures i }

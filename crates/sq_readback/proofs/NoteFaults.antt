@@ -29,7 +29,6 @@ use Rattle.sq_program.specs.Notes.{is_in_procedure, is_above, is_in_order, is_it
 use Rattle.sq_program.specs.FilePrograms.{note_refusal}
 use Rattle.sq_program.specs.NoteSections.{notes_of}
 use Rattle.sq_write.specs.Points.{Point, new_address, new_start, call_link, item_point, items_points, plain_point, blocks_points, procedure_points, procedures_at, procedures_points, text_points}
-use Rattle.sq_write.specs.Registers.{HasProcedureRegisters, HasRegisters}
 use Rattle.sq_write.specs.Written.{written}
 use Rattle.sq_write.proofs.Fitting.{text_stands}
 use Rattle.sq_write.proofs.Lengths.{length_items, length_blocks}
@@ -40,7 +39,7 @@ use Rattle.sq_readback.specs.Words.{point_mark}
 use Rattle.sq_readback.proofs.CodeWords.{low_word}
 use Rattle.sq_readback.proofs.Entering.{not_below, not_above, none_enters, both_quiet, AreQuiet, block_before, blocks_quiet, procedures_quiet}
 use Rattle.sq_readback.proofs.Faults.{start_place, placed_word, written_text_is_not_refused}
-use Rattle.sq_readback.proofs.Fields.{AllFit, text_fits}
+use Rattle.sq_write.proofs.PointFields.{AllFit, text_fits}
 use Rattle.sq_readback.proofs.Notes.{notes_here}
 use Rattle.sq_readback.proofs.Readings.{item_reads, word_there}
 use Rattle.sq_readback.proofs.Written.{high, few_words}
@@ -190,11 +189,10 @@ module _ (g : Graph) (lo : ℕ) (rules : IsGraph g) (few : words_of g ≤ 262144
 
   -- EACH NOTE
 
-  notes_good : (is : ℕ → Bool) (front ps : List Procedure) (at number : ℕ) (before : Option ℕ) → g.procedures ≡ front ++ ps → at ≡ procedures_at g lo + 4 * sum_by procedure_words front → is_above before at ≡ true → AreThere (graph_text g lo) at (procedures_points g lo at ps) → All (BodyStands (HasBlock g) (HasProcedure g)) ps → All HasProcedureRegisters ps → All IsSoundBody ps → AllFit (text_points g lo) → bad_note_from is (graph_program g lo) before number (notes_from at ps) ≡ None
-  notes_good is front [] at number before same stands above there keeps registers sound fits = refl
-  notes_good is front (p ∷ ps) at number before same stands above there keeps registers sound fits =
+  notes_good : (is : ℕ → Bool) (front ps : List Procedure) (at number : ℕ) (before : Option ℕ) → g.procedures ≡ front ++ ps → at ≡ procedures_at g lo + 4 * sum_by procedure_words front → is_above before at ≡ true → AreThere (graph_text g lo) at (procedures_points g lo at ps) → All (BodyStands (HasBlock g) (HasProcedure g)) ps → All IsSoundBody ps → AllFit (text_points g lo) → bad_note_from is (graph_program g lo) before number (notes_from at ps) ≡ None
+  notes_good is front [] at number before same stands above there keeps sound fits = refl
+  notes_good is front (p ∷ ps) at number before same stands above there keeps sound fits =
       let own = All-head {X = Procedure} (BodyStands (HasBlock g) (HasProcedure g)) p ps keeps in
-      let small = All-head {X = Procedure} HasProcedureRegisters p ps registers in
       let good_body = All-head {X = Procedure} IsSoundBody p ps sound in
       let procedure_fits = own.fits in
       let points = procedure_points g lo at p in
@@ -205,7 +203,7 @@ module _ (g : Graph) (lo : ℕ) (rules : IsGraph g) (few : words_of g ≤ 262144
       let rest = back_there (graph_text g lo) (procedure_points g lo at p) (procedures_points g lo (at + 4 * procedure_words p) ps) at (at + 4 * procedure_words p) (omega (arith, long)) there in
       let word : is_word (graph_text g lo) at ≡ true = placed_word g lo rules few ends even at (record { place = sum_by block_words g.blocks + sum_by procedure_words front; is = omega (arith, stands); within = omega (arith, sum, cons) }) in
       let link_some : nat_lt 0 p.link ≡ true = above_zero p.link procedure_fits.link in
-      let link_small : nat_lt p.link 32 ≡ true = lt-ltb p.link 32 small.1 in
+      let link_small : nat_lt p.link 32 ≡ true = lt-ltb p.link 32 procedure_fits.register in
       let order : is_in_order (graph_text g lo) before (record { address = at; link = p.link; length = length p.body }) ≡ true = rw (word, above, link_some, link_small) refl in
       let some : nat_lt 0 (length p.body) ≡ true = some_items p.body good_body.some in
       let body : has_body (graph_text g lo) p.link at (length p.body) ≡ true = body_there p.body p.link at (omega (arith, stands)) (omega (arith, stands, sum, cons)) own.items procedure_fits.no_calls procedure_fits.no_mention here in
@@ -216,7 +214,7 @@ module _ (g : Graph) (lo : ℕ) (rules : IsGraph g) (few : words_of g ≤ 262144
       let further : at + 4 * procedure_words p ≡ procedures_at g lo + 4 * sum_by procedure_words (front ++ p ∷ []) = omega (arith, stands, sum_by-append procedure_words front (p ∷ []), sum_by-cons procedure_words p []) in
       let later : is_above (Some at) (at + 4 * procedure_words p) ≡ true = lt-ltb at (at + 4 * procedure_words p) (omega arith) in
       rw good
-      (notes_good is (front ++ p ∷ []) ps (at + 4 * procedure_words p) (number + 1) (Some at) longer further later rest (All-tail {X = Procedure} (BodyStands (HasBlock g) (HasProcedure g)) p ps keeps) (All-tail {X = Procedure} HasProcedureRegisters p ps registers) (All-tail {X = Procedure} IsSoundBody p ps sound) fits)
+      (notes_good is (front ++ p ∷ []) ps (at + 4 * procedure_words p) (number + 1) (Some at) longer further later rest (All-tail {X = Procedure} (BodyStands (HasBlock g) (HasProcedure g)) p ps keeps) (All-tail {X = Procedure} IsSoundBody p ps sound) fits)
     where
       above_zero : (x : ℕ) → x ≢ 0 → nat_lt 0 x ≡ true
       above_zero x some = grind (arith, nat_tests)
@@ -226,21 +224,21 @@ module _ (g : Graph) (lo : ℕ) (rules : IsGraph g) (few : words_of g ≤ 262144
       all_there (graph_text g lo) (text_points g lo) lo fits
       (λ k p is. word_there (map word_at_point (text_points g lo)) lo k (word_at_point p) (slice_get-map word_at_point (text_points g lo) k ∙ ap (option_map word_at_point) is))
 
-  pub all_good : (is : ℕ → Bool) → HasRegisters g → All IsSoundBody g.procedures → AllFit (text_points g lo) → bad_note is (graph_program g lo) ≡ None
-  all_good is registers sound fits =
+  pub all_good : (is : ℕ → Bool) → All IsSoundBody g.procedures → AllFit (text_points g lo) → bad_note is (graph_program g lo) ≡ None
+  all_good is sound fits =
       let by = by_block (HasBlock g) (HasProcedure g) g rules rules.named_all rules.called_all in
       let next : procedures_at g lo ≡ lo + 4 * length (blocks_points g lo lo g.blocks) = omega (arith, length_blocks g lo lo g.blocks) in
       notes_good is [] g.procedures (procedures_at g lo) 1 None refl (omega arith) refl
       (back_there (graph_text g lo) (blocks_points g lo lo g.blocks) (procedures_points g lo (procedures_at g lo) g.procedures) lo (procedures_at g lo) next (text_there fits))
-      by.bodies registers.procedures sound fits
+      by.bodies sound fits
 
 pub written_files_pass_early : WrittenFilesPassEarly
-written_files_pass_early = λ bytes g can registers sound is.
+written_files_pass_early = λ bytes g can sound is.
     let ends : (text_of bytes).lo + 4 * words_of g ≤ 2 ^ 32 = omega (arith, can.words, high bytes g can) in
-    let fits = text_fits g (text_of bytes).lo registers (text_stands g (text_of bytes).lo can.rules (few_words bytes g can) can.reach) in
-    let text = written_text_is_not_refused bytes g can registers is in
-    let note = all_good g (text_of bytes).lo can.rules (few_words bytes g can) ends (low_word bytes g can) is registers sound fits in
+    let fits = text_fits g (text_of bytes).lo can.rules (text_stands g (text_of bytes).lo can.rules (few_words bytes g can) can.reach) in
+    let text = written_text_is_not_refused bytes g can is in
+    let note = all_good g (text_of bytes).lo can.rules (few_words bytes g can) ends (low_word bytes g can) is sound fits in
     let prog = graph_program g (text_of bytes).lo in
     ap (λ first. option_or first (note_refusal is (graph_program g (text_of bytes).lo) (notes_of (written bytes g) (graph_text g (text_of bytes).lo)))) text
-    ∙ ap (note_refusal is (graph_program g (text_of bytes).lo)) (notes_here bytes g can registers (graph_text g (text_of bytes).lo))
+    ∙ ap (note_refusal is (graph_program g (text_of bytes).lo)) (notes_here bytes g can (graph_text g (text_of bytes).lo))
     ∙ ap (option_map BadNote) note

@@ -10,13 +10,13 @@ use Rattle.sq_elf.specs.Ranges.{bytes_at}
 use Rattle.sq_elf.specs.Reading.{section_at, contents_in}
 use Rattle.sq_elf.specs.Text.{text_of}
 use Rattle.sq_graph.specs.Graph.{Procedure, Graph}
+use Rattle.sq_graph.specs.Rules.{ProcedureFits}
 use Rattle.sq_graph.specs.Words.{procedure_words}
 use Rattle.sq_program.specs.Programs.{Text, Note}
 use Rattle.sq_program.specs.NoteSections.{note_if, note_sections_before, note_sections, full_note, full_notes, magic_1, magic_2, notes_in, notes_in_bytes, notes_in_sections, notes_of}
 use Rattle.sq_write.specs.Output.{words, Output, contents_at, contents_of, offsets, note_kind, output_file}
 use Rattle.sq_write.specs.Plain.{empty_note}
 use Rattle.sq_write.specs.Points.{procedures_at}
-use Rattle.sq_write.specs.Registers.{HasProcedureRegisters, HasRegisters}
 use Rattle.sq_write.specs.Written.{note_entries, note_from, written_output, written}
 use Rattle.sq_outputs.specs.Fitting.{IsFitting}
 use Rattle.sq_outputs.specs.Writing.{IsWritable}
@@ -46,15 +46,15 @@ entry_read note off at link size small_at small_link small_size has =
     let third : u32_field note (off + 8) ≡ size = word_at note off (at ∷ link ∷ size ∷ []) has 2 size refl small_size in
     rw (first, second, third) refl
 
-entries_read : (note : List ℕ) (off at : ℕ) (ps : List Procedure) → at + 4 * sum_by procedure_words ps ≤ 2 ^ 32 → All HasProcedureRegisters ps → PartAt note off (note_entries at ps) → full_notes note off (length ps) ≡ notes_from at ps
+entries_read : (note : List ℕ) (off at : ℕ) (ps : List Procedure) → at + 4 * sum_by procedure_words ps ≤ 2 ^ 32 → All ProcedureFits ps → PartAt note off (note_entries at ps) → full_notes note off (length ps) ≡ notes_from at ps
 unfolding made_note
 entries_read note off at [] ends all has = refl
 entries_read note off at (p ∷ ps) ends all has =
-    let registers = All-head {X = Procedure} HasProcedureRegisters p ps all in
+    let fits = All-head ProcedureFits p ps all in
     let sum = sum_by-cons procedure_words p ps in
-    let here = entry_read note off at p.link (length p.body) (omega (arith, ends, sum)) (omega (arith, registers.1)) (omega (arith, ends, sum)) (first_part note off (words (at ∷ p.link ∷ length p.body ∷ [])) (note_entries (at + 4 * procedure_words p) ps) has) in
+    let here = entry_read note off at p.link (length p.body) (omega (arith, ends, sum)) (omega (arith, fits.register)) (omega (arith, ends, sum)) (first_part note off (words (at ∷ p.link ∷ length p.body ∷ [])) (note_entries (at + 4 * procedure_words p) ps) has) in
     let rest : PartAt note (off + 12) (note_entries (at + 4 * procedure_words p) ps) = rest_part note off (words (at ∷ p.link ∷ length p.body ∷ [])) (note_entries (at + 4 * procedure_words p) ps) has in
-    let more = entries_read note (off + 12) (at + 4 * procedure_words p) ps (omega (arith, ends, sum)) (All-tail {X = Procedure} HasProcedureRegisters p ps all) rest in
+    let more = entries_read note (off + 12) (at + 4 * procedure_words p) ps (omega (arith, ends, sum)) (All-tail ProcedureFits p ps all) rest in
     ap (λ n. n ∷ full_notes note (off + 12) (length ps)) here ∙ ap (λ ns. made_note at p.link (length p.body) ∷ ns) more
 
 -- The whole note
@@ -88,7 +88,7 @@ empty_words = refl
 full_words : (count : ℕ) (rest : List ℕ) → codes "SQZ2" ++ words (count ∷ []) ++ rest ≡ words (magic_2 ∷ count ∷ []) ++ rest
 full_words count rest = refl
 
-note_read : (t : Text) (at : ℕ) (ps : List Procedure) → at + 4 * sum_by procedure_words ps ≤ 2 ^ 32 → All HasProcedureRegisters ps → notes_in t (note_from at ps) ≡ Some (notes_from at ps)
+note_read : (t : Text) (at : ℕ) (ps : List Procedure) → at + 4 * sum_by procedure_words ps ≤ 2 ^ 32 → All ProcedureFits ps → notes_in t (note_from at ps) ≡ Some (notes_from at ps)
 note_read t at [] ends all =
     ap (notes_in t) empty_words ∙ first_version t (words (magic_1 ∷ 0 ∷ []) ++ []) (head_read magic_1 0 [] (omega arith) (omega arith)) refl
 note_read t at (p ∷ ps) ends all =
@@ -151,12 +151,12 @@ module _ (o : Output) (fits : IsFitting o) where
   pub note_there : (t : Text) → notes_of (output_file o) t ≡ notes_in t o.note
   note_there t = ap (notes_in_sections (output_file o) t) the_note ∙ ap (notes_in_bytes t) its_bytes
 
-module _ (bytes : List ℕ) (g : Graph) (can : IsWritable bytes g) (registers : HasRegisters g) where
+module _ (bytes : List ℕ) (g : Graph) (can : IsWritable bytes g) where
   pub notes_here : (t : Text) → notes_of (written bytes g) t ≡ Some (graph_notes g (text_of bytes).lo)
   unfolding written
   notes_here t =
       note_there (written_output bytes g) (fitting bytes g can) t
-      ∙ note_read t (procedures_at g (text_of bytes).lo) g.procedures (omega (arith, can.words, high bytes g can)) registers.procedures
+      ∙ note_read t (procedures_at g (text_of bytes).lo) g.procedures (omega (arith, can.words, high bytes g can)) can.rules.procedures
 
 pub written_notes_are_read : WrittenNotesAreRead
-written_notes_are_read = λ bytes g can registers t. notes_here bytes g can registers t
+written_notes_are_read = λ bytes g can t. notes_here bytes g can t

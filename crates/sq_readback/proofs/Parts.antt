@@ -27,7 +27,7 @@ use Rattle.sq_readback.specs.Programs.{graph_text, new_code_word, notes_from}
 use Rattle.sq_readback.specs.Readings.{item_reading}
 use Rattle.sq_readback.specs.Words.{point_mark}
 use Rattle.sq_readback.proofs.CodeWords.{low_word}
-use Rattle.sq_readback.proofs.Fields.{text_fits}
+use Rattle.sq_write.proofs.PointFields.{text_fits}
 use Rattle.sq_readback.proofs.NoteFaults.{AreThere, front_there, back_there, text_there}
 use Rattle.sq_readback.proofs.Readings.{item_reads}
 use Rattle.sq_readback.proofs.Written.{high, few_words}
@@ -79,12 +79,12 @@ module _ (g : Graph) (lo : ℕ) (rules : IsGraph g) (few : words_of g ≤ 262144
       ∙ ap (λ qs. made_procedure p.link (map (retargeted_item (new_address g lo)) p.body) ∷ qs) more
 
 pub written_parts_lift_back : WrittenPartsLiftBack
-written_parts_lift_back = λ bytes g can registers is.
+written_parts_lift_back = λ bytes g can is.
     let lo = (text_of bytes).lo in
     let ends : (text_of bytes).lo + 4 * words_of g ≤ 2 ^ 32 = omega (arith, can.words, high bytes g can) in
     let few = few_words bytes g can in
     let by = by_block (HasBlock g) (HasProcedure g) g can.rules can.rules.named_all can.rules.called_all in
-    let fits = text_fits g (text_of bytes).lo registers (text_stands g (text_of bytes).lo can.rules few can.reach) in
+    let fits = text_fits g (text_of bytes).lo can.rules (text_stands g (text_of bytes).lo can.rules few can.reach) in
     let next : procedures_at g (text_of bytes).lo ≡ (text_of bytes).lo + 4 * length (blocks_points g (text_of bytes).lo (text_of bytes).lo g.blocks) = omega (arith, length_blocks g (text_of bytes).lo (text_of bytes).lo g.blocks) in
     let there = back_there (graph_text g (text_of bytes).lo) (blocks_points g (text_of bytes).lo (text_of bytes).lo g.blocks) (procedures_points g (text_of bytes).lo (procedures_at g (text_of bytes).lo) g.procedures) (text_of bytes).lo (procedures_at g (text_of bytes).lo) next (text_there g (text_of bytes).lo can.rules few ends (low_word bytes g can) fits) in
     record {

@@ -16,7 +16,6 @@ use Rattle.sq_graph.specs.Words.{words_of}
 use Rattle.sq_program.specs.Programs.{Word, Text}
 use Rattle.sq_program.specs.FilePrograms.{file_word, words_from, text_of as program_text, IsProgramOf}
 use Rattle.sq_write.specs.Points.{Point, new_address, point_word, text_points}
-use Rattle.sq_write.specs.Registers.{HasRegisters}
 use Rattle.sq_write.specs.Written.{written}
 use Rattle.sq_write.proofs.Lengths.{length_text}
 use Rattle.sq_outputs.specs.Writing.{IsWritable}
@@ -44,9 +43,9 @@ made_text low words = record { lo = low; words = words }
 made_file_word : (file : List ℕ) (at number : ℕ) (p : Point) → word_of file at ≡ Some number → mark_of file at ≡ point_mark p → file_word file at ≡ record { number = number; mark = point_mark p }
 made_file_word file at number p word mark = rw (word, mark) refl
 
-module _ (bytes : List ℕ) (g : Graph) (can : IsWritable bytes g) (registers : HasRegisters g) where
+module _ (bytes : List ℕ) (g : Graph) (can : IsWritable bytes g) where
   each_word : (k : ℕ) (p : Point) → slice_get (text_points g (text_of bytes).lo) k ≡ Some p → file_word (written bytes g) ((text_of bytes).lo + 4 * k) ≡ word_at_point p
-  each_word k p is = made_file_word (written bytes g) ((text_of bytes).lo + 4 * k) (point_word p) p (word_here bytes g can registers k p is) (mark_is bytes g can registers k p is)
+  each_word k p is = made_file_word (written bytes g) ((text_of bytes).lo + 4 * k) (point_word p) p (word_here bytes g can k p is) (mark_is bytes g can k p is)
 
   text_words : words_from (written bytes g) (text_of bytes).lo (length (text_points g (text_of bytes).lo)) ≡ map word_at_point (text_points g (text_of bytes).lo)
   text_words = words_read (written bytes g) (text_of bytes).lo (text_points g (text_of bytes).lo) each_word
@@ -81,7 +80,7 @@ ascend g lo (word ∷ words) up =
     let tail = increasing_tail word.at (map (λ w. w.at) words) up in
     (above_new g lo word.at words (all_above word.at words (first_above word words up) tail), ascend g lo words tail)
 
-module _ (bytes : List ℕ) (g : Graph) (can : IsWritable bytes g) (registers : HasRegisters g) where
+module _ (bytes : List ℕ) (g : Graph) (can : IsWritable bytes g) where
   code_words_here : AreCodeWords (written bytes g) (map (new_code_word g (text_of bytes).lo) g.code_words)
   code_words_here = record {
     ascending = ascend g (text_of bytes).lo g.code_words can.rules.code_words;
@@ -92,20 +91,20 @@ module _ (bytes : List ℕ) (g : Graph) (can : IsWritable bytes g) (registers : 
   program_here =
       let sizes = written_sizes bytes g can in
       record {
-        text = text_here bytes g can registers;
+        text = text_here bytes g can;
         entry = sym sizes.entry;
         code_words = code_words_here;
-        notes = sym (ap (λ found. unwrap_or found []) (notes_here bytes g can registers (program_text (written bytes g))));
+        notes = sym (ap (λ found. unwrap_or found []) (notes_here bytes g can (program_text (written bytes g))));
       }
 
 pub written_programs_are_read : WrittenProgramsAreRead
-written_programs_are_read = λ bytes g can registers. program_here bytes g can registers
+written_programs_are_read = λ bytes g can. program_here bytes g can
 
 pub written_files_are_read : WrittenFilesAreRead
-written_files_are_read = λ bytes g can registers is decides.
+written_files_are_read = λ bytes g can is decides.
     record {
       file = written_is_accepted bytes g can;
       relocs = relocations_accepted bytes g can;
-      program = program_here bytes g can registers;
+      program = program_here bytes g can;
       reached = decides;
     }

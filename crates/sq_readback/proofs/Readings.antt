@@ -28,7 +28,6 @@ use Rattle.sq_program.specs.Programs.{Word, Text, word_from, is_in_text}
 use Rattle.sq_program.specs.Reached.{target_from}
 use Rattle.sq_program.specs.Readings.{Reading, IsItem, IsTerm, Links, jal_reading, plain_reading, marked_reading, reading_of, reading_at}
 use Rattle.sq_write.specs.Points.{Point, new_address, new_start, call_link, offset_to, item_point, items_points, stop_insn, plain_point, term_points, block_points, blocks_points, procedure_points, procedures_at, procedures_points, text_points}
-use Rattle.sq_write.specs.Registers.{HasRegisters}
 use Rattle.sq_write.proofs.Fitting.{new_spot}
 use Rattle.sq_write.proofs.Lengths.{length_items, length_term, length_blocks, length_text}
 use Rattle.sq_outputs.specs.Writing.{IsWritable}
@@ -187,7 +186,7 @@ module _ (g : Graph) (lo : ℕ) (rules : IsGraph g) (few : words_of g ≤ 262144
       (ap (λ x. Some (IsTerm (Branch c a b x))) (leads at (new_address g lo to) low (omega arith) (block_inside to there)), tt)
   term_reads (Call link to) at low high names fits =
       let there = All-head (HasBlock g) to [] names in
-      (links_read at link (new_address g lo to) (offset_to at (new_address g lo to)) fits (leads at (new_address g lo to) low (omega arith) (block_inside to there)), tt)
+      (links_read at link (new_address g lo to) (offset_to at (new_address g lo to)) fits.1 (leads at (new_address g lo to) low (omega arith) (block_inside to there)), tt)
   term_reads (PartJump link part to) at low high names fits = (rw (in_text to (All-head (HasBlock g) to [] names)) refl, tt)
   term_reads (Indirect link register offset) at low high names fits = (refl, tt)
   term_reads (Stop word) at low high names fits = (stop_reads at word, tt)
@@ -243,7 +242,7 @@ word_there (v ∷ ws) at (suc k) w is =
     let next : at + 4 * suc k ≡ at + 4 + 4 * k = omega arith in
     rw (later at k) (ap (λ x. word_from x (at + 4) ws) next ∙ word_there ws (at + 4) k w is)
 
-module _ (bytes : List ℕ) (g : Graph) (can : IsWritable bytes g) (registers : HasRegisters g) where
+module _ (bytes : List ℕ) (g : Graph) (can : IsWritable bytes g) where
   ends_within : (text_of bytes).lo + 4 * words_of g ≤ 2 ^ 32
   ends_within = omega (arith, can.words, high bytes g can)
 
@@ -254,10 +253,10 @@ module _ (bytes : List ℕ) (g : Graph) (can : IsWritable bytes g) (registers : 
       let found = read_at (graph_text g (text_of bytes).lo) (text_points g (text_of bytes).lo) (text_readings g (text_of bytes).lo) (text_of bytes).lo k r (text_read g (text_of bytes).lo can.rules (few_words bytes g can) ends_within) is in
       let there : slice_get (map word_at_point (text_points g (text_of bytes).lo)) k ≡ Some (word_at_point found.point) = slice_get-map word_at_point (text_points g (text_of bytes).lo) k ∙ ap (option_map word_at_point) found.there in
       let word = word_there (map word_at_point (text_points g (text_of bytes).lo)) (text_of bytes).lo k (word_at_point found.point) there in
-      let fits = point_fits bytes g can registers k found.point found.there in
+      let fits = point_fits bytes g can k found.point found.there in
       ap (option_and_then (reading_of (graph_text g (text_of bytes).lo) ((text_of bytes).lo + 4 * k))) word
       ∙ ap (option_and_then (marked_reading (graph_text g (text_of bytes).lo) ((text_of bytes).lo + 4 * k) (point_mark found.point))) (insn_of-word_of found.point.insn fits)
       ∙ found.reads
 
 pub written_words_read_back : WrittenWordsReadBack
-written_words_read_back = λ bytes g can registers k r is. reading_here bytes g can registers k r is
+written_words_read_back = λ bytes g can k r is. reading_here bytes g can k r is

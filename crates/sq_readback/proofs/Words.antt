@@ -27,7 +27,6 @@ use Rattle.sq_graph.specs.Blocks.{HasBlock}
 use Rattle.sq_graph.specs.Words.{words_of}
 use Rattle.sq_write.specs.Output.{Relocation}
 use Rattle.sq_write.specs.Points.{Point, new_address, point_word, text_points}
-use Rattle.sq_write.specs.Registers.{HasRegisters}
 use Rattle.sq_write.specs.Written.{written}
 use Rattle.sq_write.proofs.Fitting.{text_stands}
 use Rattle.sq_write.proofs.Lengths.{length_text}
@@ -36,7 +35,7 @@ use Rattle.sq_outputs.proofs.TextWords.{written_words_are_read}
 use Rattle.sq_readback.specs.Entries.{read_entry, numbered}
 use Rattle.sq_readback.specs.Words.{mark_by, point_mark, WrittenInstructionsAreRead, WrittenMarksAreRead}
 use Rattle.sq_readback.proofs.CodeWords.{numbered_both, text_is, low_word, place_in_text}
-use Rattle.sq_readback.proofs.Fields.{AllFit, text_fits}
+use Rattle.sq_write.proofs.PointFields.{AllFit, text_fits}
 use Rattle.sq_readback.proofs.Points.{Shape, AreShaped, text_shaped, IsHalf, entries_in, point_halves, halves_of}
 use Rattle.sq_readback.proofs.Written.{IsWordEntry, all_good, word_entries, few_words, block_place, address_fits, low_entries, high_entries, half_entries, entries_here}
 
@@ -199,7 +198,7 @@ mark_made : (file : List ℕ) (address : ℕ) → mark_of file address ≡ mark_
 unfolding mark_of
 mark_made file address = refl
 
-module _ (bytes : List ℕ) (g : Graph) (can : IsWritable bytes g) (registers : HasRegisters g) (k : ℕ) (p : Point) (is : slice_get (text_points g (text_of bytes).lo) k ≡ Some p) where
+module _ (bytes : List ℕ) (g : Graph) (can : IsWritable bytes g) (k : ℕ) (p : Point) (is : slice_get (text_points g (text_of bytes).lo) k ≡ Some p) where
   abbrev address : ℕ
   address = (text_of bytes).lo + 4 * k
 
@@ -208,7 +207,7 @@ module _ (bytes : List ℕ) (g : Graph) (can : IsWritable bytes g) (registers : 
 
   pub point_fits : FieldsFit p.insn
   point_fits =
-      fits_at (text_points g (text_of bytes).lo) k p (text_fits g (text_of bytes).lo registers (text_stands g (text_of bytes).lo can.rules (few_words bytes g can) can.reach)) is
+      fits_at (text_points g (text_of bytes).lo) k p (text_fits g (text_of bytes).lo can.rules (text_stands g (text_of bytes).lo can.rules (few_words bytes g can) can.reach)) is
 
   pub word_here : word_of (written bytes g) ((text_of bytes).lo + 4 * k) ≡ Some (point_word p)
   word_here = written_words_are_read bytes g can k p is (word_of_below p.insn point_fits)
@@ -287,7 +286,7 @@ module _ (bytes : List ℕ) (g : Graph) (can : IsWritable bytes g) (registers : 
       ∙ marked (shape_at g (text_of bytes).lo (text_points g (text_of bytes).lo) (text_of bytes).lo k p (text_shaped g (text_of bytes).lo can.rules) is)
 
 pub written_instructions_are_read : WrittenInstructionsAreRead
-written_instructions_are_read = λ bytes g can registers k p is. insn_here bytes g can registers k p is
+written_instructions_are_read = λ bytes g can k p is. insn_here bytes g can k p is
 
 pub written_marks_are_read : WrittenMarksAreRead
-written_marks_are_read = λ bytes g can registers k p is. mark_is bytes g can registers k p is
+written_marks_are_read = λ bytes g can k p is. mark_is bytes g can k p is

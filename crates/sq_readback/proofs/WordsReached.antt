@@ -33,7 +33,6 @@ use Rattle.sq_program.specs.Programs.{word_from, word_at, IsWord, target_of}
 use Rattle.sq_program.specs.Reached.{jump_target, half_target, insn_goes_on, next_word, insn_leads, marked_leads, word_leads, leads_from, IsReached, Decides, entry as entry_reached, code_word as code_word_reached, walk as walk_reached}
 use Rattle.sq_program.specs.Notes.{used_notes}
 use Rattle.sq_write.specs.Points.{Point, new_address, new_start, call_link, offset_to, low_entry, item_insn, item_point, items_points, plain_point, term_points, block_points, blocks_points, procedure_points, procedures_at, procedures_points, text_points}
-use Rattle.sq_write.specs.Registers.{HasRegisters}
 use Rattle.sq_write.proofs.Fitting.{text_stands}
 use Rattle.sq_write.proofs.Lengths.{length_items, length_blocks}
 use Rattle.sq_outputs.specs.Writing.{IsWritable}
@@ -42,7 +41,7 @@ use Rattle.sq_readback.specs.Whole.{IsWhole, WrittenWordsAreReached, WrittenNote
 use Rattle.sq_readback.specs.Words.{point_mark}
 use Rattle.sq_readback.proofs.CodeWords.{low_word}
 use Rattle.sq_readback.proofs.Faults.{IsPlaced, block_placed, procedure_placed, placed_word, leads, some_room, own_word, rest_stops}
-use Rattle.sq_readback.proofs.Fields.{AllFit, text_fits}
+use Rattle.sq_write.proofs.PointFields.{AllFit, text_fits}
 use Rattle.sq_readback.proofs.NoteFaults.{AreThere, front_there, back_there, text_there}
 use Rattle.sq_readback.proofs.Points.{block_length}
 use Rattle.sq_readback.proofs.Readings.{link_real}
@@ -219,7 +218,7 @@ module _ (g : Graph) (lo : ℕ) (rules : IsGraph g) (few : words_of g ≤ 262144
   term_reached (Call link to) at j is within room there names fits from = record {
     points = (from, tt);
     names = one Named to (jump_reached at j to (record { insn = Jal link (offset_to at (new_address g lo to)); entries = [] }) is within there.0 from (All-head (HasBlock g) to [] names) (λ placed. ap (λ x. x ∷ []) (leads g lo rules few ends even at (new_address g lo to) (omega arith) (omega arith) placed)));
-    behind = λ goes. to_next at (record { insn = Jal link (offset_to at (new_address g lo to)); entries = [] }) there.0 from (link_goes link fits) (word (at + 4) (j + 1) (omega arith) (still true (j + 1) (words_of g) room goes));
+    behind = λ goes. to_next at (record { insn = Jal link (offset_to at (new_address g lo to)); entries = [] }) there.0 from (link_goes link fits.1) (word (at + 4) (j + 1) (omega arith) (still true (j + 1) (words_of g) room goes));
   }
   term_reached (PartJump link part to) at j is within room there names fits from =
       let point : Point = record { insn = Jalr link part (low_half (new_address g lo to)); entries = low_entry at (new_address g lo to) } in
@@ -509,12 +508,12 @@ notes_used is (p ∷ ps) at starts =
     let more = notes_used is ps (at + 4 * procedure_words p) (λ q less. starts (suc q) (omega arith)) in
     rw first (ap (λ ns. record { address = at; link = p.link; length = length p.body } ∷ ns) more)
 
-module _ (bytes : List ℕ) (g : Graph) (can : IsWritable bytes g) (registers : HasRegisters g) where
+module _ (bytes : List ℕ) (g : Graph) (can : IsWritable bytes g) where
   ends_within : (text_of bytes).lo + 4 * words_of g ≤ 2 ^ 32
   ends_within = omega (arith, can.words, high bytes g can)
 
   fits : AllFit (text_points g (text_of bytes).lo)
-  fits = text_fits g (text_of bytes).lo registers (text_stands g (text_of bytes).lo can.rules (few_words bytes g can) can.reach)
+  fits = text_fits g (text_of bytes).lo can.rules (text_stands g (text_of bytes).lo can.rules (few_words bytes g can) can.reach)
 
   words_reached : IsWhole g → (x : ℕ) → IsWord (graph_text g (text_of bytes).lo) x → IsReached (graph_program g (text_of bytes).lo) x
   words_reached whole x there = word_reached g (text_of bytes).lo can.rules (few_words bytes g can) ends_within (low_word bytes g can) fits whole x there
@@ -525,7 +524,7 @@ module _ (bytes : List ℕ) (g : Graph) (can : IsWritable bytes g) (registers : 
       (λ q there. decides.all (new_start g (text_of bytes).lo q) (start_reached g (text_of bytes).lo can.rules (few_words bytes g can) ends_within (low_word bytes g can) fits whole q there))
 
 pub written_words_are_reached : WrittenWordsAreReached
-written_words_are_reached = λ bytes g can registers whole x there. words_reached bytes g can registers whole x there
+written_words_are_reached = λ bytes g can whole x there. words_reached bytes g can whole x there
 
 pub written_notes_are_used : WrittenNotesAreUsed
-written_notes_are_used = λ bytes g can registers whole is decides. all_notes_used bytes g can registers whole is decides
+written_notes_are_used = λ bytes g can whole is decides. all_notes_used bytes g can whole is decides

@@ -8,7 +8,6 @@ use Rattle.sq_graph.specs.Renames.{renamed}
 use Rattle.sq_program.specs.Lifted.{lifted_with}
 use Rattle.sq_program.specs.Programs.{IsWord}
 use Rattle.sq_write.specs.Points.{new_address}
-use Rattle.sq_write.specs.Registers.{HasRegisters}
 use Rattle.sq_outputs.specs.Writing.{IsWritable}
 use Rattle.sq_readback.specs.Programs.{graph_text, graph_notes, graph_program}
 use Rattle.sq_readback.specs.Whole.{IsWhole}
@@ -25,7 +24,7 @@ lifted_back is g lo = lifted_with is (graph_notes g lo) (graph_program g lo)
 -- Where each word of text is reached, cutting gives the blocks back as they were, with new addresses for names.
 abbrev pub WrittenGraphsLiftBack : Type 0
 WrittenGraphsLiftBack =
-    (bytes : List ℕ) (g : Graph) → IsWritable bytes g → HasRegisters g → IsCanonical g → IsWhole g → (is : ℕ → Bool)
+    (bytes : List ℕ) (g : Graph) → IsWritable bytes g → IsCanonical g → IsWhole g → (is : ℕ → Bool)
     → ((x : ℕ) → IsWord (graph_text g (text_of bytes).lo) x → is x ≡ true)
     → lifted_back is g (text_of bytes).lo ≡ renamed (new_address g (text_of bytes).lo) g
 
@@ -37,6 +36,6 @@ pub record AreAlikeBothWays (g h : Graph) : Type 0 where
 -- So the lifted graph and the graph differ in the names of blocks alone.
 abbrev pub LiftedBackIsAlike : Type 0
 LiftedBackIsAlike =
-    (bytes : List ℕ) (g : Graph) → IsWritable bytes g → HasRegisters g → IsCanonical g → IsWhole g → (is : ℕ → Bool)
+    (bytes : List ℕ) (g : Graph) → IsWritable bytes g → IsCanonical g → IsWhole g → (is : ℕ → Bool)
     → ((x : ℕ) → IsWord (graph_text g (text_of bytes).lo) x → is x ≡ true)
     → AreAlikeBothWays (lifted_back is g (text_of bytes).lo) g

@@ -3,12 +3,11 @@ use Rattle.std.specs.Prelude.{◌≡◌, ℕ, Bool, List, None}
 use Rattle.sq_elf.specs.Text.{text_of}
 use Rattle.sq_graph.specs.Graph.{Graph}
 use Rattle.sq_program.specs.Faults.{text_refusal}
-use Rattle.sq_write.specs.Registers.{HasRegisters}
 use Rattle.sq_outputs.specs.Writing.{IsWritable}
 use Rattle.sq_readback.specs.Programs.{graph_program}
 
 -- Whichever words are reached, none of them has a fault.
 abbrev pub WrittenTextIsNotRefused : Type 0
 WrittenTextIsNotRefused =
-    (bytes : List ℕ) (g : Graph) → IsWritable bytes g → HasRegisters g → (is : ℕ → Bool)
+    (bytes : List ℕ) (g : Graph) → IsWritable bytes g → (is : ℕ → Bool)
     → text_refusal is (graph_program g (text_of bytes).lo) ≡ None

@@ -5,7 +5,6 @@ use Rattle.sq_elf.specs.Text.{text_of}
 use Rattle.sq_graph.specs.Graph.{Graph}
 use Rattle.sq_graph.specs.Soundness.{IsSoundBody}
 use Rattle.sq_program.specs.FilePrograms.{early_refusal}
-use Rattle.sq_write.specs.Registers.{HasRegisters}
 use Rattle.sq_write.specs.Written.{written}
 use Rattle.sq_outputs.specs.Writing.{IsWritable}
 use Rattle.sq_readback.specs.Programs.{graph_program}
@@ -14,5 +13,5 @@ use Rattle.sq_readback.specs.Programs.{graph_program}
 -- die behind calls is not asked here.
 abbrev pub WrittenFilesPassEarly : Type 0
 WrittenFilesPassEarly =
-    (bytes : List ℕ) (g : Graph) → IsWritable bytes g → HasRegisters g → All IsSoundBody g.procedures → (is : ℕ → Bool)
+    (bytes : List ℕ) (g : Graph) → IsWritable bytes g → All IsSoundBody g.procedures → (is : ℕ → Bool)
     → early_refusal (written bytes g) is (graph_program g (text_of bytes).lo) ≡ None

@@ -5,7 +5,6 @@ use Rattle.sq_graph.specs.Graph.{Graph}
 use Rattle.sq_graph.specs.Renames.{renamed}
 use Rattle.sq_program.specs.Lifted.{lifted_with}
 use Rattle.sq_write.specs.Points.{new_address}
-use Rattle.sq_write.specs.Registers.{HasRegisters}
 use Rattle.sq_outputs.specs.Writing.{IsWritable}
 use Rattle.sq_readback.specs.Programs.{graph_notes, graph_program}
 
@@ -19,5 +18,5 @@ pub record HasPartsOf (g h : Graph) : Type 0 where
 -- name of a block is its new address.
 abbrev pub WrittenPartsLiftBack : Type 0
 WrittenPartsLiftBack =
-    (bytes : List ℕ) (g : Graph) → IsWritable bytes g → HasRegisters g → (is : ℕ → Bool)
+    (bytes : List ℕ) (g : Graph) → IsWritable bytes g → (is : ℕ → Bool)
     → HasPartsOf (lifted_with is (graph_notes g (text_of bytes).lo) (graph_program g (text_of bytes).lo)) (renamed (new_address g (text_of bytes).lo) g)

@@ -10,7 +10,6 @@ use Rattle.sq_program.specs.FilePrograms.{IsProgramOf, IsReadAs}
 use Rattle.sq_program.specs.Reached.{Decides}
 use Rattle.sq_program.specs.NoteSections.{notes_of}
 use Rattle.sq_write.specs.Points.{Point, new_address, point_word, procedures_at, text_points}
-use Rattle.sq_write.specs.Registers.{HasRegisters}
 use Rattle.sq_write.specs.Written.{written}
 use Rattle.sq_outputs.specs.Writing.{IsWritable}
 use Rattle.sq_readback.specs.Words.{point_mark}
@@ -47,16 +46,16 @@ graph_program g lo = record {
 -- The note of the file lists the procedures of the graph, each at its new address.
 abbrev pub WrittenNotesAreRead : Type 0
 WrittenNotesAreRead =
-    (bytes : List ℕ) (g : Graph) → IsWritable bytes g → HasRegisters g → (t : Text)
+    (bytes : List ℕ) (g : Graph) → IsWritable bytes g → (t : Text)
     → notes_of (written bytes g) t ≡ Some (graph_notes g (text_of bytes).lo)
 
 -- The program of the file is that of the graph.
 abbrev pub WrittenProgramsAreRead : Type 0
 WrittenProgramsAreRead =
-    (bytes : List ℕ) (g : Graph) → IsWritable bytes g → HasRegisters g → IsProgramOf (written bytes g) (graph_program g (text_of bytes).lo)
+    (bytes : List ℕ) (g : Graph) → IsWritable bytes g → IsProgramOf (written bytes g) (graph_program g (text_of bytes).lo)
 
 -- The file passes what is asked before its text, and its program is that of the graph.
 abbrev pub WrittenFilesAreRead : Type 0
 WrittenFilesAreRead =
-    (bytes : List ℕ) (g : Graph) → IsWritable bytes g → HasRegisters g → (is : ℕ → Bool)
+    (bytes : List ℕ) (g : Graph) → IsWritable bytes g → (is : ℕ → Bool)
     → Decides (graph_program g (text_of bytes).lo) is → IsReadAs (written bytes g) is (graph_program g (text_of bytes).lo)

@@ -9,7 +9,6 @@ use Rattle.sq_graph.specs.declared.item.Term.TheVariants.{Fall, Jump, Branch, Ca
 use Rattle.sq_graph.specs.Graph.{Block, Procedure, Graph}
 use Rattle.sq_program.specs.Readings.{Reading, IsItem, IsTerm, Links, reading_at}
 use Rattle.sq_write.specs.Points.{new_address, new_start, call_link}
-use Rattle.sq_write.specs.Registers.{HasRegisters}
 use Rattle.sq_outputs.specs.Writing.{IsWritable}
 use Rattle.sq_readback.specs.Programs.{graph_text}
 
@@ -45,6 +44,6 @@ text_readings g lo = flat_map (block_readings g lo) g.blocks ++ flat_map (proced
 -- Each word of the program of the file reads as what it was written of.
 abbrev pub WrittenWordsReadBack : Type 0
 WrittenWordsReadBack =
-    (bytes : List ℕ) (g : Graph) → IsWritable bytes g → HasRegisters g → (k : ℕ) (r : Reading)
+    (bytes : List ℕ) (g : Graph) → IsWritable bytes g → (k : ℕ) (r : Reading)
     → slice_get (text_readings g (text_of bytes).lo) k ≡ Some r
     → reading_at (graph_text g (text_of bytes).lo) ((text_of bytes).lo + 4 * k) ≡ Some r

@@ -9,7 +9,6 @@ use Rattle.sq_graph.specs.Walks.{IsReachedBlock}
 use Rattle.sq_program.specs.Programs.{IsWord}
 use Rattle.sq_program.specs.Reached.{IsReached, Decides}
 use Rattle.sq_program.specs.Notes.{used_notes}
-use Rattle.sq_write.specs.Registers.{HasRegisters}
 use Rattle.sq_outputs.specs.Writing.{IsWritable}
 use Rattle.sq_readback.specs.Programs.{graph_text, graph_notes, graph_program}
 
@@ -21,12 +20,12 @@ pub record IsWhole (g : Graph) : Type 0 where
 -- Each word of text of the file of a whole graph is reached.
 abbrev pub WrittenWordsAreReached : Type 0
 WrittenWordsAreReached =
-    (bytes : List ℕ) (g : Graph) → IsWritable bytes g → HasRegisters g → IsWhole g → (x : ℕ)
+    (bytes : List ℕ) (g : Graph) → IsWritable bytes g → IsWhole g → (x : ℕ)
     → IsWord (graph_text g (text_of bytes).lo) x → IsReached (graph_program g (text_of bytes).lo) x
 
 -- So all its notes are used, by any test that decides which words are reached.
 abbrev pub WrittenNotesAreUsed : Type 0
 WrittenNotesAreUsed =
-    (bytes : List ℕ) (g : Graph) → IsWritable bytes g → HasRegisters g → IsWhole g → (is : ℕ → Bool)
+    (bytes : List ℕ) (g : Graph) → IsWritable bytes g → IsWhole g → (is : ℕ → Bool)
     → Decides (graph_program g (text_of bytes).lo) is
     → used_notes is (graph_notes g (text_of bytes).lo) ≡ graph_notes g (text_of bytes).lo

@@ -9,14 +9,13 @@ use Rattle.sq_reloc.specs.Required.{insn_at}
 use Rattle.sq_graph.specs.Graph.{Graph}
 use Rattle.sq_write.specs.Output.{Relocation}
 use Rattle.sq_write.specs.Points.{Point, text_points}
-use Rattle.sq_write.specs.Registers.{HasRegisters}
 use Rattle.sq_write.specs.Written.{written}
 use Rattle.sq_outputs.specs.Writing.{IsWritable}
 
 -- The instruction at the address of a word of text is that of its point.
 abbrev pub WrittenInstructionsAreRead : Type 0
 WrittenInstructionsAreRead =
-    (bytes : List ℕ) (g : Graph) → IsWritable bytes g → HasRegisters g → (k : ℕ) (p : Point)
+    (bytes : List ℕ) (g : Graph) → IsWritable bytes g → (k : ℕ) (p : Point)
     → slice_get (text_points g (text_of bytes).lo) k ≡ Some p → insn_at (written bytes g) ((text_of bytes).lo + 4 * k) ≡ Some p.insn
 
 -- R_RISCV_HI20 marks a word Hi and R_RISCV_LO12_I marks it Lo, with the address; without an entry it is Plain
@@ -30,5 +29,5 @@ point_mark p = mark_by p.entries
 -- The mark of a word of text is that of its point.
 abbrev pub WrittenMarksAreRead : Type 0
 WrittenMarksAreRead =
-    (bytes : List ℕ) (g : Graph) → IsWritable bytes g → HasRegisters g → (k : ℕ) (p : Point)
+    (bytes : List ℕ) (g : Graph) → IsWritable bytes g → (k : ℕ) (p : Point)
     → slice_get (text_points g (text_of bytes).lo) k ≡ Some p → mark_of (written bytes g) ((text_of bytes).lo + 4 * k) ≡ point_mark p

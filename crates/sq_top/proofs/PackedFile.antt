@@ -19,7 +19,6 @@ use Rattle.sq_graph.specs.Words.{words_of}
 use Rattle.sq_follow.specs.Follows.{word_address}
 use Rattle.sq_program.specs.FilePrograms.{IsAcceptedFile}
 use Rattle.sq_program.specs.Lifted.{code_ref, lifted}
-use Rattle.sq_write.specs.Registers.{HasRegisters}
 use Rattle.sq_write.specs.Written.{written}
 use Rattle.sq_write.proofs.AlikeGraphs.{alike_fit}
 use Rattle.sq_write.proofs.SegmentFacts.{few_text}
@@ -72,7 +71,7 @@ module _ (bytes : List ℕ) (first g : Graph) (savings : Savings) (f : FitsFile 
 pub small_text : (bytes : List ℕ) (g : Graph) → file_refusal_of bytes ≡ None → FitsFile bytes g → words_of g ≤ 1048576
 small_text bytes g accepted f = omega (arith, f.words, few_text bytes accepted)
 
-module _ (bytes : List ℕ) (first g : Graph) (savings : Savings) (fit : AllByRecursion (λ b. b < 256) bytes) (l : IsLiftedFile bytes first) (f : FitsFile bytes first) (r : IsRewritten IsCandidate described NONE savings first g) (rules : IsGraph g) (registers : HasRegisters g) where
+module _ (bytes : List ℕ) (first g : Graph) (savings : Savings) (fit : AllByRecursion (λ b. b < 256) bytes) (l : IsLiftedFile bytes first) (f : FitsFile bytes first) (r : IsRewritten IsCandidate described NONE savings first g) (rules : IsGraph g) where
   lighter : IsLighter r.saved first g
   lighter = r.lighter
 
@@ -96,7 +95,6 @@ module _ (bytes : List ℕ) (first g : Graph) (savings : Savings) (fit : AllByRe
   into : IsWritableInto bytes l.program g
   into = record {
     rules = rules;
-    registers = registers;
     reach = can.reach;
     words = can.words;
     code_words = lighter.follows.addresses ∙ ((alike_fit (lifted l.is l.program) first (files_good bytes l.is l.program fit l.lifted.accepted).graph l.lifted.alike).code_words ∙ refs_at l.program.code_words);
@@ -124,7 +122,7 @@ module _ (bytes : List ℕ) (first g : Graph) (savings : Savings) (fit : AllByRe
     whole = whole_without_candidates g rules lighter.canonical none
 
     back : IsReachedFile (written bytes g) g
-    back = reads_back bytes g writable registers lighter.canonical (lighter.sound f.sound) whole
+    back = reads_back bytes g writable lighter.canonical (lighter.sound f.sound) whole
 
     left : (h : Graph) → IsLiftedFile (written bytes g) h → IsSlotted h → IsLeftoverFree h
     left h lifted named =

@@ -9,7 +9,6 @@ use Rattle.sq_program.specs.FilePrograms.{early_refusal, IsReadAs, IsLiftedFrom}
 use Rattle.sq_program.specs.Lifted.{lifted, lifted_with}
 use Rattle.sq_program.specs.Programs.{Program, is_word, IsWord}
 use Rattle.sq_program.specs.Reached.{IsReached, entry, code_word, walk, Decides}
-use Rattle.sq_write.specs.Registers.{HasRegisters}
 use Rattle.sq_write.specs.Written.{written}
 use Rattle.sq_outputs.specs.Writing.{IsWritable}
 use Rattle.sq_readback.specs.Programs.{graph_text, graph_program}
@@ -30,7 +29,7 @@ reached_word p x (entry word) = word
 reached_word p x (code_word to word) = word
 reached_word p x (walk before leads word) = word
 
-module _ (bytes : List ℕ) (g : Graph) (can : IsWritable bytes g) (registers : HasRegisters g) (canonical : IsCanonical g) (sound : IsSound g) (whole : IsWhole g) where
+module _ (bytes : List ℕ) (g : Graph) (can : IsWritable bytes g) (canonical : IsCanonical g) (sound : IsSound g) (whole : IsWhole g) where
   abbrev lo : ℕ
   lo = (text_of bytes).lo
 
@@ -42,25 +41,25 @@ module _ (bytes : List ℕ) (g : Graph) (can : IsWritable bytes g) (registers : 
   is x = is_word (graph_text g lo) x
 
   each_reached : (x : ℕ) → IsWord (graph_text g lo) x → IsReached p x
-  each_reached = written_words_are_reached bytes g can registers whole
+  each_reached = written_words_are_reached bytes g can whole
 
   decides : Decides p is
   decides = record { only = each_reached; all = reached_word p }
 
   read : IsReadAs (written bytes g) is p
-  read = written_files_are_read bytes g can registers is decides
+  read = written_files_are_read bytes g can is decides
 
   early : early_refusal (written bytes g) is p ≡ None
-  early = written_files_pass_early bytes g can registers sound.bodies is
+  early = written_files_pass_early bytes g can sound.bodies is
 
   all_used : lifted_back is g lo ≡ lifted is p
-  all_used = ap (λ ns. lifted_with is ns p) (sym (written_notes_are_used bytes g can registers whole is decides))
+  all_used = ap (λ ns. lifted_with is ns p) (sym (written_notes_are_used bytes g can whole is decides))
 
   there : AreAlike (lifted is p) g
-  there = subst (λ h. AreAlike h g) all_used (lifted_back_is_alike bytes g can registers canonical whole is (λ x word. word)).there
+  there = subst (λ h. AreAlike h g) all_used (lifted_back_is_alike bytes g can canonical whole is (λ x word. word)).there
 
   back : AreAlike g (lifted is p)
-  back = subst (AreAlike g) all_used (lifted_back_is_alike bytes g can registers canonical whole is (λ x word. word)).back
+  back = subst (AreAlike g) all_used (lifted_back_is_alike bytes g can canonical whole is (λ x word. word)).back
 
   from : IsLiftedFrom (written bytes g) is p g
   from = record {

@@ -23,7 +23,7 @@ use Rattle.sq_drive.proofs.Rewrites.{some_word}
 use Rattle.sq_lookup.specs.Names.{is_listed}
 use Rattle.sq_jumps.specs.Unreached.{stays, is_called_in, is_held, words_gone, AreUnreached}
 use Rattle.sq_drive.specs.Rows.{IsLeftoverFree}
-use Rattle.sq_jumps.proofs.Counting.{are_unreached}
+use Rattle.sq_jumps.proofs.UnreachedCounted.{are_unreached}
 use Rattle.sq_readback.specs.Whole.{IsWhole}
 
 -- a block that is counted has a word

@@ -20,7 +20,6 @@ use Rattle.sq_drive.specs.Rows.{IsCandidate, described, IsLeftoverFree}
 use Rattle.sq_program.specs.Programs.{IsWord}
 use Rattle.sq_program.specs.Reached.{IsReached}
 use Rattle.sq_program.specs.FilePrograms.{IsAcceptedFile}
-use Rattle.sq_write.specs.Registers.{HasRegisters}
 use Rattle.sq_write.specs.Written.{written}
 use Rattle.sq_outputs.specs.Writing.{IsWritable}
 use Rattle.sq_readback.specs.Whole.{IsWhole}
@@ -53,7 +52,7 @@ pub record IsReachedFile (bytes : List ℕ) (graph : Graph) : Type 0 where
 -- back as this graph.
 abbrev pub WrittenFilesReadBack : Type 0
 WrittenFilesReadBack =
-    (given : List ℕ) (graph : Graph) → IsWritable given graph → HasRegisters graph → IsCanonical graph → IsSound graph → IsWhole graph
+    (given : List ℕ) (graph : Graph) → IsWritable given graph → IsCanonical graph → IsSound graph → IsWhole graph
     → IsReachedFile (written given graph) graph
 
 -- what an output is of a given file

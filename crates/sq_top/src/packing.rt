@@ -11,7 +11,6 @@ ghost use Rattle.sq_graph.specs.Rules.{IsGraph};
 ghost use Rattle.sq_graph.specs.Words.{words_of};
 ghost use Rattle.sq_program.specs.FilePrograms.{IsRefusalOf};
 ghost use Rattle.sq_write.specs.Written.{written};
-ghost use Rattle.sq_write.specs.Registers.{HasRegisters};
 ghost use Rattle.sq_top.specs.Packing.{Packs, GoodOutput, CanBeWritten};
 
 use sq_drive::settle_slotted;
@@ -22,7 +21,6 @@ use sq_lifted::lift;
 use sq_num::{Bytes, Denied, Memory, Packed, Savings};
 use sq_reloc::{Relocs, read_relocs};
 use sq_write::write_elf;
-use sq_writing::registers_fit;
 use std::alloc::Global;
 
 /// Packs the file of these bytes: reads it as a graph of what is reached, rewrites that by the rows of the cost rule until
@@ -61,11 +59,9 @@ fn write_graph(
     requires fits { CanBeWritten elf.now graph.now.graph }
     ensures file { IfOk result (λ file. file.items ≡ written elf.now graph.now.graph) }
     ensures rules { OnOk result (IsGraph graph.now.graph) }
-    ensures registers { OnOk result (HasRegisters graph.now.graph) }
 {
     // Its contract has that a graph keeps the rules.
     let _entry = graph.entry();
-    registers_fit(graph);
     let places = place(alloc, graph, elf.text().lo)?;
     write_elf(alloc, elf, relocs, graph, &places)
 }

@@ -118,8 +118,8 @@ module _ (g : Graph) (lo : ℕ) (rules : IsGraph g) (few : words_of g ≤ 262144
 
   item_stands : (item : Item) (at j : ℕ) → at ≡ lo + 4 * j → j < words_of g → ItemKeeps (HasBlock g) (HasProcedure g) item → ItemStands g lo at item
   item_stands (Op insn) at j e within keeps = (keeps.fits, operation_fits insn keeps.fits.0)
-  item_stands (Hi rd to) at j e within keeps = (tt, tt)
-  item_stands (Lo rd rs to) at j e within keeps = (tt, tt)
+  item_stands (Hi rd to) at j e within keeps = (keeps.fits, tt)
+  item_stands (Lo rd rs to) at j e within keeps = (keeps.fits, tt)
   item_stands (Out p) at j e within keeps =
       let found = start_spot p (All-head (HasProcedure g) p [] keeps.calls) in
       (tt, jump_fits lo at (new_start g lo p) j found.2.place e (omega (arith, found.1, found.2.is)) (omega (arith, few)) (omega (arith, few, found.2.within)))

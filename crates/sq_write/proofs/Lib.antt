@@ -3,6 +3,7 @@ pub mod Assembling
 pub mod CodeWordCount
 pub mod Files
 pub mod Fitting
+pub mod PointFields
 pub mod Laying
 pub mod Lengths
 pub mod PieceWalks

@@ -7,4 +7,3 @@ pub mod Written
 pub mod Standing
 pub mod Laid
 pub mod Alike
-pub mod Registers

@@ -65,7 +65,7 @@ use Rattle.sq_writing.specs.Writing.{new_names, IsOutsideText, HasWords, IsWritt
 use Rattle.sq_files.specs.Shows.{IsFileStart, ShowsGraph}
 use Rattle.sq_writing.specs.Files.{IsWritableInto, code_word_address, WrittenFilesShowGraphs}
 use Rattle.sq_writing.proofs.Written.{writing_keeps_runs}
-use Rattle.sq_writing.proofs.Standing.{AllFit, text_fits}
+use Rattle.sq_write.proofs.PointFields.{AllFit, text_fits}
 use Rattle.sq_writing.proofs.Somewhere.{Somewhere, none_of, back_of, either_of, one_filtered, some_changed, one_mapped, to_mapped, one_flat, to_flat, HasCell}
 use Rattle.sq_writing.proofs.Parts.{eq_is, plain_region, cell_in}
 use Rattle.sq_writing.proofs.Images.{any_all, images_agree, text_cell}
@@ -425,7 +425,7 @@ module _ (bytes : List ℕ) (is : ℕ → Bool) (p : Program) (g : Graph) (fit :
     word_there : (i : ℕ) (q : Point) → slice_get (text_points g lo) i ≡ Some q → aligned_number (file_state (written bytes g) start).memory (lo + 4 * i) 4 ≡ Some (point_word q)
     unfolding number_at
     word_there i q e =
-        let fits = fits_get (text_points g lo) i q (text_fits g lo can.registers (text_stands g lo can.rules few can.reach)) e in
+        let fits = fits_get (text_points g lo) i q (text_fits g lo can.rules (text_stands g lo can.rules few can.reach)) e in
         let small = word_of_below q.insn fits in
         let low_word = facts.inside.low_word in
         let aligned : ((lo + 4 * i) % 4 == 0) ≡ true = eq_is ((lo + 4 * i) % 4) 0 (omega (arith, low_word)) in
@@ -515,7 +515,6 @@ module _ (bytes : List ℕ) (is : ℕ → Bool) (p : Program) (g : Graph) (fit :
         let top = high_end in
         record {
           rules = can.rules;
-          registers = can.registers;
           reach = can.reach;
           words = omega (arith, l, h, words);
           aligned = ap (λ n. n % 4) l ∙ low;

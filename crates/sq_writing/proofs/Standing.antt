@@ -29,7 +29,6 @@ use Rattle.sq_layout.proofs.Walks.{fresh}
 use Rattle.sq_write.proofs.Lengths.{length_items, length_term, length_blocks}
 use Rattle.sq_write.specs.Points.{Point, new_address, new_start, call_link, offset_to, item_insn, items_points, stop_insn, plain_point, term_points, block_points, blocks_points, procedure_points, procedures_points, procedures_at, text_points}
 use Rattle.sq_write.specs.Standing.{ItemStands, ItemsStand, TermStands, BlocksStand, ProceduresStand, TextStands}
-use Rattle.sq_write.specs.Registers.{HasItemRegisters, HasTermRegisters, HasBlockRegisters, HasProcedureRegisters, HasRegisters}
 
 -- WHERE LINES STAND
 
@@ -250,81 +249,3 @@ module _ (g : Graph) (lo : ℕ) (There : ℕ → Insn → Type 0) where
           some_link = fits.link;
           body = subst (λ at. BodyStands p.link at p.body) start placed.body;
         }
-
--- THE POINTS ARE INSTRUCTIONS WHOSE FIELDS FIT
-
-high_small : (t : ℕ) → high_half t < 2 ^ 20
-high_small t = omega arith
-
-low_small : (t : ℕ) → IsSigned 12 (low_half t)
-low_small t = go (nat_lt (t % 4096) 2048) refl
-  where
-    go : (b : Bool) → nat_lt (t % 4096) 2048 ≡ b → IsSigned 12 (if b then pos (t % 4096) else (pos (t % 4096) -ℤ pos 4096))
-    go true e = (grind (arith, nat_tests), grind (arith, nat_tests))
-    go false e = (grind (arith, nat_tests), grind (arith, nat_tests))
-
-abbrev pub AllFit : List Point → Type 0
-AllFit [] = Unit {0}
-AllFit (p ∷ ps) = FieldsFit p.insn × AllFit ps
-
-both_fit : (xs ys : List Point) → AllFit xs → AllFit ys → AllFit (xs ++ ys)
-both_fit [] ys h k = k
-both_fit (x ∷ xs) ys h k = (h.0, both_fit xs ys h.1 k)
-
-link_fits : (ps : List Procedure) (index : ℕ) → All HasProcedureRegisters ps → IsRegister (unwrap_or (procedure_link (slice_get ps index)) 0)
-link_fits [] index all = omega arith
-link_fits (p ∷ ps) zero all = (All-head {X = Procedure} HasProcedureRegisters p ps all).1
-link_fits (p ∷ ps) (suc index) all = link_fits ps index (All-tail {X = Procedure} HasProcedureRegisters p ps all)
-
-stop_insn_fits : (word : ℕ) → IsStop word → FieldsFit (stop_insn word)
-stop_insn_fits word stops = go (word == 0x00100073) refl
-  where
-    go : (b : Bool) → (word == 0x00100073) ≡ b → FieldsFit (if b then Ebreak else Unimp word)
-    go true e = tt
-    go false e = elim stops [ inl same ↦ absurd (let f : true ≡ false = sym (eq-eqb word 0x00100073 same) ∙ e in cc) | inr unimp ↦ unimp ]
-
-module _ (g : Graph) (lo : ℕ) (registers : HasRegisters g) where
-  items_fit : (items : List Item) (at : ℕ) → ItemsStand g lo at items → All HasItemRegisters items → AllFit (items_points g lo at items)
-  items_fit [] at h all = tt
-  items_fit (item ∷ items) at h all =
-      (one item h.0 (All-head {X = Item} HasItemRegisters item items all), items_fit items (at + 4) h.1 (All-tail {X = Item} HasItemRegisters item items all))
-    where
-      one : (item : Item) → ItemStands g lo at item → HasItemRegisters item → FieldsFit (item_insn g lo at item)
-      one (Op insn) s r = s.0.1
-      one (Hi rd to) s r = (r, high_small (new_address g lo to))
-      one (Lo rd rs to) s r = (r.0, r.1, low_small (new_address g lo to))
-      one (Out p) s r = (link_fits g.procedures p registers.procedures, s.1.0, s.1.1)
-
-  term_fit : (t : Term) (at : ℕ) → TermStands g lo at t → HasTermRegisters t → AllFit (term_points g lo at t)
-  term_fit Fall at s r = tt
-  term_fit (Jump to) at s r = let h = s.1.0 in ((omega arith, h.0, h.1), tt)
-  term_fit (Branch c a b to) at s r = let h = s.1.0 in ((r.0, r.1, h.0, h.1), tt)
-  term_fit (Call link to) at s r = let h = s.1.0 in ((r, h.0, h.1), tt)
-  term_fit (PartJump link part to) at s r = ((r.0, r.1, low_small (new_address g lo to)), tt)
-  term_fit (Indirect link register offset) at s r = ((r.0, r.1, s.0), tt)
-  term_fit (Stop word) at s r = (stop_insn_fits word s.0, tt)
-
-  blocks_fit : (bs : List Block) (at : ℕ) → BlocksStand g lo at bs → All HasBlockRegisters bs → AllFit (blocks_points g lo at bs)
-  blocks_fit [] at h all = tt
-  blocks_fit (b ∷ bs) at h all =
-      let r = All-head {X = Block} HasBlockRegisters b bs all in
-      let middle : ℕ = at + 4 * length b.items in
-      let next : ℕ = at + 4 * block_words b in
-      both_fit (block_points g lo at b) (blocks_points g lo next bs)
-      (both_fit (items_points g lo at b.items) (term_points g lo middle b.term) (items_fit b.items at h.0.0 r.0) (term_fit b.term middle h.0.1 r.1))
-      (blocks_fit bs next h.1 (All-tail {X = Block} HasBlockRegisters b bs all))
-
-  procedures_fit : (ps : List Procedure) (at : ℕ) → ProceduresStand g lo at ps → All HasProcedureRegisters ps → AllFit (procedures_points g lo at ps)
-  procedures_fit [] at h all = tt
-  procedures_fit (p ∷ ps) at h all =
-      let r = All-head {X = Procedure} HasProcedureRegisters p ps all in
-      let next : ℕ = at + 4 * procedure_words p in
-      both_fit (procedure_points g lo at p) (procedures_points g lo next ps)
-      (both_fit (items_points g lo at p.body) (plain_point (Jalr 0 p.link (pos 0))) (items_fit p.body at h.0 r.0) ((omega arith, r.1, zero_small), tt))
-      (procedures_fit ps next h.1 (All-tail {X = Procedure} HasProcedureRegisters p ps all))
-    where
-      zero_small : IsSigned 12 (pos 0)
-      zero_small = (omega (arith, ints), omega (arith, ints))
-
-  pub text_fits : TextStands g lo → AllFit (text_points g lo)
-  text_fits h = both_fit (blocks_points g lo lo g.blocks) (procedures_points g lo (procedures_at g lo) g.procedures) (blocks_fit g.blocks lo h.blocks registers.blocks) (procedures_fit g.procedures (procedures_at g lo) h.procedures registers.procedures)

@@ -62,7 +62,8 @@ use Rattle.sq_write.proofs.Lengths.{length_text}
 use Rattle.sq_writing.specs.Writable.{IsWritable}
 use Rattle.sq_writing.specs.Writing.{new_names, IsOutsideText, IsWrittenStart, WritingKeepsRuns}
 use Rattle.sq_writing.proofs.PlainText.{Unbroken, surely, KeepsText, outside_text, finish_keeps, plain_keeps}
-use Rattle.sq_writing.proofs.Standing.{DoStands, EndStands, Stands, BodyStands, behind_stands, AreThere, lines_stand, procedure_stands, AllFit, text_fits}
+use Rattle.sq_write.proofs.PointFields.{AllFit, text_fits}
+use Rattle.sq_writing.proofs.Standing.{DoStands, EndStands, Stands, BodyStands, behind_stands, AreThere, lines_stand, procedure_stands}
 
 -- NUMBERS
 
@@ -237,7 +238,7 @@ module _ (w : World) (g : Graph) (can : IsWritable g w.lo w.hi) (start : Start) 
   words_there =
       let words = can.words in
       let size = length_text g w.lo in
-      points_there plain_world first.memory w.lo w.hi g (text_points g w.lo) w.lo (text_fits g w.lo can.registers (text_stands g w.lo can.rules few can.reach)) (omega arith) can.aligned (omega (arith, words, size)) begins.text
+      points_there plain_world first.memory w.lo w.hi g (text_points g w.lo) w.lo (text_fits g w.lo can.rules (text_stands g w.lo can.rules few can.reach)) (omega arith) can.aligned (omega (arith, words, size)) begins.text
 
   all_stand : Stands g w.lo There w.lo (lines_of g.blocks)
   all_stand = lines_stand g w.lo There can.rules words_there

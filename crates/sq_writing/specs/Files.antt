@@ -10,18 +10,16 @@ use Rattle.sq_graph.specs.Places.{IsInReach}
 use Rattle.sq_follow.specs.Follows.{word_address}
 use Rattle.sq_program.specs.Programs.{Program}
 use Rattle.sq_program.specs.FilePrograms.{IsReadAs}
-use Rattle.sq_write.specs.Registers.{HasRegisters}
 use Rattle.sq_write.specs.Written.{written}
 use Rattle.sq_files.specs.Shows.{ShowsGraph}
 
 abbrev pub code_word_address : CodeWord → ℕ
 code_word_address word = word.at
 
--- The graph may be written in place of the file's text: it keeps the rules, its registers are x0 to x31, each Branch
--- reaches its target, it has no more words than text, and its code words stand where those of the file do.
+-- The graph may be written in place of the file's text: it keeps the rules, each Branch reaches its target, it has no more
+-- words than text, and its code words stand where those of the file do.
 pub record IsWritableInto (bytes : List ℕ) (p : Program) (g : Graph) : Type 0 where
   pub rules : IsGraph g
-  pub registers : HasRegisters g
   pub reach : IsInReach g
   pub words : (text_of bytes).lo + 4 * words_of g ≤ (text_of bytes).hi
   pub code_words : map word_address g.code_words ≡ map code_word_address p.code_words

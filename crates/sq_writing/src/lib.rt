@@ -6,12 +6,8 @@
 //! every start that is valid for it.
 #![tactic(auto)]
 
-mod registers;
-
 ghost use Rattle.sq_writing.specs.Writing.{WritingKeepsRuns};
 ghost use Rattle.sq_writing.specs.Files.{WrittenFilesShowGraphs};
-
-pub use registers::registers_fit;
 
 /// The plain machine with the words of a graph as its text shows what the run of the graph shows, step for step.
 pub fn writing_keeps_runs()

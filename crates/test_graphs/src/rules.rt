@@ -3,6 +3,7 @@
 ghost use Rattle.std.specs.Prelude.{◌≡◌, ◌<◌, ◌^◌, IsTrue, length, map};
 ghost use Rattle.std.specs.List.{All};
 ghost use Rattle.std.specs.List.Sorted.{IsStrictlyIncreasing};
+ghost use Rattle.sq_isa.specs.Ranges.{IsRegister};
 ghost use Rattle.sq_graph.specs.Rules.{IsOperation, ProcedureFits};
 ghost use Rattle.sq_graph.specs.Terms.{goes_on};
 ghost use Rattle.sq_graph.specs.Parts.{length_of_blocks, length_of_bodies, procedures_of_parts};
@@ -36,12 +37,27 @@ fn is_operation(insn: &Insn) -> bool
     }
 }
 
+/// A `Reg` is one of x0 to x31.
+fn register_fits(register: Reg)
+    ensures { IsRegister register }
+{
+    let _number = register.number();
+}
+
 fn item_is_right(item: &Item, blocks: u32, procedures: u32) -> bool
     ensures { IsTrue result → ItemIsRight blocks procedures item.now }
 {
     match *item {
         Item::Op(insn) => is_operation(&insn) && fits(&insn),
-        Item::Hi { to, .. } | Item::Lo { to, .. } => to < blocks,
+        Item::Hi { rd, to } => {
+            register_fits(rd);
+            to < blocks
+        }
+        Item::Lo { rd, rs, to } => {
+            register_fits(rd);
+            register_fits(rs);
+            to < blocks
+        }
         Item::Out { procedure } => procedure < procedures,
     }
 }
@@ -62,9 +78,23 @@ fn term_is_right(term: Term, blocks: u32) -> bool
 {
     match term {
         Term::Fall => true,
-        Term::Jump { to } | Term::Branch { to, .. } | Term::PartJump { to, .. } => to < blocks,
+        Term::Jump { to } => to < blocks,
+        Term::Branch { a, b, to, .. } => {
+            register_fits(a);
+            register_fits(b);
+            to < blocks
+        }
         Term::Call { link, to } => link.number() != 0 && to < blocks,
-        Term::Indirect { offset, .. } => -2048 <= offset && offset < 2048,
+        Term::PartJump { link, part, to } => {
+            register_fits(link);
+            register_fits(part);
+            to < blocks
+        }
+        Term::Indirect { link, at, offset } => {
+            register_fits(link);
+            register_fits(at);
+            -2048 <= offset && offset < 2048
+        }
         Term::Stop { word } => word == 0x0010_0073 || word == 0 || word == 0xc000_1073,
     }
 }

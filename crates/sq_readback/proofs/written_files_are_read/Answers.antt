@@ -2,4 +2,4 @@ use Rattle.sq_readback.proofs.Programs.{written_files_are_read}
 use Rattle.sq_readback.proofs.written_files_are_read.Goals as goal
 
 pub returns : goal.returns
-returns c = λ bytes g can registers is decides. written_files_are_read bytes g can registers is decides
+returns c = λ bytes g can is decides. written_files_are_read bytes g can is decides

@@ -2,4 +2,4 @@ use Rattle.sq_readback.proofs.Words.{written_instructions_are_read}
 use Rattle.sq_readback.proofs.written_instructions_are_read.Goals as goal
 
 pub returns : goal.returns
-returns c = λ bytes g can registers k p is. written_instructions_are_read bytes g can registers k p is
+returns c = λ bytes g can k p is. written_instructions_are_read bytes g can k p is

@@ -2,4 +2,4 @@ use Rattle.sq_readback.proofs.Notes.{written_notes_are_read}
 use Rattle.sq_readback.proofs.written_notes_are_read.Goals as goal
 
 pub returns : goal.returns
-returns c = λ bytes g can registers t. written_notes_are_read bytes g can registers t
+returns c = λ bytes g can t. written_notes_are_read bytes g can t

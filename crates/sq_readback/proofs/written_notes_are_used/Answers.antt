@@ -2,4 +2,4 @@ use Rattle.sq_readback.proofs.WordsReached.{written_notes_are_used}
 use Rattle.sq_readback.proofs.written_notes_are_used.Goals as goal
 
 pub returns : goal.returns
-returns c = λ bytes g can registers whole is decides. written_notes_are_used bytes g can registers whole is decides
+returns c = λ bytes g can whole is decides. written_notes_are_used bytes g can whole is decides

@@ -7,7 +7,7 @@ use Rattle.sq_graph.specs.Operations.{with_term, replaced}
 use Rattle.sq_jumps.specs.Clearings.{cleared}
 use Rattle.sq_layout.proofs.Walks.{items_few}
 use Rattle.sq_jumps.proofs.Rewriting.{total_by}
-use Rattle.sq_jumps.proofs.Clearing.{emptied_rules, emptied_there, cleared_rules, cleared_there, cleared_total}
+use Rattle.sq_jumps.proofs.UnreachedCleared.{emptied_rules, emptied_there, cleared_rules, cleared_there, cleared_total}
 use Rattle.sq_jumps.proofs.clear.clear.Goals as goal
 
 pub overflow_cast-count : goal.overflow_cast-count

@@ -1,6 +1,6 @@
 use Rattle.std.proofs.Common.{◌+◌, drop, ◌∙◌, sym, ap}
 use Rattle.sq_jumps.specs.Clearings.{cleared_each}
-use Rattle.sq_jumps.proofs.Removing.{split_at_index, all_behind}
+use Rattle.sq_jumps.proofs.UnreachedRemoved.{split_at_index, all_behind}
 use Rattle.sq_jumps.proofs.clear.clear_each.Goals as goal
 
 pub loop-block-preserved : goal.loop-block-preserved

@@ -2,8 +2,8 @@ use Rattle.std.proofs.Common.{length, sym, ap, ◌∙◌, subst}
 use Rattle.sq_graph.specs.Graph.{Graph}
 use Rattle.sq_graph.specs.Rules.{IsGraph}
 use Rattle.sq_jumps.specs.Clearings.{without_uncalled, without_each, MayGo}
-use Rattle.sq_jumps.proofs.Unreaching.{middle_is, all_there, may_go}
-use Rattle.sq_jumps.proofs.Leaving.{all_gone}
+use Rattle.sq_jumps.proofs.UnreachedGo.{middle_is, all_there, may_go}
+use Rattle.sq_jumps.proofs.UnreachedLeft.{all_gone}
 use Rattle.sq_jumps.proofs.clear.drop_unreached.Goals as goal
 
 pub clear_each-requires : goal.clear_each-requires

@@ -1,6 +1,6 @@
 use Rattle.std.proofs.Common.{◌∙◌, ap}
 use Rattle.sq_graph.specs.declared.item.Item.TheVariants.{Out}
-use Rattle.sq_jumps.proofs.Calling.{call_found}
+use Rattle.sq_jumps.proofs.UnreachedCalls.{call_found}
 use Rattle.sq_jumps.proofs.clear.has_call.Goals as goal
 
 pub returns-then-procedure-number : goal.returns-then-procedure-number

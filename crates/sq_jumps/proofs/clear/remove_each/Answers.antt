@@ -5,7 +5,7 @@ use Rattle.sq_graph.specs.Operations.{without_block}
 use Rattle.sq_jumps.specs.Clearings.{without_each, MayGo}
 use Rattle.sq_jumps.proofs.Totals.{without_total}
 use Rattle.sq_jumps.proofs.Rewriting.{total_by}
-use Rattle.sq_jumps.proofs.Removing.{split_at_index, goes_there, goes_rules, others_may}
+use Rattle.sq_jumps.proofs.UnreachedRemoved.{split_at_index, goes_there, goes_rules, others_may}
 use Rattle.sq_jumps.proofs.clear.remove_each.Goals as goal
 
 pub remove-requires-clause-block : goal.remove-requires-clause-block

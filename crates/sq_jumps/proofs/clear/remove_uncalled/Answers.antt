@@ -5,7 +5,7 @@ use Rattle.sq_graph.specs.Operations.{without_procedure}
 use Rattle.sq_graph.proofs.OperationRules.{without_procedure_rules}
 use Rattle.sq_jumps.specs.Clearings.{is_called, without_uncalled}
 use Rattle.sq_jumps.proofs.Rewriting.{total_by}
-use Rattle.sq_jumps.proofs.Calling.{uncalled_unused, uncalled_total, left_count, step_called, step_uncalled}
+use Rattle.sq_jumps.proofs.UnreachedCalls.{uncalled_unused, uncalled_total, left_count, step_called, step_uncalled}
 use Rattle.sq_jumps.proofs.clear.remove_uncalled.Goals as goal
 
 pub remove_procedure-requires-clause-unused : goal.remove_procedure-requires-clause-unused

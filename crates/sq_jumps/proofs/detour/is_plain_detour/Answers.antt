@@ -1,5 +1,5 @@
 use Rattle.std.proofs.Common.{is_some, not, sym, ap, ◌∙◌}
-use Rattle.sq_jumps.proofs.Detours.{none_if, plain_detour}
+use Rattle.sq_jumps.proofs.DetoursApart.{none_if, plain_detour}
 use Rattle.sq_lookup.proofs.Targets.{jump_there}
 use Rattle.sq_jumps.proofs.detour.is_plain_detour.Goals as goal
 

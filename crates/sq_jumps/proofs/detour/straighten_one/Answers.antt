@@ -1,7 +1,7 @@
 use Rattle.sq_jumps.specs.Candidates.{IsCandidate, described}
 use Rattle.sq_pass.proofs.Rewriting.{rewritten_itself}
 use Rattle.sq_jumps.proofs.Sweeping.{detour_rewritten}
-use Rattle.sq_jumps.proofs.Detours.{detours_still}
+use Rattle.sq_jumps.proofs.DetoursApart.{detours_still}
 use Rattle.sq_jumps.proofs.detour.straighten_one.Goals as goal
 
 pub returns-then-not-is_block-clause-rewritten : goal.returns-then-not-is_block-clause-rewritten

@@ -1,7 +1,7 @@
 use Rattle.sq_jumps.specs.Candidates.{IsCandidate, described}
 use Rattle.sq_pass.proofs.Rewriting.{rewritten_itself}
 use Rattle.sq_jumps.proofs.Sweeping.{fall_rewritten}
-use Rattle.sq_jumps.proofs.Fallen.{named_still, falling_names}
+use Rattle.sq_jumps.proofs.FallKept.{named_still, falling_names}
 use Rattle.sq_jumps.proofs.fall.fall_one.Goals as goal
 
 pub returns-then-not-is_plain_fall-clause-rewritten : goal.returns-then-not-is_plain_fall-clause-rewritten

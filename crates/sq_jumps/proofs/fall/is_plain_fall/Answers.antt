@@ -1,6 +1,6 @@
 use Rattle.std.proofs.Common.{sym, ap, ◌∙◌}
 use Rattle.sq_graph.specs.Leaders.{has_no_items}
-use Rattle.sq_jumps.proofs.Fallen.{filled_if, plain_fall}
+use Rattle.sq_jumps.proofs.FallKept.{filled_if, plain_fall}
 use Rattle.sq_jumps.proofs.fall.is_plain_fall.Goals as goal
 
 pub returns-in-Some : goal.returns-in-Some

@@ -1,7 +1,7 @@
 use Rattle.std.proofs.Common.{List, ℕ, get_or, is_some, sym, ap, subst}
 use Rattle.sq_live.proofs.Layouts.{block_at}
 use Rattle.sq_jumps.specs.Fall.{AreNamedElsewhere}
-use Rattle.sq_jumps.proofs.Fallen.{none_elsewhere, more_elsewhere}
+use Rattle.sq_jumps.proofs.FallKept.{none_elsewhere, more_elsewhere}
 use Rattle.sq_jumps.proofs.fall.named_elsewhere.Goals as goal
 use Rattle.sq_jumps.proofs.fall.named_elsewhere.Goals.{then-not-jumps_to_next+in_ok-insert_some, else-not-jumps_to_next}
 

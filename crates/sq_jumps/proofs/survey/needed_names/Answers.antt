@@ -1,7 +1,7 @@
 use Rattle.std.proofs.Common.{inl, inr, ap, is_some, arith}
 use Rattle.sq_live.proofs.Layouts.{block_at}
 use Rattle.sq_jumps.proofs.Surveying.{none_gathered, one_gathered, all_gathered}
-use Rattle.sq_jumps.proofs.Distances.{needs_there}
+use Rattle.sq_jumps.proofs.InvertDistances.{needs_there}
 use Rattle.sq_jumps.proofs.survey.needed_names.Goals as goal
 
 pub loop-name-init : goal.loop-name-init

@@ -4,7 +4,7 @@ use Rattle.sq_graph.specs.Uses.{item_calls}
 use Rattle.sq_live.proofs.Layouts.{block_at}
 use Rattle.sq_lookup.specs.Names.{is_listed}
 use Rattle.sq_jumps.specs.Unreached.{is_called_in}
-use Rattle.sq_jumps.proofs.Counting.{called_skips, called_adds, items_there}
+use Rattle.sq_jumps.proofs.UnreachedCounted.{called_skips, called_adds, items_there}
 use Rattle.sq_jumps.proofs.unreached.called_procedures.Goals as goal
 
 pub items-requires : goal.items-requires

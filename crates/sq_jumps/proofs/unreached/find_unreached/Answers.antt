@@ -1,7 +1,7 @@
 use Rattle.std.proofs.Common.{not, refl, ap, ◌∙◌, arith}
 use Rattle.std.specs.List.{filter}
 use Rattle.sq_lookup.specs.Names.{is_listed}
-use Rattle.sq_jumps.proofs.Counting.{are_unreached, sums_are, gone_few, none_unreached}
+use Rattle.sq_jumps.proofs.UnreachedCounted.{are_unreached, sums_are, gone_few, none_unreached}
 use Rattle.sq_jumps.proofs.unreached.find_unreached.Goals as goal
 
 pub overflow_add-saving : goal.overflow_add-saving

@@ -2,7 +2,7 @@ use Rattle.std.proofs.Common.{◌+◌, drop, not, ap, refl, sym, ◌∙◌, arit
 use Rattle.sq_graph.specs.Blocks.{body_of}
 use Rattle.sq_layout.proofs.Counts.{procedure_here}
 use Rattle.sq_lookup.specs.Names.{is_listed}
-use Rattle.sq_jumps.proofs.Counting.{called_words, uncalled_words, all_uncalled_few}
+use Rattle.sq_jumps.proofs.UnreachedCounted.{called_words, uncalled_words, all_uncalled_few}
 use Rattle.sq_jumps.proofs.unreached.words_of_uncalled.Goals as goal
 
 pub loop-procedure-preserved-then-has : goal.loop-procedure-preserved-then-has

@@ -3,7 +3,7 @@ use Rattle.sq_graph.specs.Graph.{Block}
 use Rattle.sq_layout.proofs.Walks.{words_here}
 use Rattle.sq_live.proofs.Layouts.{block_at}
 use Rattle.sq_lookup.specs.Names.{is_listed}
-use Rattle.sq_jumps.proofs.Counting.{words_more, words_skip, words_fit}
+use Rattle.sq_jumps.proofs.UnreachedCounted.{words_more, words_skip, words_fit}
 use Rattle.sq_jumps.proofs.unreached.words_of_unmarked.Goals as goal
 
 pub block_words-requires : goal.block_words-requires

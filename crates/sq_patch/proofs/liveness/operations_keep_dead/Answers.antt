@@ -1,11 +1,11 @@
-use Rattle.sq_patch.proofs.StayingDead.{fall_dead, jump_goes_dead, invert_dead, shorten_dead, hasten_dead, drop_dead, drop_moves_dead, restrict_dead, tail_dead, tail_moves_dead, merge_dead, body_dead, split_dead, split_moves_dead, canonical_dead, outline_dead, call_dead, call_moves_dead, match_dead, match_moves_dead, inline_dead, inline_moves_dead, recall_dead, uncalled_goes_dead, insert_dead, exchange_dead, reorder_dead}
+use Rattle.sq_patch.proofs.StayingDead.{fall_dead, detour_dead, invert_dead, shorten_dead, hasten_dead, drop_dead, drop_moves_dead, restrict_dead, tail_dead, tail_moves_dead, merge_dead, body_dead, split_dead, split_moves_dead, canonical_dead, outline_dead, call_dead, call_moves_dead, match_dead, match_moves_dead, inline_dead, inline_moves_dead, recall_dead, uncalled_goes_dead, insert_dead, exchange_dead, reorder_dead}
 use Rattle.sq_patch.proofs.liveness.operations_keep_dead.Goals as goal
 
 pub returns-clause-fall : goal.returns-clause-fall
 returns-clause-fall c = fall_dead
 
-pub returns-clause-jump_goes : goal.returns-clause-jump_goes
-returns-clause-jump_goes c = jump_goes_dead
+pub returns-clause-detour : goal.returns-clause-detour
+returns-clause-detour c = detour_dead
 
 pub returns-clause-invert : goal.returns-clause-invert
 returns-clause-invert c = invert_dead

@@ -69,7 +69,7 @@ pub packed_of-requires-clause-loads : goal.packed_of-requires-clause-loads
 packed_of-requires-clause-loads c =
     enough_loaded c.in_ok-elf.elf c.in_ok-graph.graph.graph c.settle_slotted.new.graph.graph c.in_ok-savings.savings
     (subst (AllByRecursion (λ b. b < 256)) (sym c.in_ok-elf.ensures.read) c.bytes_fit.ensures)
-    c.in_ok-graph.ensures.lifted c.in_ok-graph.ensures.fits c.in_ok-savings.ensures.rewritten c.in_ok-file.ensures.rules c.in_ok-file.ensures.registers
+    c.in_ok-graph.ensures.lifted c.in_ok-graph.ensures.fits c.in_ok-savings.ensures.rewritten c.in_ok-file.ensures.rules
 
 pub returns-clause-packed : goal.returns-clause-packed
 returns-clause-packed c =
@@ -77,7 +77,7 @@ returns-clause-packed c =
     subst P c.in_ok-elf.ensures.read
     (packs c.in_ok-elf.elf c.in_ok-graph.graph.graph c.settle_slotted.new.graph.graph c.in_ok-savings.savings
     (subst (AllByRecursion (λ b. b < 256)) (sym c.in_ok-elf.ensures.read) c.bytes_fit.ensures)
-    c.in_ok-graph.ensures.lifted c.in_ok-graph.ensures.fits c.in_ok-savings.ensures.rewritten c.in_ok-file.ensures.rules c.in_ok-file.ensures.registers
+    c.in_ok-graph.ensures.lifted c.in_ok-graph.ensures.fits c.in_ok-savings.ensures.rewritten c.in_ok-file.ensures.rules
     c.in_ok-savings.ensures.left c.in_ok-savings.ensures.slotted c.packed_of.result
     (c.packed_of.ensures.output ∙ c.in_ok-file.ensures.file) c.packed_of.ensures.text_before c.packed_of.ensures.text_after c.packed_of.ensures.loaded_before c.packed_of.ensures.loaded_after c.packed_of.ensures.procedures
     (subst (λ n. 4 * (c.packed_of.result.unreached + n) ≡ text_size c.in_ok-elf.elf) c.words_of-reached.ensures c.packed_of.ensures.unreached)

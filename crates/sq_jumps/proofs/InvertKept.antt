@@ -25,8 +25,8 @@ use Rattle.sq_graph.proofs.Marks.{is_among-append}
 use Rattle.sq_graph.proofs.SlotReads.{block_at}
 use Rattle.sq_patch.specs.LoneJumps.{IsJumpedOver, inverted_over}
 use Rattle.sq_lookup.proofs.Targets.{has_term, IsLone, lone}
-use Rattle.sq_jumps.proofs.Hastening.{three_uses}
-use Rattle.sq_jumps.proofs.Leading.{or_cases, other_way, and_false, one_of_four, absent_tail, absent_parts, falls_on}
+use Rattle.sq_jumps.proofs.ShortenKept.{three_uses}
+use Rattle.sq_jumps.proofs.DetourLeaders.{or_cases, other_way, and_false, one_of_four, absent_tail, absent_parts, falls_on}
 use Rattle.sq_jumps.proofs.Ruled.{here, block_found, behind_it}
 
 -- A BRANCH OVER A LONE JUMP, AND THE INVERTED ONE

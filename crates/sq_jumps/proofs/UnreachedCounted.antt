@@ -17,8 +17,8 @@ use Rattle.sq_pass.specs.declared.cut.Cut.{Cut}
 use Rattle.sq_lookup.specs.Names.{is_listed}
 use Rattle.sq_jumps.specs.Unreached.{stays, is_called_in, is_held, words_gone, AreUnreached}
 use Rattle.sq_jumps.specs.Candidates.{IsUnreachedCut}
-use Rattle.sq_jumps.proofs.Uncalled.{held_same}
-use Rattle.sq_jumps.proofs.Leaving.{own_there, words_fall}
+use Rattle.sq_jumps.proofs.UnreachedUncalled.{held_same}
+use Rattle.sq_jumps.proofs.UnreachedLeft.{own_there, words_fall}
 
 -- ONE BLOCK MORE
 

@@ -21,11 +21,11 @@ use Rattle.sq_graph.proofs.SlotReads.{block_at}
 use Rattle.sq_lookup.specs.Names.{is_listed, Adds}
 use Rattle.sq_jumps.specs.Fall.{falling, JumpsToNext, IsNamedElsewhere, AreNamedElsewhere, IsPlainFall}
 use Rattle.sq_jumps.proofs.Applying.{term_elsewhere}
-use Rattle.sq_jumps.proofs.Detours.{listed_among}
+use Rattle.sq_jumps.proofs.DetoursApart.{listed_among}
 use Rattle.sq_lookup.proofs.Targets.{has_term}
-use Rattle.sq_jumps.proofs.Hastening.{three_uses}
-use Rattle.sq_jumps.proofs.Inverted.{HasFirst, first_is}
-use Rattle.sq_jumps.proofs.Leading.{or_cases, one_of_four}
+use Rattle.sq_jumps.proofs.ShortenKept.{three_uses}
+use Rattle.sq_jumps.proofs.InvertKept.{HasFirst, first_is}
+use Rattle.sq_jumps.proofs.DetourLeaders.{or_cases, one_of_four}
 use Rattle.sq_jumps.proofs.Rewriting.{names-changed, next-term}
 use Rattle.sq_jumps.proofs.Ruled.{behind_it}
 

@@ -28,8 +28,8 @@ use Rattle.sq_jumps.specs.Unreached.{is_called_in, AreUnreached}
 use Rattle.sq_jumps.specs.Clearings.{cleared_each, is_called, without_uncalled, first_listed, AreApart, AreOnce, MayGo}
 use Rattle.sq_jumps.proofs.Adding.{uses_of_blocks, uses_of_bodies}
 use Rattle.sq_jumps.proofs.Ruled.{here}
-use Rattle.sq_jumps.proofs.Clearing.{emptied, cleared_if, all_cleared, each_cleared}
-use Rattle.sq_jumps.proofs.Uncalled.{only_held, held_from, uncalled_is}
+use Rattle.sq_jumps.proofs.UnreachedCleared.{emptied, cleared_if, all_cleared, each_cleared}
+use Rattle.sq_jumps.proofs.UnreachedUncalled.{only_held, held_from, uncalled_is}
 
 -- LISTS
 

@@ -26,9 +26,9 @@ use Rattle.sq_jumps.specs.Surveys.{ReachesBy, ReachesWithout}
 use Rattle.sq_layout.proofs.Standing.{block_of-without, block_of-retargeted}
 use Rattle.sq_jumps.proofs.Applying.{passing_is, pass_shrinks, retargeted_before, gone_block}
 use Rattle.sq_lookup.proofs.Targets.{has_term, jump_there}
-use Rattle.sq_jumps.proofs.Distances.{passes}
-use Rattle.sq_jumps.proofs.Leading.{or_cases}
-use Rattle.sq_jumps.proofs.Passed.{name_used}
+use Rattle.sq_jumps.proofs.InvertDistances.{passes}
+use Rattle.sq_jumps.proofs.DetourLeaders.{or_cases}
+use Rattle.sq_jumps.proofs.DetourKept.{name_used}
 use Rattle.sq_jumps.proofs.Rewriting.{goes_on-retargeted, next-redirected, redirected_rules_here, passed_rules}
 use Rattle.sq_jumps.proofs.StillSafe.{without_still}
 

@@ -27,8 +27,8 @@ use Rattle.sq_graph.proofs.RetargetRules.{uses-other}
 use Rattle.sq_graph.proofs.SlotReads.{block_at}
 use Rattle.sq_patch.specs.LoneJumps.{IsPassable, without_jump}
 use Rattle.sq_lookup.proofs.Targets.{IsLone, lone, has_lone}
-use Rattle.sq_jumps.proofs.Hastening.{three_uses}
-use Rattle.sq_jumps.proofs.Leading.{or_cases, other_way, and_false, one_of_four, absent_tail, falls_on}
+use Rattle.sq_jumps.proofs.ShortenKept.{three_uses}
+use Rattle.sq_jumps.proofs.DetourLeaders.{or_cases, other_way, and_false, one_of_four, absent_tail, falls_on}
 use Rattle.sq_jumps.proofs.Rewriting.{goes_on-retargeted}
 use Rattle.sq_jumps.proofs.Ruled.{front_ends}
 

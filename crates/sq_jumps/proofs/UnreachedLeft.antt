@@ -34,10 +34,10 @@ use Rattle.sq_layout.specs.Reach.{LedThere}
 use Rattle.sq_layout.proofs.Shrinking.{shrunk_in_reach, block_with}
 use Rattle.sq_layout.proofs.Shrunk.{shrinks_twice, each_shrinks, filter_shrinks, recalled_shrunk}
 use Rattle.sq_jumps.proofs.Ruled.{block_found}
-use Rattle.sq_jumps.proofs.Clearing.{cleared_if, all_cleared}
-use Rattle.sq_jumps.proofs.Uncalled.{number_same, held_same, only_held, held_from}
-use Rattle.sq_jumps.proofs.Removing.{left_of, each_goes}
-use Rattle.sq_jumps.proofs.Unreaching.{listed_in, contains_listed, held_each}
+use Rattle.sq_jumps.proofs.UnreachedCleared.{cleared_if, all_cleared}
+use Rattle.sq_jumps.proofs.UnreachedUncalled.{number_same, held_same, only_held, held_from}
+use Rattle.sq_jumps.proofs.UnreachedRemoved.{left_of, each_goes}
+use Rattle.sq_jumps.proofs.UnreachedGo.{listed_in, contains_listed, held_each}
 
 pub own_there : (front : List Block) (x : Block) (bs : List Block) → IsSome (value_of (named (front ++ (x ∷ bs))) x.name)
 own_there [] x bs = let same : (x.name == x.name) ≡ true = eq-eqb x.name x.name refl in rw same refl
