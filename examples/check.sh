@@ -59,6 +59,8 @@ check 0 "text 692 -> 692, loaded 916 -> 916" "" pack out again
 holds again out
 check 0 "text 16 -> 16, loaded 16 -> 16" "" pack smallest out
 holds out smallest
+check 0 "hex 62" "" hex again text.hex
+check 0 "same" "" hexcheck again text.hex
 check 0 "exit 7" "" run smallest empty $machine
 check 0 "exit 7" "" watch smallest empty $machine
 check 0 "exit 0" "" run usual-link empty $machine
@@ -102,6 +104,11 @@ check 5 "break half at 0x00010008" "" watch shared-upper-half empty $machine
 check 6 "limit" "" run smallest empty 2 1048576 65536
 check 6 "limit" "" watch smallest empty 2 1048576 65536
 check 7 "" "bad start" run smallest empty 10 65536 16
+
+# 8: a text of another file, and one without its last record
+check 8 "" "no 0" hexcheck smallest text.hex
+sed '$d' text.hex > cut.hex
+check 8 "" "no 62" hexcheck meter cut.hex
 
 # Printing to a full device
 if [ -e /dev/full ]; then

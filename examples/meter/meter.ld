@@ -1,4 +1,5 @@
-/* 64 KiB of flash and 16 KiB of RAM. Text is a segment of its own, and .data is loaded into flash. */
+/* 64 KiB of flash and 16 KiB of RAM. Text is a segment of its own, and .data is loaded into flash. Text stands last there:
+   what packing frees lies behind text, so the image gets shorter by it. */
 OUTPUT_ARCH(riscv)
 ENTRY(_start)
 
@@ -17,7 +18,6 @@ PHDRS
 
 SECTIONS
 {
-    .text : { *(.text.start) *(.text .text.*) } > flash :text
     .rodata : { *(.rodata .rodata.* .srodata .srodata.*) . = ALIGN(4); } > flash :constants
     .data : {
         data_start = .;
@@ -32,5 +32,6 @@ SECTIONS
         . = ALIGN(4);
         bss_end = .;
     } > ram :data
+    .text data_in_flash + SIZEOF(.data) : { *(.text.start) *(.text .text.*) } > flash :text
     /DISCARD/ : { *(.comment) *(.riscv.attributes) *(.eh_frame) *(.note.*) }
 }
