@@ -18,3 +18,4 @@ pub mod Accepting
 pub mod TextWords
 pub mod Bytes
 pub mod Ascending
+pub mod Again

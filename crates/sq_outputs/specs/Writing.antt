@@ -89,3 +89,8 @@ pub record ArePlaced (bytes : List ℕ) (o : Output) : Type 0 where
 -- The pieces around the text of a written file are parts of the other file's segments; they ascend, and no two meet.
 abbrev pub PiecesArePlaced : Type 0
 PiecesArePlaced = (bytes : List ℕ) (g : Graph) → IsWritable bytes g → ArePlaced bytes (written_output bytes g)
+
+-- A file that is written again of the same graph is itself: text stands where it stood, the pieces around it are cut where
+-- they were cut, and its code words are set as they were.
+abbrev pub WrittenAgain : Type 0
+WrittenAgain = (bytes : List ℕ) (g : Graph) → IsWritable bytes g → written (written bytes g) g ≡ written bytes g

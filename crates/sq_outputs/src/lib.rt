@@ -3,13 +3,13 @@
 //! To the layers above it promises what is read in an output file whose numbers fit its fields: its header, a segment
 //! for each piece with the piece's bytes, seven sections with theirs, and its text. Of the file of a graph it promises
 //! that its numbers fit, what its text, its entry and its size are, where its pieces stand, that the reader accepts it,
-//! and which words it has in text.
+//! which words it has in text, and that it is itself where it is written again.
 #![tactic(auto)]
 
 ghost use Rattle.sq_outputs.specs.Reading.{HeadersAreRead, ProgramHeadersAreRead, SegmentsAreRead, SectionsAreRead, TextIsRead};
 ghost use Rattle.sq_outputs.specs.Accepting.{OutputsAreAccepted, WrittenIsAccepted};
 ghost use Rattle.sq_outputs.specs.Contents.{WrittenIsBytes, WordsAreRead, WrittenWordsAreRead, SegmentsAreByAddress, WrittenTextIsWords};
-ghost use Rattle.sq_outputs.specs.Writing.{WrittenFits, WrittenSizes, PiecesArePlaced};
+ghost use Rattle.sq_outputs.specs.Writing.{WrittenFits, WrittenSizes, PiecesArePlaced, WrittenAgain};
 
 /// The file header of an output file is read as that of the output, and the section headers end the file.
 pub fn headers_are_read()
@@ -50,6 +50,11 @@ pub fn written_sizes()
 /// The pieces around the text of a written file are parts of the other file's segments; they ascend, and no two meet.
 pub fn pieces_are_placed()
     ensures { PiecesArePlaced }
+{}
+
+/// A file that is written again of the same graph is itself.
+pub fn written_again()
+    ensures { WrittenAgain }
 {}
 
 /// The reader accepts an output file within the limits, with pieces in order of which text alone can be executed.

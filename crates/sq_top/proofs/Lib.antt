@@ -4,6 +4,7 @@ pub mod EarlyEndings
 pub mod HexPromised
 pub mod HexWritten
 pub mod Later
+pub mod SettledFiles
 pub mod PackedFile
 pub mod Promised
 pub mod Refusals

@@ -38,6 +38,7 @@ use Rattle.sq_drive.specs.Rows.{IsCandidate, described, IsLeftoverFree}
 use Rattle.sq_readback.specs.Whole.{IsWhole}
 use Rattle.sq_top.specs.Packing.{CanBeWritten, IsReachedFile, GoodOutput, Packs}
 use Rattle.sq_top.proofs.ReadBack.{reads_back}
+use Rattle.sq_top.proofs.SettledFiles.{written_is_settled, settled_stays}
 use Rattle.sq_top.proofs.WholeGraphs.{whole_without_candidates}
 
 refs_at : (ws : List CodeWord) → map word_address (map code_ref ws) ≡ map code_word_address ws
@@ -117,7 +118,7 @@ module _ (bytes : List ℕ) (first g : Graph) (savings : Savings) (fit : AllByRe
   pub enough_loaded : text_size bytes ≤ loaded_of bytes + 4 * words_of g
   enough_loaded = omega (arith, sizes.size)
 
-  module _ (none : IsLeftoverFree g) (slotted : IsSlotted g) where
+  module _ (none : IsLeftoverFree g) (slotted : IsSlotted g) (slotted_first : IsSlotted first) where
     whole : IsWhole g
     whole = whole_without_candidates g rules lighter.canonical none
 
@@ -143,6 +144,8 @@ module _ (bytes : List ℕ) (first g : Graph) (savings : Savings) (fit : AllByRe
       slotted = slotted;
       left = left;
       output_is = refl;
+      settled = written_is_settled bytes g writable back.lifted slotted none;
+      again = settled_stays bytes first g NONE savings fit l slotted_first r;
     }
 
     pub packs : (packed : Packed) → packed.bytes ≡ written bytes g → packed.text_before ≡ text_size bytes → packed.text_after ≡ 4 * words_of g → packed.loaded_before ≡ loaded_of bytes → packed.loaded_after + text_size bytes ≡ loaded_of bytes + 4 * words_of g → packed.procedures ≡ length g.procedures → 4 * (packed.unreached + words_of first) ≡ text_size bytes → packed.savings ≡ savings → packed.text_before ≡ packed.text_after + 4 * (packed.unreached + words_saved packed.savings) → Packs bytes packed

@@ -8,6 +8,7 @@ pub mod Promises
 pub mod RunEndings
 pub mod RunPromises
 pub mod Running
+pub mod Settled
 pub mod Statuses
 pub mod WatchEndings
 pub mod WatchPromises

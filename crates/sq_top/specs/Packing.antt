@@ -25,6 +25,7 @@ use Rattle.sq_outputs.specs.Writing.{IsWritable}
 use Rattle.sq_readback.specs.Whole.{IsWhole}
 use Rattle.sq_lifted.specs.LiftedFiles.{IsLiftedFile}
 use Rattle.sq_lifted.specs.Same.{Same}
+use Rattle.sq_top.specs.Settled.{IsSettledFile}
 
 -- the line that tells the sizes
 abbrev pub sizes_text : ℕ → ℕ → ℕ → ℕ → List ℕ
@@ -79,6 +80,9 @@ pub record GoodOutput (given output : List ℕ) : Type 0 where
   pub left : (reading : Graph) → IsLiftedFile output reading → IsSlotted reading → IsLeftoverFree reading
   -- the output is made of the data of the given file and of the words of that graph
   pub output_is : output ≡ written given graph
+  -- packing is done once: the output is settled, and where the given file is settled, the output is this file
+  pub settled : IsSettledFile output
+  pub again : IsSettledFile given → output ≡ given
 
 -- the packing of a given file: a good output, and its sizes
 pub record Packs (given : List ℕ) (packed : Packed) : Type 0 where

@@ -12,6 +12,7 @@ ghost use Rattle.sq_graph.specs.Words.{words_of};
 ghost use Rattle.sq_program.specs.FilePrograms.{IsRefusalOf};
 ghost use Rattle.sq_write.specs.Written.{written};
 ghost use Rattle.sq_top.specs.Packing.{Packs, GoodOutput, CanBeWritten};
+ghost use Rattle.sq_top.specs.Settled.{IsSettledFile};
 
 use sq_drive::settle_slotted;
 use sq_elf::{Elf, read_elf};
@@ -24,10 +25,13 @@ use sq_write::write_elf;
 use std::alloc::Global;
 
 /// Packs the file of these bytes: reads it as a graph of what is reached, rewrites that by the rows of the cost rule until
-/// none saves a word, and writes it in the place of its text. Any step may find no memory.
+/// none saves a word, and writes it in the place of its text. Packed bytes that are packed again stay the same. Any step may
+/// find no memory.
 pub fn pack_bytes(alloc: Global, bytes: &[u8]) -> Result<Packed, Denied>
     ensures packed { IfOk result (Packs bytes.now) }
     ensures good { IfOk result (λ packed. GoodOutput bytes.now packed.bytes) }
+    ensures settled { IfOk result (λ packed. IsSettledFile packed.bytes) }
+    ensures again { IfOk result (λ packed. IsSettledFile bytes.now → packed.bytes ≡ bytes.now) }
     ensures refused { (refusal : Refusal) → result ≡ Err (Denied.Refused refusal) → IsRefusalOf bytes.now refusal }
     ensures exact { (refusal : Refusal) → IsRefusalOf bytes.now refusal → (result ≡ Err (Denied.Refused refusal)) ⊎ (result ≡ Err Denied.Memory) }
 {

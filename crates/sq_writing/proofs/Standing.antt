@@ -1,18 +1,15 @@
 -- The lines of a graph stand where its words do.
-use Rattle.std.proofs.Common.{◌≡◌, ◌≢◌, inl, inr, ℕ, zero, suc, pos, ◌-ℤ◌, ◌+◌, ◌*◌, ◌%◌, ◌^◌, ◌<◌, nat_lt, Bool, true, false, ◌==◌, List, [], ◌∷◌, ◌++◌, length, length-append, map, sum_by, Some, None, IsSome, if◌then◌else◌, slice_get, refl, sym, ap, ◌∙◌, subst, arith, eq-eqb}
+use Rattle.std.proofs.Common.{◌≡◌, ◌≢◌, ℕ, zero, suc, pos, ◌+◌, ◌*◌, Bool, true, false, ◌==◌, List, [], ◌∷◌, ◌++◌, length, length-append, map, sum_by, Some, None, IsSome, if◌then◌else◌, slice_get, refl, sym, ap, ◌∙◌, subst, arith, eq-eqb}
 use Rattle.std.specs.Option.{unwrap_or}
 use Rattle.std.specs.List.{All}
 use Rattle.std.proofs.lemmas.Bool.{eqb-true}
-use Rattle.std.proofs.lemmas.Bool.Decides.{nat_tests}
-use Rattle.std.proofs.lemmas.Int.{ints}
 use Rattle.std.proofs.lemmas.List.Elements.{All-head, All-tail}
 use Rattle.sq_num.specs.Halves.{high_half, low_half}
 use Rattle.sq_arena.specs.Entries.{HasDistinctKeys, value_of}
 use Rattle.sq_arena.proofs.EntriesLaws.{distinct_back}
 use Rattle.sq_isa.specs.declared.instructions.Insn.{Insn}
-use Rattle.sq_isa.specs.declared.instructions.Insn.TheVariants.{Lui, Jal, Jalr, Branch as BranchInsn, OpImm, Ebreak, Unimp}
+use Rattle.sq_isa.specs.declared.instructions.Insn.TheVariants.{Lui, Jal, Jalr, Branch as BranchInsn, OpImm}
 use Rattle.sq_isa.specs.declared.instructions.ImmOp.TheVariants.{Addi}
-use Rattle.sq_isa.specs.Ranges.{IsRegister, IsSigned, FieldsFit}
 use Rattle.sq_graph.specs.declared.item.Item.{Item}
 use Rattle.sq_graph.specs.declared.item.Item.TheVariants.{Op, Hi, Lo, Out}
 use Rattle.sq_graph.specs.declared.item.Term.{Term}
@@ -20,15 +17,14 @@ use Rattle.sq_graph.specs.declared.item.Term.TheVariants.{Fall, Jump, Branch, Ca
 use Rattle.sq_graph.specs.Graph.{Block, Procedure, Graph}
 use Rattle.sq_graph.specs.Blocks.{named, HasBlock, HasProcedure, procedure_link}
 use Rattle.sq_graph.specs.Lines.{AddressHalf, Plain, Upper, Lower, Line, Name, Do, Enter, Return, End, line_of, term_lines, lines_of, behind_name}
-use Rattle.sq_graph.specs.Rules.{IsGraph, ProcedureFits, IsStop, mentions}
+use Rattle.sq_graph.specs.Rules.{IsGraph, ProcedureFits, mentions}
 use Rattle.sq_graph.specs.Uses.{item_calls, term_uses}
 use Rattle.sq_graph.specs.Words.{term_words, block_words, procedure_words}
 use Rattle.sq_graph.specs.Places.{address_in, procedure_addresses}
 use Rattle.sq_graph.proofs.RulesByBlock.{ItemStands as ItemKeeps, BlockStands as BlockKeeps, BodyStands as BodyKeeps, by_block}
 use Rattle.sq_layout.proofs.Walks.{fresh}
 use Rattle.sq_write.proofs.Lengths.{length_items, length_term, length_blocks}
-use Rattle.sq_write.specs.Points.{Point, new_address, new_start, call_link, offset_to, item_insn, items_points, stop_insn, plain_point, term_points, block_points, blocks_points, procedure_points, procedures_points, procedures_at, text_points}
-use Rattle.sq_write.specs.Standing.{ItemStands, ItemsStand, TermStands, BlocksStand, ProceduresStand, TextStands}
+use Rattle.sq_write.specs.Points.{Point, new_address, new_start, call_link, offset_to, item_insn, items_points, stop_insn, plain_point, term_points, blocks_points, procedure_points, procedures_points, procedures_at, text_points}
 
 -- WHERE LINES STAND
 

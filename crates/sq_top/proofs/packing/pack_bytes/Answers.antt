@@ -78,13 +78,19 @@ returns-clause-packed c =
     (packs c.in_ok-elf.elf c.in_ok-graph.graph.graph c.settle_slotted.new.graph.graph c.in_ok-savings.savings
     (subst (AllByRecursion (λ b. b < 256)) (sym c.in_ok-elf.ensures.read) c.bytes_fit.ensures)
     c.in_ok-graph.ensures.lifted c.in_ok-graph.ensures.fits c.in_ok-savings.ensures.rewritten c.in_ok-file.ensures.rules
-    c.in_ok-savings.ensures.left c.in_ok-savings.ensures.slotted c.packed_of.result
+    c.in_ok-savings.ensures.left c.in_ok-savings.ensures.slotted c.in_ok-graph.ensures.slotted c.packed_of.result
     (c.packed_of.ensures.output ∙ c.in_ok-file.ensures.file) c.packed_of.ensures.text_before c.packed_of.ensures.text_after c.packed_of.ensures.loaded_before c.packed_of.ensures.loaded_after c.packed_of.ensures.procedures
     (subst (λ n. 4 * (c.packed_of.result.unreached + n) ≡ text_size c.in_ok-elf.elf) c.words_of-reached.ensures c.packed_of.ensures.unreached)
     c.packed_of.ensures.savings c.packed_of.ensures.balance)
 
 pub returns-clause-good : goal.returns-clause-good
 returns-clause-good c = (returns-clause-packed c).good
+
+pub returns-clause-settled : goal.returns-clause-settled
+returns-clause-settled c = (returns-clause-packed c).good.settled
+
+pub returns-clause-again : goal.returns-clause-again
+returns-clause-again c = (returns-clause-packed c).good.again
 
 pub returns-clause-exact : goal.returns-clause-exact
 returns-clause-exact c = λ refusal refused. absurd (not_refused c.args.bytes.now (returns-clause-packed c).good.accepted refusal refused)
