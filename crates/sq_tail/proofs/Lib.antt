@@ -1,0 +1,11 @@
+pub mod Merging
+pub mod Splitting
+pub mod Naming
+pub mod Applying
+pub mod Totals
+pub mod Ending
+pub mod Cutting
+pub mod Slots
+pub mod Joined
+pub mod Equals
+pub mod Sizes

@@ -1,0 +1,4 @@
+pub mod Resolved
+pub mod Tails
+pub mod Ends
+pub mod Candidates
