@@ -1,8 +1,8 @@
 -- The first double among numbers, by a table that tells where each number stands.
-use Rattle.std.proofs.Common.{◌≡◌, ◌≢◌, ℕ, ◌+◌, ◌<◌, ◌≤◌, ◌⊎◌, inl, inr, ⊎_elim, Bool, true, false, List, Option, Some, None, slice_get, length, nat_eq, cond, refl, sym, ap, ◌∙◌, subst, arith}
+use Rattle.std.proofs.Common.{◌≡◌, ◌≢◌, ℕ, ◌+◌, ◌<◌, ◌≤◌, ◌⊎◌, inl, inr, ⊎_elim, List, Option, Some, None, slice_get, length, nat_eq, cond, sym, ap, ◌∙◌, subst, arith}
 use Rattle.std.proofs.lemmas.Bool.{cases_eq}
 use Rattle.std.proofs.lemmas.Option.{slice_get_past}
-use Rattle.sq_finger.specs.Numbers.{IsDouble, NoDouble, IsFirstDouble}
+use Rattle.sq_finger.specs.Numbers.{NoDouble, IsFirstDouble}
 
 -- among the first j numbers
 pub record Tells (numbers : List (Option ℕ)) (j : ℕ) (at : ℕ → Option ℕ) : Type 0 where

@@ -1,13 +1,12 @@
 -- Members in groups by their numbers.
-use Rattle.std.proofs.Common.{◌≡◌, ◌≢◌, ◌↔◌, ℕ, zero, suc, ◌+◌, ◌<◌, ◌≤◌, ◌==◌, Bool, true, false, true≢false, max, List, [], ◌∷◌, ◌++◌, map, drop, length, get_or, Contains, Option, Some, None, slice_get, slice_set, refl, sym, ap, ◌∙◌, subst, inl, inr, ⊎_elim, arith, add-one, drop-cons, append_assoc}
+use Rattle.std.proofs.Common.{◌≡◌, ◌≢◌, ◌↔◌, ℕ, zero, suc, ◌+◌, ◌<◌, ◌≤◌, Bool, true, true≢false, max, List, [], ◌∷◌, ◌++◌, map, drop, length, get_or, Contains, Option, Some, None, slice_get, slice_set, refl, sym, ap, ◌∙◌, subst, inl, inr, ⊎_elim, arith, add-one, drop-cons, append_assoc}
 use Rattle.std.proofs.lemmas.Bool.{cases_Bool, cases_eq, eqb-true, eq-eqb, ne_eqb}
 use Rattle.std.proofs.lemmas.List.{append-nil, length-map, get_or-map, map-append, map-set}
 use Rattle.std.proofs.lemmas.List.FromFn.{length-map-range_with_len, get_or-map-range_with_len}
 use Rattle.std.proofs.Math.ListN.{drop_of_length-le}
-use Rattle.std.proofs.lemmas.Option.{slice_get_cases, slice_get-get_or, slice_get-map, slice_get_within, slice_get_past, get_or_from_slice_get}
+use Rattle.std.proofs.lemmas.Option.{slice_get_cases, slice_get-get_or, slice_get-map, slice_get_within, get_or_from_slice_get}
 use Rattle.std.specs.Option.{option_map}
 use Rattle.std.specs.Cmp.{IsEquivalence}
-use Rattle.std.specs.List.{range_with_len}
 use Rattle.sq_finger.specs.Numbers.{numbers_of, AreNumbers}
 use Rattle.sq_finger.specs.Groups.{group_count, is_number, members_of, groups_of, grown, with_member, IsIn, AreClasses}
 use Rattle.sq_finger.proofs.Numbering.{numbers_are}
@@ -253,7 +252,7 @@ module _ {X K : Type 0} (eq : K → K → Bool) (laws : IsEquivalence eq) (exact
       by (Some None) f = absurd (let p = (are.none i).0 f in let k = key_at i x e in cc)
       by (Some (Some n)) f = (n, f)
 
-  pub classes_are : AreClasses key xs (groups_of numbers xs)
+  pub classes_are : AreClasses key (λ x. Contains xs x) (groups_of numbers xs)
   classes_are = record {
     every = λ x c.
         let at = contains_at xs x c in
@@ -266,3 +265,11 @@ module _ {X K : Type 0} (eq : K → K → Bool) (laws : IsEquivalence eq) (exact
         let s = (numbers_are eq laws keys).same p.0 q.0 m n (key x) (key y) (key_at p.0 x p.1.1) (key_at q.0 y q.1.1) p.1.0 q.1.0 in
         (λ e. exact (key x) (key y) (s.0 e), λ e. s.1 (subst (λ l. eq (key x) l ≡ true) e (laws.refl (key x))));
   }
+
+-- the same of other words for the members
+pub classes_of_members : {X K : Type 0} (key : X → K) (IsListed IsMember : X → Type 0) (groups : List (List X)) → ((x : X) → IsListed x ↔ IsMember x) → AreClasses key IsListed groups → AreClasses key IsMember groups
+classes_of_members key IsListed IsMember groups same are = record {
+  every = λ x member. are.every x ((same x).1 member);
+  known = λ n x there. (same x).0 (are.known n x there);
+  same = are.same;
+}

@@ -1,6 +1,7 @@
 -- The blocks of a graph in layout order.
-use Rattle.std.proofs.Common.{◌≡◌, ℕ, zero, suc, ◌+◌, ◌<◌, ◌≤◌, ◌==◌, List, [], ◌∷◌, ◌++◌, map, drop, length, get_or, length-append, append_assoc, Option, Some, None, IsSome, refl, sym, ap, ◌∙◌, subst, inl, inr, arith, add-one, drop-cons}
+use Rattle.std.proofs.Common.{◌≡◌, ℕ, zero, suc, ◌<◌, ◌≤◌, ◌==◌, ◌↔◌, Contains, List, [], ◌∷◌, ◌++◌, map, length, get_or, length-append, append_assoc, Option, Some, None, IsSome, refl, sym, ap, ◌∙◌, subst, inl, inr, arith}
 use Rattle.std.proofs.lemmas.Bool.{cases_Bool, eqb-true, eq-eqb}
+use Rattle.std.proofs.lemmas.Option.{slice_get_within, get_or_from_slice_get}
 use Rattle.sq_arena.specs.Entries.{keys, HasDistinctKeys, value_of, before, behind, starting_at, first_key, next_key}
 use Rattle.sq_arena.proofs.EntriesLaws.{absent_ahead}
 use Rattle.sq_graph.specs.Graph.{Block, Graph}
@@ -8,8 +9,11 @@ use Rattle.sq_graph.specs.Blocks.{named, block_of, block_items, HasBlock, items_
 use Rattle.sq_graph.specs.Cursor.{IsPlace, rest_from}
 use Rattle.sq_graph.specs.Parts.{names_of}
 use Rattle.sq_graph.specs.Rules.{IsGraph}
-use Rattle.sq_graph.proofs.Located.{IsAt, located, named-append, items_of_blocks-append, value_of-at}
+use Rattle.sq_graph.specs.Slotted.{position_in}
+use Rattle.sq_graph.proofs.Slotting.{at_position}
+use Rattle.sq_graph.proofs.Located.{located, named-append, items_of_blocks-append, value_of-at}
 use Rattle.sq_graph.proofs.CursorLaws.{behind_parts}
+use Rattle.sq_finger.proofs.Grouping.{contains_at, at_contains}
 
 -- ---- a cursor that only reads
 
@@ -80,6 +84,15 @@ named_there (b ∷ blocks) (suc k) l =
 
 pub name_there : (g : Graph) (names : List ℕ) (k : ℕ) → names ≡ names_of g → k < length names → HasBlock g (get_or names k 0)
 name_there g names k e l = subst (λ ns. k < length ns → HasBlock g (get_or ns k 0)) (sym e) (named_there g.blocks k) l
+
+-- the names are just those of blocks
+pub names_are : (g : Graph) (name : ℕ) → Contains (names_of g) name ↔ HasBlock g name
+names_are g name = (
+  λ listed.
+      let at = contains_at (names_of g) name listed in
+      subst (HasBlock g) (get_or_from_slice_get (names_of g) at.0 name 0 at.1) (name_there g (names_of g) at.0 refl (slice_get_within (names_of g) at.0 name at.1)),
+  λ there. at_contains (names_of g) (position_in (names_of g) name) name (at_position g name there),
+)
 
 -- the items of a block are no more than those of all
 block_within : (front back : List Block) (b : Block) → length b.items ≤ length (items_of_blocks (front ++ b ∷ back))

@@ -1,7 +1,10 @@
 pub mod Doubles
+pub mod Exactness
 pub mod Grouping
 pub mod Keyed
 pub mod Keying
 pub mod Layouts
 pub mod Numbering
+pub mod Placing
+pub mod Telling
 pub mod Weighing

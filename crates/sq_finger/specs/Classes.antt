@@ -1,5 +1,5 @@
 -- The blocks of a graph in classes.
-use Rattle.std.specs.Prelude.{ℕ, Bool, ◌==◌, ◌&&◌, List, Option, Some, map}
+use Rattle.std.specs.Prelude.{ℕ, Bool, ◌==◌, ◌&&◌, List, Some, map}
 use Rattle.sq_graph.specs.Blocks.{items_of}
 use Rattle.sq_graph.specs.Graph.{Graph}
 use Rattle.sq_graph.specs.Parts.{names_of}

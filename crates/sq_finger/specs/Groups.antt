@@ -41,7 +41,7 @@ module _ {X : Type 0} where
   IsIn groups n x = (group : List X) × ((slice_get groups n ≡ Some group) × Contains group x)
 
 -- Each member is in exactly one group, and two are in one group exactly where their keys are equal.
-pub record AreClasses {X K : Type 0} (key : X → K) (members : List X) (groups : List (List X)) : Type 0 where
-  pub every : (x : X) → Contains members x → (n : ℕ) × IsIn groups n x
-  pub known : (n : ℕ) (x : X) → IsIn groups n x → Contains members x
+pub record AreClasses {X K : Type 0} (key : X → K) (IsMember : X → Type 0) (groups : List (List X)) : Type 0 where
+  pub every : (x : X) → IsMember x → (n : ℕ) × IsIn groups n x
+  pub known : (n : ℕ) (x : X) → IsIn groups n x → IsMember x
   pub same : (m n : ℕ) (x y : X) → IsIn groups m x → IsIn groups n y → (m ≡ n) ↔ (key x ≡ key y)

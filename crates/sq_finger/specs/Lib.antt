@@ -1,5 +1,9 @@
 pub mod Classes
+pub mod Exact
 pub mod Fingerprints
 pub mod Groups
 pub mod ItemKeys
 pub mod Numbers
+pub mod Runs
+pub mod TermKeys
+pub mod Windows

@@ -1,7 +1,7 @@
 -- Keys and their numbers: equal keys have one number, and the numbers go up in the order in which keys are first seen.
 use Rattle.std.specs.Prelude.{◌≡◌, ◌↔◌, ◌<◌, ◌⊎◌, ℕ, Bool, true, List, [], ◌∷◌, Option, None, Some, length, slice_get}
 use Rattle.std.specs.List.{position_or_len}
-use Rattle.std.specs.Option.{option_map}
+use Rattle.std.specs.Option.{option_map, option_flatten}
 use Rattle.indexmap.specs.IndexSet.{insert_key}
 
 module _ {K : Type 0} (eq : K → K → Bool) where
@@ -39,3 +39,13 @@ NoDouble numbers = (i j : ℕ) → ¬ IsDouble numbers i j
 pub record IsFirstDouble (numbers : List (Option ℕ)) (places : ℕ × ℕ) : Type 0 where
   pub double : IsDouble numbers places.0 places.1
   pub first : (i j : ℕ) → IsDouble numbers i j → places.1 < j ⊎ ((places.0 ≡ i) × (places.1 ≡ j))
+
+-- the member at a place, where there is one
+abbrev pub member_at : {X : Type 0} → List (Option X) → ℕ → Option X
+member_at members i = option_flatten (slice_get members i)
+
+-- The numbers of members: there is one exactly where there is a member, and two are equal exactly where the members are.
+pub record AreNumbersOf {X : Type 0} (members : List (Option X)) (numbers : List (Option ℕ)) : Type 0 where
+  pub many : length numbers ≡ length members
+  pub none : (i : ℕ) → (member_at numbers i ≡ None) ↔ (member_at members i ≡ None)
+  pub same : (i j : ℕ) → (member_at numbers i ≡ member_at numbers j) ↔ (member_at members i ≡ member_at members j)

@@ -1,6 +1,7 @@
 //! Blocks in classes.
 
 ghost use Rattle.std.specs.Prelude.{◌≡◌, ◌<◌, ◌^◌, Some, map, length, IfOk};
+ghost use Rattle.sq_graph.specs.Blocks.{HasBlock};
 ghost use Rattle.sq_graph.specs.Parts.{names_of};
 ghost use Rattle.sq_graph.specs.Rules.{IsGraph};
 ghost use Rattle.sq_finger.specs.Classes.{block_kind, classes_of};
@@ -35,7 +36,7 @@ fn kinds(alloc: Global, graph: &Graph, names: &[u32]) -> Result<Vec<Option<(u64,
 /// blocks are in one class exactly where they have as many items and one fingerprint.
 pub fn classes(alloc: Global, graph: &Graph) -> Result<Classing, Memory>
     ensures value { IfOk result (λ classes. classes ≡ classes_of graph.now.graph) }
-    ensures classes { IfOk result (λ classes. AreClasses (block_kind graph.now.graph) (names_of graph.now.graph) classes) }
+    ensures classes { IfOk result (λ classes. AreClasses (block_kind graph.now.graph) (HasBlock graph.now.graph) classes) }
 {
     let _entry = graph.entry();
     let _room = graph.spare();

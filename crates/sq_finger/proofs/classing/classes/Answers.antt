@@ -1,12 +1,13 @@
-use Rattle.std.proofs.Common.{◌≡◌, List, Option, Some, map, length, sym, ap, ◌∙◌, subst, arith}
+use Rattle.std.proofs.Common.{◌≡◌, Some, Contains, map, sym, ap, ◌∙◌, subst, arith}
 use Rattle.std.proofs.lemmas.Result.{IfOk-weaker}
+use Rattle.sq_graph.specs.Blocks.{HasBlock}
 use Rattle.sq_graph.specs.Parts.{names_of}
-use Rattle.sq_finger.specs.Classes.{is_same_kind, block_kind}
-use Rattle.sq_finger.specs.Groups.{group_count, groups_of, AreClasses}
+use Rattle.sq_finger.specs.Classes.{is_same_kind, block_kind, classes_of}
+use Rattle.sq_finger.specs.Groups.{groups_of, AreClasses}
 use Rattle.sq_finger.specs.Numbers.{numbers_of}
-use Rattle.sq_finger.proofs.Grouping.{classes_are}
+use Rattle.sq_finger.proofs.Grouping.{classes_are, classes_of_members}
 use Rattle.sq_finger.proofs.Keyed.{same_kind, kind_laws, counts}
-use Rattle.sq_finger.proofs.Layouts.{length-names}
+use Rattle.sq_finger.proofs.Layouts.{length-names, names_are}
 use Rattle.sq_finger.proofs.classing.classes.Goals as goal
 
 pub by_number-requires-clause-few : goal.by_number-requires-clause-few
@@ -26,6 +27,8 @@ returns-clause-classes c =
     let keys = c.in_ok-kinds.ensures ∙ ap (map (λ name. Some (block_kind g name))) (c.deref.ensures.value ∙ c.in_ok-names.ensures) in
     let numbers = c.deref-4.ensures.value ∙ c.in_ok-numbers.ensures.value ∙ ap (numbers_of is_same_kind) (c.deref-2.ensures.value ∙ keys) in
     let names = c.deref-3.ensures.value ∙ c.in_ok-names.ensures in
-    IfOk-weaker c.by_number.result (λ classes. classes ≡ groups_of c.deref-4.result.now c.deref-3.result.now) (AreClasses (block_kind g) (names_of g))
-    (λ classes e. subst (AreClasses (block_kind g) (names_of g)) (sym (rw (sym numbers, sym names) e)) (classes_are is_same_kind kind_laws same_kind (block_kind g) (names_of g)))
+    IfOk-weaker c.by_number.result (λ classes. classes ≡ groups_of c.deref-4.result.now c.deref-3.result.now) (AreClasses (block_kind g) (HasBlock g))
+    (λ classes e. subst (AreClasses (block_kind g) (HasBlock g)) (sym (rw (sym numbers, sym names) e))
+    (classes_of_members (block_kind g) (λ name. Contains (names_of g) name) (HasBlock g) (classes_of g) (names_are g)
+    (classes_are is_same_kind kind_laws same_kind (block_kind g) (names_of g))))
     c.by_number.ensures

@@ -1,4 +1,4 @@
-use Rattle.std.proofs.Common.{◌≡◌, Some, None, nat_eq, slice_get, sym, ap, ◌∙◌, arith}
+use Rattle.std.proofs.Common.{Some, None, nat_eq, sym, ap, ◌∙◌}
 use Rattle.std.specs.HashMap.{get}
 use Rattle.std.proofs.lemmas.Option.{slice_get-get_or}
 use Rattle.sq_finger.proofs.Doubles.{tells_none, tells_next, tells_double, tells_end}

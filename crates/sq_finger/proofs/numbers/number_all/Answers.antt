@@ -1,5 +1,5 @@
-use Rattle.std.proofs.Common.{[], drop, sym, subst, ◌∙◌, ap, arith}
-use Rattle.sq_finger.specs.Numbers.{AreNumbers, numbers_of}
+use Rattle.std.proofs.Common.{sym, subst}
+use Rattle.sq_finger.specs.Numbers.{AreNumbers}
 use Rattle.sq_finger.proofs.Numbering.{numbers_are, all_numbered}
 use Rattle.sq_finger.proofs.numbers.number_all.Goals as goal
 

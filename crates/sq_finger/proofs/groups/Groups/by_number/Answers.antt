@@ -1,6 +1,6 @@
-use Rattle.std.proofs.Common.{◌≡◌, [], Some, None, drop, ap, ◌∙◌, sym, arith}
+use Rattle.std.proofs.Common.{Some, None, ap, ◌∙◌, sym, arith}
 use Rattle.std.proofs.lemmas.Option.{slice_get-get_or}
-use Rattle.sq_finger.proofs.Grouping.{counted, gathered, gathered_some, gathered_none, gathered_end, gathered_are}
+use Rattle.sq_finger.proofs.Grouping.{counted, gathered_some, gathered_none, gathered_end, gathered_are}
 use Rattle.sq_finger.proofs.groups.Groups.by_number.Goals as goal
 use Rattle.sq_finger.proofs.groups.Groups.by_number.Goals.{in-Some+in_ok-push, in_default}
 

@@ -1,5 +1,4 @@
-use Rattle.std.proofs.Common.{◌∷◌, [], arith, ap, ◌∙◌, sym, length, length-append}
-use Rattle.std.specs.Vec.{vec_len}
+use Rattle.std.proofs.Common.{◌∷◌, [], arith, ap, ◌∙◌, sym, length-append}
 use Rattle.sq_finger.specs.Groups.{grown}
 use Rattle.sq_finger.proofs.Grouping.{kept_more, kept_end}
 use Rattle.sq_finger.proofs.groups.Groups.grow.Goals as goal

@@ -1,4 +1,4 @@
-use Rattle.std.proofs.Common.{◌≡◌, ◌+◌, ◌-◌, ◌<◌, ◌≤◌, ◌^◌, length, map}
+use Rattle.std.proofs.Common.{◌≡◌, ◌+◌, ◌-◌, ◌<◌, ◌^◌, length, map}
 use Rattle.sq_finger.specs.Groups.{grown}
 use Rattle.sq_finger.proofs.groups.Groups.grow.Given as goal
 
