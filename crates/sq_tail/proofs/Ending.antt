@@ -105,6 +105,11 @@ back_found n items l plain =
     rw (lt-ltb n (length items) l)
     (ap plain_item (slice_get-get_or items (length items - 1 - n) some_item (omega (arith, l))) ∙ rw plain refl)
 
+pub back_reserved : (n : ℕ) (items : List Item) → n < length items → is_reservation (back n items) ≡ true → item_back n items ≡ None
+back_reserved n items l reserved =
+    rw (lt-ltb n (length items) l)
+    (ap plain_item (slice_get-get_or items (length items - 1 - n) some_item (omega (arith, l))) ∙ rw reserved refl)
+
 pub record IsBack (n : ℕ) (items : List Item) (item : Item) : Type 0 where
   pub within : n < length items
   pub is : item ≡ back n items

@@ -9,3 +9,7 @@ pub mod Slots
 pub mod Joined
 pub mod Equals
 pub mod Sizes
+pub mod Numbering
+pub mod Searching
+pub mod Words
+pub mod Fitting

@@ -1,4 +1,5 @@
 pub mod Resolved
 pub mod Tails
 pub mod Ends
+pub mod Numbers
 pub mod Candidates

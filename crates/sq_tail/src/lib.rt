@@ -6,6 +6,8 @@
 
 mod ends;
 mod joining;
+mod numbers;
 mod resolved;
+mod search;
 
 pub use resolved::{Resolved, resolved_term};
