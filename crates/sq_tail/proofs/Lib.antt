@@ -9,3 +9,7 @@ pub mod Slots
 pub mod Joined
 pub mod Equals
 pub mod Sizes
+pub mod BodiesEqual
+pub mod BodiesPrinted
+pub mod BodiesEarlier
+pub mod BodiesFound

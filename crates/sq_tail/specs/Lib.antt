@@ -2,3 +2,6 @@ pub mod Resolved
 pub mod Tails
 pub mod Ends
 pub mod Candidates
+pub mod Bodies
+pub mod BodiesPrints
+pub mod BodiesEarlier

@@ -4,8 +4,10 @@
 //! none, and what it makes of a graph is exactly what the row says.
 #![tactic(auto)]
 
+mod bodies;
 mod ends;
 mod joining;
 mod resolved;
 
+pub use bodies::{BodyPair, find_bodies, go_on_alike, is_body_pair};
 pub use resolved::{Resolved, resolved_term};
