@@ -13,3 +13,7 @@ pub mod Numbering
 pub mod Searching
 pub mod Words
 pub mod Fitting
+pub mod BodiesEqual
+pub mod BodiesPrinted
+pub mod BodiesEarlier
+pub mod BodiesFound

@@ -4,10 +4,12 @@
 //! none, and what it makes of a graph is exactly what the row says.
 #![tactic(auto)]
 
+mod bodies;
 mod ends;
 mod joining;
 mod numbers;
 mod resolved;
 mod search;
 
+pub use bodies::{BodyPair, find_bodies, go_on_alike, is_body_pair};
 pub use resolved::{Resolved, resolved_term};
