@@ -1,0 +1,78 @@
+//! Prints of blocks: numbers that are equal for bodies that match, and mostly differ for others.
+
+ghost use Rattle.std.specs.Prelude.{◌≡◌, ◌≤◌, ◌<◌, ◌^◌, map, IfOk};
+ghost use Rattle.std.specs.List.{All};
+ghost use Rattle.sq_graph.specs.Blocks.{HasBlock};
+ghost use Rattle.sq_graph.specs.Rules.{ItemFits};
+ghost use Rattle.sq_graph.specs.Uses.{term_uses};
+ghost use Rattle.sq_rename.specs.Shapes.{shape_of};
+ghost use Rattle.sq_tail.specs.BodiesPrints.{item_number, mixed, number_of_uses, print_of};
+
+use crate::resolved::resolved_term;
+use sq_encode::encode;
+use sq_graph::{Graph, Item, Term};
+use sq_layout::learn;
+use sq_num::Memory;
+use sq_rename::shape;
+use std::alloc::Global;
+
+/// The number of an item's shape.
+fn shape_number(item: &Item) -> u64
+    requires { ItemFits item.now }
+    ensures value { result ≡ item_number (shape_of item.now) }
+    ensures small { result < 2 ^ 34 }
+{
+    match shape(item) {
+        Item::Op(insn) => u64::from(encode(&insn)),
+        Item::Hi { to, .. } => (1 << 32) + u64::from(to),
+        Item::Lo { to, .. } => (1 << 33) + u64::from(to),
+        Item::Out { procedure } => (3 << 32) + u64::from(procedure),
+    }
+}
+
+/// A print with one number more.
+fn mixed(print: u64, number: u64) -> u64
+    requires print { print ≤ 2 ^ 32 }
+    requires number { number < 2 ^ 34 }
+    ensures value { result ≡ mixed print number }
+    ensures small { result ≤ 2 ^ 32 }
+{
+    (print * 1_540_483_477 + number) % 4_294_967_291
+}
+
+/// One more than the block that a term names, and 0 where it names none.
+fn target_number(term: Term) -> u64
+    ensures value { result ≡ number_of_uses (term_uses term) }
+    ensures small { result ≤ 2 ^ 32 }
+{
+    match term.target() {
+        Some(to) => u64::from(to) + 1,
+        None => 0,
+    }
+}
+
+/// The print of a block.
+fn print(graph: &Graph, block: u32) -> u64
+    requires { HasBlock graph.now.graph block }
+    ensures { result ≡ print_of graph.now.graph block }
+{
+    learn(graph);
+    let mut print = target_number(resolved_term(graph, block).term);
+    let items = graph.items(block);
+    for item in items {
+        print = mixed(print, shape_number(item));
+    }
+    print
+}
+
+/// The prints of these blocks.
+pub(crate) fn prints(alloc: Global, graph: &Graph, names: &[u32]) -> Result<Vec<u64>, Memory>
+    requires { All (HasBlock graph.now.graph) names.now }
+    ensures { IfOk result (λ prints. prints.items ≡ map (print_of graph.now.graph) names.now) }
+{
+    let mut prints = Vec::new(alloc);
+    for name in names {
+        prints.push(print(graph, *name))?;
+    }
+    Ok(prints)
+}

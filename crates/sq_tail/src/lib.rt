@@ -1,0 +1,15 @@
+//! The pass of the row that merges equal tails of blocks, and blocks whose whole bodies match.
+//!
+//! To the layers above it promises that `Tails` keeps the laws of passes, for row T: what it finds and admits are its candidates, it misses
+//! none, and what it makes of a graph is exactly what the row says.
+#![tactic(auto)]
+
+mod bodies;
+mod ends;
+mod joining;
+mod numbers;
+mod resolved;
+mod search;
+
+pub use bodies::{BodyPair, find_bodies, go_on_alike, is_body_pair};
+pub use resolved::{Resolved, resolved_term};

@@ -1,0 +1,71 @@
+//! Terms with each of their blocks resolved.
+
+ghost use Rattle.std.specs.Prelude.{◌≡◌, Some, option_map};
+ghost use Rattle.sq_graph.specs.Blocks.{HasBlock, next_of};
+ghost use Rattle.sq_graph.specs.Resolve.{resolved, resolved_term_of};
+ghost use Rattle.sq_tail.specs.Resolved.{meaning_of};
+
+use sq_graph::{Graph, Term};
+use sq_layout::learn;
+use sq_lookup::resolve;
+
+/// A resolved term, and the resolved slot in which what follows goes on, if it does.
+#[derive(Clone, Copy, Debug, PartialEq, Eq)]
+pub struct Resolved {
+    pub term: Term,
+    pub next: Option<u32>,
+}
+
+/// The next slot, resolved.
+fn resolved_next(graph: &Graph, block: u32) -> Option<u32>
+    requires { HasBlock graph.now.graph block }
+    ensures { result ≡ option_map (resolved graph.now.graph) (next_of graph.now.graph block) }
+{
+    learn(graph);
+    match graph.next(block) {
+        Some(next) => Some(resolve(graph, next)),
+        None => None,
+    }
+}
+
+/// The resolved term of a block: a Fall counts as a Jump to the next slot, and the target of a PartJump stays.
+pub fn resolved_term(graph: &Graph, block: u32) -> Resolved
+    requires { HasBlock graph.now.graph block }
+    ensures { resolved_term_of graph.now.graph block ≡ Some (meaning_of result) }
+{
+    learn(graph);
+    let next = resolved_next(graph, block);
+    let term = graph.term(block);
+    match term {
+        Term::Fall => Resolved {
+            term: next.map_or(Term::Fall, |to| Term::Jump { to }),
+            next: None,
+        },
+        Term::Jump { to } => Resolved {
+            term: Term::Jump {
+                to: resolve(graph, to),
+            },
+            next: None,
+        },
+        Term::Branch { cond, a, b, to } => Resolved {
+            term: Term::Branch {
+                cond,
+                a,
+                b,
+                to: resolve(graph, to),
+            },
+            next,
+        },
+        Term::Call { link, to } => Resolved {
+            term: Term::Call {
+                link,
+                to: resolve(graph, to),
+            },
+            next,
+        },
+        Term::PartJump { .. } | Term::Indirect { .. } | Term::Stop { .. } => Resolved {
+            term,
+            next: if term.goes_on() { next } else { None },
+        },
+    }
+}
