@@ -1,10 +1,10 @@
 -- A body that matches a procedure's becomes a call of it.
-use Rattle.std.proofs.Common.{◌≡◌, ℕ, ◌+◌, List, length, sym, ◌∙◌, subst, arith}
-use Rattle.std.specs.List.{slice_range}
+use Rattle.std.proofs.Common.{◌≡◌, ℕ, ◌+◌, ◌-◌, ◌<◌, List, length, get_or, sym, ap, ◌∙◌, subst, arith}
+use Rattle.std.specs.List.{All, slice_range}
 use Rattle.std.proofs.lemmas.List.{take_all}
 use Rattle.sq_graph.specs.declared.item.Item.{Item}
 use Rattle.sq_graph.specs.Graph.{Graph}
-use Rattle.sq_graph.specs.Blocks.{items_of, body_of}
+use Rattle.sq_graph.specs.Blocks.{HasProcedure, items_of, body_of}
 use Rattle.sq_graph.specs.Lines.{place_lines}
 use Rattle.sq_graph.specs.Matches.{IsPair, Match}
 use Rattle.sq_graph.specs.Rules.{IsGraph}
@@ -12,8 +12,11 @@ use Rattle.sq_graph.specs.Walks.{IsLive}
 use Rattle.sq_graph.proofs.AlikeGraphs.{alike_itself}
 use Rattle.sq_patch.specs.Calls.{IsMatching, call_end, call_items}
 use Rattle.sq_patch.proofs.Calls.{range_is}
+use Rattle.sq_graph.specs.Parts.{names_of}
+use Rattle.sq_lookup.proofs.Targets.{name_listed}
+use Rattle.sq_pass.specs.declared.cut.Cut.{Cut}
 use Rattle.sq_pass.specs.Applied.{IsApplied}
-use Rattle.sq_outline.specs.Called.{IsCalled, called}
+use Rattle.sq_outline.specs.Called.{IsCalled, MayCall, called, IsCalledCut}
 use Rattle.sq_outline.proofs.Plainness.{forms_length}
 use Rattle.sq_outline.proofs.Standing.{one_call}
 
@@ -60,3 +63,17 @@ module _ (g : Graph) (block procedure saving : ℕ) (rules : IsGraph g) (can : I
         words = omega (arith, one.words, can.saves);
         described = alike_itself (called g block procedure);
       }
+
+-- there is one saving
+pub may_call : (g : Graph) (block procedure saving : ℕ) → IsCalled g block procedure saving → MayCall g block procedure
+may_call g block procedure saving can =
+    let is : saving ≡ length (body_of g procedure) - 1 = omega (arith, can.saves) in subst (IsCalled g block procedure) is can
+
+-- where no block may become a call, no cut is a candidate
+pub no_call : (g : Graph) (names : List ℕ) → names ≡ names_of g → All (λ block. (procedure : ℕ) → HasProcedure g procedure → ¬ MayCall g block procedure) names → (cut : Cut) → ¬ IsCalledCut g cut
+no_call g names are none cut candidate =
+    let at = name_listed g.blocks candidate.block candidate.called.body.there in
+    let block_is : get_or names at.0 0 ≡ candidate.block = ap (λ ns. get_or ns at.0 0) are ∙ at.2 in
+    let within : at.0 < length names = omega (arith, at.1, ap (λ ns. length ns) are) in
+    none at.0 0 within cut.procedure candidate.called.there
+    (subst (λ b. MayCall g b cut.procedure) (sym block_is) (may_call g candidate.block cut.procedure cut.saving candidate.called))

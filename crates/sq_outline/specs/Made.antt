@@ -65,8 +65,14 @@ pub record AreMade (g : Graph) (blocks : List ℕ) (link : ℕ) : Type 0 where
   pub are : blocks ≡ first ∷ others
   pub made : IsMade g first others link saving
 
+-- the cut of these blocks
+abbrev pub make_cut : List ℕ → ℕ → ℕ → Cut
+make_cut blocks link saving =
+    record { row = O1; blocks = blocks; procedure = 0; other = 0; length = 0; link = link; saving = saving }
+
+-- a cut of O1
 pub record IsMadeCut (g : Graph) (cut : Cut) : Type 0 where
   pub first : ℕ
   pub others : List ℕ
   pub made : IsMade g first others cut.link cut.saving
-  pub is : cut ≡ record { row = O1; blocks = first ∷ others; procedure = 0; other = 0; length = 0; link = cut.link; saving = cut.saving }
+  pub is : cut ≡ make_cut (first ∷ others) cut.link cut.saving
