@@ -5,3 +5,5 @@ pub mod Plainness
 pub mod Linking
 pub mod Calling
 pub mod Making
+pub mod Keeping
+pub mod Choosing

@@ -58,7 +58,7 @@ starts_apart n (block ∷ blocks) distinct =
     )
 
 -- of mapped elements, each by its place
-each_mapped : {X Y : Type 0} (P : Y → Type 0) (f : X → Y) (xs : List X) → All P (map f xs) → All (λ x. P (f x)) xs
+pub each_mapped : {X Y : Type 0} (P : Y → Type 0) (f : X → Y) (xs : List X) → All P (map f xs) → All (λ x. P (f x)) xs
 each_mapped P f [] all = All-nil (λ x. P (f x))
 each_mapped P f (x ∷ xs) all = All-cons (λ x. P (f x)) x xs (All-head P (f x) (map f xs) all) (each_mapped P f xs (All-tail P (f x) (map f xs) all))
 

@@ -70,6 +70,13 @@ abbrev pub make_cut : List ℕ → ℕ → ℕ → Cut
 make_cut blocks link saving =
     record { row = O1; blocks = blocks; procedure = 0; other = 0; length = 0; link = link; saving = saving }
 
+-- the cut has nothing that O1 doesn't use
+pub record IsMakeCut (cut : Cut) : Type 0 where
+  pub row : cut.row ≡ O1
+  pub procedure : cut.procedure ≡ 0
+  pub other : cut.other ≡ 0
+  pub length : cut.length ≡ 0
+
 -- a cut of O1
 pub record IsMadeCut (g : Graph) (cut : Cut) : Type 0 where
   pub first : ℕ

@@ -13,7 +13,7 @@ use sq_isa::Reg;
 use sq_live::Liveness;
 
 /// The registers in the order in which they are tried: temporaries first, then ra, sp, gp and tp, then the others.
-const ORDER: [u32; 31] = [
+pub(crate) const ORDER: [u32; 31] = [
     5, 6, 7, 28, 29, 30, 31, 1, 2, 3, 4, 8, 9, 10, 11, 12, 13, 14, 15, 16, 17, 18, 19, 20, 21, 22,
     23, 24, 25, 26, 27,
 ];
@@ -34,7 +34,7 @@ fn mentions(item: &Item, r: Reg) -> bool
 }
 
 /// Whether none of the items mentions the register.
-fn is_unmentioned(items: &[Item], r: Reg) -> bool
+pub(crate) fn is_unmentioned(items: &[Item], r: Reg) -> bool
     ensures { IsTrue result ↔ All (λ item. mentions item r ≡ false) items.now }
 {
     for item in items {
