@@ -1,0 +1,5 @@
+pub mod Sites
+pub mod Links
+pub mod Made
+pub mod Called
+pub mod Candidates
