@@ -5,3 +5,8 @@ pub mod Plainness
 pub mod Linking
 pub mod Calling
 pub mod Making
+pub mod Recalling
+pub mod RecallNumbers
+pub mod RecallTotals
+pub mod Spreading
+pub mod Inlining

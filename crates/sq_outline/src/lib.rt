@@ -8,4 +8,5 @@ mod call;
 mod link;
 mod make;
 mod plain;
+mod recall;
 mod sites;
