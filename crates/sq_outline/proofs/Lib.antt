@@ -7,3 +7,8 @@ pub mod Calling
 pub mod Making
 pub mod Keeping
 pub mod Choosing
+pub mod Recalling
+pub mod RecallNumbers
+pub mod RecallTotals
+pub mod Spreading
+pub mod Inlining

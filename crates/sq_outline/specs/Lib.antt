@@ -4,3 +4,6 @@ pub mod Made
 pub mod Sets
 pub mod Called
 pub mod Candidates
+pub mod Recalled
+pub mod RecalledNumbers
+pub mod Inlined

@@ -8,5 +8,6 @@ mod call;
 mod link;
 mod make;
 mod plain;
+mod recall;
 mod sets;
 mod sites;

@@ -1,0 +1,31 @@
+use Rattle.std.proofs.Common.{◌≡◌, List, Option, Some, map, length, sym, ap, ◌∙◌, subst, arith}
+use Rattle.std.proofs.lemmas.Result.{IfOk-weaker}
+use Rattle.sq_graph.specs.Parts.{names_of}
+use Rattle.sq_finger.specs.Classes.{is_same_kind, block_kind}
+use Rattle.sq_finger.specs.Groups.{group_count, groups_of, AreClasses}
+use Rattle.sq_finger.specs.Numbers.{numbers_of}
+use Rattle.sq_finger.proofs.Grouping.{classes_are}
+use Rattle.sq_finger.proofs.Keyed.{same_kind, kind_laws, counts}
+use Rattle.sq_finger.proofs.Layouts.{length-names}
+use Rattle.sq_finger.proofs.classing.classes.Goals as goal
+
+pub by_number-requires-clause-few : goal.by_number-requires-clause-few
+by_number-requires-clause-few c =
+    let g = c.args.graph.now.graph in
+    let keys = c.in_ok-kinds.ensures ∙ ap (map (λ name. Some (block_kind g name))) (c.deref.ensures.value ∙ c.in_ok-names.ensures) in
+    let numbers = c.in_ok-numbers.ensures.value ∙ ap (numbers_of is_same_kind) c.deref-2.ensures.value in
+    let k = counts is_same_kind kind_laws (block_kind g) (names_of g) c.in_ok-kinds.kinds.items c.in_ok-numbers.numbers.items keys numbers in
+    let few = k.few in
+    let names = length-names g.blocks in
+    let small = c.spare-room.ensures.small.blocks in
+    rw c.deref-4.ensures.value (omega arith)
+
+pub returns-clause-classes : goal.returns-clause-classes
+returns-clause-classes c =
+    let g = c.args.graph.now.graph in
+    let keys = c.in_ok-kinds.ensures ∙ ap (map (λ name. Some (block_kind g name))) (c.deref.ensures.value ∙ c.in_ok-names.ensures) in
+    let numbers = c.deref-4.ensures.value ∙ c.in_ok-numbers.ensures.value ∙ ap (numbers_of is_same_kind) (c.deref-2.ensures.value ∙ keys) in
+    let names = c.deref-3.ensures.value ∙ c.in_ok-names.ensures in
+    IfOk-weaker c.by_number.result (λ classes. classes ≡ groups_of c.deref-4.result.now c.deref-3.result.now) (AreClasses (block_kind g) (names_of g))
+    (λ classes e. subst (AreClasses (block_kind g) (names_of g)) (sym (rw (sym numbers, sym names) e)) (classes_are is_same_kind kind_laws same_kind (block_kind g) (names_of g)))
+    c.by_number.ensures
