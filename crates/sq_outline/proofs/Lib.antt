@@ -1,0 +1,14 @@
+pub mod Early
+pub mod Totals
+pub mod Standing
+pub mod Plainness
+pub mod Linking
+pub mod Calling
+pub mod Making
+pub mod Keeping
+pub mod Choosing
+pub mod Recalling
+pub mod RecallNumbers
+pub mod RecallTotals
+pub mod Spreading
+pub mod Inlining

@@ -1,0 +1,27 @@
+use Rattle.std.proofs.Common.{List, ℕ, [], ◌+◌, take, is_some, sym, ap, ◌∙◌, subst}
+use Rattle.sq_live.proofs.Layouts.{block_at}
+use Rattle.sq_outline.specs.Sets.{Keeps, nothing, IsOther}
+use Rattle.sq_outline.proofs.Keeping.{keeps_next, leaves_next}
+use Rattle.sq_outline.proofs.sets.others_of.Goals as goal
+use Rattle.sq_outline.proofs.sets.others_of.Goals.{then-is_other+in_ok-push, else-is_other}
+
+pub loop-name-init : goal.loop-name-init
+loop-name-init c = subst (λ (ys : List ℕ). Keeps (IsOther c.args.graph.now.graph c.args.first) [] ys) (sym c.new-others.ensures.items) nothing
+
+pub is_other-requires-clause-block : goal.is_other-requires-clause-block
+is_other-requires-clause-block c =
+    ap is_some (block_at c.args.graph.now.graph c.args.names.now c.loop-name.name-index c.learn.ensures.rules c.requires.names c.loop-name-test.true).found
+
+pub loop-name-preserved : goal.loop-name-preserved
+loop-name-preserved c =
+    let P = IsOther c.args.graph.now.graph c.args.first in
+    let names = c.args.names.now in
+    let i = c.loop-name.name-index in
+    elim c.if-is_other.branch [
+      | then-is_other+in_ok-push w ↦
+          subst (λ (ys : List ℕ). Keeps P (take (i + 1) names) ys) (sym (ap (λ others. others.items) w.others-is ∙ w.in_ok-push.ensures.items))
+          (keeps_next P names c.loop-name.others.items i c.loop-name-test.true c.loop-name.invariant (c.is_other.ensures.0 w.if-is_other.true))
+      | else-is_other w ↦
+          subst (λ (ys : List ℕ). Keeps P (take (i + 1) names) ys) (sym (ap (λ others. others.items) w.others-is))
+          (leaves_next P names c.loop-name.others.items i c.loop-name-test.true c.loop-name.invariant (λ holds. let yes = c.is_other.ensures.1 holds in let no = w.if-is_other.false in absurd (cc)))
+    ]

@@ -1,0 +1,9 @@
+pub mod Sites
+pub mod Links
+pub mod Made
+pub mod Sets
+pub mod Called
+pub mod Candidates
+pub mod Recalled
+pub mod RecalledNumbers
+pub mod Inlined

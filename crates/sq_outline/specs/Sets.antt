@@ -1,0 +1,45 @@
+-- How blocks are searched whose bodies may become calls of one new procedure.
+use Rattle.std.specs.Prelude.{◌≡◌, ◌≢◌, ℕ, nat_eq, ◌+◌, ◌*◌, ◌-◌, ◌≤◌, ◌<◌, List, [], ◌∷◌, length, slice_index}
+use Rattle.std.specs.List.{All, IsDistinct}
+use Rattle.sq_graph.specs.Graph.{Graph}
+use Rattle.sq_graph.specs.Blocks.{items_of}
+use Rattle.sq_rename.specs.Bodies.{IsLiveBehind}
+use Rattle.sq_outline.specs.Links.{link_order, MayLink, IsLink}
+use Rattle.sq_outline.specs.Made.{HasBody, ends_of}
+
+-- the second list has exactly those of the first for which P holds, in their order
+pub data Keeps (P : ℕ → Type 0) : List ℕ → List ℕ → Type 0 where
+  nothing : Keeps P [] []
+  kept : (x : ℕ) {xs ys : List ℕ} → P x → Keeps P xs ys → Keeps P (x ∷ xs) (x ∷ ys)
+  left_out : (x : ℕ) {xs ys : List ℕ} → ¬ P x → Keeps P xs ys → Keeps P (x ∷ xs) ys
+
+-- another block, whose body matches that of the first
+abbrev pub IsOther : Graph → ℕ → ℕ → Type 0
+IsOther g first block = (block ≢ first) × HasBody g (items_of g first) block
+
+abbrev pub IsDeadBehind : Graph → ℕ → ℕ → Type 0
+IsDeadBehind g r block = ¬ IsLiveBehind g block r
+
+-- with so many calls for bodies of so many items at least a word is saved
+abbrev pub Pays : ℕ → ℕ → Type 0
+Pays calls items = items + 2 ≤ calls * (items - 1)
+
+-- the register is one of those that are tried
+abbrev pub IsTried : ℕ → Type 0
+IsTried r = (k : ℕ) × ((k < length link_order) × (slice_index link_order k ≡ r))
+
+-- These bodies match that of the first, and may be called through some register. The link is the first such register.
+pub record CanMake (g : Graph) (first : ℕ) (others : List ℕ) : Type 0 where
+  pub register : ℕ
+  pub tried : IsTried register
+  pub distinct : IsDistinct nat_eq (first ∷ others)
+  pub bodies : All (HasBody g (items_of g first)) (first ∷ others)
+  pub may : MayLink g (items_of g first) (ends_of g (first ∷ others)) register
+  pub pays : Pays (length (first ∷ others)) (length (items_of g first))
+
+-- The bodies of these blocks match that of the first, and this is their link.
+pub record HaveLink (g : Graph) (first : ℕ) (blocks : List ℕ) (link : ℕ) : Type 0 where
+  pub distinct : IsDistinct nat_eq blocks
+  pub bodies : All (HasBody g (items_of g first)) blocks
+  pub pays : Pays (length blocks) (length (items_of g first))
+  pub linked : IsLink g (items_of g first) (ends_of g blocks) link

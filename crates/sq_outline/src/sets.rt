@@ -1,0 +1,211 @@
+//! Which bodies may become calls of one new procedure, for row O1.
+
+ghost use Rattle.std.specs.Prelude.{◌≡◌, ◌↔◌, ◌<◌, ◌^◌, ℕ, List, None, Ok, IsTrue, IfOk, IfSome};
+ghost use Rattle.std.specs.List.{All};
+ghost use Rattle.sq_graph.specs.Blocks.{HasBlock, items_of};
+ghost use Rattle.sq_graph.specs.Parts.{names_of};
+ghost use Rattle.sq_live.specs.Liveness.{IsLivenessOf};
+ghost use Rattle.sq_outline.specs.Made.{HasBody};
+ghost use Rattle.sq_outline.specs.Sets.{Keeps, IsOther, IsDeadBehind, Pays, IsTried, CanMake};
+
+use crate::link::{ORDER, is_unmentioned};
+use crate::plain::are_plain;
+use sq_graph::Graph;
+use sq_isa::Reg;
+use sq_layout::learn;
+use sq_live::Liveness;
+use sq_num::Memory;
+use sq_rename::matches;
+use std::alloc::Global;
+
+/// Whether the body of a block matches that of the first.
+pub(crate) fn has_body(graph: &Graph, live: &Liveness, block: u32, first: u32) -> bool
+    requires block { HasBlock graph.now.graph block }
+    requires first { HasBlock graph.now.graph first }
+    requires live { IsLivenessOf graph.now.graph live.now }
+    ensures { IsTrue result ↔ HasBody graph.now.graph (items_of graph.now.graph first) block }
+{
+    let items = graph.items(block);
+    if items.len() != graph.items(first).len() {
+        return false;
+    }
+    if !are_plain(items) {
+        return false;
+    }
+    matches(graph, live, block, first).is_some()
+}
+
+/// Whether the block is another than the first, whose body it matches.
+fn is_other(graph: &Graph, live: &Liveness, block: u32, first: u32) -> bool
+    requires block { HasBlock graph.now.graph block }
+    requires first { HasBlock graph.now.graph first }
+    requires live { IsLivenessOf graph.now.graph live.now }
+    ensures { IsTrue result ↔ IsOther graph.now.graph first block }
+{
+    if block == first {
+        return false;
+    }
+    has_body(graph, live, block, first)
+}
+
+/// The other blocks whose bodies match that of the first.
+fn others_of(
+    alloc: Global,
+    graph: &Graph,
+    live: &Liveness,
+    names: &[u32],
+    first: u32,
+) -> Result<Vec<u32>, Memory>
+    requires first { HasBlock graph.now.graph first }
+    requires live { IsLivenessOf graph.now.graph live.now }
+    requires names { names.now ≡ names_of graph.now.graph }
+    ensures { IfOk result (λ others. Keeps (IsOther graph.now.graph first) names.now others.items) }
+{
+    learn(graph);
+    let mut others = Vec::new(alloc);
+    for name in names {
+        if is_other(graph, live, *name, first) {
+            others.push(*name)?;
+        }
+    }
+    Ok(others)
+}
+
+/// Whether the register is dead behind the items of the block.
+fn is_dead_behind(graph: &Graph, live: &Liveness, block: u32, r: Reg) -> bool
+    requires block { HasBlock graph.now.graph block }
+    requires live { IsLivenessOf graph.now.graph live.now }
+    ensures { IsTrue result ↔ IsDeadBehind graph.now.graph r block }
+{
+    learn(graph);
+    live.dead_at(block, graph.items(block).len() as u32, r)
+}
+
+/// The blocks behind whose items the register is dead.
+fn dead_behind(
+    alloc: Global,
+    graph: &Graph,
+    live: &Liveness,
+    blocks: &[u32],
+    r: Reg,
+) -> Result<Vec<u32>, Memory>
+    requires blocks { All (HasBlock graph.now.graph) blocks.now }
+    requires live { IsLivenessOf graph.now.graph live.now }
+    ensures { IfOk result (λ chosen. Keeps (IsDeadBehind graph.now.graph r) blocks.now chosen.items) }
+{
+    let mut chosen = Vec::new(alloc);
+    for block in blocks {
+        if is_dead_behind(graph, live, *block, r) {
+            chosen.push(*block)?;
+        }
+    }
+    Ok(chosen)
+}
+
+/// Whether so many calls for bodies of so many items save a word: a call is a word, and the procedure is its body and a word
+/// that returns.
+pub(crate) fn pays(calls: usize, items: usize) -> bool
+    requires calls { calls < 2 ^ 31 }
+    requires items { items < 2 ^ 31 }
+    ensures { IsTrue result ↔ Pays calls items }
+{
+    items as u64 + 2 <= calls as u64 * (items as u64).saturating_sub(1)
+}
+
+/// Those of the others that may be called through the register, with the first, where that pays.
+fn chosen_by(
+    alloc: Global,
+    graph: &Graph,
+    live: &Liveness,
+    first: u32,
+    others: &[u32],
+    r: Reg,
+) -> Result<Option<Vec<u32>>, Memory>
+    requires body { HasBody graph.now.graph (items_of graph.now.graph first) first }
+    requires others { Keeps (IsOther graph.now.graph first) (names_of graph.now.graph) others.now }
+    requires live { IsLivenessOf graph.now.graph live.now }
+    requires tried { IsTried r }
+    ensures some { IfOk result (λ found. IfSome found (λ chosen. CanMake graph.now.graph first chosen.items)) }
+    ensures none { result ≡ Ok None → (rest : List ℕ) → (can : CanMake graph.now.graph first rest) → ¬ (can.register ≡ r) }
+{
+    learn(graph);
+    // Its contract says that a graph's blocks are few.
+    let _room = graph.spare();
+    let items = graph.items(first);
+    if !is_unmentioned(items, r) {
+        return Ok(None);
+    }
+    if !is_dead_behind(graph, live, first, r) {
+        return Ok(None);
+    }
+    let chosen = dead_behind(alloc, graph, live, others, r)?;
+    if !pays(chosen.len() + 1, items.len()) {
+        return Ok(None);
+    }
+    Ok(Some(chosen))
+}
+
+/// The same for the first register for which it pays.
+fn chosen_of(
+    alloc: Global,
+    graph: &Graph,
+    live: &Liveness,
+    first: u32,
+    others: &[u32],
+) -> Result<Option<Vec<u32>>, Memory>
+    requires body { HasBody graph.now.graph (items_of graph.now.graph first) first }
+    requires others { Keeps (IsOther graph.now.graph first) (names_of graph.now.graph) others.now }
+    requires live { IsLivenessOf graph.now.graph live.now }
+    ensures some { IfOk result (λ found. IfSome found (λ chosen. CanMake graph.now.graph first chosen.items)) }
+    ensures none { result ≡ Ok None → (rest : List ℕ) → ¬ CanMake graph.now.graph first rest }
+{
+    for number in &ORDER {
+        let r = Reg::from_low_bits(*number);
+        if let Some(chosen) = chosen_by(alloc, graph, live, first, others, r)? {
+            return Ok(Some(chosen));
+        }
+    }
+    Ok(None)
+}
+
+/// Other blocks with which the body of the first may become a procedure, where there are such.
+fn others_for(
+    alloc: Global,
+    graph: &Graph,
+    live: &Liveness,
+    names: &[u32],
+    first: u32,
+) -> Result<Option<Vec<u32>>, Memory>
+    requires first { HasBlock graph.now.graph first }
+    requires live { IsLivenessOf graph.now.graph live.now }
+    requires names { names.now ≡ names_of graph.now.graph }
+    ensures some { IfOk result (λ found. IfSome found (λ chosen. CanMake graph.now.graph first chosen.items)) }
+    ensures none { result ≡ Ok None → (rest : List ℕ) → ¬ CanMake graph.now.graph first rest }
+{
+    if !has_body(graph, live, first, first) {
+        return Ok(None);
+    }
+    let others = others_of(alloc, graph, live, names, first)?;
+    chosen_of(alloc, graph, live, first, &others)
+}
+
+/// A block, and others with which its body may become a procedure, where there are such.
+pub(crate) fn find_set(
+    alloc: Global,
+    graph: &Graph,
+    live: &Liveness,
+    names: &[u32],
+) -> Result<Option<(u32, Vec<u32>)>, Memory>
+    requires live { IsLivenessOf graph.now.graph live.now }
+    requires names { names.now ≡ names_of graph.now.graph }
+    ensures some { IfOk result (λ found. IfSome found (λ set. CanMake graph.now.graph set.0 set.1.items)) }
+    ensures none { result ≡ Ok None → All (λ first. (rest : List ℕ) → ¬ CanMake graph.now.graph first rest) names.now }
+{
+    learn(graph);
+    for name in names {
+        if let Some(others) = others_for(alloc, graph, live, names, *name)? {
+            return Ok(Some((*name, others)));
+        }
+    }
+    Ok(None)
+}
