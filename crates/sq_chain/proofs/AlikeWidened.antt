@@ -1,5 +1,5 @@
 -- By other new names a graph in which Branches are widened is the same but for names.
-use Rattle.std.proofs.Common.{◌≡◌, ◌≢◌, ◌⊎◌, ℕ, ◌+◌, ◌-◌, ◌≤◌, ◌<◌, ◌==◌, nat_lt, Bool, true, false, if◌then◌else◌, List, [], ◌∷◌, ◌++◌, map, sum_by, Option, None, Some, IsSome, is_some, inl, inr, refl, sym, ap, ◌∙◌, subst, arith}
+use Rattle.std.proofs.Common.{◌≡◌, ◌⊎◌, ℕ, ◌+◌, ◌-◌, ◌≤◌, ◌<◌, ◌==◌, nat_lt, Bool, true, false, if◌then◌else◌, List, [], ◌∷◌, ◌++◌, map, sum_by, IsSome, inl, inr, refl, sym, ap, ◌∙◌, arith}
 use Rattle.std.proofs.lemmas.Bool.{cases_Bool, eqb-true, lt-ltb, le-ltb}
 use Rattle.std.proofs.lemmas.List.Sums.{sum_by-cons}
 use Rattle.sq_arena.specs.Entries.{value_of}
@@ -9,14 +9,12 @@ use Rattle.sq_graph.specs.declared.item.Term.TheVariants.{Fall, Jump, Branch, Ca
 use Rattle.sq_graph.specs.Alike.{AreAlike}
 use Rattle.sq_graph.specs.Graph.{Block, Graph}
 use Rattle.sq_graph.specs.Blocks.{named, HasBlock}
-use Rattle.sq_graph.specs.Operations.{IsNew}
-use Rattle.sq_graph.specs.Parts.{names_of}
 use Rattle.sq_graph.specs.Renames.{retargeted_term, renamed_block, renamed}
 use Rattle.sq_graph.specs.Rules.{IsGraph}
 use Rattle.sq_graph.proofs.Bypassing.{retargeted_same}
 use Rattle.sq_graph.proofs.Renamed.{renamed_by_same}
 use Rattle.sq_chain.proofs.Over.{not_new}
-use Rattle.sq_chain.specs.Widening.{jumped_over, widened_blocks, widened_by, fresh, widened, IsWidened}
+use Rattle.sq_chain.specs.Widening.{jumped_over, widened_blocks, fresh, widened, IsWidened}
 
 -- each name is below the fresh one
 name_below : (bs : List Block) (n : ℕ) → IsSome (value_of (named bs) n) → n ≤ sum_by (λ (k : ℕ). k) (map (λ (b : Block). b.name) bs)

@@ -7,3 +7,6 @@ pub mod AlikeWidened
 pub mod Reordered
 pub mod Fallen
 pub mod Widenings
+pub mod Widens
+pub mod Placed
+pub mod Adding

@@ -1,26 +1,24 @@
 -- A graph in which a valid set of Branches is widened is in reach.
-use Rattle.std.proofs.Common.{◌≡◌, ◌≢◌, ℕ, pos, ◌-ℤ◌, ◌+◌, ◌*◌, ◌==◌, Bool, true, false, if◌then◌else◌, List, [], ◌∷◌, ◌++◌, length, Option, None, Some, is_some, inl, inr, refl, sym, ap, ◌∙◌, subst, arith, append_assoc}
-use Rattle.std.proofs.lemmas.Bool.{cases_Bool, eqb-true, eqb-false, eq-eqb, both_ways}
+use Rattle.std.proofs.Common.{◌≡◌, ℕ, pos, ◌-ℤ◌, ◌+◌, ◌*◌, ◌==◌, Bool, true, false, if◌then◌else◌, List, [], ◌∷◌, ◌++◌, length, None, Some, is_some, inl, inr, refl, sym, ap, ◌∙◌, subst, arith, append_assoc}
+use Rattle.std.proofs.lemmas.Bool.{cases_Bool, eq-eqb}
 use Rattle.std.proofs.lemmas.Int.{ints}
 use Rattle.sq_arena.specs.Entries.{HasDistinctKeys, value_of}
 use Rattle.sq_arena.proofs.EntriesLaws.{absent_ahead}
-use Rattle.sq_isa.specs.Branches.{inverse_of}
 use Rattle.sq_isa.specs.declared.instructions.Cond.{Cond}
 use Rattle.sq_graph.specs.declared.item.Item.{Item}
 use Rattle.sq_graph.specs.declared.item.Term.{Term}
 use Rattle.sq_graph.specs.declared.item.Term.TheVariants.{Fall, Jump, Branch, Call, PartJump, Indirect, Stop}
 use Rattle.sq_graph.specs.Graph.{Block, Graph}
-use Rattle.sq_graph.specs.Blocks.{named, HasBlock, block_of, block_items, block_term, items_of, term_of}
+use Rattle.sq_graph.specs.Blocks.{named, HasBlock, block_of, block_items, block_term, term_of}
 use Rattle.sq_graph.specs.Operations.{IsNew}
-use Rattle.sq_graph.specs.Places.{address_in, block_address, Reaches, TermReaches, BranchesReach, IsInReach}
+use Rattle.sq_graph.specs.Places.{block_address, Reaches, TermReaches, BranchesReach, IsInReach}
 use Rattle.sq_graph.specs.Rules.{IsGraph, last_goes_on}
-use Rattle.sq_graph.specs.Terms.{goes_on}
 use Rattle.sq_graph.specs.Words.{term_words, block_words}
 use Rattle.sq_graph.proofs.Located.{IsAt, named-append}
 use Rattle.sq_graph.proofs.SlotReads.{block_at}
 use Rattle.sq_graph.proofs.SplitRules.{last_goes_on-append}
 use Rattle.sq_layout.specs.Shrinks.{IsBranch}
-use Rattle.sq_layout.specs.Weights.{address_by, BranchReachesBy}
+use Rattle.sq_layout.specs.Weights.{address_by}
 use Rattle.sq_layout.proofs.Shrinking.{some_is}
 use Rattle.sq_lookup.proofs.Targets.{branch_there}
 use Rattle.sq_chain.specs.Widening.{swollen, EndsInBranch, IsValid, jumped_over, widened_blocks, widened_by}

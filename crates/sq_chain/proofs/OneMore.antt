@@ -1,7 +1,7 @@
 -- A graph in which one Branch is widened follows it.
-use Rattle.std.proofs.Common.{◌≡◌, ◌≢◌, ℕ, ◌+◌, ◌==◌, true, arith, List, [], ◌∷◌, ◌++◌, Option, None, Some, IsSome, is_some, inl, inr, refl, sym, ap, ◌∙◌, subst, append_assoc}
-use Rattle.std.specs.List.{All, Contains}
-use Rattle.std.proofs.lemmas.Bool.{cases_Bool, eq-eqb, ne_eqb}
+use Rattle.std.proofs.Common.{◌≡◌, ◌≢◌, ℕ, ◌==◌, true, false, arith, List, [], ◌∷◌, ◌++◌, None, Some, IsSome, is_some, inl, inr, refl, sym, ap, ◌∙◌, subst, append_assoc}
+use Rattle.std.specs.List.{All}
+use Rattle.std.proofs.lemmas.Bool.{cases_Bool, eq-eqb}
 use Rattle.std.proofs.lemmas.List.Elements.{All-nil, All-cons, All-append, All-weaker, All-contains}
 use Rattle.sq_arena.specs.Entries.{HasDistinctKeys, value_of, first_key, next_key}
 use Rattle.sq_arena.proofs.EntriesLaws.{absent_ahead, behind-append}
@@ -10,19 +10,20 @@ use Rattle.sq_isa.specs.declared.instructions.Cond.{Cond}
 use Rattle.sq_graph.specs.declared.item.Term.{Term}
 use Rattle.sq_graph.specs.declared.item.Term.TheVariants.{Jump, Branch}
 use Rattle.sq_graph.specs.Graph.{Block, Graph}
-use Rattle.sq_graph.specs.Blocks.{named, HasBlock, HasProcedure, block_of, block_term, next_of, term_of}
+use Rattle.sq_graph.specs.Blocks.{named, HasBlock, HasProcedure, block_term, next_of, term_of}
 use Rattle.sq_graph.specs.Operations.{IsNew, with_blocks, changed, with_term, inserted_after}
 use Rattle.sq_graph.specs.Resolve.{lone_jump}
-use Rattle.sq_graph.specs.Rules.{IsGraph}
+use Rattle.sq_graph.specs.Rules.{IsGraph, last_goes_on}
 use Rattle.sq_graph.specs.Soundness.{IsSound}
-use Rattle.sq_graph.specs.Uses.{uses, calls}
+use Rattle.sq_graph.specs.Terms.{goes_on}
+use Rattle.sq_graph.specs.Uses.{uses}
 use Rattle.sq_graph.proofs.Changes.{with_blocks-at}
 use Rattle.sq_graph.proofs.Eachs.{All-left, All-right}
 use Rattle.sq_graph.proofs.Located.{IsAt, located, named-append}
 use Rattle.sq_graph.proofs.OperationRules.{with_term_rules, inserted_after_rules}
 use Rattle.sq_graph.proofs.RulesByBlock.{BlockStands, IsByBlock, by_block, all_named}
 use Rattle.sq_graph.proofs.SlotReads.{block_at}
-use Rattle.sq_graph.proofs.SplitRules.{keeps_names}
+use Rattle.sq_graph.proofs.SplitRules.{keeps_names, last_goes_on-append}
 use Rattle.sq_follow.specs.Follows.{Follows}
 use Rattle.sq_follow.proofs.Following.{graph_follows_through}
 use Rattle.sq_lookup.proofs.Targets.{has_term, branch_there}
@@ -54,8 +55,20 @@ slot_there g n m has e =
     first [] f = absurd (cc)
     first (b ∷ back) f = let same : b.name ≡ m = cc in rw (eq-eqb b.name m same) refl
 
+-- a term that goes on has a slot behind it
+pub slot_after : (g : Graph) (n : ℕ) (t : Term) → IsGraph g → term_of g n ≡ Some t → goes_on t ≡ true → IsSome (next_of g n)
+slot_after g n t rules e on =
+    let at = located g.blocks n (has_term g n t e) in
+    let same : at.block.term ≡ t = let f : Some at.block.term ≡ Some t = sym (ap block_term (block_at g.blocks n at)) ∙ e in cc in
+    let ends : last_goes_on (at.block ∷ at.back) ≡ false = sym (last_goes_on-append at.front at.block at.back) ∙ sym (ap last_goes_on at.whole) ∙ rules.ends in
+    subst (λ o. IsSome o) (sym (slot_behind g.blocks n at)) (by_back at.block at.back (ap goes_on same ∙ on) ends)
+  where
+    by_back : (b : Block) (back : List Block) → goes_on b.term ≡ true → last_goes_on (b ∷ back) ≡ false → IsSome (first_key (named back))
+    by_back b [] on ends = absurd (cc)
+    by_back b (c ∷ back) on ends = refl
+
 -- each name stays where a block is put behind one
-still_there : (h : Graph) (new n : ℕ) (t : Term) (m : ℕ) → HasBlock h m → HasBlock (inserted_after h new n t) m
+pub still_there : (h : Graph) (new n : ℕ) (t : Term) (m : ℕ) → HasBlock h m → HasBlock (inserted_after h new n t) m
 still_there h new n t m has =
     keeps_names (λ b. b ∷ record { name = new; items = []; term = t } ∷ []) h.blocks n m (λ b. rw (eq-eqb b.name b.name refl) refl) has
 
@@ -90,6 +103,17 @@ module _ (h : Graph) (new n next : ℕ) (cond : Cond) (a b to : ℕ) (rules : Is
 
   wide_blocks : with_blocks (over_jump new next) h.blocks n ≡ at.front ++ (turned ∷ lone ∷ at.back)
   wide_blocks = with_blocks-at (over_jump new next) h.blocks n at ∙ ap (λ t. at.front ++ (jumped_over new next at.block t ++ at.back)) term_is
+
+  at_lone : (changed (over_jump new next) h n).blocks ≡ (at.front ++ turned ∷ []) ++ (lone ∷ at.back)
+  at_lone = wide_blocks ∙ sym (append_assoc at.front (turned ∷ []) (lone ∷ at.back))
+
+  -- the new block is there
+  pub one_more_there : HasBlock (changed (over_jump new next) h n) new
+  one_more_there = subst (λ bs. IsSome (value_of (named bs) new)) (sym at_lone) (there (at.front ++ turned ∷ []))
+    where
+      there : (front : List Block) → IsSome (value_of (named (front ++ (lone ∷ at.back))) new)
+      there [] = rw (eq-eqb new new refl) refl
+      there (y ∷ front) = elim (cases_Bool (y.name == new)) [ inl here ↦ rw here refl | inr apart ↦ rw apart (there front) ]
 
   -- put in by two calls
 

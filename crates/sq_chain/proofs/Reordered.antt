@@ -1,18 +1,15 @@
 -- A chain that moves leaves the graph in an order in which each block that goes on keeps its next slot.
-use Rattle.std.proofs.Common.{◌≡◌, ◌≢◌, ◌⊎◌, ℕ, ◌+◌, ◌≤◌, ◌==◌, Bool, true, false, if◌then◌else◌, List, [], ◌∷◌, ◌++◌, map, Option, None, Some, IsSome, is_some, inl, inr, refl, sym, ap, ◌∙◌, subst, arith, append_assoc}
-use Rattle.std.specs.List.{All, AllByRecursion}
+use Rattle.std.proofs.Common.{◌≡◌, ◌⊎◌, ℕ, ◌==◌, true, false, if◌then◌else◌, List, [], ◌∷◌, ◌++◌, map, Option, None, Some, IsSome, is_some, inl, inr, refl, sym, ap, ◌∙◌, subst, arith, append_assoc}
+use Rattle.std.specs.List.{AllByRecursion}
 use Rattle.std.proofs.lemmas.List.Elements.{All-head}
-use Rattle.std.proofs.lemmas.Bool.{cases_Bool, eqb-true, eqb-false, eq-eqb, both_ways}
-use Rattle.std.proofs.lemmas.List.{map-append}
+use Rattle.std.proofs.lemmas.Bool.{cases_Bool, eq-eqb, both_ways}
 use Rattle.sq_arena.specs.Entries.{HasDistinctKeys, value_of, ContainsKey, before, through, starting_at, behind, run, without_run, IsRun, move_run_after, first_key, next_key}
-use Rattle.sq_arena.specs.Links.{times, places}
 use Rattle.sq_arena.proofs.Paths.{times-places-append}
 use Rattle.sq_arena.proofs.EntriesLemmas.{shape_of, through-behind, through-before, starting_at-behind, split_at as split_at_key, some_value}
-use Rattle.sq_arena.proofs.EntriesLaws.{absent_ahead, behind-append, value_of-append, value_of-absent, or_value, present_if_value, times_at_most_once, distinct_back, HasDistinctKeys-move_run_after, KeepsValues-move_run_after}
-use Rattle.sq_graph.specs.declared.item.Term.{Term}
+use Rattle.sq_arena.proofs.EntriesLaws.{absent_ahead, behind-append, value_of-append, value_of-absent, or_value, present_if_value, times_at_most_once, distinct_back, KeepsValues-move_run_after}
 use Rattle.sq_graph.specs.declared.item.Term.TheVariants.{Jump}
 use Rattle.sq_graph.specs.Graph.{Block, Graph}
-use Rattle.sq_graph.specs.Blocks.{named, HasBlock, block_of, block_term, next_of, term_of}
+use Rattle.sq_graph.specs.Blocks.{named, HasBlock, block_of, block_term, next_of}
 use Rattle.sq_graph.specs.Operations.{moved_after}
 use Rattle.sq_graph.specs.Rules.{IsGraph, last_goes_on}
 use Rattle.sq_graph.specs.Terms.{goes_on}
@@ -23,7 +20,7 @@ use Rattle.sq_layout.proofs.Shrinking.{block_with}
 use Rattle.sq_lookup.proofs.Targets.{targets_there}
 use Rattle.sq_patch.specs.Inserts.{AreReordered}
 use Rattle.sq_patch.specs.LoneJumps.{IsApart}
-use Rattle.sq_chain.specs.Moves.{end_of, chain_end, IsInChain, IsMovable}
+use Rattle.sq_chain.specs.Moves.{end_of, chain_end, IsMovable}
 
 -- the last of these blocks, if there is one, doesn't go on
 abbrev pub Stops : List (ℕ × Block) → Type 0

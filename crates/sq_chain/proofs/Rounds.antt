@@ -1,15 +1,15 @@
 -- The rounds end with the least valid set.
-use Rattle.std.proofs.Common.{◌≡◌, ◌⊎◌, ℕ, zero, suc, ◌+◌, ◌≤◌, ◌<◌, ◌==◌, if◌then◌else◌, Bool, true, false, ◌||◌, List, [], ◌∷◌, length, Option, None, Some, IsSome, inl, inr, refl, sym, ap, ◌∙◌, subst, arith}
+use Rattle.std.proofs.Common.{◌≡◌, ◌⊎◌, ℕ, zero, suc, ◌+◌, ◌≤◌, ◌==◌, if◌then◌else◌, Bool, true, false, List, [], ◌∷◌, length, IsSome, inl, inr, refl, sym, ap, ◌∙◌, subst, arith}
 use Rattle.std.specs.List.{count_by}
-use Rattle.std.proofs.lemmas.Bool.{cases_Bool, cases_lt, eqb-true, or_cases, or_left, or_right, or_from, both_ways, true_from_ne_false}
+use Rattle.std.proofs.lemmas.Bool.{cases_Bool, cases_lt, eqb-true, or_cases, or_left, or_right, or_from, both_ways}
 use Rattle.std.proofs.lemmas.List.Sums.{sum_by-cons}
 use Rattle.sq_arena.specs.Entries.{value_of}
 use Rattle.sq_graph.specs.declared.item.Term.TheVariants.{Branch}
 use Rattle.sq_graph.specs.Graph.{Block, Graph}
-use Rattle.sq_graph.specs.Blocks.{named, HasBlock, term_of}
+use Rattle.sq_graph.specs.Blocks.{named, HasBlock}
 use Rattle.sq_graph.specs.Rules.{IsGraph}
 use Rattle.sq_lookup.proofs.Targets.{has_term}
-use Rattle.sq_chain.specs.Widening.{EndsInBranch, IsValid, IsWithin, IsLeastWidening, size_of}
+use Rattle.sq_chain.specs.Widening.{EndsInBranch, IsValid, IsWithin, IsLeastWidening}
 use Rattle.sq_chain.specs.Least.{falls_short, grown, after_rounds, least}
 use Rattle.sq_chain.proofs.Shortness.{short_is, long_is, grown_within}
 
@@ -128,7 +128,7 @@ count_all S (b ∷ bs) n full some =
 
 -- THE LAST ROUND
 
-short_there : (g : Graph) (S : ℕ → Bool) (n : ℕ) → IsGraph g → falls_short g S n ≡ true → HasBlock g n
+pub short_there : (g : Graph) (S : ℕ → Bool) (n : ℕ) → IsGraph g → falls_short g S n ≡ true → HasBlock g n
 short_there g S n rules e = let s = short_is g S n rules e in has_term g n (Branch s.cond s.a s.b s.to) s.is
 
 -- after some round nothing is added, or each round added a Branch

@@ -20,14 +20,14 @@ use Rattle.sq_chain.specs.Least.{is_near, stands_at, is_short, falls_short, grow
 
 -- HOW FAR A BRANCH REACHES
 
-near_reaches : (at target : ℕ) → is_near at target ≡ true → Reaches (pos target -ℤ pos at)
+pub near_reaches : (at target : ℕ) → is_near at target ≡ true → Reaches (pos target -ℤ pos at)
 near_reaches at target e =
     let both = and_parts (nat_le at (target + 4096)) (nat_le target (at + 4094)) e in
     let ahead : at ≤ target + 4096 = leb-true at (target + 4096) both.0 in
     let back : target ≤ at + 4094 = leb-true target (at + 4094) both.1 in
     record { least = omega (arith, ints); most = omega (arith, ints) }
 
-reaches_near : (at target : ℕ) → Reaches (pos target -ℤ pos at) → is_near at target ≡ true
+pub reaches_near : (at target : ℕ) → Reaches (pos target -ℤ pos at) → is_near at target ≡ true
 reaches_near at target r =
     let least = r.least in
     let most = r.most in
@@ -53,8 +53,7 @@ stands_there weight g n has =
 pub reach_by_is : (weight : Block → ℕ) (g : Graph) (from to : ℕ) → HasBlock g from → HasBlock g to → BranchReachesBy weight g from to ↔ (is_near (stands_at weight g from + 4 * length (items_of g from)) (stands_at weight g to) ≡ true)
 reach_by_is weight g from to has there =
     let from_is = stands_there weight g from has in
-    let to_is = stands_there weight g to there in
-    let items = 4 * length (items_of g from) in (
+    let to_is = stands_there weight g to there in (
       λ reach. reaches_near (stands_at weight g from + 4 * length (items_of g from)) (stands_at weight g to) (reach (stands_at weight g from) (stands_at weight g to) from_is to_is),
       λ near at target found aim.
           let at_is : stands_at weight g from ≡ at = some_is (stands_at weight g from) at (sym from_is ∙ found) in
@@ -77,7 +76,7 @@ pub record IsShort (g : Graph) (S : ℕ → Bool) (n : ℕ) : Type 0 where
 pub short_is : (g : Graph) (S : ℕ → Bool) (n : ℕ) → IsGraph g → falls_short g S n ≡ true → IsShort g S n
 short_is g S n rules e = by_term (term_of g n) refl e
   where
-    by_term : (o : Option Term) → term_of g n ≡ o → is_short (swollen S) g n o ≡ true → IsShort g S n
+    by_term : (o : Option Term) → term_of g n ≡ o → is_short (stands_at (swollen S) g) g n o ≡ true → IsShort g S n
     by_term None is f = absurd (cc)
     by_term (Some Fall) is f = absurd (cc)
     by_term (Some (Jump to)) is f = absurd (cc)
@@ -86,7 +85,6 @@ short_is g S n rules e = by_term (term_of g n) refl e
     by_term (Some (Indirect link at offset)) is f = absurd (cc)
     by_term (Some (Stop word)) is f = absurd (cc)
     by_term (Some (Branch cond a b to)) is f =
-        let near = is_near (stands_at (swollen S) g n + 4 * length (items_of g n)) (stands_at (swollen S) g to) in
         record {
           cond = cond;
           a = a;
@@ -101,7 +99,7 @@ short_is g S n rules e = by_term (term_of g n) refl e
 
 pub long_is : (g : Graph) (S : ℕ → Bool) (n : ℕ) (cond : Cond) (a b to : ℕ) → IsGraph g → falls_short g S n ≡ false → term_of g n ≡ Some (Branch cond a b to) → BranchReachesBy (swollen S) g n to
 long_is g S n cond a b to rules short is =
-    let f : not (is_near (stands_at (swollen S) g n + 4 * length (items_of g n)) (stands_at (swollen S) g to)) ≡ false = sym (ap (is_short (swollen S) g n) is) ∙ short in
+    let f : not (is_near (stands_at (swollen S) g n + 4 * length (items_of g n)) (stands_at (swollen S) g to)) ≡ false = sym (ap (is_short (stands_at (swollen S) g) g n) is) ∙ short in
     (reach_by_is (swollen S) g n to (has_term g n (Branch cond a b to) is) (branch_there g n cond a b to rules is)).1
     (not-false (is_near (stands_at (swollen S) g n + 4 * length (items_of g n)) (stands_at (swollen S) g to)) f)
 

@@ -1,10 +1,10 @@
 -- What widening makes of every graph.
-use Rattle.std.proofs.Common.{◌≡◌, ℕ, ◌+◌, Bool, sum_by, sym, ap, subst, arith}
+use Rattle.std.proofs.Common.{◌≡◌, ℕ, ◌+◌, Bool, sym, ap, subst, arith}
 use Rattle.sq_graph.specs.Graph.{Graph}
 use Rattle.sq_graph.specs.Places.{IsInReach}
 use Rattle.sq_graph.specs.Rules.{IsGraph}
-use Rattle.sq_graph.specs.Words.{block_words, words_of}
-use Rattle.sq_chain.specs.Widening.{IsValid, size_of, widened_by, IsWidened}
+use Rattle.sq_graph.specs.Words.{words_of}
+use Rattle.sq_chain.specs.Widening.{IsValid, size_of, IsWidened}
 use Rattle.sq_chain.specs.Laws.{WideningLaws}
 use Rattle.sq_chain.proofs.Rounds.{least_is_least}
 use Rattle.sq_chain.proofs.Over.{widened_words}

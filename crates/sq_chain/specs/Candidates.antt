@@ -4,6 +4,7 @@ use Rattle.sq_graph.specs.Graph.{Graph}
 use Rattle.sq_graph.specs.Words.{words_of}
 use Rattle.sq_pass.specs.declared.cut.Cut.{Cut}
 use Rattle.sq_pass.specs.declared.cut.Row.TheVariants.{L}
+use Rattle.sq_pass.specs.Applied.{IsApplied}
 use Rattle.sq_chain.specs.Moves.{IsMovable, moved}
 
 -- the cut of a movable pair
@@ -27,3 +28,14 @@ moved_by g blocks = g
 
 abbrev pub described : Graph → Cut → Graph
 described g cut = moved_by g cut.blocks
+
+-- a movable pair's chain has moved, and words are saved
+pub record IsMoved (from to : ℕ) (old new : Graph) : Type 0 where
+  pub movable : IsMovable old from to
+  pub saving : ℕ
+  pub some : 1 ≤ saving
+  pub applied : IsApplied saving (moved old from to) old new
+
+-- no move of a chain behind this block saves a word
+abbrev pub IsStillAt : Graph → ℕ → Type 0
+IsStillAt g from = (to : ℕ) → IsMovable g from to → words_of g ≤ words_of (moved g from to)

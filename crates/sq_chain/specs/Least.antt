@@ -1,5 +1,5 @@
 -- The least widening, found in rounds: each adds the Branches that don't reach.
-use Rattle.std.specs.Prelude.{ℕ, zero, suc, ◌+◌, ◌*◌, Bool, true, false, ◌&&◌, ◌||◌, not, length, Option, None, Some, unwrap_or, nat_le}
+use Rattle.std.specs.Prelude.{ℕ, zero, suc, ◌+◌, ◌*◌, Bool, false, ◌&&◌, ◌||◌, not, length, Option, Some, unwrap_or, nat_le}
 use Rattle.sq_graph.specs.declared.item.Term.{Term}
 use Rattle.sq_graph.specs.declared.item.Term.TheVariants.{Branch}
 use Rattle.sq_graph.specs.Graph.{Block, Graph}
@@ -15,15 +15,15 @@ is_near at target = nat_le at (target + 4096) && nat_le target (at + 4094)
 abbrev pub stands_at : (Block → ℕ) → Graph → ℕ → ℕ
 stands_at weight g n = unwrap_or (address_by weight g.blocks 0 n) 0
 
--- whether this term is a Branch that doesn't reach from the end of the block, by these weights
-abbrev pub is_short : (Block → ℕ) → Graph → ℕ → Option Term → Bool
-is_short weight g n (Some (Branch cond a b to)) =
-    not (is_near (stands_at weight g n + 4 * length (items_of g n)) (stands_at weight g to))
-is_short weight g n term = false
+-- whether this term is a Branch that doesn't reach from the end of the block, by these addresses
+abbrev pub is_short : (ℕ → ℕ) → Graph → ℕ → Option Term → Bool
+is_short address g n (Some (Branch cond a b to)) =
+    not (is_near (address n + 4 * length (items_of g n)) (address to))
+is_short address g n term = false
 
 -- whether the block ends in a Branch that doesn't reach when each Branch in the set counts one word more
 abbrev pub falls_short : Graph → (ℕ → Bool) → ℕ → Bool
-falls_short g S n = is_short (swollen S) g n (term_of g n)
+falls_short g S n = is_short (stands_at (swollen S) g) g n (term_of g n)
 
 -- the set with these Branches too
 abbrev pub grown : Graph → (ℕ → Bool) → ℕ → Bool

@@ -4,7 +4,7 @@ use Rattle.sq_arena.specs.Entries.{ContainsKey, starting_at, run}
 use Rattle.sq_graph.specs.declared.item.Term.{Term}
 use Rattle.sq_graph.specs.declared.item.Term.TheVariants.{Fall, Jump}
 use Rattle.sq_graph.specs.Graph.{Block, Graph}
-use Rattle.sq_graph.specs.Blocks.{named, term_of}
+use Rattle.sq_graph.specs.Blocks.{named, next_of, term_of}
 use Rattle.sq_graph.specs.Operations.{moved_after}
 use Rattle.sq_graph.specs.Terms.{goes_on}
 use Rattle.sq_graph.specs.Words.{words_of}
@@ -29,6 +29,12 @@ pub record IsMovable (g : Graph) (from to : ℕ) : Type 0 where
   pub apart : IsApart g to
   pub outside : ¬ IsInChain g to from
 
+-- a block ends in a Jump to the next slot
+pub record JumpsToNext (g : Graph) (block : ℕ) : Type 0 where
+  pub to : ℕ
+  pub jump : term_of g block ≡ Some (Jump to)
+  pub next : next_of g block ≡ Some to
+
 -- a Jump to the next slot becomes Fall
 abbrev pub fallen_term : ℕ → Term → Term
 fallen_term next (Jump to) = if to == next then Fall else Jump to
@@ -43,9 +49,13 @@ fallen_blocks (b ∷ next ∷ rest) = record b { term = fallen_term next.name b.
 abbrev pub fallen : Graph → Graph
 fallen g = record g { blocks = fallen_blocks g.blocks }
 
+-- the graph in which the chain of `to` stands behind `from`
+abbrev pub carried : Graph → ℕ → ℕ → Graph
+carried g from to = moved_after g to (chain_end g to) from
+
 -- The chain of `to` stands behind `from`, each Jump to the next slot is Fall, and the least set of Branches is widened.
 abbrev pub moved : Graph → ℕ → ℕ → Graph
-moved g from to = least_widened (fallen (moved_after g to (chain_end g to) from))
+moved g from to = least_widened (fallen (carried g from to))
 
 -- No movable pair has a move after which the words are fewer.
 abbrev pub IsStill : Graph → Type 0

@@ -7,8 +7,8 @@ use Rattle.sq_isa.specs.declared.instructions.Cond.{Cond}
 use Rattle.sq_graph.specs.declared.item.Term.{Term}
 use Rattle.sq_graph.specs.declared.item.Term.TheVariants.{Jump, Branch}
 use Rattle.sq_graph.specs.Graph.{Block, Graph}
-use Rattle.sq_graph.specs.Blocks.{term_of}
-use Rattle.sq_graph.specs.Operations.{IsNew}
+use Rattle.sq_graph.specs.Blocks.{next_of, term_of}
+use Rattle.sq_graph.specs.Operations.{IsNew, changed}
 use Rattle.sq_graph.specs.Parts.{names_of}
 use Rattle.sq_graph.specs.Words.{block_words}
 use Rattle.sq_layout.specs.Weights.{BranchReachesBy}
@@ -77,3 +77,11 @@ pub record IsWidened (g h : Graph) (S : ℕ → Bool) : Type 0 where
   pub fresh : (n : ℕ) → S n ≡ true → IsNew g (new n)
   pub apart : (m n : ℕ) → S m ≡ true → S n ≡ true → new m ≡ new n → m ≡ n
   pub is : h ≡ widened_by new S g
+
+-- the other graph is this one with the Branch of one block widened
+pub record IsOneWider (g h : Graph) (block : ℕ) : Type 0 where
+  pub new : ℕ
+  pub next : ℕ
+  pub fresh : IsNew g new
+  pub slot : next_of g block ≡ Some next
+  pub is : h ≡ changed (over_jump new next) g block
