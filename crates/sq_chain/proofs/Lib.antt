@@ -1,0 +1,12 @@
+pub mod Shortness
+pub mod Rounds
+pub mod Over
+pub mod Near
+pub mod OneMore
+pub mod AlikeWidened
+pub mod Reordered
+pub mod Fallen
+pub mod Widenings
+pub mod Widens
+pub mod Placed
+pub mod Adding

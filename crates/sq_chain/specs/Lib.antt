@@ -1,0 +1,5 @@
+pub mod Widening
+pub mod Least
+pub mod Laws
+pub mod Moves
+pub mod Candidates

@@ -1,0 +1,113 @@
+//! Branches that are widened.
+//!
+//!     before   a: ..              after   a: ..
+//!                 beq x,y,t                  bne x,y,b
+//!              b: ..                      n: j t
+//!              ..                         b: ..
+//!              t: ..                      ..
+//!                                         t: ..
+
+ghost use Rattle.std.specs.Prelude.{◌≡◌, ℕ, ◌≤◌, ◌<◌, ◌+◌, true, length, IfOk, OnOk, OnErr};
+ghost use Rattle.sq_graph.specs.Alike.{AreAlike};
+ghost use Rattle.sq_graph.specs.Parts.{names_of};
+ghost use Rattle.sq_graph.specs.Places.{IsInReach};
+ghost use Rattle.sq_graph.specs.Soundness.{IsSound};
+ghost use Rattle.sq_graph.specs.Words.{words_of};
+ghost use Rattle.sq_follow.specs.Follows.{Follows};
+ghost use Rattle.sq_lookup.specs.Names.{is_listed};
+ghost use Rattle.sq_chain.specs.Widening.{EndsInBranch, IsOneWider, size_of, IsWidened};
+ghost use Rattle.sq_chain.specs.Least.{least, least_widened};
+
+use crate::least::least_widening;
+use crate::short::one_for;
+use sq_graph::{Graph, Room, Term};
+use sq_isa::inverse;
+use sq_layout::learn;
+use sq_live::block_names;
+use sq_lookup::Names;
+use sq_num::Memory;
+use std::alloc::Global;
+
+/// How many blocks of the graph are in the set.
+fn size_of(graph: &Graph, names: &[u32], wide: &Names) -> u32
+    requires { names.now ≡ names_of graph.now.graph }
+    ensures { result ≡ size_of graph.now.graph (is_listed wide.now) }
+{
+    learn(graph);
+    let _room = graph.spare();
+    let mut size = 0;
+    for name in names {
+        size += one_for(wide, *name);
+    }
+    size
+}
+
+/// Inverts the Branch of the block, over a new lone Jump block to its target.
+fn widen_one(graph: &mut Graph, block: u32)
+    requires branch { EndsInBranch graph.old.graph block }
+    requires spare { 0 < graph.old.spare.blocks }
+    ensures wider { IsOneWider graph.old.graph graph.new.graph block }
+    ensures spare { graph.new.spare.blocks + 1 ≡ graph.old.spare.blocks }
+{
+    learn(graph);
+    let Term::Branch { cond, a, b, to } = graph.term(block) else {
+        unreachable!()
+    };
+    let Some(next) = graph.next(block) else {
+        unreachable!()
+    };
+    graph.insert_after(block, Term::Jump { to });
+    let cond = inverse(cond);
+    graph.set_term(
+        block,
+        Term::Branch {
+            cond,
+            a,
+            b,
+            to: next,
+        },
+    );
+}
+
+/// The same for each Branch in the set.
+fn widen_each(graph: &mut Graph, names: &[u32], wide: &Names)
+    requires names { names.now ≡ names_of graph.old.graph }
+    requires branches { (n : ℕ) → is_listed wide.now n ≡ true → EndsInBranch graph.old.graph n }
+    requires spare { size_of graph.old.graph (is_listed wide.now) ≤ graph.old.spare.blocks }
+    ensures widened { IsWidened graph.old.graph graph.new.graph (is_listed wide.now) }
+    ensures follows { Follows graph.old.graph graph.new.graph }
+    ensures sound { IsSound graph.old.graph → IsSound graph.new.graph }
+{
+    learn(graph);
+    for name in names {
+        if wide.has(*name) {
+            widen_one(graph, *name);
+        }
+    }
+}
+
+/// Widens the Branches of the least set, and answers how many these are. The graph is in reach then, whatever it was. Where
+/// it finds no memory, the graph is as it was.
+pub fn widen(alloc: Global, graph: &mut Graph) -> Result<u32, Memory>
+    requires { length graph.old.graph.blocks ≤ 16777216 }
+    ensures widened { OnOk result (AreAlike (least_widened graph.old.graph) graph.new.graph) }
+    ensures size { IfOk result (λ size. size ≡ size_of graph.old.graph (least graph.old.graph)) }
+    ensures words { IfOk result (λ size. words_of graph.new.graph ≡ words_of graph.old.graph + size) }
+    ensures follows { OnOk result (Follows graph.old.graph graph.new.graph) }
+    ensures sound { OnOk result (IsSound graph.old.graph → IsSound graph.new.graph) }
+    ensures reach { OnOk result (IsInReach graph.new.graph) }
+    ensures kept { OnErr result (graph.new.graph ≡ graph.old.graph) }
+{
+    learn(graph);
+    let _room = graph.spare();
+    let names = block_names(alloc, graph)?;
+    let wide = least_widening(alloc, graph, &names)?;
+    let size = size_of(graph, &names, &wide);
+    graph.reserve(Room {
+        blocks: size,
+        items: 0,
+        procedures: 0,
+    })?;
+    widen_each(graph, &names, &wide);
+    Ok(size)
+}
