@@ -2,13 +2,15 @@
 use Rattle.std.proofs.Common.{◌≡◌, ℕ, zero, suc, ◌<◌, ◌≤◌, ◌==◌, ◌↔◌, Contains, List, [], ◌∷◌, ◌++◌, map, length, get_or, length-append, append_assoc, Option, Some, None, IsSome, refl, sym, ap, ◌∙◌, subst, inl, inr, arith}
 use Rattle.std.proofs.lemmas.Bool.{cases_Bool, eqb-true, eq-eqb}
 use Rattle.std.proofs.lemmas.Option.{slice_get_within, get_or_from_slice_get}
+use Rattle.std.proofs.lemmas.List.Elements.{All-contains, Contains-append_left, Contains-append_right}
+use Rattle.sq_graph.specs.declared.item.Item.{Item}
 use Rattle.sq_arena.specs.Entries.{keys, HasDistinctKeys, value_of, before, behind, starting_at, first_key, next_key}
 use Rattle.sq_arena.proofs.EntriesLaws.{absent_ahead}
 use Rattle.sq_graph.specs.Graph.{Block, Graph}
-use Rattle.sq_graph.specs.Blocks.{named, block_of, block_items, HasBlock, items_of, items_of_blocks}
+use Rattle.sq_graph.specs.Blocks.{named, block_of, block_items, HasBlock, items_of, items_of_blocks, items_of_bodies, all_items}
 use Rattle.sq_graph.specs.Cursor.{IsPlace, rest_from}
 use Rattle.sq_graph.specs.Parts.{names_of}
-use Rattle.sq_graph.specs.Rules.{IsGraph}
+use Rattle.sq_graph.specs.Rules.{ItemFits, IsGraph}
 use Rattle.sq_graph.specs.Slotted.{position_in}
 use Rattle.sq_graph.proofs.Slotting.{at_position}
 use Rattle.sq_graph.proofs.Located.{located, named-append, items_of_blocks-append, value_of-at}
@@ -94,16 +96,14 @@ names_are g name = (
   λ there. at_contains (names_of g) (position_in (names_of g) name) name (at_position g name there),
 )
 
--- the items of a block are no more than those of all
-block_within : (front back : List Block) (b : Block) → length b.items ≤ length (items_of_blocks (front ++ b ∷ back))
-block_within front back b =
-    let e = ap length (items_of_blocks-append front (b ∷ back)) in
-    let f = length-append (items_of_blocks front) (b.items ++ items_of_blocks back) in
-    let h = length-append b.items (items_of_blocks back) in
-    omega (arith, e, f, h)
+-- the items of a block are among those of all
+pub record AreAmong (items all : List Item) : Type 0 where
+  pub front : List Item
+  pub back : List Item
+  pub whole : all ≡ front ++ (items ++ back)
 
-pub items_within : (g : Graph) (name : ℕ) → HasBlock g name → length (items_of g name) ≤ length (items_of_blocks g.blocks)
-items_within g name there =
+items_among : (g : Graph) (name : ℕ) → HasBlock g name → AreAmong (items_of g name) (items_of_blocks g.blocks)
+items_among g name there =
     let at = located g.blocks name there in
     let found : block_of g name ≡ Some at.block =
     ap (λ bs. value_of (named bs) name) at.whole
@@ -111,9 +111,24 @@ items_within g name there =
     ∙ subst (λ n. value_of (named at.front ++ (at.block.name, at.block) ∷ named at.back) n ≡ Some at.block) at.has_name
     (value_of-at (named at.front) (named at.back) at.block.name at.block (subst (λ n. value_of (named at.front) n ≡ None) (sym at.has_name) at.ahead)) in
     let items : items_of g name ≡ at.block.items = ap block_items found in
-    let l = block_within at.front at.back at.block in
-    subst (λ bs. length (items_of g name) ≤ length (items_of_blocks bs)) (sym at.whole)
-    (subst (λ is. length is ≤ length (items_of_blocks (at.front ++ at.block ∷ at.back))) (sym items) l)
+    record {
+      front = items_of_blocks at.front;
+      back = items_of_blocks at.back;
+      whole = ap items_of_blocks at.whole ∙ items_of_blocks-append at.front (at.block ∷ at.back) ∙ ap (λ is. items_of_blocks at.front ++ (is ++ items_of_blocks at.back)) (sym items);
+    }
+
+pub items_within : (g : Graph) (name : ℕ) → HasBlock g name → length (items_of g name) ≤ length (items_of_blocks g.blocks)
+items_within g name there =
+    let among = items_among g name there in
+    let e = ap length among.whole in
+    let f = length-append among.front (items_of g name ++ among.back) in
+    let h = length-append (items_of g name) among.back in omega arith
+
+pub items_fit : (g : Graph) (name : ℕ) → IsGraph g → HasBlock g name → (item : Item) → Contains (items_of g name) item → ItemFits item
+items_fit g name rules there item listed =
+    let among = items_among g name there in
+    let here = Contains-append_right among.front (items_of g name ++ among.back) item (Contains-append_left (items_of g name) among.back item listed) in
+    All-contains ItemFits (all_items g) item rules.items (Contains-append_left (items_of_blocks g.blocks) (items_of_bodies g.procedures) item (subst (λ is. Contains is item) (sym among.whole) here))
 
 -- the items of the blocks behind a front, by their names
 pub named_items : (g : Graph) (front blocks : List Block) → IsGraph g → g.blocks ≡ front ++ blocks → map (λ name. items_of g name) (map (λ b. b.name) blocks) ≡ map (λ b. b.items) blocks

@@ -4,6 +4,7 @@ pub mod Grouping
 pub mod Keyed
 pub mod Keying
 pub mod Layouts
+pub mod Lining
 pub mod Numbering
 pub mod Placing
 pub mod Telling

@@ -81,6 +81,27 @@ module _ (n block : ℕ) where
         | inr f ↦ rw f (omega arith)
       ]
 
+-- how many items lists have
+unfoldable pub total : List (List Item) → ℕ
+total [] = 0
+total (items ∷ rest) = length items + total rest
+
+pub total_of_blocks : (blocks : List Block) → total (map (λ b. b.items) blocks) ≡ length (items_of_blocks blocks)
+unfolding total
+total_of_blocks [] = refl
+total_of_blocks (b ∷ blocks) = ap (λ k. length b.items + k) (total_of_blocks blocks) ∙ sym (length-append b.items (items_of_blocks blocks))
+
+module _ (n : ℕ) where
+  pub window_parts : (items : List Item) → is_window n items ≡ true → (n ≤ length items) × (list_all is_plain (take n items) ≡ true)
+  window_parts items e =
+      ⊎_elim
+      (λ t. (leb-true n (length items) t, (let f : list_all is_plain (take n items) ≡ true = rw t at e in f)))
+      (λ f. absurd (let h : false ≡ true = rw f at e in true≢false (sym h)))
+      (cases_Bool (nat_le n (length items)))
+
+  pub window_whole : (items : List Item) → n ≤ length items → list_all is_plain (take n items) ≡ true → is_window n items ≡ true
+  window_whole items l e = rw (le-leb n (length items) l, e) refl
+
 module _ (g : Graph) (n : ℕ) where
   in_found : (names : List ℕ) (p : WindowAt) → Contains (places_in g n names) p → (name : ℕ) × (Contains names name × Contains (places_from n name 0 (items_of g name)) p)
   in_found [] p c = absurd (let h = contains_at [] p c in let e = h.1 in cc)
@@ -97,15 +118,6 @@ module _ (g : Graph) (n : ℕ) where
       Contains-append_left (places_from n x 0 (items_of g x)) (places_in g n names) p (subst (λ y. Contains (places_from n y 0 (items_of g y)) p) (sym s) c)
   in_listed (x ∷ names) p name (suc i) e c = Contains-append_right (places_from n x 0 (items_of g x)) (places_in g n names) p (in_listed names p name i e c)
 
-  total : List (List Item) → ℕ
-  total [] = 0
-  total (items ∷ rest) = length items + total rest
-
-  total_of_blocks : (blocks : List Block) → total (map (λ b. b.items) blocks) ≡ length (items_of_blocks blocks)
-  unfolding total
-  total_of_blocks [] = refl
-  total_of_blocks (b ∷ blocks) = ap (λ k. length b.items + k) (total_of_blocks blocks) ∙ sym (length-append b.items (items_of_blocks blocks))
-
   places_total : (names : List ℕ) → length (places_in g n names) ≤ total (map (λ name. items_of g name) names)
   unfolding total
   places_total [] = omega arith
@@ -119,16 +131,6 @@ module _ (g : Graph) (n : ℕ) where
       let items = ap total (named_items g [] g.blocks rules refl) ∙ total_of_blocks g.blocks in
       let few = places_total (names_of g) in omega arith
 
-  window_parts : (items : List Item) → is_window n items ≡ true → (n ≤ length items) × (list_all is_plain (take n items) ≡ true)
-  window_parts items e =
-      ⊎_elim
-      (λ t. (leb-true n (length items) t, (let f : list_all is_plain (take n items) ≡ true = rw t at e in f)))
-      (λ f. absurd (let h : false ≡ true = rw f at e in true≢false (sym h)))
-      (cases_Bool (nat_le n (length items)))
-
-  window_whole : (items : List Item) → n ≤ length items → list_all is_plain (take n items) ≡ true → is_window n items ≡ true
-  window_whole items l e = rw (le-leb n (length items) l, e) refl
-
   pub places_are : IsGraph g → 1 ≤ n → (p : WindowAt) → Contains (places_of g n) p ↔ IsWindow g n p
   places_are rules some p = (
     λ c.
@@ -138,7 +140,7 @@ module _ (g : Graph) (n : ℕ) where
         let block : h.0 ≡ p.block = sym k.1.0 in
         let at : k.0 ≡ p.at = let e = k.1.1.0 in omega arith in
         let w : is_window n (drop p.at (items_of g p.block)) ≡ true = subst (λ a. is_window n (drop a (items_of g p.block)) ≡ true) at (subst (λ b. is_window n (drop k.0 (items_of g b)) ≡ true) block k.1.1.1) in
-        let parts = window_parts (drop p.at (items_of g p.block)) w in
+        let parts = window_parts n (drop p.at (items_of g p.block)) w in
         record {
           block = subst (HasBlock g) block ((names_are g h.0).0 h.1.0);
           within = let l = length-drop p.at (items_of g p.block) in let m = parts.0 in omega arith;
@@ -147,7 +149,7 @@ module _ (g : Graph) (n : ℕ) where
     λ w.
         let l = length-drop p.at (items_of g p.block) in
         let within = w.within in
-        let is = window_whole (drop p.at (items_of g p.block)) (omega arith) w.plain in
+        let is = window_whole n (drop p.at (items_of g p.block)) (omega arith) w.plain in
         let at = contains_at (names_of g) p.block ((names_are g p.block).1 w.block) in
         in_listed (names_of g) p p.block at.0 at.1 (place_listed n p.block 0 (items_of g p.block) p.at p.at (omega arith) (omega arith) is),
   )
@@ -174,7 +176,7 @@ module _ (g : Graph) (n : ℕ) where
       let few = few_places rules in
       let all = length-append (items_of_blocks g.blocks) (items_of_bodies g.procedures) in omega arith
 
-pub few_items : (g : Graph) (name spare : ℕ) → HasBlock g name → length (all_items g) + spare < 2 ^ 29 → length (items_of g name) < 2 ^ 32
+pub few_items : (g : Graph) (name spare : ℕ) → HasBlock g name → length (all_items g) + spare < 2 ^ 29 → length (items_of g name) < 2 ^ 29
 few_items g name spare there small =
     let few = items_within g name there in
     let all = length-append (items_of_blocks g.blocks) (items_of_bodies g.procedures) in omega arith

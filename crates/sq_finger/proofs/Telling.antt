@@ -302,7 +302,7 @@ longer_runs n firsts runs pairs numbers many there are runs_are =
 -- ---- the loop that makes the pairs
 
 module _ {X : Type 0} where
-  get_front : (xs ys : List X) (k : ℕ) → k < length xs → slice_get (xs ++ ys) k ≡ slice_get xs k
+  pub get_front : (xs ys : List X) (k : ℕ) → k < length xs → slice_get (xs ++ ys) k ≡ slice_get xs k
   get_front [] ys k l = absurd (omega arith)
   get_front (x ∷ xs) ys zero l = refl
   get_front (x ∷ xs) ys (suc k) l = get_front xs ys k (omega arith)

@@ -3,6 +3,7 @@ pub mod Exact
 pub mod Fingerprints
 pub mod Groups
 pub mod ItemKeys
+pub mod Lines
 pub mod Numbers
 pub mod Runs
 pub mod TermKeys

@@ -1,4 +1,4 @@
-use Rattle.std.proofs.Common.{◌∙◌, ◌++◌, ◌+◌, ap, drop, get_or}
+use Rattle.std.proofs.Common.{◌∙◌, ◌++◌, ◌+◌, ap, drop, get_or, arith}
 use Rattle.std.proofs.lemmas.Option.{slice_get-get_or, get_or_from_slice_get}
 use Rattle.sq_finger.specs.Windows.{places_from, places_in}
 use Rattle.sq_finger.proofs.Layouts.{name_there}
@@ -13,7 +13,8 @@ push_places-requires c =
     let g = c.args.graph.now.graph in
     let names = c.args.names.now in
     let there = name_there g names c.loop-name.name-index c.requires.names c.loop-name-test.true in
-    rw c.items.ensures (few_items g (get_or names c.loop-name.name-index 0) c.args.graph.now.spare.items there c.spare-room.ensures.small.items)
+    let few = few_items g (get_or names c.loop-name.name-index 0) c.args.graph.now.spare.items there c.spare-room.ensures.small.items in
+    rw c.items.ensures (omega arith)
 
 pub loop-name-preserved : goal.loop-name-preserved
 loop-name-preserved c =
