@@ -17,3 +17,4 @@ pub mod BodiesEqual
 pub mod BodiesPrinted
 pub mod BodiesEarlier
 pub mod BodiesFound
+pub mod Admitting

@@ -1,6 +1,7 @@
 -- The candidates of row T, and what becomes of a graph by them.
 use Rattle.std.specs.Prelude.{◌≡◌, ◌⊎◌, ℕ, ◌≤◌, List, [], ◌∷◌, length}
 use Rattle.std.proofs.Common.{inl, inr}
+use Rattle.sq_graph.specs.declared.parts.Room.{Room}
 use Rattle.sq_graph.specs.Graph.{Graph}
 use Rattle.sq_graph.specs.Blocks.{items_of}
 use Rattle.sq_pass.specs.declared.cut.Cut.{Cut}
@@ -28,6 +29,10 @@ rewritten g blocks k = g
 
 abbrev pub described : Graph → Cut → Graph
 described g cut = rewritten g cut.blocks cut.length
+
+-- what applying a candidate needs
+abbrev pub one_block : Room
+one_block = record { blocks = 1; items = 0; procedures = 0 }
 
 -- a candidate saves a word
 abbrev pub saves_a_word : (g : Graph) (cut : Cut) → IsCandidate g cut → 1 ≤ cut.saving

@@ -6,3 +6,4 @@ pub mod Candidates
 pub mod Bodies
 pub mod BodiesPrints
 pub mod BodiesEarlier
+pub mod Admitted

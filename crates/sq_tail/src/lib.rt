@@ -4,12 +4,14 @@
 //! none, and what it makes of a graph is exactly what the row says.
 #![tactic(auto)]
 
+mod admit;
 mod bodies;
 mod ends;
+mod find;
 mod joining;
 mod numbers;
 mod resolved;
 mod search;
+mod tails;
 
-pub use bodies::{BodyPair, find_bodies, go_on_alike, is_body_pair};
-pub use resolved::{Resolved, resolved_term};
+pub use tails::Tails;
