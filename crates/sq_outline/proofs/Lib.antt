@@ -5,6 +5,7 @@ pub mod Plainness
 pub mod Linking
 pub mod Calling
 pub mod Making
+pub mod Applying
 pub mod Keeping
 pub mod Choosing
 pub mod Recalling

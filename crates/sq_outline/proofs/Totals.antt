@@ -1,11 +1,16 @@
 -- What there is and what is spare add up to the same.
-use Rattle.std.proofs.Common.{◌≡◌, ℕ, ◌+◌, ◌-◌, ◌≤◌, List, [], ◌∷◌, ◌++◌, take, drop, length, refl, ap, ◌∙◌, subst, arith, length-append}
+use Rattle.std.proofs.Common.{◌≡◌, ℕ, ◌+◌, ◌-◌, ◌≤◌, List, [], ◌∷◌, ◌++◌, take, drop, length, inl, inr, refl, ap, ◌∙◌, subst, arith, length-append}
+use Rattle.std.specs.Prelude.{sum_by, ◌==◌}
 use Rattle.std.specs.List.{slice_range}
+use Rattle.std.proofs.lemmas.Bool.{cases_Bool}
+use Rattle.std.proofs.lemmas.List.Sums.{sum_by-cons}
+use Rattle.sq_arena.specs.Entries.{value_of}
+use Rattle.sq_graph.specs.Words.{block_words, words_of}
 use Rattle.std.proofs.lemmas.List.{length-take, length-drop}
 use Rattle.sq_graph.specs.declared.parts.Room.{Room}
 use Rattle.sq_graph.specs.declared.item.Item.{Item}
 use Rattle.sq_graph.specs.Graph.{Block, Procedure, Graph}
-use Rattle.sq_graph.specs.Blocks.{HasBlock, block_items, items_of, items_of_blocks, items_of_bodies}
+use Rattle.sq_graph.specs.Blocks.{named, HasBlock, block_items, items_of, items_of_blocks, items_of_bodies}
 use Rattle.sq_graph.specs.Operations.{with_blocks, replaced, replaced_items, outlined}
 use Rattle.sq_graph.specs.Room.{GraphAndRoom, KeepsTotal, count_of, sum_of}
 use Rattle.sq_graph.proofs.Located.{located, items_of_blocks-append}
@@ -63,3 +68,15 @@ outlined_total g block at count link spare there room some =
     refl
     (omega (arith, room, size, bodies, length-append (items_of_blocks g.blocks) (items_of_bodies (g.procedures ++ new ∷ [])), length-append (items_of_blocks g.blocks) (items_of_bodies g.procedures)))
     (omega (arith, some, length-append g.procedures (new ∷ [])))
+
+-- the items of a block are among the words of the graph
+items_in : (bs : List Block) (n : ℕ) → length (block_items (value_of (named bs) n)) ≤ sum_by block_words bs
+items_in [] n = omega arith
+items_in (b ∷ bs) n =
+    elim (cases_Bool (b.name == n)) [
+      | inl here ↦ rw here (omega (arith, sum_by-cons block_words b bs))
+      | inr apart ↦ rw apart (omega (arith, sum_by-cons block_words b bs, items_in bs n))
+    ]
+
+pub items_are_words : (g : Graph) (n : ℕ) → length (items_of g n) ≤ words_of g
+items_are_words g n = let l = items_in g.blocks n in omega arith

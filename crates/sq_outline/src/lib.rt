@@ -1,13 +1,17 @@
 //! The pass of the rows that make procedures of bodies that match, and that undo procedures.
 //!
-//! To the layers above it promises that the link that is found is exactly that of the rule, and that what the rows O1 and
-//! O2 make of a graph is exactly what they say.
+//! To the layers above it promises that `Outlines` keeps the laws of passes, for the rows O1, O2 and O3: what it finds and
+//! admits are candidates of these rows, it misses none, whatever set of blocks is taken, and what it makes of a graph is
+//! exactly what the row says.
 #![tactic(auto)]
 
 mod call;
 mod link;
 mod make;
+mod outlines;
 mod plain;
 mod recall;
 mod sets;
 mod sites;
+
+pub use outlines::Outlines;

@@ -1,0 +1,94 @@
+//! The pass.
+
+use crate::call::{admit_call, call, find_called};
+use crate::make::{admit_make, find_made, make};
+use crate::recall::{admit_recall, apply_recall, find_recall};
+use sq_graph::{Graph, Room};
+use sq_layout::learn;
+use sq_live::{Liveness, block_names};
+use sq_num::{Memory, Savings};
+use sq_pass::{Cut, Pass, Row};
+use std::alloc::Global;
+
+/// The pass of rows O1, O2 and O3.
+#[derive(Clone, Copy, Debug)]
+pub struct Outlines;
+
+impl Pass for Outlines {
+    ghost use Rattle.sq_outline.specs.Candidates.{IsCandidate, described, room_for, saves_a_word};
+
+    ghost is_candidate = { λ _ graph cut. IsCandidate graph cut };
+
+    ghost described = { λ _ graph cut. described graph cut };
+
+    ghost room_for = { λ _ graph cut. room_for graph cut };
+
+    ghost saves = { λ _ graph cut. saves_a_word graph cut };
+
+    /// For O1 and O2 it looks at the blocks of the cut, for O3 at each word of procedures once.
+    fn admit(
+        &self,
+        alloc: Global,
+        graph: &Graph,
+        live: &Liveness,
+        cut: Cut,
+    ) -> Result<Option<Cut>, Memory> {
+        match cut.row {
+            Row::O1 => admit_make(alloc, graph, live, cut),
+            Row::O2 => Ok(admit_call(graph, live, cut)),
+            Row::O3 => admit_recall(alloc, graph, &cut),
+            _ => Ok(None),
+        }
+    }
+
+    /// It compares bodies of the same length with each other.
+    fn find(&self, alloc: Global, graph: &Graph, live: &Liveness) -> Result<Option<Cut>, Memory> {
+        learn(graph);
+        let names = block_names(alloc, graph)?;
+        if let Some(cut) = find_made(alloc, graph, live, &names)? {
+            return Ok(Some(cut));
+        }
+        if let Some(cut) = find_called(alloc, graph, live, &names)? {
+            return Ok(Some(cut));
+        }
+        find_recall(alloc, graph)
+    }
+
+    /// It looks at one block.
+    fn room(&self, graph: &Graph, cut: &Cut) -> Room {
+        learn(graph);
+        match cut.row {
+            Row::O1 => Room {
+                blocks: 0,
+                items: graph.items(cut.blocks.as_slice()[0]).len() as u32,
+                procedures: 1,
+            },
+            _ => Room {
+                blocks: 0,
+                items: 0,
+                procedures: 0,
+            },
+        }
+    }
+
+    /// A few calls of the graph for each block of the cut; for O3 one look at all items.
+    fn apply(&self, graph: &mut Graph, cut: &Cut) {
+        learn(graph);
+        let blocks = cut.blocks.as_slice();
+        match cut.row {
+            Row::O1 => make(graph, blocks, cut.link),
+            Row::O2 => call(graph, blocks[0], 0, cut.procedure),
+            _ => apply_recall(graph, cut.procedure, cut.other),
+        }
+    }
+
+    /// It leaves all to `find`, since each rewrite changes which registers are live.
+    fn sweep(
+        &self,
+        _alloc: Global,
+        _graph: &mut Graph,
+        savings: Savings,
+    ) -> Result<Savings, Memory> {
+        Ok(savings)
+    }
+}
