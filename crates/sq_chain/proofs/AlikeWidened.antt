@@ -1,6 +1,6 @@
 -- By other new names a graph in which Branches are widened is the same but for names.
-use Rattle.std.proofs.Common.{◌≡◌, ◌⊎◌, ℕ, ◌+◌, ◌-◌, ◌≤◌, ◌<◌, ◌==◌, nat_lt, Bool, true, false, if◌then◌else◌, List, [], ◌∷◌, ◌++◌, map, sum_by, IsSome, inl, inr, refl, sym, ap, ◌∙◌, arith}
-use Rattle.std.proofs.lemmas.Bool.{cases_Bool, eqb-true, lt-ltb, le-ltb}
+use Rattle.std.proofs.Common.{◌≡◌, ◌⊎◌, ℕ, ◌+◌, ◌-◌, ◌≤◌, ◌<◌, ◌==◌, nat_lt, Bool, true, false, ◌&&◌, if◌then◌else◌, List, [], ◌∷◌, ◌++◌, map, sum_by, IsSome, inl, inr, refl, sym, ap, ◌∙◌, arith, subst, is_some}
+use Rattle.std.proofs.lemmas.Bool.{cases_Bool, eqb-true, eq-eqb, lt-ltb, le-ltb, and_parts, and_from, both_ways}
 use Rattle.std.proofs.lemmas.List.Sums.{sum_by-cons}
 use Rattle.sq_arena.specs.Entries.{value_of}
 use Rattle.sq_isa.specs.Branches.{inverse_of}
@@ -8,7 +8,7 @@ use Rattle.sq_graph.specs.declared.item.Term.{Term}
 use Rattle.sq_graph.specs.declared.item.Term.TheVariants.{Fall, Jump, Branch, Call, PartJump, Indirect, Stop}
 use Rattle.sq_graph.specs.Alike.{AreAlike}
 use Rattle.sq_graph.specs.Graph.{Block, Graph}
-use Rattle.sq_graph.specs.Blocks.{named, HasBlock}
+use Rattle.sq_graph.specs.Blocks.{named, HasBlock, block_of}
 use Rattle.sq_graph.specs.Renames.{retargeted_term, renamed_block, renamed}
 use Rattle.sq_graph.specs.Rules.{IsGraph}
 use Rattle.sq_graph.proofs.Bypassing.{retargeted_same}
@@ -160,3 +160,83 @@ module _ (g h : Graph) (S : ℕ → Bool) (rules : IsGraph g) (wide : IsWidened 
 
   pub widened_alike : AreAlike (widened g S) h
   widened_alike = record { name = other; one_to_one = apart; is = is_widened }
+
+-- AND BACK
+
+-- the first of these blocks behind which the new block of this name is
+abbrev pub owner : (ℕ → ℕ) → (ℕ → Bool) → List Block → ℕ → ℕ
+owner new S [] m = m
+owner new S (b ∷ bs) m = if S b.name && (new b.name == m) then b.name else owner new S bs m
+
+owner_is : (new : ℕ → ℕ) (S : ℕ → Bool) → ((m n : ℕ) → S m ≡ true → S n ≡ true → new m ≡ new n → m ≡ n) → (bs : List Block) (n : ℕ) → S n ≡ true → IsSome (value_of (named bs) n) → owner new S bs (new n) ≡ n
+owner_is new S apart [] n within some = absurd (cc)
+owner_is new S apart (b ∷ bs) n within some =
+    elim (cases_Bool (S b.name && (new b.name == new n))) [
+      | inl here ↦
+          let both = and_parts (S b.name) (new b.name == new n) here in
+          rw here (apart b.name n both.0 within (eqb-true (new b.name) (new n) both.1))
+      | inr other ↦
+          elim (cases_Bool (b.name == n)) [
+            | inl same ↦
+                let is = eqb-true b.name n same in
+                let yes : (S b.name && (new b.name == new n)) ≡ true = and_from (S b.name) (new b.name == new n) (subst (λ k. S k ≡ true) (sym is) within) (eq-eqb (new b.name) (new n) (ap new is)) in
+                absurd (both_ways (S b.name && (new b.name == new n)) other yes)
+            | inr differs ↦ rw other (owner_is new S apart bs n within (rw differs at some))
+          ]
+    ]
+
+module _ (g h : Graph) (S : ℕ → Bool) (rules : IsGraph g) (there : (n : ℕ) → S n ≡ true → HasBlock g n) (wide : IsWidened g h S) where
+  -- the new name behind a block becomes the fresh one there
+  abbrev back : ℕ → ℕ
+  back m = if is_some (block_of g m) then m else fresh g + owner wide.new S g.blocks m
+
+  back_old : (m : ℕ) → HasBlock g m → back m ≡ m
+  back_old m has = rw has refl
+
+  back_new : (m : ℕ) → S m ≡ true → back (wide.new m) ≡ fresh g + m
+  back_new m within =
+      let none : is_some (block_of g (wide.new m)) ≡ false = ap is_some (wide.fresh m within) in
+      ap (λ t. if t then wide.new m else fresh g + owner wide.new S g.blocks (wide.new m)) none
+      ∙ ap (λ k. fresh g + k) (owner_is wide.new S wide.apart g.blocks m within (there m within))
+
+  back_same : renamed back g ≡ g
+  back_same = renamed_by_same g back (λ n. n) rules back_old ∙ retargeted_same g
+
+  back_is : widened g S ≡ renamed back h
+  back_is =
+      let blocks = alike_blocks back wide.new (λ n. fresh g + n) S g.blocks (ap (λ (k : Graph). k.blocks) back_same) back_new in
+      let entry = ap (λ (k : Graph). k.entry) back_same in
+      let words = ap (λ (k : Graph). k.code_words) back_same in
+      let procedures = ap (λ (k : Graph). k.procedures) back_same in
+      sym (ap (renamed back) wide.is ∙ (λ i. record { blocks = blocks i; entry = entry i; code_words = words i; procedures = procedures i }))
+
+  back_apart : (m n : ℕ) → HasBlock h m → HasBlock h n → back m ≡ back n → m ≡ n
+  back_apart m n has has' e =
+      elim (from m has) [
+        | inl old ↦
+            elim (from n has') [
+              | inl old' ↦ sym (back_old m old) ∙ e ∙ back_old n old'
+              | inr added ↦ absurd (back_clash m n old added e)
+            ]
+        | inr added ↦
+            elim (from n has') [
+              | inl old ↦ absurd (back_clash n m old added (sym e))
+              | inr added' ↦
+                  let one : back m ≡ fresh g + added.behind = ap back added.is ∙ back_new added.behind added.within in
+                  let two : back n ≡ fresh g + added'.behind = ap back added'.is ∙ back_new added'.behind added'.within in
+                  let sums : fresh g + added.behind ≡ fresh g + added'.behind = sym one ∙ e ∙ two in
+                  let k : added.behind ≡ added'.behind = omega (arith, sums) in
+                  added.is ∙ ap wide.new k ∙ sym added'.is
+            ]
+      ]
+    where
+      from : (p : ℕ) → HasBlock h p → IsSome (value_of (named g.blocks) p) ⊎ IsAdded wide.new S p
+      from p has = came_from wide.new S g.blocks p (subst (λ (k : Graph). HasBlock k p) wide.is has)
+
+      back_clash : (p q : ℕ) → HasBlock g p → IsAdded wide.new S q → back p ≡ back q → ⊥
+      back_clash p q old added f =
+          let sum : p ≡ fresh g + added.behind = sym (back_old p old) ∙ f ∙ ap back added.is ∙ back_new added.behind added.within in
+          omega (arith, below_fresh g p old, sum)
+
+  pub alike_widened : AreAlike h (widened g S)
+  alike_widened = record { name = back; one_to_one = back_apart; is = back_is }

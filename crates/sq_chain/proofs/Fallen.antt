@@ -1,12 +1,13 @@
 -- A graph in which each Jump to the next slot is Fall follows it.
-use Rattle.std.proofs.Common.{◌≡◌, ℕ, ◌==◌, List, [], ◌∷◌, ◌++◌, Some, is_some, inl, inr, refl, sym, ap, ◌∙◌, subst, append_assoc}
-use Rattle.std.proofs.lemmas.Bool.{cases_Bool, eqb-true}
+use Rattle.std.proofs.Common.{◌≡◌, ◌≢◌, ℕ, ◌==◌, false, if◌then◌else◌, List, [], ◌∷◌, ◌++◌, Some, is_some, inl, inr, refl, sym, ap, ◌∙◌, subst, append_assoc}
+use Rattle.std.proofs.lemmas.Bool.{cases_Bool, eqb-true, eq-eqb, ne_eqb}
 use Rattle.std.proofs.lemmas.List.Elements.{All-nil}
+use Rattle.sq_arena.specs.Entries.{first_key}
 use Rattle.sq_graph.specs.declared.item.Term.{Term}
 use Rattle.sq_graph.specs.declared.item.Term.TheVariants.{Fall, Jump, Branch, Call, PartJump, Indirect, Stop}
 use Rattle.sq_graph.specs.Graph.{Block, Graph}
-use Rattle.sq_graph.specs.Blocks.{HasBlock, block_term, next_of, term_of}
-use Rattle.sq_graph.specs.Operations.{with_term}
+use Rattle.sq_graph.specs.Blocks.{named, HasBlock, block_of, block_term, next_of, term_of}
+use Rattle.sq_graph.specs.Operations.{with_blocks, with_term}
 use Rattle.sq_graph.specs.Rules.{IsGraph}
 use Rattle.sq_graph.specs.Soundness.{IsSound}
 use Rattle.sq_graph.proofs.Changes.{with_blocks-at}
@@ -15,7 +16,7 @@ use Rattle.sq_follow.specs.Follows.{Follows}
 use Rattle.sq_follow.proofs.Following.{graph_follows_itself, graph_follows_through}
 use Rattle.sq_lookup.proofs.Targets.{has_term}
 use Rattle.sq_patch.proofs.OneBlock.{fall_follows, fall_sound}
-use Rattle.sq_chain.specs.Moves.{fallen_term, fallen_blocks, fallen}
+use Rattle.sq_chain.specs.Moves.{JumpsToNext, fallen_term, fallen_blocks, fallen}
 use Rattle.sq_chain.proofs.Near.{here, found_here}
 use Rattle.sq_chain.proofs.OneMore.{slot_behind}
 
@@ -78,3 +79,84 @@ fallen_from g front (b ∷ next ∷ rest) rules e =
 
 pub fallen_keeps : (g : Graph) → IsGraph g → Keeps g (fallen g)
 fallen_keeps g rules = fallen_from g [] g.blocks rules refl
+
+-- ONE BLOCK AFTER ANOTHER
+
+-- the blocks up to these are fallen already
+pub record FallsSoFar (g h : Graph) (bs : List Block) : Type 0 where
+  pub front : List Block
+  pub is : h ≡ record g { blocks = front ++ bs }
+  pub whole : front ++ fallen_blocks bs ≡ fallen_blocks g.blocks
+  pub keeps : Keeps g h
+
+pub falls_first : (g : Graph) → IsGraph g → FallsSoFar g g g.blocks
+falls_first g rules = record { front = []; is = refl; whole = refl; keeps = keeps_itself g rules }
+
+pub falls_last : (g h : Graph) → FallsSoFar g h [] → h ≡ fallen g
+falls_last g h w = w.is ∙ ap (λ (bs : List Block). record g { blocks = bs }) w.whole
+
+blocks : (g h : Graph) (b : Block) (rest : List Block) (w : FallsSoFar g h (b ∷ rest)) → h.blocks ≡ w.front ++ (b ∷ rest)
+blocks g h b rest w = ap (λ (k : Graph). k.blocks) w.is
+
+-- what is fallen of a block and those behind it
+jumped_falls : (b : Block) (rest : List Block) (to : ℕ) → b.term ≡ Jump to → first_key (named rest) ≡ Some to → fallen_blocks (b ∷ rest) ≡ record b { term = Fall } ∷ fallen_blocks rest
+jumped_falls b [] to jump first = absurd (cc)
+jumped_falls b (n ∷ rest) to jump first =
+    let same : n.name ≡ to = cc in
+    let falls : fallen_term n.name b.term ≡ Fall = ap (fallen_term n.name) jump ∙ ap (λ t. if t then Fall else Jump to) (eq-eqb to n.name (sym same)) in
+    ap (λ t. record b { term = t } ∷ fallen_blocks (n ∷ rest)) falls
+
+other_stays : (n : ℕ) (t : Term) → ((to : ℕ) → t ≡ Jump to → n ≢ to) → fallen_term n t ≡ t
+other_stays n Fall apart = refl
+other_stays n (Jump to) apart =
+    let other : (to == n) ≡ false = ne_eqb to n (λ same. apart to refl (sym same)) in
+    ap (λ t. if t then Fall else Jump to) other
+other_stays n (Branch cond x y to) apart = refl
+other_stays n (Call link to) apart = refl
+other_stays n (PartJump link part to) apart = refl
+other_stays n (Indirect link x offset) apart = refl
+other_stays n (Stop word) apart = refl
+
+others_stay : (b : Block) (rest : List Block) → ((to : ℕ) → b.term ≡ Jump to → first_key (named rest) ≡ Some to → ⊥) → fallen_blocks (b ∷ rest) ≡ b ∷ fallen_blocks rest
+others_stay b [] apart = refl
+others_stay b (n ∷ rest) apart =
+    let stays : fallen_term n.name b.term ≡ b.term = other_stays n.name b.term (λ to jump same. apart to jump (ap Some same)) in
+    ap (λ t. record b { term = t } ∷ fallen_blocks (n ∷ rest)) stays
+
+module _ (g h : Graph) (b : Block) (rest : List Block) (w : FallsSoFar g h (b ∷ rest)) where
+  found : block_of h b.name ≡ Some b
+  found = found_here h w.keeps.rules w.front b rest (blocks g h b rest w)
+
+  pub falls_there : HasBlock h b.name
+  falls_there = ap is_some found
+
+  slot_is : next_of h b.name ≡ first_key (named rest)
+  slot_is = slot_behind h.blocks b.name (here h w.keeps.rules w.front b rest (blocks g h b rest w))
+
+  -- a Jump to the next slot falls
+  pub falls_on : JumpsToNext h b.name → FallsSoFar g (with_term h b.name Fall) rest
+  falls_on j =
+      let jump : b.term ≡ Jump j.to = let same : Some b.term ≡ Some (Jump j.to) = sym (ap block_term found) ∙ j.jump in cc in
+      let first : first_key (named rest) ≡ Some j.to = sym slot_is ∙ j.next in
+      let c : Block = record b { term = Fall } in
+      record {
+        front = w.front ++ record b { term = Fall } ∷ [];
+        is =
+            ap (λ (k : Graph). record k { blocks = with_blocks (λ x. record x { term = Fall } ∷ []) h.blocks b.name }) w.is
+            ∙ ap (λ (bs : List Block). record g { blocks = bs })
+            (with_blocks-at (λ x. record x { term = Fall } ∷ []) h.blocks b.name (here h w.keeps.rules w.front b rest (blocks g h b rest w))
+            ∙ sym (append_assoc w.front (c ∷ []) rest));
+        whole = append_assoc w.front (c ∷ []) (fallen_blocks rest) ∙ ap (λ bs. w.front ++ bs) (sym (jumped_falls b rest j.to jump first)) ∙ w.whole;
+        keeps = keeps_through g h (with_term h b.name Fall) w.keeps (fall_keeps h b.name j.to w.keeps.rules j.jump j.next);
+      }
+
+  -- and no other term does
+  pub falls_not : ¬ JumpsToNext h b.name → FallsSoFar g h rest
+  falls_not other =
+      let apart : (to : ℕ) → b.term ≡ Jump to → first_key (named rest) ≡ Some to → ⊥ = λ to jump first. other (record { to = to; jump = ap block_term found ∙ ap Some jump; next = slot_is ∙ first }) in
+      record {
+        front = w.front ++ b ∷ [];
+        is = w.is ∙ ap (λ (bs : List Block). record g { blocks = bs }) (sym (append_assoc w.front (b ∷ []) rest));
+        whole = append_assoc w.front (b ∷ []) (fallen_blocks rest) ∙ ap (λ bs. w.front ++ bs) (sym (others_stay b rest apart)) ∙ w.whole;
+        keeps = w.keeps;
+      }

@@ -10,3 +10,6 @@ pub mod Widenings
 pub mod Widens
 pub mod Placed
 pub mod Adding
+pub mod Previous
+pub mod Chains
+pub mod Moved

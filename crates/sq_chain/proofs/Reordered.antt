@@ -1,8 +1,9 @@
 -- A chain that moves leaves the graph in an order in which each block that goes on keeps its next slot.
-use Rattle.std.proofs.Common.{◌≡◌, ◌⊎◌, ℕ, ◌==◌, true, false, if◌then◌else◌, List, [], ◌∷◌, ◌++◌, map, Option, None, Some, IsSome, is_some, inl, inr, refl, sym, ap, ◌∙◌, subst, arith, append_assoc}
+use Rattle.std.proofs.Common.{◌≡◌, ◌⊎◌, ℕ, ◌==◌, true, false, if◌then◌else◌, List, [], ◌∷◌, ◌++◌, map, Option, None, Some, IsSome, is_some, inl, inr, refl, sym, ap, ◌∙◌, subst, arith, length, length-append, append_assoc}
 use Rattle.std.specs.List.{AllByRecursion}
 use Rattle.std.proofs.lemmas.List.Elements.{All-head}
 use Rattle.std.proofs.lemmas.Bool.{cases_Bool, eq-eqb, both_ways}
+use Rattle.std.proofs.lemmas.List.{length-map}
 use Rattle.sq_arena.specs.Entries.{HasDistinctKeys, value_of, ContainsKey, before, through, starting_at, behind, run, without_run, IsRun, move_run_after, first_key, next_key}
 use Rattle.sq_arena.proofs.Paths.{times-places-append}
 use Rattle.sq_arena.proofs.EntriesLemmas.{shape_of, through-behind, through-before, starting_at-behind, split_at as split_at_key, some_value}
@@ -122,7 +123,7 @@ module _ (X Y Z W : List (ℕ × Block)) (x_stops : Stops X) (y_stops : Stops Y)
 -- THE CHAIN
 
 -- its end is there
-end_there : (e : ℕ × Block) (es : List (ℕ × Block)) (d : ℕ) → ContainsKey (e ∷ es) (end_of (e ∷ es) d)
+pub end_there : (e : ℕ × Block) (es : List (ℕ × Block)) (d : ℕ) → ContainsKey (e ∷ es) (end_of (e ∷ es) d)
 end_there e [] d =
     elim (cases_Bool (goes_on e.1.term)) [
       | inl on ↦ rw on (rw (eq-eqb e.0 e.0 refl) refl)
@@ -239,6 +240,20 @@ module _ (old new : List (ℕ × Block)) (x : Exchanges old new) where
   still_stops stops =
       let rest : Stops x.rest = stops_back x.third x.rest (stops_back x.second (x.third ++ x.rest) (stops_back x.first (x.second ++ (x.third ++ x.rest)) (subst Stops x.was stops))) in
       subst Stops (sym x.is) (stops_append x.first (x.third ++ (x.second ++ x.rest)) x.first_stops (stops_append x.third (x.second ++ x.rest) x.third_stops (stops_append x.second x.rest x.second_stops rest)))
+
+  same_length : length new ≡ length old
+  same_length =
+      omega (
+        arith,
+        ap (λ (es : List (ℕ × Block)). length es) x.was,
+        ap (λ (es : List (ℕ × Block)). length es) x.is,
+        length-append x.first (x.second ++ (x.third ++ x.rest)),
+        length-append x.second (x.third ++ x.rest),
+        length-append x.third x.rest,
+        length-append x.first (x.third ++ (x.second ++ x.rest)),
+        length-append x.third (x.second ++ x.rest),
+        length-append x.second x.rest,
+      )
 
 module _ (g : Graph) (from to : ℕ) (rules : IsGraph g) (movable : IsMovable g from to) where
   abbrev es : List (ℕ × Block)
@@ -362,6 +377,10 @@ module _ (g : Graph) (from to : ℕ) (rules : IsGraph g) (movable : IsMovable g 
 
   pub chain_moved_rules : IsGraph (moved_after g to (chain_end g to) from)
   chain_moved_rules = moved_after_rules g to last from rules chain_run (still_stops es M exchange all_stops)
+
+  pub chain_moved_length : length (moved_after g to (chain_end g to) from).blocks ≡ length g.blocks
+  chain_moved_length =
+      length-map M (λ (e : ℕ × Block). e.1) ∙ same_length es M exchange ∙ sym (length-map es (λ (e : ℕ × Block). e.1)) ∙ ap (λ (bs : List Block). length bs) (blocks_again g.blocks)
 
   pub chain_reordered : AreReordered g (moved_after g to (chain_end g to) from).blocks
   chain_reordered = record {

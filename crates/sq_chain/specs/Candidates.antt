@@ -36,6 +36,12 @@ pub record IsMoved (from to : ℕ) (old new : Graph) : Type 0 where
   pub some : 1 ≤ saving
   pub applied : IsApplied saving (moved old from to) old new
 
+-- so have those of some pair
+pub record HasMoved (old new : Graph) : Type 0 where
+  pub from : ℕ
+  pub to : ℕ
+  pub moved : IsMoved from to old new
+
 -- no move of a chain behind this block saves a word
 abbrev pub IsStillAt : Graph → ℕ → Type 0
 IsStillAt g from = (to : ℕ) → IsMovable g from to → words_of g ≤ words_of (moved g from to)

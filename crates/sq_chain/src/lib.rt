@@ -1,12 +1,19 @@
 //! Widening and moves: Branches that don't reach, and chains of blocks that move behind the Jump to them.
 //!
-//! To the layers above it promises that `widen` widens exactly the least set of Branches that makes the graph be in reach, by
-//! new blocks whose names don't matter, and that what is left follows the graph before, sound where that was.
+//! To the layers above it promises that `widen` widens exactly the least set of Branches that brings the graph in reach; that
+//! `movable` is exact; that `try_move` moves a chain exactly where the words are fewer then, and else leaves the graph as it
+//! was; and that `move_once` makes such a move, or there is none. What is left follows the graph before, is in reach, and
+//! sound where that was; the names of the new blocks don't matter.
 #![tactic(auto)]
 
+mod carry;
+mod chain;
 pub mod laws;
 mod least;
+mod moving;
 mod short;
 mod widening;
 
+pub use chain::movable;
+pub use moving::{move_once, try_move};
 pub use widening::widen;

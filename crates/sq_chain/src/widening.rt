@@ -90,7 +90,7 @@ fn widen_each(graph: &mut Graph, names: &[u32], wide: &Names)
 /// it finds no memory, the graph is as it was.
 pub fn widen(alloc: Global, graph: &mut Graph) -> Result<u32, Memory>
     requires { length graph.old.graph.blocks ≤ 16777216 }
-    ensures widened { OnOk result (AreAlike (least_widened graph.old.graph) graph.new.graph) }
+    ensures widened { OnOk result (AreAlike graph.new.graph (least_widened graph.old.graph)) }
     ensures size { IfOk result (λ size. size ≡ size_of graph.old.graph (least graph.old.graph)) }
     ensures words { IfOk result (λ size. words_of graph.new.graph ≡ words_of graph.old.graph + size) }
     ensures follows { OnOk result (Follows graph.old.graph graph.new.graph) }

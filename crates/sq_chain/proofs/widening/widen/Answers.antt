@@ -1,11 +1,13 @@
 use Rattle.std.proofs.Common.{◌≡◌, ◌+◌, ◌∙◌, ℕ, Bool, sym, ap, subst}
+use Rattle.sq_graph.specs.declared.item.Term.TheVariants.{Branch}
 use Rattle.sq_graph.specs.Graph.{Graph}
 use Rattle.sq_graph.specs.Words.{words_of}
 use Rattle.sq_lookup.specs.Names.{is_listed}
+use Rattle.sq_lookup.proofs.Targets.{has_term}
 use Rattle.sq_chain.specs.Widening.{EndsInBranch, IsWidened, size_of}
 use Rattle.sq_chain.specs.Least.{least}
 use Rattle.sq_chain.proofs.Rounds.{least_is_least}
-use Rattle.sq_chain.proofs.AlikeWidened.{widened_alike}
+use Rattle.sq_chain.proofs.AlikeWidened.{alike_widened}
 use Rattle.sq_chain.proofs.Widenings.{wide_words, wide_near}
 use Rattle.sq_chain.proofs.widening.widen.Goals as goal
 
@@ -20,7 +22,8 @@ returns-clause-widened c =
     let new = c.widen_each.new.graph.graph in
     let set : is_listed c.in_ok-wide.wide ≡ least c.args.graph.now.graph = λ i n. c.in_ok-wide.ensures n i in
     let wide = subst (λ (S : ℕ → Bool). IsWidened g new S) set (subst (λ (k : Graph). IsWidened k new (is_listed c.in_ok-wide.wide)) c.reserve.ensures.graph c.widen_each.ensures.widened) in
-    widened_alike g new (least g) c.learn.ensures.rules wide
+    let valid = (least_is_least g c.learn.ensures.rules).valid in
+    alike_widened g new (least g) c.learn.ensures.rules (λ n e. let b = valid.branches n e in has_term g n (Branch b.cond b.a b.b b.to) b.is) wide
 
 pub returns-clause-words : goal.returns-clause-words
 returns-clause-words c =

@@ -1,0 +1,135 @@
+-- A walk along the chain of a block.
+use Rattle.std.proofs.Common.{◌≡◌, ◌≢◌, ℕ, ◌+◌, ◌==◌, true, false, if◌then◌else◌, List, [], ◌∷◌, length, Option, None, Some, IsSome, is_some, inl, inr, refl, sym, ap, ◌∙◌, subst, arith, append_assoc, ◌++◌}
+use Rattle.std.proofs.lemmas.Bool.{cases_Bool, eqb-true, eq-eqb, ne_eqb}
+use Rattle.sq_arena.specs.Entries.{HasDistinctKeys, value_of, ContainsKey, before, through, starting_at, behind, run, first_key}
+use Rattle.sq_arena.proofs.EntriesLemmas.{starting_at-behind, split_at as split_at_key}
+use Rattle.sq_arena.proofs.EntriesLaws.{absent_ahead, starting_at-append, distinct_back}
+use Rattle.sq_graph.specs.declared.item.Term.{Term}
+use Rattle.sq_graph.specs.Graph.{Block, Graph}
+use Rattle.sq_graph.specs.Blocks.{named, HasBlock, block_of, block_term, next_of, term_of}
+use Rattle.sq_graph.specs.Rules.{IsGraph}
+use Rattle.sq_graph.specs.Terms.{goes_on}
+use Rattle.sq_graph.proofs.Kept.{absent_behind}
+use Rattle.sq_graph.proofs.Located.{value_of-at}
+use Rattle.sq_layout.proofs.Shrinking.{block_with}
+use Rattle.sq_chain.specs.Moves.{end_of, chain_end, IsInChain}
+use Rattle.sq_chain.proofs.Reordered.{end_there}
+
+-- the walk has come to this block, ahead of which the other one isn't
+pub record IsOnChain (g : Graph) (to from at : ℕ) : Type 0 where
+  pub there : HasBlock g at
+  pub end : end_of (starting_at (named g.blocks) at) at ≡ chain_end g to
+  pub ahead : is_some (value_of (through (starting_at (named g.blocks) at) (chain_end g to)) from) ≡ is_some (value_of (run (named g.blocks) to (chain_end g to)) from)
+
+pub chain_starts : (g : Graph) (to from : ℕ) → HasBlock g to → IsOnChain g to from to
+chain_starts g to from has = record { there = has; end = refl; ahead = refl }
+
+module _ (g : Graph) (to from at : ℕ) (rules : IsGraph g) (on : IsOnChain g to from at) (t : Term) (is : term_of g at ≡ Some t) where
+  abbrev es : List (ℕ × Block)
+  es = named g.blocks
+
+  block : (b : Block) × (block_of g at ≡ Some b) × (b.term ≡ t)
+  block = block_with (block_of g at) t is
+
+  start : starting_at es at ≡ (at, block.0) ∷ behind es at
+  start = starting_at-behind es at block.0 block.1
+
+  distinct : HasDistinctKeys ((at, block.0) ∷ behind es at)
+  distinct = distinct_back (before es at) ((at, block.0) ∷ behind es at) (subst (λ (xs : List (ℕ × Block)). HasDistinctKeys xs) (split_at_key es at block.0 block.1) rules.distinct)
+
+  -- the block that is looked for is in the chain where it is this one
+  pub chain_has : at ≡ from → IsInChain g to from
+  chain_has same =
+      sym on.ahead ∙ ap (λ (xs : List (ℕ × Block)). is_some (value_of (through xs (chain_end g to)) from)) start ∙ found (behind es at) (chain_end g to)
+    where
+      found : (rest : List (ℕ × Block)) (k : ℕ) → is_some (value_of (through ((at, block.0) ∷ rest) k) from) ≡ true
+      found rest k =
+          let here : (at == from) ≡ true = eq-eqb at from same in
+          elim (cases_Bool (at == k)) [ inl last ↦ rw last (rw here refl) | inr more ↦ rw more (rw here refl) ]
+
+  -- the chain ends here
+  pub chain_ends : goes_on t ≡ false → at ≡ chain_end g to
+  chain_ends off =
+      let stops : goes_on block.0.term ≡ false = ap goes_on block.2 ∙ off in
+      let end : end_of ((at, block.0) ∷ behind es at) at ≡ at = ap (λ u. if u then end_of (behind es at) at else at) stops in
+      sym end ∙ ap (λ (xs : List (ℕ × Block)). end_of xs at) (sym start) ∙ on.end
+
+  -- and the other block isn't in it
+  pub chain_lacks : goes_on t ≡ false → at ≢ from → ¬ IsInChain g to from
+  chain_lacks off apart inside =
+      let e : is_some (value_of (through ((at, block.0) ∷ behind es at) at) from) ≡ true =
+      ap (λ (xs : List (ℕ × Block)). is_some (value_of (through xs at) from)) (sym start)
+      ∙ ap (λ k. is_some (value_of (through (starting_at es at) k) from)) (chain_ends off) ∙ on.ahead ∙ inside in
+      none (behind es at) e
+    where
+      none : (rest : List (ℕ × Block)) → is_some (value_of (through ((at, block.0) ∷ rest) at) from) ≡ true → ⊥
+      none rest f =
+          let one : is_some (value_of ((at, block.0) ∷ []) from) ≡ true = rw (eq-eqb at at refl) at f in
+          let no : (at == from) ≡ false = ne_eqb at from apart in
+          cc (rw no at one)
+
+  -- the walk goes on
+  module _ (goes : goes_on t ≡ true) (apart : at ≢ from) (next : ℕ) (slot : next_of g at ≡ Some next) where
+    rest : (c : Block) × ((others : List (ℕ × Block)) × (behind es at ≡ (next, c) ∷ others))
+    rest = by_rest (behind es at) slot
+      where
+        by_rest : (xs : List (ℕ × Block)) → first_key xs ≡ Some next → (c : Block) × ((others : List (ℕ × Block)) × (xs ≡ (next, c) ∷ others))
+        by_rest [] e = absurd (cc)
+        by_rest (x ∷ xs) e = let same : x.0 ≡ next = cc in (x.1, (xs, ap (λ k. (k, x.1) ∷ xs) same))
+
+    abbrev front : List (ℕ × Block)
+    front = before es at ++ (at, block.0) ∷ []
+
+    whole : es ≡ (before es at ++ (at, block.0) ∷ []) ++ (next, rest.0) ∷ rest.1.0
+    whole =
+        split_at_key es at block.0 block.1 ∙ ap (λ (xs : List (ℕ × Block)). before es at ++ (at, block.0) ∷ xs) rest.1.1
+        ∙ sym (append_assoc (before es at) ((at, block.0) ∷ []) ((next, rest.0) ∷ rest.1.0))
+
+    none_ahead : value_of (before es at ++ (at, block.0) ∷ []) next ≡ None
+    none_ahead = absent_ahead front rest.1.0 next rest.0 (subst (λ (xs : List (ℕ × Block)). HasDistinctKeys xs) whole rules.distinct)
+
+    -- what starts at the next slot
+    next_start : starting_at es next ≡ behind es at
+    next_start = ap (λ (xs : List (ℕ × Block)). starting_at xs next) whole ∙ starting_at-append front rest.1.0 next rest.0 none_ahead ∙ sym rest.1.1
+
+    end_is : end_of ((next, rest.0) ∷ rest.1.0) at ≡ chain_end g to
+    end_is =
+        let on_block : goes_on block.0.term ≡ true = ap goes_on block.2 ∙ goes in
+        let step : end_of ((at, block.0) ∷ behind es at) at ≡ end_of (behind es at) at = ap (λ u. if u then end_of (behind es at) at else at) on_block in
+        ap (λ (xs : List (ℕ × Block)). end_of xs at) (sym rest.1.1) ∙ sym step ∙ ap (λ (xs : List (ℕ × Block)). end_of xs at) (sym start) ∙ on.end
+
+    -- the end is behind this block
+    not_end : (at == chain_end g to) ≡ false
+    not_end =
+        elim (cases_Bool (at == chain_end g to)) [
+          | inl same ↦
+              let there : ContainsKey (behind es at) (chain_end g to) = subst (λ (xs : List (ℕ × Block)). ContainsKey xs (chain_end g to)) (sym rest.1.1) (subst (λ k. ContainsKey ((next, rest.0) ∷ rest.1.0) k) end_is (end_there (next, rest.0) rest.1.0 at)) in
+              let none : value_of (behind es at) (chain_end g to) ≡ None = subst (λ k. value_of (behind es at) k ≡ None) (eqb-true at (chain_end g to) same) (absent_behind (at, block.0) (behind es at) distinct) in
+              absurd (cc (ap is_some none))
+          | inr apart' ↦ apart'
+        ]
+
+    pub chain_goes_on : IsOnChain g to from next
+    chain_goes_on = record {
+      there = ap is_some (ap (λ (xs : List (ℕ × Block)). value_of xs next) whole ∙ value_of-at front rest.1.0 next rest.0 none_ahead);
+      end = ap (λ (xs : List (ℕ × Block)). end_of xs next) (next_start ∙ rest.1.1) ∙ end_is;
+      ahead =
+          ap (λ (xs : List (ℕ × Block)). is_some (value_of (through xs (chain_end g to)) from)) next_start
+          ∙ sym (passes (behind es at) (chain_end g to) not_end)
+          ∙ ap (λ (xs : List (ℕ × Block)). is_some (value_of (through xs (chain_end g to)) from)) (sym start)
+          ∙ on.ahead;
+    }
+      where
+        passes : (xs : List (ℕ × Block)) (k : ℕ) → (at == k) ≡ false → is_some (value_of (through ((at, block.0) ∷ xs) k) from) ≡ is_some (value_of (through xs k) from)
+        passes xs k other = let no : (at == from) ≡ false = ne_eqb at from apart in rw other (rw no refl)
+
+    pub chain_shorter : length (starting_at es next) + 1 ≡ length (starting_at es at)
+    chain_shorter = omega (arith, ap (λ (xs : List (ℕ × Block)). length xs) next_start, ap (λ (xs : List (ℕ × Block)). length xs) start)
+
+-- a block that is there has a term
+pub term_there : (g : Graph) (n : ℕ) → HasBlock g n → (t : Term) × (term_of g n ≡ Some t)
+term_there g n has = by_block (block_of g n) has
+  where
+    by_block : (o : Option Block) → IsSome o → (t : Term) × (block_term o ≡ Some t)
+    by_block None some = absurd (cc)
+    by_block (Some b) some = (b.term, refl)

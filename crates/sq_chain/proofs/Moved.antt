@@ -1,0 +1,149 @@
+-- A chain that moves behind the Jump to it.
+use Rattle.std.proofs.Common.{◌≡◌, ℕ, ◌+◌, ◌-◌, ◌≤◌, ◌<◌, false, List, [], ◌∷◌, length, sum_by, refl, sym, ap, ◌∙◌, subst, arith}
+use Rattle.std.specs.List.{All, AllByRecursion}
+use Rattle.std.proofs.lemmas.List.Elements.{recursion_from_All}
+use Rattle.std.proofs.lemmas.List.Sums.{sum_by-cons}
+use Rattle.sq_graph.specs.declared.item.Item.{Item}
+use Rattle.sq_graph.specs.declared.item.Term.{Term}
+use Rattle.sq_graph.specs.declared.item.Term.TheVariants.{Fall, Jump, Branch, Call, PartJump, Indirect, Stop}
+use Rattle.sq_graph.specs.Alike.{AreAlike}
+use Rattle.sq_graph.specs.Graph.{Block, Graph}
+use Rattle.sq_graph.specs.Canonical.{canonical_of}
+use Rattle.sq_graph.specs.Leaders.{is_bare, IsCanonical}
+use Rattle.sq_graph.specs.Parts.{names_of}
+use Rattle.sq_graph.specs.Places.{IsInReach}
+use Rattle.sq_graph.specs.Rules.{IsGraph}
+use Rattle.sq_graph.specs.Soundness.{IsSound}
+use Rattle.sq_graph.specs.Words.{block_words, words_of}
+use Rattle.sq_graph.proofs.CanonicalReach.{canonical_in_reach}
+use Rattle.sq_graph.proofs.RenamedReach.{alike_words}
+use Rattle.sq_follow.specs.Follows.{Follows}
+use Rattle.sq_follow.proofs.Following.{graph_follows_through}
+use Rattle.sq_lookup.proofs.Targets.{has_term, name_listed}
+use Rattle.sq_patch.proofs.Joining.{canonical_follows, canonical_sound}
+use Rattle.sq_patch.proofs.Reordering.{reorder_follows, reorder_sound}
+use Rattle.sq_pass.specs.declared.cut.Cut.{Cut}
+use Rattle.sq_pass.specs.declared.cut.Row.TheVariants.{L}
+use Rattle.sq_pass.specs.Rewrites.{IsRewrite, IsLighter}
+use Rattle.sq_pass.proofs.Rewriting.{rewrite_made, lighter_made}
+use Rattle.sq_chain.specs.Least.{least_widened}
+use Rattle.sq_chain.specs.Moves.{carried, fallen_blocks, fallen, IsMovable, moved, IsStill}
+use Rattle.sq_chain.specs.Candidates.{cut_of, IsCandidate, described, IsMoved, IsStillAt}
+use Rattle.sq_chain.proofs.Fallen.{Keeps}
+use Rattle.sq_chain.proofs.Reordered.{chain_moved_rules, chain_reordered, chain_moved_length}
+
+-- the chain moves
+pub carried_keeps : (g : Graph) (from to : ℕ) → IsGraph g → IsMovable g from to → Keeps g (carried g from to)
+carried_keeps g from to rules movable =
+    let order = chain_reordered g from to rules movable in
+    record {
+      rules = chain_moved_rules g from to rules movable;
+      follows = reorder_follows g (carried g from to).blocks rules order;
+      sound = λ s. reorder_sound g (carried g from to).blocks rules order s;
+    }
+
+fallen_length : (bs : List Block) → length (fallen_blocks bs) ≡ length bs
+fallen_length [] = refl
+fallen_length (b ∷ []) = refl
+fallen_length (b ∷ next ∷ rest) = omega (arith, fallen_length (next ∷ rest))
+
+pub carried_length : (g : Graph) (from to : ℕ) → IsGraph g → IsMovable g from to → length (fallen (carried g from to)).blocks ≡ length g.blocks
+carried_length g from to rules movable = fallen_length (carried g from to).blocks ∙ chain_moved_length g from to rules movable
+
+-- what is left where the words are fewer
+module _ (g h new : Graph) (from to : ℕ) (movable : IsMovable g from to) (is : h ≡ fallen (carried g from to)) (alike : AreAlike new (least_widened h)) where
+  pub moved_alike : AreAlike new (moved g from to)
+  moved_alike = subst (λ (k : Graph). AreAlike new (least_widened k)) is alike
+
+  pub moved_words : words_of (moved g from to) ≡ words_of new
+  moved_words = alike_words new (moved g from to) moved_alike
+
+  pub is_moved : IsGraph new → Follows g h → (IsSound g → IsSound h) → Follows h new → (IsSound h → IsSound new) → IsInReach new → words_of new < words_of g → IsMoved from to g new
+  is_moved rules follows sound follows' sound' reach fewer = record {
+    movable = movable;
+    saving = words_of g - words_of new;
+    some = omega (arith, fewer);
+    applied = record {
+      rules = rules;
+      follows = graph_follows_through g h new follows follows';
+      sound = λ s. sound' (sound s);
+      reach = λ was. reach;
+      words = omega (arith, fewer);
+      described = moved_alike;
+    };
+  }
+
+-- ROW L
+
+-- how many blocks a canonical graph has
+some_word : (b : Block) → is_bare b ≡ false → 1 ≤ block_words b
+some_word b e = go b.items b.term e
+  where
+    go : (items : List Item) (term : Term) → is_bare (record { name = b.name; items = items; term = term }) ≡ false → 1 ≤ block_words (record { name = b.name; items = items; term = term })
+    go (item ∷ items) term e = omega arith
+    go [] Fall e = absurd (cc)
+    go [] (Jump to) e = omega arith
+    go [] (Branch c a b to) e = omega arith
+    go [] (Call link to) e = omega arith
+    go [] (PartJump link part to) e = omega arith
+    go [] (Indirect link at offset) e = omega arith
+    go [] (Stop word) e = omega arith
+
+few_blocks : (bs : List Block) → AllByRecursion (λ b. is_bare b ≡ false) bs → length bs ≤ sum_by block_words bs
+few_blocks [] all = omega arith
+few_blocks (b ∷ bs) all = omega (arith, few_blocks bs all.1, some_word b all.0, sum_by-cons block_words b bs)
+
+pub canonical_few : (g : Graph) → IsCanonical g → length g.blocks ≤ words_of g
+canonical_few g canonical = omega (arith, few_blocks g.blocks (recursion_from_All (λ b. is_bare b ≡ false) g.blocks canonical.no_bare))
+
+-- the canonical graph keeps what a rewrite keeps, and has as many words
+made_canonical : (mid new : Graph) → IsGraph mid → new ≡ canonical_of mid → IsCanonical new → words_of new ≡ words_of mid → IsLighter 0 mid new
+made_canonical mid new rules made canonical words = record {
+  follows = subst (Follows mid) (sym made) (canonical_follows mid rules);
+  sound = λ s. subst IsSound (sym made) (canonical_sound mid rules s);
+  reach = λ r. subst IsInReach (sym made) (canonical_in_reach mid rules r);
+  canonical = canonical;
+  words = omega (arith, words);
+}
+
+module _ (old mid new : Graph) (from to : ℕ) (m : IsMoved from to old mid) (made : new ≡ canonical_of mid) (canonical : IsCanonical new) (words : words_of new ≡ words_of mid) (saving : ℕ) (is : saving ≡ words_of old - words_of new) where
+  saving_is : m.saving ≡ saving
+  saving_is = let w = m.applied.words in omega (arith, w, words, is)
+
+  candidate : IsCandidate old (cut_of from to m.saving)
+  candidate =
+      record {
+        from = from;
+        to = to;
+        movable = m.movable;
+        words = ap (λ n. n + m.saving) (alike_words mid (moved old from to) m.applied.described) ∙ m.applied.words;
+        some = m.some;
+        is = refl;
+      }
+
+  pub move_rewrite : IsRewrite IsCandidate described (record { row = L; saving = saving }) old new
+  move_rewrite =
+      subst (λ n. IsRewrite IsCandidate described (record { row = L; saving = n }) old new) saving_is
+      (rewrite_made IsCandidate described (cut_of from to m.saving) old mid new candidate m.applied made)
+
+  pub move_lighter : IsLighter saving old new
+  move_lighter =
+      subst (λ n. IsLighter n old new) saving_is
+      (lighter_made m.saving (moved old from to) old mid new m.applied (made_canonical mid new m.applied.rules made canonical words))
+
+  pub move_saves : 1 ≤ saving
+  move_saves = subst (λ n. 1 ≤ n) saving_is m.some
+
+-- WHERE NO MOVE SAVES A WORD
+
+pub all_still : (g : Graph) → All (IsStillAt g) (names_of g) → IsStill g
+all_still g all from to movable =
+    let at = name_listed g.blocks from (has_term g from (Jump to) movable.jump) in
+    subst (IsStillAt g) at.2 (all at.0 0 at.1) to movable
+
+pub no_candidate : (g : Graph) → IsStill g → (cut : Cut) → ¬ IsCandidate g cut
+no_candidate g still cut c =
+    let few = still c.from c.to c.movable in
+    let words = c.words in
+    let some = c.some in
+    omega (arith, few, words, some)

@@ -1,0 +1,11 @@
+use Rattle.std.proofs.Common.{[]}
+use Rattle.std.proofs.lemmas.List.Elements.{All-head}
+use Rattle.sq_graph.specs.declared.item.Term.TheVariants.{Jump}
+use Rattle.sq_graph.specs.Blocks.{HasBlock}
+use Rattle.sq_lookup.proofs.Targets.{targets_there}
+use Rattle.sq_chain.proofs.moving.move_behind.Goals as goal
+
+pub movable-requires-clause-to : goal.movable-requires-clause-to
+movable-requires-clause-to c =
+    let g = c.args.graph.now.graph in
+    All-head (HasBlock g) c.in-Jump.to [] (targets_there g c.args.from (Jump c.in-Jump.to) c.learn.ensures.rules c.in-Jump.ensures)

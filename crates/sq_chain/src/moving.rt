@@ -1,0 +1,108 @@
+//! Row L: a chain moves behind the Jump to it, where the words are fewer then.
+
+ghost use Rattle.std.specs.Prelude.{◌≡◌, ℕ, ◌≤◌, true, false, length, None, Ok, IfOk, IfSome, OnErr};
+ghost use Rattle.sq_graph.specs.Blocks.{HasBlock};
+ghost use Rattle.sq_graph.specs.Leaders.{IsCanonical};
+ghost use Rattle.sq_graph.specs.Parts.{names_of};
+ghost use Rattle.sq_graph.specs.Words.{words_of};
+ghost use Rattle.sq_pass.specs.declared.cut.Cut.{Cut as Told};
+ghost use Rattle.sq_pass.specs.Rewrites.{IsRewrite, IsLighter};
+ghost use Rattle.sq_chain.specs.Moves.{IsMovable, moved, IsStill};
+ghost use Rattle.sq_chain.specs.Candidates.{IsCandidate, described, IsMoved, HasMoved, IsStillAt};
+
+use crate::carry::carry;
+use crate::chain::movable;
+use crate::widening::widen;
+use sq_graph::{Graph, Term};
+use sq_layout::{learn, words_of};
+use sq_live::block_names;
+use sq_num::Memory;
+use sq_pass::{Rewrite, Row};
+use std::alloc::Global;
+
+/// Moves the chain of `to` behind `from` on a copy of the graph, makes each Jump to the next slot Fall, and widens the
+/// Branches of the least set. Where the words are fewer then, the graph becomes that copy; else it stays as it was.
+pub fn try_move(alloc: Global, graph: &mut Graph, from: u32, to: u32) -> Result<bool, Memory>
+    requires movable { IsMovable graph.old.graph from to }
+    requires blocks { length graph.old.graph.blocks ≤ 16777216 }
+    ensures moved { result ≡ Ok true → IsMoved from to graph.old.graph graph.new.graph }
+    ensures still { result ≡ Ok false → words_of graph.old.graph ≤ words_of (moved graph.old.graph from to) }
+    ensures same { result ≡ Ok false → graph.new ≡ graph.old }
+    ensures kept { OnErr result (graph.new ≡ graph.old) }
+{
+    learn(graph);
+    let mut trial = graph.copy(alloc)?;
+    carry(alloc, &mut trial, from, to)?;
+    widen(alloc, &mut trial)?;
+    learn(&trial);
+    if words_of(&trial) < words_of(graph) {
+        *graph = trial;
+        return Ok(true);
+    }
+    Ok(false)
+}
+
+/// The same for the block to which this one jumps, where the pair is movable.
+fn move_behind(alloc: Global, graph: &mut Graph, from: u32) -> Result<bool, Memory>
+    requires from { HasBlock graph.old.graph from }
+    requires blocks { length graph.old.graph.blocks ≤ 16777216 }
+    ensures moved { result ≡ Ok true → HasMoved graph.old.graph graph.new.graph }
+    ensures still { result ≡ Ok false → IsStillAt graph.old.graph from }
+    ensures same { result ≡ Ok false → graph.new ≡ graph.old }
+    ensures kept { OnErr result (graph.new ≡ graph.old) }
+{
+    learn(graph);
+    let Term::Jump { to } = graph.term(from) else {
+        return Ok(false);
+    };
+    if !movable(graph, from, to) {
+        return Ok(false);
+    }
+    try_move(alloc, graph, from, to)
+}
+
+/// The same for the first of the blocks whose chain has such a move. The names are those of the blocks in layout order.
+fn move_first(alloc: Global, graph: &mut Graph, names: &[u32]) -> Result<bool, Memory>
+    requires names { names.now ≡ names_of graph.old.graph }
+    requires blocks { length graph.old.graph.blocks ≤ 16777216 }
+    ensures moved { result ≡ Ok true → HasMoved graph.old.graph graph.new.graph }
+    ensures still { result ≡ Ok false → IsStill graph.old.graph }
+    ensures same { result ≡ Ok false → graph.new ≡ graph.old }
+    ensures kept { OnErr result (graph.new ≡ graph.old) }
+{
+    learn(graph);
+    for name in names {
+        if move_behind(alloc, graph, *name)? {
+            return Ok(true);
+        }
+    }
+    Ok(false)
+}
+
+/// Moves one chain, where that saves words, and makes the graph canonical. None where no movable pair has such a move. It
+/// tries the blocks that end in a Jump in layout order, each on a copy of the graph.
+pub fn move_once(alloc: Global, graph: &mut Graph) -> Result<Option<Rewrite>, Memory>
+    requires canonical { IsCanonical graph.old.graph }
+    requires words { words_of graph.old.graph ≤ 1048576 }
+    ensures some { IfOk result (λ done. IfSome done (λ rewrite. IsRewrite IsCandidate described rewrite graph.old.graph graph.new.graph)) }
+    ensures lighter { IfOk result (λ done. IfSome done (λ rewrite. IsLighter rewrite.saving graph.old.graph graph.new.graph)) }
+    ensures saves { IfOk result (λ done. IfSome done (λ rewrite. 1 ≤ rewrite.saving)) }
+    ensures none { result ≡ Ok None → graph.new.graph ≡ graph.old.graph }
+    ensures still { result ≡ Ok None → IsStill graph.old.graph }
+    ensures left { result ≡ Ok None → (cut : Told) → ¬ IsCandidate graph.old.graph cut }
+    ensures kept { OnErr result (graph.new.graph ≡ graph.old.graph) }
+{
+    learn(graph);
+    let before = words_of(graph);
+    let names = block_names(alloc, graph)?;
+    if !move_first(alloc, graph, &names)? {
+        return Ok(None);
+    }
+    learn(graph);
+    graph.canonical();
+    let saving = before - words_of(graph);
+    Ok(Some(Rewrite {
+        row: Row::L,
+        saving,
+    }))
+}
