@@ -1,13 +1,13 @@
 -- What row O4 makes of a graph keeps what a pass promises.
-use Rattle.std.proofs.Common.{◌≡◌, ◌≢◌, ◌<◌, ℕ, zero, suc, ◌+◌, ◌*◌, true, List, [], ◌∷◌, ◌++◌, length, IsSome, is_some, slice_get, Option, Some, None, refl, sym, ap, ◌∙◌, subst, inl, inr, arith}
+use Rattle.std.proofs.Common.{◌≡◌, ◌≢◌, ℕ, zero, suc, ◌+◌, ◌*◌, List, [], ◌∷◌, ◌++◌, length, IsSome, slice_get, Option, Some, None, refl, sym, subst, arith}
 use Rattle.std.specs.List.{All, Contains, flat_map}
-use Rattle.std.proofs.lemmas.Bool.{cases_Bool, eq-eqb}
+use Rattle.std.proofs.lemmas.Bool.{eq-eqb}
 use Rattle.std.proofs.lemmas.List.Elements.{All-nil, All-cons, All-contains}
 use Rattle.sq_graph.specs.declared.item.Item.{Item}
 use Rattle.sq_graph.specs.declared.item.Item.TheVariants.{Op, Hi, Lo, Out}
-use Rattle.sq_graph.specs.Graph.{Block, Procedure, Graph}
-use Rattle.sq_graph.specs.Blocks.{HasBlock, HasProcedure, block_of, block_items, body_of, items_of_blocks, items_of_bodies}
-use Rattle.sq_graph.specs.Operations.{inlined, without_procedure}
+use Rattle.sq_graph.specs.Graph.{Block, Graph}
+use Rattle.sq_graph.specs.Blocks.{HasBlock, block_of, block_items, body_of, items_of_blocks, items_of_bodies}
+use Rattle.sq_graph.specs.Operations.{inlined}
 use Rattle.sq_graph.specs.Rules.{IsGraph}
 use Rattle.sq_graph.specs.Soundness.{IsSound}
 use Rattle.sq_graph.specs.Uses.{item_calls, calls}
@@ -20,8 +20,8 @@ use Rattle.sq_patch.proofs.OneBlock.{inline_follows, inline_sound}
 use Rattle.sq_patch.proofs.Recalling.{uncalled_goes_follows, uncalled_goes_sound}
 use Rattle.sq_patch.proofs.Saving.{inline_saves, uncalled_goes_saves}
 use Rattle.sq_pass.specs.Applied.{IsApplied}
-use Rattle.sq_outline.specs.Inlined.{is_call, call_count, spread_all, inlined_all, IsInlinable}
-use Rattle.sq_outline.proofs.Spreading.{is_one, calls_in, calls_in-append, calls_in-cons, is_own_call, none_left_in, bodies_call_none, all_bodies_call_none, IsCall, inlined_sooner, inlined_fewer, spread_itself, some_call}
+use Rattle.sq_outline.specs.Inlined.{call_count, spread_all, inlined_all, IsInlinable}
+use Rattle.sq_outline.proofs.Spreading.{is_one, calls_in, calls_in-append, calls_in-cons, none_left_in, bodies_call_none, all_bodies_call_none, IsCall, inlined_sooner, inlined_fewer, spread_itself, some_call}
 
 -- BODIES IN PLACE OF CALLS
 

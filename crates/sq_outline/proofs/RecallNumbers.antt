@@ -1,5 +1,5 @@
 -- Numbers of links and bodies.
-use Rattle.std.proofs.Common.{◌≡◌, ◌≢◌, ◌↔◌, ℕ, zero, suc, ◌+◌, ◌<◌, ◌≤◌, Bool, true, false, true≢false, ◌==◌, ◌&&◌, not, nat_eq, List, [], ◌∷◌, ◌++◌, map, reverse, take, length, sum_by, get_or, Option, Some, None, slice_get, refl, sym, ap, ◌∙◌, subst, inl, inr, arith, length-append, add-one}
+use Rattle.std.proofs.Common.{◌≡◌, ◌≢◌, ℕ, zero, suc, ◌+◌, ◌<◌, ◌≤◌, Bool, true, false, true≢false, ◌==◌, ◌&&◌, not, nat_eq, List, [], ◌∷◌, ◌++◌, map, reverse, take, length, sum_by, get_or, Option, Some, None, slice_get, refl, sym, ap, ◌∙◌, subst, inl, inr, arith, length-append}
 use Rattle.std.specs.List.{All, AllByRecursion, IsDistinct, list_any}
 use Rattle.std.proofs.lemmas.Bool.{cases_Bool, cases_lt, eq-eqb, eqb-true}
 use Rattle.std.proofs.lemmas.List.{append_assoc, take_more, append-nil, map-append, reverse-append, reverse-reverse}
@@ -11,7 +11,7 @@ use Rattle.sq_isa.proofs.Encoded.{insn_of-word_of}
 use Rattle.sq_graph.specs.declared.item.Item.{Item}
 use Rattle.sq_graph.specs.declared.item.Item.TheVariants.{Op, Hi, Lo, Out}
 use Rattle.sq_graph.specs.Graph.{Procedure, Graph}
-use Rattle.sq_graph.specs.Blocks.{HasProcedure, procedure_body, procedure_link, body_of, link_of, items_of_blocks, items_of_bodies}
+use Rattle.sq_graph.specs.Blocks.{HasProcedure, procedure_body, body_of, link_of, items_of_blocks, items_of_bodies}
 use Rattle.sq_graph.specs.Rules.{IsGraph, ItemFits}
 use Rattle.sq_finger.specs.declared.keys.ItemKey.{ItemKey}
 use Rattle.sq_finger.specs.ItemKeys.{key_of}

@@ -1,12 +1,12 @@
 -- What row O3 makes of a graph keeps what a pass promises.
-use Rattle.std.proofs.Common.{◌≡◌, ◌≢◌, ℕ, zero, suc, ◌+◌, ◌==◌, List, [], ◌∷◌, map, length, slice_get, refl, sym, ap, ◌∙◌, inl, inr, arith}
+use Rattle.std.proofs.Common.{◌≡◌, ◌≢◌, ℕ, zero, suc, ◌+◌, ◌==◌, List, [], ◌∷◌, map, length, slice_get, refl, sym, ◌∙◌, inl, inr, arith}
 use Rattle.std.specs.List.{Contains}
 use Rattle.std.proofs.lemmas.Bool.{cases_Bool}
 use Rattle.std.proofs.lemmas.List.{length-map}
 use Rattle.std.proofs.lemmas.List.Elements.{All-contains}
 use Rattle.sq_arena.specs.Entries.{value_of}
 use Rattle.sq_graph.specs.Graph.{Block, Procedure, Graph}
-use Rattle.sq_graph.specs.Blocks.{named, HasProcedure, block_term, procedure_body, body_of, term_of}
+use Rattle.sq_graph.specs.Blocks.{named, HasProcedure, block_term, procedure_body, body_of}
 use Rattle.sq_graph.specs.Operations.{redirected_calls, without_procedure}
 use Rattle.sq_graph.specs.Renames.{recalled_item, recalled_block, recalled_procedure, swapped, lowered}
 use Rattle.sq_graph.specs.Rules.{IsGraph}

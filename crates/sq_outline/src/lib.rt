@@ -5,6 +5,7 @@
 #![tactic(auto)]
 
 mod call;
+mod inline;
 mod link;
 mod make;
 mod plain;

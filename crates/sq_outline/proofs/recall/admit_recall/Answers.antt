@@ -1,4 +1,4 @@
-use Rattle.std.proofs.Common.{◌<◌, length, sym, ap, ◌∙◌, subst, arith}
+use Rattle.std.proofs.Common.{arith}
 use Rattle.sq_graph.specs.Blocks.{HasProcedure}
 use Rattle.sq_outline.proofs.RecallNumbers.{differ, agree, empty, completed_cut}
 use Rattle.sq_outline.proofs.recall.admit_recall.Goals as goal

@@ -1,8 +1,7 @@
-use Rattle.std.proofs.Common.{◌≡◌, ◌≢◌, ◌<◌, ℕ, length, Option, Some, None, slice_get, sym, ap, ◌∙◌, subst, arith}
+use Rattle.std.proofs.Common.{◌≢◌, ℕ, length, Option, Some, slice_get, sym, ap, ◌∙◌, subst, arith}
 use Rattle.std.specs.Prelude.{MatchOption}
 use Rattle.std.proofs.lemmas.Option.{slice_get_within}
 use Rattle.sq_finger.specs.Numbers.{NoDouble, IsFirstDouble}
-use Rattle.sq_outline.specs.Recalled.{AreDoubles}
 use Rattle.sq_outline.specs.RecalledNumbers.{AreBodyNumbers}
 use Rattle.sq_outline.proofs.RecallNumbers.{no_doubles, double_found, procedures_few}
 use Rattle.sq_outline.proofs.recall.find_recall.Goals as goal

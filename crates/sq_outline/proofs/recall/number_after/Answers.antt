@@ -1,4 +1,3 @@
-use Rattle.std.proofs.Common.{true, nat_eq, ◌&&◌, ◌≡◌}
 use Rattle.sq_outline.proofs.RecallNumbers.{pair_itself, grown_by}
 use Rattle.sq_outline.proofs.recall.number_after.Goals as goal
 
