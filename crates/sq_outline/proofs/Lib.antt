@@ -14,3 +14,5 @@ pub mod RecallNumbers
 pub mod RecallTotals
 pub mod Spreading
 pub mod Inlining
+pub mod InlineSteps
+pub mod InlineSearch

@@ -7,3 +7,4 @@ pub mod Candidates
 pub mod Recalled
 pub mod RecalledNumbers
 pub mod Inlined
+pub mod InlineSteps

@@ -6,6 +6,7 @@
 #![tactic(auto)]
 
 mod call;
+mod inline;
 mod link;
 mod make;
 mod outlines;

@@ -1,0 +1,229 @@
+//! Row O4: the body of a procedure takes the place of its calls, and the procedure goes.
+//!
+//!     before   a: jal x5,p              after   a: add a0,a0,a1
+//!              p: add a0,a0,a1; jr x5
+
+ghost use Rattle.std.specs.Prelude.{◌≡◌, ◌↔◌, ℕ, ◌+◌, ◌*◌, ◌≤◌, ◌<◌, ◌^◌, IsTrue, length, None, Ok, IfOk, IfSome, OnOk};
+ghost use Rattle.std.specs.List.{count_by};
+ghost use Rattle.sq_graph.specs.Blocks.{HasBlock, HasProcedure, items_of, body_of};
+ghost use Rattle.sq_graph.specs.Places.{IsInReach};
+ghost use Rattle.sq_graph.specs.Room.{KeepsTotal};
+ghost use Rattle.sq_pass.specs.declared.cut.Cut.{Cut as Told};
+ghost use Rattle.sq_pass.specs.declared.cut.Row.TheVariants.{O4 as InPlace};
+ghost use Rattle.sq_pass.specs.Applied.{IsApplied};
+ghost use Rattle.sq_pass.specs.Cuts.{IsCompleted};
+ghost use Rattle.sq_outline.specs.Inlined.{is_call, call_count, spread_all, inlined_all, IsInlinable, inline_cut, IsInlined};
+ghost use Rattle.sq_outline.specs.InlineSteps.{inlined_if, spread_at, HasRoom, inline_room, counted};
+
+use sq_graph::{Graph, Item, Room};
+use sq_isa::Reg;
+use sq_layout::{learn, words_of};
+use sq_lookup::{Table, in_reach};
+use sq_num::Memory;
+use sq_pass::{Blocks, Cut, Row};
+use std::alloc::Global;
+
+// Whether the item calls the procedure.
+fn is_call(item: &Item, number: u32) -> bool
+    ensures { result ≡ is_call number item.now }
+{
+    match *item {
+        Item::Out { procedure } => procedure == number,
+        Item::Op(_) | Item::Hi { .. } | Item::Lo { .. } => false,
+    }
+}
+
+// Puts the body of the procedure in place of an item, if that calls it.
+fn inline_at(graph: &mut Graph, procedure: u32, block: u32, at: u32)
+    requires block { HasBlock graph.old.graph block }
+    requires there { at < length (items_of graph.old.graph block) }
+    requires room { HasRoom procedure graph.old }
+    ensures graph { graph.new.graph ≡ inlined_if graph.old.graph procedure block at }
+    ensures room { HasRoom procedure graph.new }
+    ensures total { KeepsTotal graph.old graph.new }
+{
+    learn(graph);
+    if is_call(&graph.items(block)[at as usize], procedure) {
+        graph.inline(block, at);
+    }
+}
+
+// The same for each item of a block, from the last one back, so that those ahead keep their places.
+fn inline_block(graph: &mut Graph, procedure: u32, block: u32)
+    requires block { HasBlock graph.old.graph block }
+    requires room { HasRoom procedure graph.old }
+    ensures graph { graph.new.graph ≡ spread_at graph.old.graph procedure block }
+    ensures room { HasRoom procedure graph.new }
+    ensures total { KeepsTotal graph.old graph.new }
+{
+    learn(graph);
+    let count = graph.items(block).len() as u32;
+    for at in (0..count).rev() {
+        inline_at(graph, procedure, block, at);
+    }
+}
+
+// The same for each block.
+fn inline_blocks(graph: &mut Graph, procedure: u32)
+    requires { HasRoom procedure graph.old }
+    ensures graph { graph.new.graph ≡ spread_all graph.old.graph procedure }
+    ensures none { call_count graph.new.graph procedure ≡ 0 }
+    ensures total { KeepsTotal graph.old graph.new }
+{
+    learn(graph);
+    let mut place = Some(graph.first());
+    while let Some(block) = place {
+        inline_block(graph, procedure, block);
+        learn(graph);
+        place = graph.next(block);
+    }
+}
+
+/// Puts the body of the procedure in place of each call of it, and removes the procedure.
+pub(crate) fn apply_inline(graph: &mut Graph, procedure: u32)
+    requires there { HasProcedure graph.old.graph procedure }
+    requires room { HasRoom procedure graph.old }
+    ensures graph { graph.new.graph ≡ inlined_all graph.old.graph procedure }
+    ensures applied { (saving : ℕ) → IsInlinable graph.old.graph procedure saving → IsApplied saving (inlined_all graph.old.graph procedure) graph.old.graph graph.new.graph }
+    ensures total { KeepsTotal graph.old graph.new }
+{
+    learn(graph);
+    inline_blocks(graph, procedure);
+    learn(graph);
+    graph.remove_procedure(procedure);
+}
+
+// Counts the calls among these items.
+fn add_calls(calls: &mut Table, items: &[Item]) -> Result<(), Memory>
+    requires { (p : ℕ) → counted calls.old p + length items.now < 2 ^ 32 }
+    ensures { OnOk result ((p : ℕ) → counted calls.new p ≡ counted calls.old p + count_by (is_call p) items.now) }
+{
+    for item in items {
+        if let Item::Out { procedure } = *item {
+            let count = calls.get(procedure).unwrap_or(0);
+            calls.insert(procedure, count + 1)?;
+        }
+    }
+    Ok(())
+}
+
+// How often each procedure is called.
+fn count_calls(alloc: Global, graph: &Graph) -> Result<Table, Memory>
+    ensures { IfOk result (λ calls. (p : ℕ) → counted calls p ≡ call_count graph.now.graph p) }
+{
+    learn(graph);
+    let mut calls = Table::new(alloc);
+    let mut place = Some(graph.first());
+    while let Some(block) = place {
+        add_calls(&mut calls, graph.items(block))?;
+        place = graph.next(block);
+    }
+    Ok(calls)
+}
+
+/// The room that a procedure takes whose body comes in place of its calls.
+pub(crate) fn inline_room(graph: &Graph, procedure: u32) -> Room
+    requires there { HasProcedure graph.now.graph procedure }
+    ensures { result ≡ inline_room graph.now.graph procedure }
+{
+    learn(graph);
+    Room {
+        blocks: 0,
+        items: graph.body(procedure).len() as u32 + 1,
+        procedures: 0,
+    }
+}
+
+// A graph of so many words isn't copied.
+const MANY: u32 = 1 << 28;
+
+// Whether each Branch reaches its target once the body stands in place of the calls, which is found on a copy.
+fn is_near(alloc: Global, graph: &Graph, procedure: u32) -> Result<bool, Memory>
+    requires there { HasProcedure graph.now.graph procedure }
+    requires few { call_count graph.now.graph procedure * length (body_of graph.now.graph procedure) ≤ call_count graph.now.graph procedure + length (body_of graph.now.graph procedure) }
+    ensures { IfOk result (λ near. IsTrue near ↔ IsInReach (inlined_all graph.now.graph procedure)) }
+{
+    let _room = graph.spare();
+    if words_of(graph) >= MANY {
+        return Err(Memory);
+    }
+    let mut copy = graph.copy(alloc)?;
+    copy.reserve(inline_room(graph, procedure))?;
+    apply_inline(&mut copy, procedure);
+    in_reach(alloc, &copy)
+}
+
+// How many words are saved by a procedure whose body comes in place of its calls, or `None` where that is none or a Branch
+// doesn't reach.
+fn inline_saving(
+    alloc: Global,
+    graph: &Graph,
+    calls: &Table,
+    procedure: u32,
+) -> Result<Option<u32>, Memory>
+    requires there { HasProcedure graph.now.graph procedure }
+    requires calls { (p : ℕ) → counted calls.now p ≡ call_count graph.now.graph p }
+    ensures some { IfOk result (λ found. IfSome found (IsInlinable graph.now.graph procedure)) }
+    ensures none { result ≡ Ok None → (saving : ℕ) → ¬ IsInlinable graph.now.graph procedure saving }
+{
+    learn(graph);
+    let count = calls.get(procedure).unwrap_or(0);
+    let size = graph.body(procedure).len() as u64;
+    let gone = count + size + 1;
+    let come = count * size;
+    if count == 0 || gone <= come || !is_near(alloc, graph, procedure)? {
+        return Ok(None);
+    }
+    Ok(Some((gone - come) as u32))
+}
+
+// The cut of a procedure whose body comes in place of its calls.
+fn inline_cut(alloc: Global, procedure: u32, saving: u32) -> Cut
+    ensures { result ≡ inline_cut procedure saving }
+{
+    Cut {
+        row: Row::O4,
+        blocks: Blocks::new(alloc),
+        procedure,
+        other: 0,
+        length: 0,
+        link: Reg::from_low_bits(0),
+        saving,
+    }
+}
+
+/// The cut of the first procedure whose body may come in place of its calls, or `None` where there is none.
+///
+/// It looks at each word once, and a few times more for each procedure that would save words: such are called once, have
+/// one item, or have two and are called twice.
+pub(crate) fn find_inline(alloc: Global, graph: &Graph) -> Result<Option<Cut>, Memory>
+    ensures some { IfOk result (λ found. IfSome found (IsInlined graph.now.graph)) }
+    ensures none { result ≡ Ok None → (cut : Told) → ¬ IsInlined graph.now.graph cut }
+{
+    let calls = count_calls(alloc, graph)?;
+    for procedure in 0..graph.procedures() {
+        if let Some(saving) = inline_saving(alloc, graph, &calls, procedure)? {
+            return Ok(Some(inline_cut(alloc, procedure, saving)));
+        }
+    }
+    Ok(None)
+}
+
+/// The cut of O4 with its saving, or `None` where the procedure is no candidate. It looks at each word a few times.
+pub(crate) fn admit_inline(alloc: Global, graph: &Graph, cut: &Cut) -> Result<Option<Cut>, Memory>
+    requires row { cut.now.row ≡ InPlace }
+    ensures some { IfOk result (λ found. IfSome found (λ given. IsInlined graph.now.graph given × IsCompleted cut.now given)) }
+    ensures none { result ≡ Ok None → (given : Told) → IsCompleted cut.now given → ¬ IsInlined graph.now.graph given }
+{
+    if !cut.blocks.as_slice().is_empty() || cut.other != 0 || cut.length != 0 {
+        return Ok(None);
+    }
+    if cut.procedure >= graph.procedures() {
+        return Ok(None);
+    }
+    let calls = count_calls(alloc, graph)?;
+    match inline_saving(alloc, graph, &calls, cut.procedure)? {
+        Some(saving) => Ok(Some(inline_cut(alloc, cut.procedure, saving))),
+        None => Ok(None),
+    }
+}
