@@ -23,7 +23,7 @@ use Rattle.sq_pass.specs.declared.cut.Row.TheVariants.{U, O1}
 use Rattle.sq_pass.specs.Cuts.{IsCompleted}
 use Rattle.sq_outline.specs.Made.{HasBody, ends_of, IsMade, AreMade, make_cut, IsMadeCut}
 use Rattle.sq_outline.specs.Sites.{IsPlace}
-use Rattle.sq_outline.specs.Sets.{Keeps, IsOther, IsDeadBehind, Pays, IsTried, CanMake, HaveLink}
+use Rattle.sq_outline.specs.Sets.{Keeps, IsOther, AreOthers, IsGroupOf, IsDeadBehind, Pays, IsTried, CanMake, HaveLink}
 use Rattle.sq_outline.proofs.Keeping.{each_in, keeps_from, keeps_each, keeps_distinct, keeps_fewer, no_more}
 use Rattle.sq_outline.proofs.Linking.{link_may}
 use Rattle.sq_outline.proofs.Making.{each_mapped, made_applied}
@@ -38,22 +38,35 @@ listed g block has = let at = name_listed g.blocks block has in (at.0, at.1, get
 abbrev end_of : Graph → ℕ → Site
 end_of g block = record { block = block; at = length (items_of g block) }
 
-module _ (g : Graph) (first : ℕ) (others : List ℕ) (rules : IsGraph g) (keeps : Keeps (IsOther g first) (names_of g) others) where
+-- what is kept of a group
+pub kept_others : (g : Graph) (first : ℕ) (group others : List ℕ) → IsGroupOf g first group → Keeps (IsOther g first) group others → AreOthers g first others
+kept_others g first group others is keeps = record {
+  each = λ b there. (keeps_from (IsOther g first) keeps b there).1;
+  all = λ b other. keeps_each (IsOther g first) keeps b (is.whole b other.1) other;
+  distinct = keeps_distinct (IsOther g first) keeps is.distinct;
+}
+
+module _ (g : Graph) (first : ℕ) (others : List ℕ) (rules : IsGraph g) (are : AreOthers g first others) where
   pub other_there : All (HasBlock g) others
-  other_there = each_in (HasBlock g) others (λ b there. (keeps_from (IsOther g first) keeps b there).1.1.there)
+  other_there = each_in (HasBlock g) others (λ b there. let other = are.each b there in other.1.there)
 
   pub other_fewer : length others ≤ length g.blocks
-  other_fewer = omega (arith, keeps_fewer (IsOther g first) keeps, length-map g.blocks (λ b. b.name))
+  other_fewer =
+      omega (
+        arith,
+        no_more others (names_of g) are.distinct (λ b there. let other = are.each b there in listed g b other.1.there),
+        length-map g.blocks (λ b. b.name),
+      )
 
   module _ (r : ℕ) (chosen : List ℕ) (dead : Keeps (IsDeadBehind g r) others chosen) where
     pub chosen_distinct : IsDistinct nat_eq (first ∷ chosen)
     chosen_distinct =
         let apart : All (λ b. nat_eq first b ≡ false) chosen =
         each_in (λ b. nat_eq first b ≡ false) chosen (λ b there.
-        let other = keeps_from (IsOther g first) keeps b (keeps_from (IsDeadBehind g r) dead b there).0 in
-        ne_eqb first b (λ same. other.1.0 (sym same))) in
+        let other = are.each b (keeps_from (IsDeadBehind g r) dead b there).0 in
+        ne_eqb first b (λ same. other.0 (sym same))) in
         IsDistinct-cons nat_eq first chosen (recursion_from_All (λ b. nat_eq first b ≡ false) chosen apart)
-        (keeps_distinct (IsDeadBehind g r) dead (keeps_distinct (IsOther g first) keeps (names_distinct g rules)))
+        (keeps_distinct (IsDeadBehind g r) dead are.distinct)
 
     pub chosen_fewer : length chosen ≤ length g.blocks
     chosen_fewer = omega (arith, keeps_fewer (IsDeadBehind g r) dead, other_fewer)
@@ -61,7 +74,7 @@ module _ (g : Graph) (first : ℕ) (others : List ℕ) (rules : IsGraph g) (keep
     pub can_make : IsTried r → HasBody g (items_of g first) first → All (λ item. mentions item r ≡ false) (items_of g first) → IsDeadBehind g r first → Pays (length chosen + 1) (length (items_of g first)) → CanMake g first chosen
     can_make tried own free dead_first pays =
         let bodies : All (HasBody g (items_of g first)) chosen =
-        each_in (HasBody g (items_of g first)) chosen (λ b there. (keeps_from (IsOther g first) keeps b (keeps_from (IsDeadBehind g r) dead b there).0).1.1) in
+        each_in (HasBody g (items_of g first)) chosen (λ b there. (are.each b (keeps_from (IsDeadBehind g r) dead b there).0).1) in
         let ends : All (IsDeadBehind g r) chosen = each_in (IsDeadBehind g r) chosen (λ b there. (keeps_from (IsDeadBehind g r) dead b there).1) in
         let more : length chosen + 1 ≡ length (first ∷ chosen) = omega arith in
         record {
@@ -86,7 +99,7 @@ module _ (g : Graph) (first : ℕ) (others : List ℕ) (rules : IsGraph g) (keep
         let body = All-contains (HasBody g (items_of g first)) rest b bodies there in
         let other : IsOther g first b = (λ same. eqb-false first b (All-contains (λ b. nat_eq first b ≡ false) rest b apart there) (sym same), body) in
         let gone = subst (λ q. IsDeadBehind g q b) is (All-contains (IsDeadBehind g can.register) rest b ends_rest there) in
-        keeps_each (IsDeadBehind g r) dead b (keeps_each (IsOther g first) keeps b (listed g b body.there) other) gone in
+        keeps_each (IsDeadBehind g r) dead b (are.all b other) gone in
         let fewer = no_more rest chosen (IsDistinct-tail nat_eq first rest can.distinct) inside in
         let more : length (first ∷ rest) ≤ length chosen + 1 = omega arith in
         let product : length (first ∷ rest) * (n - 1) ≤ (length chosen + 1) * (n - 1) = mul-le-mul_right (n - 1) more in
@@ -165,14 +178,8 @@ module _ (g : Graph) (blocks : List ℕ) (link : ℕ) where
           }
 
 -- where no blocks may be called together, no cut is a candidate
-pub no_set : (g : Graph) (names : List ℕ) → names ≡ names_of g → All (λ first. (rest : List ℕ) → ¬ CanMake g first rest) names → (cut : Cut) → ¬ IsMadeCut g cut
-no_set g names are none cut candidate =
-    let can = made_can g candidate.first candidate.others cut.link cut.saving candidate.made in
-    let own = can_own g candidate.first candidate.others can in
-    let at = name_listed g.blocks candidate.first own.there in
-    let block_is : get_or names at.0 0 ≡ candidate.first = ap (λ ns. get_or ns at.0 0) are ∙ at.2 in
-    let within : at.0 < length names = omega (arith, at.1, ap (λ ns. length ns) are) in
-    none at.0 0 within candidate.others (subst (λ b. CanMake g b candidate.others) (sym block_is) can)
+pub no_set : (g : Graph) → ((first : ℕ) (rest : List ℕ) → ¬ CanMake g first rest) → (cut : Cut) → ¬ IsMadeCut g cut
+no_set g none cut candidate = none candidate.first candidate.others (made_can g candidate.first candidate.others cut.link cut.saving candidate.made)
 
 -- where some may be, a cut of them is one, with some link
 pub some_cut : (g : Graph) (first : ℕ) (others : List ℕ) (cut : Cut) → cut ≡ make_cut (first ∷ others) 0 0 → CanMake g first others → ((given : Cut) → IsCompleted cut given → ¬ IsMadeCut g given) → ⊥

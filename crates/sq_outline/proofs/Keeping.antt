@@ -24,7 +24,7 @@ pub first_or_later : (x y : ℕ) (xs : List ℕ) → Contains (x ∷ xs) y → (
 first_or_later x y xs (zero, there, is) = inl (sym is)
 first_or_later x y xs (suc k, there, is) = inr (k, omega (arith, there), is)
 
-none_in : (y : ℕ) → Contains [] y → ⊥
+pub none_in : (y : ℕ) → Contains [] y → ⊥
 none_in y (k, there, is) = absurd (omega (arith, there))
 
 pub each_in : (P : ℕ → Type 0) (xs : List ℕ) → ((x : ℕ) → Contains xs x → P x) → All P xs

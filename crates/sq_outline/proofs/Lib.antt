@@ -8,6 +8,7 @@ pub mod Making
 pub mod Applying
 pub mod Keeping
 pub mod Choosing
+pub mod Grouping
 pub mod Recalling
 pub mod RecallNumbers
 pub mod RecallTotals

@@ -1,8 +1,8 @@
 -- How blocks are searched whose bodies may become calls of one new procedure.
 use Rattle.std.specs.Prelude.{◌≡◌, ◌≢◌, ℕ, nat_eq, ◌+◌, ◌*◌, ◌-◌, ◌≤◌, ◌<◌, List, [], ◌∷◌, length, slice_index}
-use Rattle.std.specs.List.{All, IsDistinct}
+use Rattle.std.specs.List.{All, Contains, IsDistinct}
 use Rattle.sq_graph.specs.Graph.{Graph}
-use Rattle.sq_graph.specs.Blocks.{items_of}
+use Rattle.sq_graph.specs.Blocks.{HasBlock, items_of}
 use Rattle.sq_rename.specs.Bodies.{IsLiveBehind}
 use Rattle.sq_outline.specs.Links.{link_order, MayLink, IsLink}
 use Rattle.sq_outline.specs.Made.{HasBody, ends_of}
@@ -16,6 +16,18 @@ pub data Keeps (P : ℕ → Type 0) : List ℕ → List ℕ → Type 0 where
 -- another block, whose body matches that of the first
 abbrev pub IsOther : Graph → ℕ → ℕ → Type 0
 IsOther g first block = (block ≢ first) × HasBody g (items_of g first) block
+
+-- these are they, each once
+pub record AreOthers (g : Graph) (first : ℕ) (others : List ℕ) : Type 0 where
+  pub each : (block : ℕ) → Contains others block → IsOther g first block
+  pub all : (block : ℕ) → IsOther g first block → Contains others block
+  pub distinct : IsDistinct nat_eq others
+
+-- all blocks are among these whose bodies match that of the first
+pub record IsGroupOf (g : Graph) (first : ℕ) (group : List ℕ) : Type 0 where
+  pub there : All (HasBlock g) group
+  pub distinct : IsDistinct nat_eq group
+  pub whole : (block : ℕ) → HasBody g (items_of g first) block → Contains group block
 
 abbrev pub IsDeadBehind : Graph → ℕ → ℕ → Type 0
 IsDeadBehind g r block = ¬ IsLiveBehind g block r

@@ -10,7 +10,6 @@ ghost use Rattle.std.specs.List.{All, AllPairs};
 ghost use Rattle.sq_graph.specs.Blocks.{HasBlock, items_of};
 ghost use Rattle.sq_graph.specs.Room.{Covers, KeepsTotal};
 ghost use Rattle.sq_live.specs.Liveness.{IsLivenessOf};
-ghost use Rattle.sq_graph.specs.Parts.{names_of};
 ghost use Rattle.sq_pass.specs.declared.cut.Cut.{Cut as Told};
 ghost use Rattle.sq_pass.specs.declared.cut.Row.TheVariants.{O1 as Made};
 ghost use Rattle.sq_pass.specs.Cuts.{IsCompleted};
@@ -203,14 +202,12 @@ pub(crate) fn find_made(
     alloc: Global,
     graph: &Graph,
     live: &Liveness,
-    names: &[u32],
 ) -> Result<Option<Cut>, Memory>
-    requires live { IsLivenessOf graph.now.graph live.now }
-    requires names { names.now ≡ names_of graph.now.graph }
+    requires { IsLivenessOf graph.now.graph live.now }
     ensures some { IfOk result (λ found. IfSome found (IsMadeCut graph.now.graph)) }
     ensures none { result ≡ Ok None → (cut : Told) → ¬ IsMadeCut graph.now.graph cut }
 {
-    match find_set(alloc, graph, live, names)? {
+    match find_set(alloc, graph, live)? {
         Some((first, others)) => {
             let cut = set_cut(alloc, first, &others)?;
             admit_make(alloc, graph, live, cut)

@@ -41,13 +41,13 @@ impl Pass for Outlines {
         }
     }
 
-    /// It compares bodies of the same length with each other.
+    /// It compares the bodies of each class of blocks with each other, and with those of procedures of the same length.
     fn find(&self, alloc: Global, graph: &Graph, live: &Liveness) -> Result<Option<Cut>, Memory> {
         learn(graph);
-        let names = block_names(alloc, graph)?;
-        if let Some(cut) = find_made(alloc, graph, live, &names)? {
+        if let Some(cut) = find_made(alloc, graph, live)? {
             return Ok(Some(cut));
         }
+        let names = block_names(alloc, graph)?;
         if let Some(cut) = find_called(alloc, graph, live, &names)? {
             return Ok(Some(cut));
         }

@@ -4,12 +4,15 @@ ghost use Rattle.std.specs.Prelude.{◌≡◌, ◌↔◌, ◌<◌, ◌^◌, ℕ,
 ghost use Rattle.std.specs.List.{All};
 ghost use Rattle.sq_graph.specs.Blocks.{HasBlock, items_of};
 ghost use Rattle.sq_graph.specs.Parts.{names_of};
+ghost use Rattle.sq_finger.specs.Classes.{block_kind, classes_of};
+ghost use Rattle.sq_finger.specs.Groups.{AreClasses};
 ghost use Rattle.sq_live.specs.Liveness.{IsLivenessOf};
 ghost use Rattle.sq_outline.specs.Made.{HasBody};
-ghost use Rattle.sq_outline.specs.Sets.{Keeps, IsOther, IsDeadBehind, Pays, IsTried, CanMake};
+ghost use Rattle.sq_outline.specs.Sets.{Keeps, IsOther, AreOthers, IsGroupOf, IsDeadBehind, Pays, IsTried, CanMake};
 
 use crate::link::{ORDER, is_unmentioned};
 use crate::plain::are_plain;
+use sq_finger::{Classing, classes};
 use sq_graph::Graph;
 use sq_isa::Reg;
 use sq_layout::learn;
@@ -48,22 +51,21 @@ fn is_other(graph: &Graph, live: &Liveness, block: u32, first: u32) -> bool
     has_body(graph, live, block, first)
 }
 
-/// The other blocks whose bodies match that of the first.
+/// Those of a group that are other blocks than the first, whose body they match.
 fn others_of(
     alloc: Global,
     graph: &Graph,
     live: &Liveness,
-    names: &[u32],
+    group: &[u32],
     first: u32,
 ) -> Result<Vec<u32>, Memory>
     requires first { HasBlock graph.now.graph first }
     requires live { IsLivenessOf graph.now.graph live.now }
-    requires names { names.now ≡ names_of graph.now.graph }
-    ensures { IfOk result (λ others. Keeps (IsOther graph.now.graph first) names.now others.items) }
+    requires group { All (HasBlock graph.now.graph) group.now }
+    ensures { IfOk result (λ others. Keeps (IsOther graph.now.graph first) group.now others.items) }
 {
-    learn(graph);
     let mut others = Vec::new(alloc);
-    for name in names {
+    for name in group {
         if is_other(graph, live, *name, first) {
             others.push(*name)?;
         }
@@ -122,7 +124,7 @@ fn chosen_by(
     r: Reg,
 ) -> Result<Option<Vec<u32>>, Memory>
     requires body { HasBody graph.now.graph (items_of graph.now.graph first) first }
-    requires others { Keeps (IsOther graph.now.graph first) (names_of graph.now.graph) others.now }
+    requires others { AreOthers graph.now.graph first others.now }
     requires live { IsLivenessOf graph.now.graph live.now }
     requires tried { IsTried r }
     ensures some { IfOk result (λ found. IfSome found (λ chosen. CanMake graph.now.graph first chosen.items)) }
@@ -154,7 +156,7 @@ fn chosen_of(
     others: &[u32],
 ) -> Result<Option<Vec<u32>>, Memory>
     requires body { HasBody graph.now.graph (items_of graph.now.graph first) first }
-    requires others { Keeps (IsOther graph.now.graph first) (names_of graph.now.graph) others.now }
+    requires others { AreOthers graph.now.graph first others.now }
     requires live { IsLivenessOf graph.now.graph live.now }
     ensures some { IfOk result (λ found. IfSome found (λ chosen. CanMake graph.now.graph first chosen.items)) }
     ensures none { result ≡ Ok None → (rest : List ℕ) → ¬ CanMake graph.now.graph first rest }
@@ -168,44 +170,80 @@ fn chosen_of(
     Ok(None)
 }
 
-/// Other blocks with which the body of the first may become a procedure, where there are such.
+/// Other blocks of a group with which the body of the first may become a procedure, where there are such.
 fn others_for(
     alloc: Global,
     graph: &Graph,
     live: &Liveness,
-    names: &[u32],
+    group: &[u32],
     first: u32,
 ) -> Result<Option<Vec<u32>>, Memory>
     requires first { HasBlock graph.now.graph first }
     requires live { IsLivenessOf graph.now.graph live.now }
-    requires names { names.now ≡ names_of graph.now.graph }
+    requires group { IsGroupOf graph.now.graph first group.now }
     ensures some { IfOk result (λ found. IfSome found (λ chosen. CanMake graph.now.graph first chosen.items)) }
     ensures none { result ≡ Ok None → (rest : List ℕ) → ¬ CanMake graph.now.graph first rest }
 {
     if !has_body(graph, live, first, first) {
         return Ok(None);
     }
-    let others = others_of(alloc, graph, live, names, first)?;
+    let others = others_of(alloc, graph, live, group, first)?;
     chosen_of(alloc, graph, live, first, &others)
 }
 
-/// A block, and others with which its body may become a procedure, where there are such.
-pub(crate) fn find_set(
+/// A block of a group, and others with which its body may become a procedure, where there are such.
+fn find_in(
     alloc: Global,
     graph: &Graph,
     live: &Liveness,
-    names: &[u32],
+    group: &[u32],
 ) -> Result<Option<(u32, Vec<u32>)>, Memory>
     requires live { IsLivenessOf graph.now.graph live.now }
-    requires names { names.now ≡ names_of graph.now.graph }
+    requires group { All (λ first. IsGroupOf graph.now.graph first group.now) group.now }
     ensures some { IfOk result (λ found. IfSome found (λ set. CanMake graph.now.graph set.0 set.1.items)) }
-    ensures none { result ≡ Ok None → All (λ first. (rest : List ℕ) → ¬ CanMake graph.now.graph first rest) names.now }
+    ensures none { result ≡ Ok None → All (λ first. (rest : List ℕ) → ¬ CanMake graph.now.graph first rest) group.now }
 {
-    learn(graph);
-    for name in names {
-        if let Some(others) = others_for(alloc, graph, live, names, *name)? {
+    for name in group {
+        if let Some(others) = others_for(alloc, graph, live, group, *name)? {
             return Ok(Some((*name, others)));
         }
     }
     Ok(None)
+}
+
+/// The same over all classes of blocks.
+fn find_among(
+    alloc: Global,
+    graph: &Graph,
+    live: &Liveness,
+    classes: &Classing,
+) -> Result<Option<(u32, Vec<u32>)>, Memory>
+    requires live { IsLivenessOf graph.now.graph live.now }
+    requires value { classes.now ≡ classes_of graph.now.graph }
+    requires classes { AreClasses (block_kind graph.now.graph) (names_of graph.now.graph) classes.now }
+    ensures some { IfOk result (λ found. IfSome found (λ set. CanMake graph.now.graph set.0 set.1.items)) }
+    ensures none { result ≡ Ok None → (first : ℕ) (rest : List ℕ) → ¬ CanMake graph.now.graph first rest }
+{
+    learn(graph);
+    for number in 0..classes.len() {
+        if let Some(set) = find_in(alloc, graph, live, classes.members(number))? {
+            return Ok(Some(set));
+        }
+    }
+    Ok(None)
+}
+
+/// A block, and others with which its body may become a procedure, where there are such. It compares the bodies of each
+/// class of blocks with each other.
+pub(crate) fn find_set(
+    alloc: Global,
+    graph: &Graph,
+    live: &Liveness,
+) -> Result<Option<(u32, Vec<u32>)>, Memory>
+    requires { IsLivenessOf graph.now.graph live.now }
+    ensures some { IfOk result (λ found. IfSome found (λ set. CanMake graph.now.graph set.0 set.1.items)) }
+    ensures none { result ≡ Ok None → (first : ℕ) (rest : List ℕ) → ¬ CanMake graph.now.graph first rest }
+{
+    let classes = classes(alloc, graph)?;
+    find_among(alloc, graph, live, &classes)
 }

@@ -12,4 +12,4 @@ returns-in_ok-cut-in-Some-clause-none c = λ e.
 
 pub returns-in-None-clause-none : goal.returns-in-None-clause-none
 returns-in-None-clause-none c = λ e cut candidate.
-    no_set c.args.graph.now.graph c.args.names.now c.requires.names (c.find_set.ensures.none (c.in_ok-first.was ∙ ap Ok c.in-None.is)) cut candidate
+    no_set c.args.graph.now.graph (c.find_set.ensures.none (c.in_ok-first.was ∙ ap Ok c.in-None.is)) cut candidate

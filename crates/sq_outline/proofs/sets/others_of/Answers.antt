@@ -1,5 +1,4 @@
-use Rattle.std.proofs.Common.{List, ℕ, [], ◌+◌, take, is_some, sym, ap, ◌∙◌, subst}
-use Rattle.sq_live.proofs.Layouts.{block_at}
+use Rattle.std.proofs.Common.{List, ℕ, [], ◌+◌, take, sym, ap, ◌∙◌, subst}
 use Rattle.sq_outline.specs.Sets.{Keeps, nothing, IsOther}
 use Rattle.sq_outline.proofs.Keeping.{keeps_next, leaves_next}
 use Rattle.sq_outline.proofs.sets.others_of.Goals as goal
@@ -10,12 +9,12 @@ loop-name-init c = subst (λ (ys : List ℕ). Keeps (IsOther c.args.graph.now.gr
 
 pub is_other-requires-clause-block : goal.is_other-requires-clause-block
 is_other-requires-clause-block c =
-    ap is_some (block_at c.args.graph.now.graph c.args.names.now c.loop-name.name-index c.learn.ensures.rules c.requires.names c.loop-name-test.true).found
+    c.requires.group c.loop-name.name-index 0 c.loop-name-test.true
 
 pub loop-name-preserved : goal.loop-name-preserved
 loop-name-preserved c =
     let P = IsOther c.args.graph.now.graph c.args.first in
-    let names = c.args.names.now in
+    let names = c.args.group.now in
     let i = c.loop-name.name-index in
     elim c.if-is_other.branch [
       | then-is_other+in_ok-push w ↦

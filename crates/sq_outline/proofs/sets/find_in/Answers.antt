@@ -1,0 +1,23 @@
+use Rattle.std.proofs.Common.{◌≤◌, ℕ, List, length, Ok, ap, ◌∙◌, subst, arith}
+use Rattle.std.specs.List.{All}
+use Rattle.std.proofs.lemmas.List.{take_all}
+use Rattle.sq_outline.specs.Sets.{CanMake}
+use Rattle.sq_outline.proofs.Early.{one_more}
+use Rattle.sq_outline.proofs.sets.find_in.Goals as goal
+
+pub others_for-requires-clause-first : goal.others_for-requires-clause-first
+others_for-requires-clause-first c =
+    let own = c.requires.group c.loop-name.name-index 0 c.loop-name-test.true in own.there c.loop-name.name-index 0 c.loop-name-test.true
+
+pub loop-name-preserved : goal.loop-name-preserved
+loop-name-preserved c =
+    one_more (λ first. (rest : List ℕ) → ¬ CanMake c.args.graph.now.graph first rest) c.args.group.now c.loop-name.name-index 0 c.loop-name-test.true c.loop-name.invariant
+    (c.others_for.ensures.none (c.in_ok-others.was ∙ ap Ok c.in_default.is))
+
+pub returns-clause-none : goal.returns-clause-none
+returns-clause-none c = λ e.
+    let past : length c.args.group.now ≤ c.loop-name.name-index = omega arith in
+    subst (λ (names : List ℕ). All (λ first. (rest : List ℕ) → ¬ CanMake c.args.graph.now.graph first rest) names) (take_all c.loop-name.name-index c.args.group.now past) c.loop-name.invariant
+
+pub others_for-requires-clause-group : goal.others_for-requires-clause-group
+others_for-requires-clause-group c = c.requires.group c.loop-name.name-index 0 c.loop-name-test.true
