@@ -19,6 +19,7 @@ use Rattle.sq_graph.specs.Terms.{goes_on}
 use Rattle.sq_graph.specs.Uses.{uses}
 use Rattle.sq_graph.proofs.Changes.{with_blocks-at}
 use Rattle.sq_graph.proofs.Eachs.{All-left, All-right}
+use Rattle.sq_graph.proofs.Fitting.{term_fits}
 use Rattle.sq_graph.proofs.Located.{IsAt, located, named-append}
 use Rattle.sq_graph.proofs.OperationRules.{with_term_rules, inserted_after_rules}
 use Rattle.sq_graph.proofs.RulesByBlock.{BlockStands, IsByBlock, by_block, all_named}
@@ -128,7 +129,7 @@ module _ (h : Graph) (new n next : ℕ) (cond : Cond) (a b to : ℕ) (rules : Is
 
   pub turned_rules : IsGraph (with_term (inserted_after h new n (Jump to)) n (Branch (inverse_of cond) a b next))
   turned_rules =
-      with_term_rules (inserted_after h new n (Jump to)) n (Branch (inverse_of cond) a b next) put_rules (still_there h new n (Jump to) n has) tt
+      with_term_rules (inserted_after h new n (Jump to)) n (Branch (inverse_of cond) a b next) put_rules (still_there h new n (Jump to) n has) (term_fits h n (Branch cond a b to) rules is)
       (All-cons (HasBlock (inserted_after h new n (Jump to))) next [] (still_there h new n (Jump to) next next_has) (All-nil (HasBlock (inserted_after h new n (Jump to)))))
       (λ on. ap is_some (slot_behind (inserted_after h new n (Jump to)).blocks n at_put))
 
