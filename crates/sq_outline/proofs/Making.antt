@@ -33,7 +33,7 @@ use Rattle.sq_outline.specs.Sites.{MatchesAt, EndsBefore, AreApart, MayCallEach}
 use Rattle.sq_outline.specs.Links.{IsDeadAt, MayLink}
 use Rattle.sq_outline.specs.Made.{HasBody, starts_of, ends_of, IsMade, AreMade, made}
 use Rattle.sq_outline.proofs.Calling.{whole_range}
-use Rattle.sq_outline.proofs.Linking.{link_may, link_some}
+use Rattle.sq_outline.proofs.Linking.{link_may, link_some, link_below}
 use Rattle.sq_outline.proofs.Plainness.{NoCalls, forms_length, plain_pair, plain_match, plain_free}
 use Rattle.sq_outline.proofs.Standing.{AreCalls, sites_called}
 
@@ -112,7 +112,7 @@ module _ (g : Graph) (first : ℕ) (others : List ℕ) (link saving : ℕ) (rule
   no_mention = subst (λ (is : List Item). All (λ item. mentions item link ≡ false) is) (sym slice_is) may.free
 
   fits : ProcedureFits new
-  fits = record { link = link_some g body (ends_of g blocks) link can.linked; no_calls = no_calls; no_mention = no_mention }
+  fits = record { register = link_below g body (ends_of g blocks) link can.linked; link = link_some, link_below g body (ends_of g blocks) link can.linked; no_calls = no_calls; no_mention = no_mention }
 
   pub outline_rules : IsGraph og
   outline_rules = outlined_rules g first 0 n link rules own.there fits
