@@ -66,10 +66,10 @@ group_is numbers xs k group is =
     let below : k < group_count numbers = omega (arith, length-map-range_with_len f 0 (group_count numbers)) in
     sym (get_or_from_slice_get (groups_of numbers xs) k group [] is) ∙ get_or-map-range_with_len f 0 (group_count numbers) k k [] below (omega arith)
 
-module _ (g : Graph) (classes : List (List ℕ)) (are : AreClasses (block_kind g) (names_of g) classes) where
+module _ (g : Graph) (classes : List (List ℕ)) (are : AreClasses (block_kind g) (HasBlock g) classes) where
   module _ (k : ℕ) (group : List ℕ) (rules : IsGraph g) (value : classes ≡ classes_of g) (is : slice_get classes k ≡ Some group) where
     group_there : (b : ℕ) → Contains group b → HasBlock g b
-    group_there b there = has_name g b rules (are.known k b (group, (is, there)))
+    group_there b there = are.known k b (group, (is, there))
 
     pub class_group : (first : ℕ) → Contains group first → IsGroupOf g first group
     class_group first own = record {
@@ -78,7 +78,7 @@ module _ (g : Graph) (classes : List (List ℕ)) (are : AreClasses (block_kind g
           subst (IsDistinct nat_eq) (sym (group_is numbers (names_of g) k group (subst (λ (cs : List (List ℕ)). slice_get cs k ≡ Some group) value is)))
           (members_distinct k numbers (names_of g) (names_distinct g rules));
       whole = λ b body.
-          let every = are.every b (listed g b body.there) in
+          let every = are.every b body.there in
           let kinds : block_kind g first ≡ block_kind g b = kind_of_forms (items_of g b) (items_of g first) body.match.match.forms in
           let same : k ≡ every.0 = (are.same k every.0 first b (group, (is, own)) every.1).1 kinds in
           let other = every.1 in
@@ -92,9 +92,9 @@ module _ (g : Graph) (classes : List (List ℕ)) (are : AreClasses (block_kind g
   pub none_in_classes : ((k : ℕ) (group : List ℕ) → slice_get classes k ≡ Some group → All (λ first. (rest : List ℕ) → ¬ CanMake g first rest) group) → (first : ℕ) (rest : List ℕ) → ¬ CanMake g first rest
   none_in_classes none first rest can =
       let own = can_own g first rest can in
-      let every = are.every first (listed g first own.there) in
+      let every = are.every first own.there in
       let group = every.1 in
       All-contains (λ first. (rest : List ℕ) → ¬ CanMake g first rest) group.0 first (none every.0 group.0 group.1.0) group.1.1 rest can
 
-pub class_groups : (g : Graph) (classes : List (List ℕ)) (k : ℕ) (group : List ℕ) → IsGraph g → classes ≡ classes_of g → AreClasses (block_kind g) (names_of g) classes → slice_get classes k ≡ Some group → All (λ first. IsGroupOf g first group) group
+pub class_groups : (g : Graph) (classes : List (List ℕ)) (k : ℕ) (group : List ℕ) → IsGraph g → classes ≡ classes_of g → AreClasses (block_kind g) (HasBlock g) classes → slice_get classes k ≡ Some group → All (λ first. IsGroupOf g first group) group
 class_groups g classes k group rules value are is = each_in (λ first. IsGroupOf g first group) group (λ first own. class_group g classes are k group rules value is first own)

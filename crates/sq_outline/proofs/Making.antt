@@ -112,7 +112,7 @@ module _ (g : Graph) (first : ℕ) (others : List ℕ) (link saving : ℕ) (rule
   no_mention = subst (λ (is : List Item). All (λ item. mentions item link ≡ false) is) (sym slice_is) may.free
 
   fits : ProcedureFits new
-  fits = record { register = link_below g body (ends_of g blocks) link can.linked; link = link_some, link_below g body (ends_of g blocks) link can.linked; no_calls = no_calls; no_mention = no_mention }
+  fits = record { register = link_below g body (ends_of g blocks) link can.linked; link = link_some g body (ends_of g blocks) link can.linked; no_calls = no_calls; no_mention = no_mention }
 
   pub outline_rules : IsGraph og
   outline_rules = outlined_rules g first 0 n link rules own.there fits

@@ -220,7 +220,7 @@ fn find_among(
 ) -> Result<Option<(u32, Vec<u32>)>, Memory>
     requires live { IsLivenessOf graph.now.graph live.now }
     requires value { classes.now ≡ classes_of graph.now.graph }
-    requires classes { AreClasses (block_kind graph.now.graph) (names_of graph.now.graph) classes.now }
+    requires classes { AreClasses (block_kind graph.now.graph) (HasBlock graph.now.graph) classes.now }
     ensures some { IfOk result (λ found. IfSome found (λ set. CanMake graph.now.graph set.0 set.1.items)) }
     ensures none { result ≡ Ok None → (first : ℕ) (rest : List ℕ) → ¬ CanMake graph.now.graph first rest }
 {
