@@ -1,15 +1,21 @@
 -- A cut that is applied is what its row says.
-use Rattle.std.proofs.Common.{◌≡◌, ℕ, ◌≤◌, List, ◌∷◌, get_or, sym, ap, ◌∙◌, subst, arith}
+use Rattle.std.proofs.Common.{◌≡◌, ◌≢◌, ℕ, ◌≤◌, List, ◌∷◌, get_or, refl, sym, ap, ◌∙◌, subst, arith}
 use Rattle.sq_graph.specs.Graph.{Graph}
 use Rattle.sq_graph.specs.Rules.{IsGraph}
 use Rattle.sq_graph.specs.Words.{words_of}
+use Rattle.sq_graph.specs.Blocks.{HasProcedure}
+use Rattle.sq_graph.specs.Room.{GraphAndRoom, Covers}
+use Rattle.sq_patch.proofs.Saving.{uncalled_goes_saves}
 use Rattle.sq_patch.specs.Calls.{IsMatching}
 use Rattle.sq_pass.specs.declared.cut.Cut.{Cut}
-use Rattle.sq_pass.specs.declared.cut.Row.TheVariants.{O1, O2}
-use Rattle.sq_pass.specs.Applied.{IsApplied}
+use Rattle.sq_pass.specs.declared.cut.Row.{Row}
+use Rattle.sq_pass.specs.declared.cut.Row.TheVariants.{U, J1, J2, J3, C, T, O1, O2, O3, O4, W, V, L}
+use Rattle.sq_pass.specs.Applied.{IsApplied, IsWithin}
 use Rattle.sq_outline.specs.Made.{IsMadeCut, first_block, made}
 use Rattle.sq_outline.specs.Called.{IsCalledCut, called}
-use Rattle.sq_outline.specs.Candidates.{IsCutOf, IsCandidate, rewritten, described}
+use Rattle.sq_outline.specs.Candidates.{IsCutOf, IsCandidate, rewritten, described, room_by, room_for}
+use Rattle.sq_outline.specs.Inlined.{IsInlinable, IsInlined, inlined_all}
+use Rattle.sq_outline.specs.InlineSteps.{HasRoom, inline_room}
 use Rattle.sq_outline.proofs.Making.{made_applied}
 use Rattle.sq_outline.proofs.Calling.{is_matching, called_applied}
 
@@ -51,3 +57,49 @@ made_words g cut rules candidate =
     let words = (made_applied g candidate.first candidate.others cut.link cut.saving rules candidate.made).words in
     let some = candidate.made.some in
     omega arith
+
+-- O4
+
+pub inlined_of : (g : Graph) (cut : Cut) → IsCandidate g cut → cut.row ≡ O4 → IsInlined g cut
+inlined_of g cut candidate row = subst (λ r. IsCutOf r g cut) row candidate
+
+inline_at_cut : (g : Graph) (cut : Cut) → IsInlined g cut → IsInlinable g cut.procedure cut.saving
+inline_at_cut g cut candidate =
+    subst (λ (given : Cut). IsInlinable g given.procedure given.saving) (sym candidate.is) candidate.inlinable
+
+pub inline_there : (g : Graph) (cut : Cut) → IsInlined g cut → HasProcedure g cut.procedure
+inline_there g cut candidate = let can = inline_at_cut g cut candidate in can.there
+
+pub inline_has_room : (v : GraphAndRoom) (cut : Cut) → cut.row ≡ O4 → IsInlined v.graph cut → Covers v.spare (room_for v.graph cut) → HasRoom cut.procedure v
+inline_has_room v cut row candidate covers =
+    let can = inline_at_cut v.graph cut candidate in
+    let room = subst (λ r. Covers v.spare (room_by r v.graph cut)) row covers in
+    let items = room.items in
+    let saved = can.saved in
+    let some = can.some in
+    omega arith
+
+pub inline_within : (g : Graph) (cut : Cut) → IsInlined g cut → IsWithin (words_of g) (inline_room g cut.procedure)
+inline_within g cut candidate =
+    let words = uncalled_goes_saves g cut.procedure (inline_there g cut candidate) in
+    record { blocks = omega arith; items = omega arith; procedures = omega arith }
+
+pub inline_cut_applied : (g new : Graph) (cut : Cut) → cut.row ≡ O4 → IsInlined g cut → ((saving : ℕ) → IsInlinable g cut.procedure saving → IsApplied saving (inlined_all g cut.procedure) g new) → IsApplied cut.saving (described g cut) g new
+inline_cut_applied g new cut row candidate applied =
+    subst (λ r. IsApplied cut.saving (rewritten r g cut) g new) (sym row) (applied cut.saving (inline_at_cut g cut candidate))
+
+-- there are no others
+pub other_row : (row : Row) (g : Graph) (cut : Cut) → row ≢ O1 → row ≢ O2 → row ≢ O3 → row ≢ O4 → ¬ IsCutOf row g cut
+other_row U g cut a b c d none = none
+other_row J1 g cut a b c d none = none
+other_row J2 g cut a b c d none = none
+other_row J3 g cut a b c d none = none
+other_row C g cut a b c d none = none
+other_row T g cut a b c d none = none
+other_row O1 g cut a b c d candidate = a refl
+other_row O2 g cut a b c d candidate = b refl
+other_row O3 g cut a b c d candidate = c refl
+other_row O4 g cut a b c d candidate = d refl
+other_row W g cut a b c d none = none
+other_row V g cut a b c d none = none
+other_row L g cut a b c d none = none

@@ -1,4 +1,4 @@
--- How the body of a procedure takes the place of its calls, one after another. No public clause cites this module.
+-- How the body of a procedure takes the place of its calls, one after another.
 use Rattle.std.specs.Prelude.{◌≤◌, ℕ, ◌+◌, ◌*◌, Bool, false, if◌then◌else◌, List, [], ◌∷◌, length, Option, Some, None, slice_get}
 use Rattle.sq_graph.specs.declared.item.Item.{Item}
 use Rattle.sq_graph.specs.declared.parts.Room.{Room}

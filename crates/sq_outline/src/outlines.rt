@@ -1,6 +1,7 @@
 //! The pass.
 
 use crate::call::{admit_call, call, find_called};
+use crate::inline::{admit_inline, apply_inline, find_inline, inline_room};
 use crate::make::{admit_make, find_made, make};
 use crate::recall::{admit_recall, apply_recall, find_recall};
 use sq_graph::{Graph, Room};
@@ -10,7 +11,7 @@ use sq_num::{Memory, Savings};
 use sq_pass::{Cut, Pass, Row};
 use std::alloc::Global;
 
-/// The pass of rows O1, O2 and O3.
+/// The pass of rows O1, O2, O3 and O4.
 #[derive(Clone, Copy, Debug)]
 pub struct Outlines;
 
@@ -25,7 +26,8 @@ impl Pass for Outlines {
 
     ghost saves = { λ _ graph cut. saves_a_word graph cut };
 
-    /// For O1 and O2 it looks at the blocks of the cut, for O3 at each word of procedures once.
+    /// For O1 and O2 it looks at the blocks of the cut, for O3 at each word of procedures once,
+    /// for O4 at each word a few times.
     fn admit(
         &self,
         alloc: Global,
@@ -37,11 +39,13 @@ impl Pass for Outlines {
             Row::O1 => admit_make(alloc, graph, live, cut),
             Row::O2 => Ok(admit_call(graph, live, cut)),
             Row::O3 => admit_recall(alloc, graph, &cut),
+            Row::O4 => admit_inline(alloc, graph, &cut),
             _ => Ok(None),
         }
     }
 
-    /// It compares the bodies of each class of blocks with each other, and with those of procedures of the same length.
+    /// It compares the bodies of each class of blocks with each other, and with those of procedures of the same length; for O3 and O4 it
+    /// looks at each word once, and a few times more for a procedure that would save words.
     fn find(&self, alloc: Global, graph: &Graph, live: &Liveness) -> Result<Option<Cut>, Memory> {
         learn(graph);
         if let Some(cut) = find_made(alloc, graph, live)? {
@@ -51,10 +55,13 @@ impl Pass for Outlines {
         if let Some(cut) = find_called(alloc, graph, live, &names)? {
             return Ok(Some(cut));
         }
-        find_recall(alloc, graph)
+        if let Some(cut) = find_recall(alloc, graph)? {
+            return Ok(Some(cut));
+        }
+        find_inline(alloc, graph)
     }
 
-    /// It looks at one block.
+    /// It looks at one block or procedure.
     fn room(&self, graph: &Graph, cut: &Cut) -> Room {
         learn(graph);
         match cut.row {
@@ -63,6 +70,7 @@ impl Pass for Outlines {
                 items: graph.items(cut.blocks.as_slice()[0]).len() as u32,
                 procedures: 1,
             },
+            Row::O4 => inline_room(graph, cut.procedure),
             _ => Room {
                 blocks: 0,
                 items: 0,
@@ -71,14 +79,16 @@ impl Pass for Outlines {
         }
     }
 
-    /// A few calls of the graph for each block of the cut; for O3 one look at all items.
+    /// A few calls of the graph for each block of the cut; for O3 and O4 one look at all items.
     fn apply(&self, graph: &mut Graph, cut: &Cut) {
         learn(graph);
         let blocks = cut.blocks.as_slice();
         match cut.row {
             Row::O1 => make(graph, blocks, cut.link),
             Row::O2 => call(graph, blocks[0], 0, cut.procedure),
-            _ => apply_recall(graph, cut.procedure, cut.other),
+            Row::O3 => apply_recall(graph, cut.procedure, cut.other),
+            Row::O4 => apply_inline(graph, cut.procedure),
+            _ => unreachable!(),
         }
     }
 
