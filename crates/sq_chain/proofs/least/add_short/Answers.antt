@@ -21,7 +21,6 @@ pub loop-name-preserved : goal.loop-name-preserved
 loop-name-preserved c =
     let g = c.args.graph.now.graph in
     let name = get_or c.args.names.now c.loop-name.name-index 0 in
-    let S = is_listed c.args.wide.now in
     let F = falls_short g (is_listed c.args.wide.now) in
     let now = is_listed c.loop-name.wide in
     let rules = c.learn.ensures.rules in

@@ -21,7 +21,6 @@ distance-requires-clause-at c =
 pub returns : goal.returns
 returns c =
     let g = c.args.graph.now.graph in
-    let address = address_at (number_at c.args.addresses.now) in
     let at : c.address.result ≡ address_at (number_at c.args.addresses.now) c.args.block = c.address.ensures in
     let target : c.address-2.result ≡ address_at (number_at c.args.addresses.now) c.in-Branch.to = c.address-2.ensures in
     let items : length c.items.result.now ≡ length (items_of g c.args.block) = ap (λ (is : List Item). length is) c.items.ensures in

@@ -17,7 +17,6 @@ block_words-requires c =
 pub overflow_add-at-in-loop-name : goal.overflow_add-at-in-loop-name
 overflow_add-at-in-loop-name c =
     let g = c.args.graph.now.graph in
-    let S = is_listed c.args.wide.now in
     let b = block_at g c.args.names.now c.loop-name.name-index c.learn.ensures.rules c.requires c.loop-name-test.true in
     let words = words_here g _ c.block_words.result b.block b.found c.block_words.ensures in
     let one : c.one_for-more.result ≡ (if is_listed c.args.wide.now b.block.name then 1 else 0) = c.one_for-more.ensures ∙ ap (λ n. if is_listed c.args.wide.now n then 1 else 0) (sym b.has_name) in
@@ -38,7 +37,6 @@ loop-name-init c = record {
 pub loop-name-preserved : goal.loop-name-preserved
 loop-name-preserved c =
     let g = c.args.graph.now.graph in
-    let rest = drop (c.loop-name.name-index + 1) g.blocks in
     let b = block_at g c.args.names.now c.loop-name.name-index c.learn.ensures.rules c.requires c.loop-name-test.true in
     let words = words_here g _ c.block_words.result b.block b.found c.block_words.ensures in
     let one : c.one_for-more.result ≡ (if is_listed c.args.wide.now b.block.name then 1 else 0) = c.one_for-more.ensures ∙ ap (λ n. if is_listed c.args.wide.now n then 1 else 0) (sym b.has_name) in

@@ -13,7 +13,6 @@ use Rattle.sq_chain.proofs.widening.widen_each.Goals.{then-has, else-has}
 pub loop-name-init : goal.loop-name-init
 loop-name-init c =
     let g = c.args.graph.now.graph in
-    let S = is_listed c.args.wide.now in
     record { wider = wider_itself g (upto (is_listed c.args.wide.now) g 0) c.learn.ensures.rules (upto_none (is_listed c.args.wide.now) g); spare = c.requires.spare }
 
 pub widen_one-requires-clause-branch : goal.widen_one-requires-clause-branch
@@ -39,9 +38,7 @@ pub loop-name-preserved : goal.loop-name-preserved
 loop-name-preserved c =
     let g = c.args.graph.now.graph in
     let h = c.loop-name.graph.graph in
-    let k = c.loop-name.name-index in
     let name = get_or c.args.names.now c.loop-name.name-index 0 in
-    let rules = c.learn.ensures.rules in
     let b = block_at g c.args.names.now c.loop-name.name-index c.learn.ensures.rules c.requires.names c.loop-name-test.true in
     let spare = c.loop-name.invariant.spare in
     elim c.if-has.branch [
