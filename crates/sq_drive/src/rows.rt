@@ -4,7 +4,8 @@ use sq_graph::{Graph, Room};
 use sq_jumps::Jumps;
 use sq_live::Liveness;
 use sq_num::{Memory, Savings};
-use sq_pass::{Cut, Pass};
+use sq_pass::{Cut, Pass, Row};
+use sq_tail::Tails;
 use std::alloc::Global;
 
 /// All rows of the cost rule that are built, as one pass. It asks the passes in the order of the rule; a pass to come takes
@@ -13,15 +14,13 @@ use std::alloc::Global;
 pub struct AllRows;
 
 impl Pass for AllRows {
-    ghost use Rattle.sq_graph.specs.Room.{no_room};
-    ghost use Rattle.sq_drive.specs.Rows.{IsCandidate, described};
-    ghost use Rattle.sq_jumps.specs.Candidates.{saves_a_word};
+    ghost use Rattle.sq_drive.specs.Rows.{IsCandidate, described, room_by, saves_a_word};
 
     ghost is_candidate = { λ _ graph cut. IsCandidate graph cut };
 
     ghost described = { λ _ graph cut. described graph cut };
 
-    ghost room_for = { λ _ _ _. no_room };
+    ghost room_for = { λ _ _ cut. room_by cut.row };
 
     ghost saves = { λ _ graph cut. saves_a_word graph cut };
 
@@ -32,19 +31,31 @@ impl Pass for AllRows {
         live: &Liveness,
         cut: Cut,
     ) -> Result<Option<Cut>, Memory> {
-        Jumps.admit(alloc, graph, live, cut)
+        match cut.row {
+            Row::T => Tails.admit(alloc, graph, live, cut),
+            _ => Jumps.admit(alloc, graph, live, cut),
+        }
     }
 
     fn find(&self, alloc: Global, graph: &Graph, live: &Liveness) -> Result<Option<Cut>, Memory> {
-        Jumps.find(alloc, graph, live)
+        match Jumps.find(alloc, graph, live)? {
+            Some(cut) => Ok(Some(cut)),
+            None => Tails.find(alloc, graph, live),
+        }
     }
 
     fn room(&self, graph: &Graph, cut: &Cut) -> Room {
-        Jumps.room(graph, cut)
+        match cut.row {
+            Row::T => Tails.room(graph, cut),
+            _ => Jumps.room(graph, cut),
+        }
     }
 
     fn apply(&self, graph: &mut Graph, cut: &Cut) {
-        Jumps.apply(graph, cut)
+        match cut.row {
+            Row::T => Tails.apply(graph, cut),
+            _ => Jumps.apply(graph, cut),
+        }
     }
 
     fn sweep(&self, alloc: Global, graph: &mut Graph, savings: Savings) -> Result<Savings, Memory> {

@@ -18,3 +18,4 @@ pub mod BodiesPrinted
 pub mod BodiesEarlier
 pub mod BodiesFound
 pub mod Admitting
+pub mod Sweeping

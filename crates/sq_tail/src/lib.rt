@@ -12,6 +12,7 @@ mod joining;
 mod numbers;
 mod resolved;
 mod search;
+mod sweep;
 mod tails;
 
 pub use tails::Tails;
