@@ -1,4 +1,3 @@
 pub mod Rewrites
 pub mod Steps
 pub mod Slots
-pub mod RowPasses

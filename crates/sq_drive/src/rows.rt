@@ -4,8 +4,7 @@ use sq_graph::{Graph, Room};
 use sq_jumps::Jumps;
 use sq_live::Liveness;
 use sq_num::{Memory, Savings};
-use sq_pass::{Cut, Pass, Row};
-use sq_tail::Tails;
+use sq_pass::{Cut, Pass};
 use std::alloc::Global;
 
 /// All rows of the cost rule that are built, as one pass. It asks the passes in the order of the rule; a pass to come takes
@@ -14,13 +13,15 @@ use std::alloc::Global;
 pub struct AllRows;
 
 impl Pass for AllRows {
-    ghost use Rattle.sq_drive.specs.Rows.{IsCandidate, described, room_by, saves_a_word};
+    ghost use Rattle.sq_graph.specs.Room.{no_room};
+    ghost use Rattle.sq_drive.specs.Rows.{IsCandidate, described};
+    ghost use Rattle.sq_jumps.specs.Candidates.{saves_a_word};
 
     ghost is_candidate = { λ _ graph cut. IsCandidate graph cut };
 
     ghost described = { λ _ graph cut. described graph cut };
 
-    ghost room_for = { λ _ _ cut. room_by cut.row };
+    ghost room_for = { λ _ _ _. no_room };
 
     ghost saves = { λ _ graph cut. saves_a_word graph cut };
 
@@ -31,31 +32,19 @@ impl Pass for AllRows {
         live: &Liveness,
         cut: Cut,
     ) -> Result<Option<Cut>, Memory> {
-        match cut.row {
-            Row::T => Tails.admit(alloc, graph, live, cut),
-            _ => Jumps.admit(alloc, graph, live, cut),
-        }
+        Jumps.admit(alloc, graph, live, cut)
     }
 
     fn find(&self, alloc: Global, graph: &Graph, live: &Liveness) -> Result<Option<Cut>, Memory> {
-        match Jumps.find(alloc, graph, live)? {
-            Some(cut) => Ok(Some(cut)),
-            None => Tails.find(alloc, graph, live),
-        }
+        Jumps.find(alloc, graph, live)
     }
 
     fn room(&self, graph: &Graph, cut: &Cut) -> Room {
-        match cut.row {
-            Row::T => Tails.room(graph, cut),
-            _ => Jumps.room(graph, cut),
-        }
+        Jumps.room(graph, cut)
     }
 
     fn apply(&self, graph: &mut Graph, cut: &Cut) {
-        match cut.row {
-            Row::T => Tails.apply(graph, cut),
-            _ => Jumps.apply(graph, cut),
-        }
+        Jumps.apply(graph, cut)
     }
 
     fn sweep(&self, alloc: Global, graph: &mut Graph, savings: Savings) -> Result<Savings, Memory> {
