@@ -10,8 +10,7 @@ use Rattle.sq_follow.specs.Follows.{Follows}
 use Rattle.sq_follow.proofs.Following.{graph_follows_through}
 use Rattle.sq_pass.specs.Rewrites.{IsRewritten}
 use Rattle.sq_pass.proofs.Rewriting.{rewritten_itself, rewritten_through, rewritten_none, rewritten_named}
-use Rattle.sq_jumps.specs.Candidates.{saves_a_word}
-use Rattle.sq_drive.specs.Rows.{IsCandidate, described}
+use Rattle.sq_drive.specs.Rows.{IsCandidate, described, saves_a_word}
 use Rattle.sq_drive.proofs.Slots.{slotted_lighter}
 use Rattle.sq_drive.proofs.settling.settle_slotted.Goals as goal
 
