@@ -1,3 +1,4 @@
 pub mod Rewrites
 pub mod Steps
 pub mod Slots
+pub mod Moves

@@ -1,4 +1,4 @@
-//! The pass of all rows that are built.
+//! The pass of all rows of passes.
 
 use sq_graph::{Graph, Room};
 use sq_jumps::Jumps;
@@ -7,19 +7,19 @@ use sq_num::{Memory, Savings};
 use sq_pass::{Cut, Pass};
 use std::alloc::Global;
 
-/// All rows of the cost rule that are built, as one pass. It asks the passes in the order of the rule; a pass to come takes
-/// its place in each of the calls.
+/// All rows of the cost rule that are built, but for moves, as one pass. It asks the passes in the order of the rule; a pass
+/// to come takes its place in each of the calls.
 #[derive(Clone, Copy, Debug)]
 pub struct AllRows;
 
 impl Pass for AllRows {
     ghost use Rattle.sq_graph.specs.Room.{no_room};
-    ghost use Rattle.sq_drive.specs.Rows.{IsCandidate, described};
+    ghost use Rattle.sq_drive.specs.Rows.{IsRowCandidate, row_described};
     ghost use Rattle.sq_jumps.specs.Candidates.{saves_a_word};
 
-    ghost is_candidate = { λ _ graph cut. IsCandidate graph cut };
+    ghost is_candidate = { λ _ graph cut. IsRowCandidate graph cut };
 
-    ghost described = { λ _ graph cut. described graph cut };
+    ghost described = { λ _ graph cut. row_described graph cut };
 
     ghost room_for = { λ _ _ _. no_room };
 
