@@ -2,3 +2,4 @@ pub mod Rewrites
 pub mod Steps
 pub mod Slots
 pub mod RowPasses
+pub mod Moves

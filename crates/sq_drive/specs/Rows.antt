@@ -7,10 +7,11 @@ use Rattle.sq_graph.specs.Graph.{Graph}
 use Rattle.sq_graph.specs.Room.{no_room}
 use Rattle.sq_pass.specs.declared.cut.Cut.{Cut}
 use Rattle.sq_pass.specs.declared.cut.Row.{Row}
-use Rattle.sq_pass.specs.declared.cut.Row.TheVariants.{T, O1, O2, O3, O4}
+use Rattle.sq_pass.specs.declared.cut.Row.TheVariants.{T, O1, O2, O3, O4, L}
 use Rattle.sq_jumps.specs.Candidates.{IsCandidate as IsJumpsCandidate, described as jumps_described, saves_a_word as jumps_save}
 use Rattle.sq_tail.specs.Candidates.{IsCandidate as IsTailsCandidate, described as tails_described, one_block, saves_a_word as tails_save}
 use Rattle.sq_outline.specs.Candidates.{IsCandidate as IsOutlinesCandidate, described as outlines_described, room_for as outlines_room, saves_a_word as outlines_save}
+use Rattle.sq_chain.specs.Candidates.{IsCandidate as IsMove, described as move_described}
 use Rattle.sq_drive.specs.declared.rows.RowPass.{RowPass}
 use Rattle.sq_drive.specs.declared.rows.RowPass.TheVariants.{Jumps, Tails, Outlines}
 
@@ -65,17 +66,22 @@ row_saves g cut (inr (inr outlines)) = outlines_save g cut outlines
 
 -- THE COST RULE
 
--- a candidate of any row that is built
+-- a candidate of any row that is built: of a pass, or of row L
 abbrev pub IsCandidate : Graph → Cut → Type 0
-IsCandidate g cut = IsRowCandidate g cut
+IsCandidate g cut = IsRowCandidate g cut ⊎ IsMove g cut
 
 -- what its row makes of the graph
+abbrev pub described_by : Row → Graph → Cut → Graph
+described_by L g cut = move_described g cut
+described_by row g cut = row_described g cut
+
 abbrev pub described : Graph → Cut → Graph
-described g cut = row_described g cut
+described g cut = described_by cut.row g cut
 
 -- it saves a word
 abbrev pub saves_a_word : (g : Graph) (cut : Cut) → IsCandidate g cut → 1 ≤ cut.saving
-saves_a_word g cut candidate = row_saves g cut candidate
+saves_a_word g cut (inl candidate) = row_saves g cut candidate
+saves_a_word g cut (inr move) = move.some
 
 -- no row that is built has a candidate
 abbrev pub IsLeftoverFree : Graph → Type 0

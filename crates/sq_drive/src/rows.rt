@@ -37,7 +37,8 @@ impl RowPass {
     }
 }
 
-/// All rows of the cost rule that passes have, as one pass. It asks the passes in the order of the rule.
+/// All rows of the cost rule that passes have, as one pass: all but row L, which moves chains. It asks the passes in the
+/// order of the rule.
 #[derive(Clone, Copy, Debug)]
 pub struct AllRows;
 
