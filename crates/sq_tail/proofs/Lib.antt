@@ -19,3 +19,5 @@ pub mod BodiesEarlier
 pub mod BodiesFound
 pub mod Admitting
 pub mod Sweeping
+pub mod Grown
+pub mod StillDead

@@ -7,3 +7,4 @@ pub mod Bodies
 pub mod BodiesPrints
 pub mod BodiesEarlier
 pub mod Admitted
+pub mod StillDead

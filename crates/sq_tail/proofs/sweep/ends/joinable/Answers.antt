@@ -1,6 +1,6 @@
 use Rattle.std.proofs.Common.{arith}
 use Rattle.sq_tail.proofs.Sweeping.{end_candidate}
-use Rattle.sq_tail.proofs.sweep.joinable.Goals as goal
+use Rattle.sq_tail.proofs.sweep.ends.joinable.Goals as goal
 
 pub returns : goal.returns
 returns c =

@@ -3,7 +3,7 @@ use Rattle.sq_follow.specs.Follows.{Follows}
 use Rattle.sq_follow.proofs.Following.{graph_follows_itself}
 use Rattle.sq_tail.specs.Tails.{AreTails, IsJoined}
 use Rattle.sq_tail.proofs.Sweeping.{room_for_one, pair_there, pair_words, pair_rewritten}
-use Rattle.sq_tail.proofs.sweep.rewrite_pair.Goals as goal
+use Rattle.sq_tail.proofs.sweep.rewriting.rewrite_pair.Goals as goal
 
 pub reserve-requires : goal.reserve-requires
 reserve-requires c = room_for_one c.args.graph.now c.spare-room.ensures.small c.requires.canonical (omega (arith, c.requires.words))
