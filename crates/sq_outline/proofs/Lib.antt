@@ -16,3 +16,6 @@ pub mod Spreading
 pub mod Inlining
 pub mod InlineSteps
 pub mod InlineSearch
+pub mod Kept
+pub mod Still
+pub mod Sweeping

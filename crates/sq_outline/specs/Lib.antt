@@ -8,3 +8,4 @@ pub mod Recalled
 pub mod RecalledNumbers
 pub mod Inlined
 pub mod InlineSteps
+pub mod Still

@@ -6,6 +6,7 @@
 #![tactic(auto)]
 
 mod call;
+mod callers;
 mod inline;
 mod link;
 mod make;
@@ -14,5 +15,6 @@ mod plain;
 mod recall;
 mod sets;
 mod sites;
+mod sweep;
 
 pub use outlines::Outlines;

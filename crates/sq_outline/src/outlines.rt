@@ -4,6 +4,7 @@ use crate::call::{admit_call, call, find_called};
 use crate::inline::{admit_inline, apply_inline, find_inline, inline_room};
 use crate::make::{admit_make, find_made, make};
 use crate::recall::{admit_recall, apply_recall, find_recall};
+use crate::sweep::sweep;
 use sq_graph::{Graph, Room};
 use sq_layout::learn;
 use sq_live::{Liveness, block_names};
@@ -92,13 +93,9 @@ impl Pass for Outlines {
         }
     }
 
-    /// It leaves all to `find`, since each rewrite changes which registers are live.
-    fn sweep(
-        &self,
-        _alloc: Global,
-        _graph: &mut Graph,
-        savings: Savings,
-    ) -> Result<Savings, Memory> {
-        Ok(savings)
+    /// Two looks at all bodies, and for each rewrite one at the bodies of its class. Where the link of a new procedure isn't sure
+    /// without it, a look for live registers.
+    fn sweep(&self, alloc: Global, graph: &mut Graph, savings: Savings) -> Result<Savings, Memory> {
+        sweep(alloc, graph, savings)
     }
 }

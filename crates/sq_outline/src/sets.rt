@@ -1,6 +1,6 @@
 //! Which bodies may become calls of one new procedure, for row O1.
 
-ghost use Rattle.std.specs.Prelude.{◌≡◌, ◌↔◌, ◌<◌, ◌^◌, ℕ, List, None, Ok, IsTrue, IfOk, IfSome};
+ghost use Rattle.std.specs.Prelude.{◌≡◌, ◌↔◌, ◌<◌, ◌≤◌, ◌^◌, ℕ, List, None, Ok, IsTrue, IfOk, IfSome, MatchOption};
 ghost use Rattle.std.specs.List.{All};
 ghost use Rattle.sq_graph.specs.Blocks.{HasBlock, items_of};
 ghost use Rattle.sq_graph.specs.Parts.{names_of};
@@ -112,6 +112,18 @@ pub(crate) fn pays(calls: usize, items: usize) -> bool
     ensures { IsTrue result ↔ Pays calls items }
 {
     items as u64 + 2 <= calls as u64 * (items as u64).saturating_sub(1)
+}
+
+/// How many calls for bodies of so many items save a word at least, or `None` where no number of calls does.
+pub(crate) fn fewest_calls(items: usize) -> Option<usize>
+    ensures { MatchOption result ((calls : ℕ) → ¬ Pays calls items) (λ fewest. (calls : ℕ) → Pays calls items ↔ (fewest ≤ calls)) }
+{
+    match items {
+        0 | 1 => None,
+        2 => Some(4),
+        3 => Some(3),
+        _ => Some(2),
+    }
 }
 
 /// Those of the others that may be called through the register, with the first, where that pays.

@@ -1,0 +1,134 @@
+//! Makes many bodies calls, of new procedures and of those that are there, with live registers that are looked for once.
+
+ghost use Rattle.std.specs.Prelude.{◌≤◌, ◌+◌, IfOk};
+ghost use Rattle.std.specs.List.{All};
+ghost use Rattle.sq_num.specs.Saved.{words_saved};
+ghost use Rattle.sq_graph.specs.Leaders.{IsCanonical};
+ghost use Rattle.sq_graph.specs.Words.{words_of};
+ghost use Rattle.sq_follow.specs.Follows.{Follows};
+ghost use Rattle.sq_pass.specs.Rewrites.{IsRewritten};
+ghost use Rattle.sq_outline.specs.Candidates.{IsCandidate, described};
+ghost use Rattle.sq_outline.specs.Made.{IsMadeCut};
+ghost use Rattle.sq_outline.specs.Still.{IsStill, IsStillDead, IsDying};
+
+use crate::callers::{Body, bodies_of, proposal};
+use crate::make::make;
+use sq_finger::{Classing, classes};
+use sq_graph::{Graph, Room};
+use sq_layout::learn;
+use sq_live::{Liveness, live};
+use sq_num::{Memory, Savings};
+use sq_pass::{Cut, Rewrite, Row};
+use std::alloc::Global;
+
+/// How many bodies of a class the sweep tries as that of a procedure.
+const TRIED: usize = 64;
+
+/// Rewrites the graph by a cut of row O1, which leaves it canonical.
+fn rewrite_made(graph: &mut Graph, cut: &Cut, savings: Savings) -> Result<Savings, Memory>
+    requires canonical { IsCanonical graph.old.graph }
+    requires words { words_of graph.old.graph + words_saved savings ≤ 1048576 }
+    requires candidate { IsMadeCut graph.old.graph cut.now }
+    ensures rewritten { IfOk result (λ after. IsRewritten IsCandidate described savings after graph.old.graph graph.new.graph) }
+    ensures follows { Follows graph.old.graph graph.new.graph }
+    ensures still { IsStill graph.old.graph graph.new.graph }
+{
+    learn(graph);
+    let _room = graph.spare();
+    let blocks = cut.blocks.as_slice();
+    let items = graph.items(blocks[0]).len() as u32;
+    graph.reserve(Room {
+        blocks: 0,
+        items,
+        procedures: 1,
+    })?;
+    make(graph, blocks, cut.link);
+    let done = Rewrite {
+        row: Row::O1,
+        saving: cut.saving,
+    };
+    Ok(done.count(savings))
+}
+
+/// Makes the first body a procedure, and those of the others that match it calls of it, where that saves words.
+#[tactic(auto, using(crate::proofs::Still::still_itself, sq_pass::proofs::Rewriting::rewritten_itself))]
+fn make_for(
+    alloc: Global,
+    graph: &mut Graph,
+    bodies: &[Body],
+    first: &Body,
+    savings: Savings,
+) -> Result<Savings, Memory>
+    requires canonical { IsCanonical graph.old.graph }
+    requires words { words_of graph.old.graph + words_saved savings ≤ 1048576 }
+    requires bodies { All (IsDying graph.old.graph) bodies.now }
+    requires first { IsDying graph.old.graph first.now }
+    ensures rewritten { IfOk result (λ after. IsRewritten IsCandidate described savings after graph.old.graph graph.new.graph) }
+    ensures follows { Follows graph.old.graph graph.new.graph }
+    ensures still { IsStill graph.old.graph graph.new.graph }
+{
+    let Some(cut) = proposal(alloc, graph, bodies, first)? else {
+        return Ok(savings);
+    };
+    rewrite_made(graph, &cut, savings)
+}
+
+/// The same for the first bodies of a class, one after another.
+#[tactic(auto, using(sq_follow::proofs::Following::graph_follows_through))]
+fn make_each(
+    alloc: Global,
+    graph: &mut Graph,
+    bodies: &[Body],
+    savings: Savings,
+) -> Result<Savings, Memory>
+    requires canonical { IsCanonical graph.old.graph }
+    requires words { words_of graph.old.graph + words_saved savings ≤ 1048576 }
+    requires bodies { All (IsDying graph.old.graph) bodies.now }
+    ensures rewritten { IfOk result (λ after. IsRewritten IsCandidate described savings after graph.old.graph graph.new.graph) }
+    ensures follows { Follows graph.old.graph graph.new.graph }
+    ensures still { IsStill graph.old.graph graph.new.graph }
+{
+    let mut after = savings;
+    for at in 0..bodies.len().min(TRIED) {
+        after = make_for(alloc, graph, bodies, &bodies[at], after)?;
+    }
+    Ok(after)
+}
+
+/// The same for each class of blocks.
+#[tactic(auto, using(sq_follow::proofs::Following::graph_follows_through))]
+fn make_classes(
+    alloc: Global,
+    graph: &mut Graph,
+    live: &Liveness,
+    classes: &Classing,
+    savings: Savings,
+) -> Result<Savings, Memory>
+    requires canonical { IsCanonical graph.old.graph }
+    requires words { words_of graph.old.graph + words_saved savings ≤ 1048576 }
+    requires live { IsStillDead live.now graph.old.graph }
+    ensures rewritten { IfOk result (λ after. IsRewritten IsCandidate described savings after graph.old.graph graph.new.graph) }
+    ensures follows { Follows graph.old.graph graph.new.graph }
+    ensures still { IsStill graph.old.graph graph.new.graph }
+{
+    let mut after = savings;
+    for class in 0..classes.len() {
+        let bodies = bodies_of(alloc, graph, live, classes.members(class))?;
+        after = make_each(alloc, graph, &bodies, after)?;
+    }
+    Ok(after)
+}
+
+/// Rewrites the graph by rows O1 and O2. It looks for live registers once, and again where a procedure's link isn't sure
+/// without them; of each class of blocks it compares all bodies with the first ones. It may leave candidates.
+pub(crate) fn sweep(alloc: Global, graph: &mut Graph, savings: Savings) -> Result<Savings, Memory>
+    requires canonical { IsCanonical graph.old.graph }
+    requires words { words_of graph.old.graph + words_saved savings ≤ 1048576 }
+    ensures rewritten { IfOk result (λ after. IsRewritten IsCandidate described savings after graph.old.graph graph.new.graph) }
+    ensures follows { Follows graph.old.graph graph.new.graph }
+{
+    learn(graph);
+    let live = live(alloc, graph)?;
+    let classes = classes(alloc, graph)?;
+    make_classes(alloc, graph, &live, &classes, savings)
+}
