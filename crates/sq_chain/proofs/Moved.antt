@@ -35,7 +35,7 @@ use Rattle.sq_chain.specs.Moves.{carried, fallen_blocks, fallen, IsMovable, move
 use Rattle.sq_chain.specs.Candidates.{cut_of, IsCandidate, described, IsMoved, IsStillAt}
 use Rattle.sq_chain.proofs.Back.{carried_words, carried_jumps}
 use Rattle.sq_chain.proofs.Fallen.{Keeps, keeps_through, fallen_keeps}
-use Rattle.sq_chain.proofs.Lighter.{falls_fewer, fallen_in_reach, stays_narrow}
+use Rattle.sq_chain.proofs.Lighter.{falls_fewer, stays_narrow}
 use Rattle.sq_chain.proofs.Reordered.{chain_moved_rules, chain_reordered, chain_moved_length}
 
 -- the chain moves
@@ -80,7 +80,7 @@ module _ (g h new : Graph) (from to : ℕ) (movable : IsMovable g from to) (is :
   }
 
 -- what is left where each Branch reaches once the chain has moved
-module _ (g mid : Graph) (from to : ℕ) (rules : IsGraph g) (movable : IsMovable g from to) (is : mid ≡ carried g from to) (near : IsInReach mid) where
+module _ (g mid : Graph) (from to : ℕ) (rules : IsGraph g) (movable : IsMovable g from to) (is : mid ≡ carried g from to) (near : IsInReach (fallen mid)) where
   abbrev narrow : Graph
   narrow = fallen (carried g from to)
 
@@ -90,7 +90,7 @@ module _ (g mid : Graph) (from to : ℕ) (rules : IsGraph g) (movable : IsMovabl
       keeps_through g (carried g from to) narrow keeps (fallen_keeps (carried g from to) keeps.rules)
 
   near_reach : IsInReach narrow
-  near_reach = fallen_in_reach (carried g from to) (carried_keeps g from to rules movable).rules (subst IsInReach is near)
+  near_reach = subst (λ (k : Graph). IsInReach (fallen k)) is near
 
   module _ (new : Graph) (saved : ℕ) (fell : new ≡ fallen mid) (words : words_of new + saved ≡ words_of mid) where
     new_is : new ≡ narrow

@@ -7,23 +7,24 @@
 //!              t: ..                         ret
 //!                 ret
 
-ghost use Rattle.std.specs.Prelude.{◌≡◌, ◌↔◌, ◌+◌, true, false, Ok, IsTrue, OnErr};
+ghost use Rattle.std.specs.Prelude.{◌≡◌, ◌↔◌, ◌+◌, ◌≤◌, Ok, IsTrue, OnErr};
 ghost use Rattle.sq_graph.specs.Blocks.{HasBlock};
 ghost use Rattle.sq_graph.specs.Places.{IsInReach};
 ghost use Rattle.sq_graph.specs.Soundness.{IsSound};
 ghost use Rattle.sq_graph.specs.Words.{words_of};
 ghost use Rattle.sq_follow.specs.Follows.{Follows};
-ghost use Rattle.sq_chain.specs.Moves.{IsMovable, JumpsToNext, carried, fallen};
+ghost use Rattle.sq_chain.specs.Moves.{IsMovable, JumpsToNext, carried, fallen, moved};
+ghost use Rattle.sq_chain.specs.declared.outlook.Outlook.TheVariants.{Near, Still, Unsure};
 
 use crate::chain::end_of_chain;
+use crate::outlook::{Outlook, is_near, outlook_of};
 use sq_graph::{Graph, Term};
 use sq_layout::learn;
-use sq_lookup::in_reach;
 use sq_num::Memory;
 use std::alloc::Global;
 
 /// Whether the block ends in a Jump to the next slot.
-fn jumps_to_next(graph: &Graph, block: u32) -> bool
+pub(crate) fn jumps_to_next(graph: &Graph, block: u32) -> bool
     requires { HasBlock graph.now.graph block }
     ensures { IsTrue result ↔ JumpsToNext graph.now.graph block }
 {
@@ -68,32 +69,34 @@ pub(crate) fn carry(graph: &mut Graph, from: u32, to: u32)
     fall_each(graph);
 }
 
-/// Moves the chain of `to` behind `from` where each Branch reaches then, and answers whether it did. Where one doesn't, the
-/// chain is moved back; one that begins the layout isn't tried.
+/// Moves the chain of `to` behind `from` where each Branch reaches once Jumps to the next slot are Fall, and answers what the
+/// move comes to. Where one doesn't, the chain is moved back; one that begins the layout isn't tried.
 pub(crate) fn carry_near(
     alloc: Global,
     graph: &mut Graph,
     from: u32,
     to: u32,
-) -> Result<bool, Memory>
+) -> Result<Outlook, Memory>
     requires { IsMovable graph.old.graph from to }
-    ensures moved { result ≡ Ok true → graph.new.graph ≡ carried graph.old.graph from to }
-    ensures reach { result ≡ Ok true → IsInReach graph.new.graph }
-    ensures same { result ≡ Ok false → graph.new ≡ graph.old }
+    ensures moved { result ≡ Ok Near → graph.new.graph ≡ carried graph.old.graph from to }
+    ensures reach { result ≡ Ok Near → IsInReach (fallen graph.new.graph) }
+    ensures still { result ≡ Ok Still → words_of graph.old.graph ≤ words_of (moved graph.old.graph from to) }
+    ensures same_still { result ≡ Ok Still → graph.new ≡ graph.old }
+    ensures same { result ≡ Ok Unsure → graph.new ≡ graph.old }
     ensures kept { OnErr result (graph.new ≡ graph.old) }
 {
     learn(graph);
     let Some(before) = graph.links().previous(to) else {
-        return Ok(false);
+        return Ok(Outlook::Unsure);
     };
     let Some(end) = end_of_chain(graph, to, from) else {
         unreachable!()
     };
     graph.move_after(to, end, from);
-    let near = in_reach(alloc, graph);
-    if let Ok(true) = near {
-        return Ok(true);
+    let told = outlook_of(alloc, graph);
+    if is_near(&told) {
+        return Ok(Outlook::Near);
     }
     graph.move_after(to, end, before);
-    near
+    told
 }

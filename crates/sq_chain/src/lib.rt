@@ -11,6 +11,7 @@ mod chain;
 pub mod laws;
 mod least;
 mod moving;
+mod outlook;
 mod short;
 mod sweep;
 mod widening;

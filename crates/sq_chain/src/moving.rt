@@ -12,6 +12,7 @@ ghost use Rattle.sq_chain.specs.Candidates.{IsCandidate, described, IsMoved, Has
 
 use crate::carry::{carry, carry_near, fall_each};
 use crate::chain::movable;
+use crate::outlook::Outlook;
 use crate::widening::widen;
 use sq_graph::{Graph, Term};
 use sq_layout::{learn, words_of};
@@ -36,10 +37,11 @@ pub(crate) fn move_near(
     ensures kept { OnErr result (graph.new ≡ graph.old) }
 {
     learn(graph);
-    if !carry_near(alloc, graph, from, to)? {
-        return Ok(None);
+    match carry_near(alloc, graph, from, to)? {
+        Outlook::Near => Ok(Some(fall_each(graph))),
+        Outlook::Still => Ok(None),
+        Outlook::Unsure => Ok(None),
     }
-    Ok(Some(fall_each(graph)))
 }
 
 /// Moves the chain of `to` behind `from` on a copy of the graph, makes each Jump to the next slot Fall, and widens the
@@ -65,7 +67,8 @@ fn move_wide(alloc: Global, graph: &mut Graph, from: u32, to: u32) -> Result<boo
 }
 
 /// Moves the chain of `to` behind `from`, makes each Jump to the next slot Fall, and widens the Branches of the least set,
-/// where the words are fewer then; else the graph stays as it was. It makes a copy only where a Branch doesn't reach then.
+/// where the words are fewer then; else the graph stays as it was. It makes a copy only where there are Branches that don't
+/// reach, but fewer than words are saved.
 pub fn try_move(alloc: Global, graph: &mut Graph, from: u32, to: u32) -> Result<bool, Memory>
     requires movable { IsMovable graph.old.graph from to }
     requires blocks { length graph.old.graph.blocks ≤ 16777216 }
@@ -74,10 +77,15 @@ pub fn try_move(alloc: Global, graph: &mut Graph, from: u32, to: u32) -> Result<
     ensures same { result ≡ Ok false → graph.new ≡ graph.old }
     ensures kept { OnErr result (graph.new ≡ graph.old) }
 {
-    if move_near(alloc, graph, from, to)?.is_some() {
-        return Ok(true);
+    learn(graph);
+    match carry_near(alloc, graph, from, to)? {
+        Outlook::Near => {
+            fall_each(graph);
+            Ok(true)
+        }
+        Outlook::Still => Ok(false),
+        Outlook::Unsure => move_wide(alloc, graph, from, to),
     }
-    move_wide(alloc, graph, from, to)
 }
 
 /// The block to which this one jumps, where there is this one and the pair is movable.

@@ -1,4 +1,4 @@
-use Rattle.std.proofs.Common.{◌≡◌, ◌∙◌, ℕ, List, [], Some, Result, Ok, Err, sym, ap, subst}
+use Rattle.std.proofs.Common.{◌≡◌, ◌∙◌, ℕ, List, [], Some, Result, Ok, Err, sym, ap, subst, arith}
 use Rattle.std.specs.Prelude.{OnErr}
 use Rattle.std.proofs.lemmas.List.Elements.{All-head}
 use Rattle.sq_arena.specs.Entries.{ContainsKey, previous_key, without_run, IsRun}
@@ -10,10 +10,12 @@ use Rattle.sq_graph.specs.Operations.{moved_after}
 use Rattle.sq_graph.specs.Room.{GraphAndRoom}
 use Rattle.sq_graph.specs.Rules.{IsGraph}
 use Rattle.sq_graph.specs.Slots.{slots_from}
+use Rattle.sq_graph.specs.Words.{words_of}
 use Rattle.sq_graph.proofs.Located.{value_of-slots}
 use Rattle.sq_lookup.proofs.Targets.{targets_there}
-use Rattle.sq_chain.specs.Moves.{carried}
-use Rattle.sq_chain.proofs.Back.{back_run, back_after, back_is}
+use Rattle.sq_chain.specs.Least.{least_widened}
+use Rattle.sq_chain.specs.Moves.{carried, fallen}
+use Rattle.sq_chain.proofs.Back.{carried_words, back_run, back_after, back_is}
 use Rattle.sq_chain.proofs.Reordered.{chain_run, jumping_outside, chain_moved_rules}
 use Rattle.sq_chain.proofs.carry.carry_near.Goals as goal
 
@@ -106,4 +108,34 @@ returns-clause-kept c =
     ap (λ (k : Graph). moved_after k c.args.to c.in-Some-end_of_chain.end c.in-Some.before) mid
     ∙ ap (λ (k : ℕ). moved_after (carried g c.args.from c.args.to) c.args.to k c.in-Some.before) end
     ∙ back_is g c.args.from c.args.to c.learn.ensures.rules c.requires c.in-Some.before previous in
-    on_err c.match-near.near (same c.move_after-2.new.self c.args.graph.now (c.move_after-2.ensures.graph ∙ back) (c.move_after-2.ensures.spare ∙ c.move_after.ensures.spare))
+    on_err c.outlook_of-told.result (same c.move_after-2.new.self c.args.graph.now (c.move_after-2.ensures.graph ∙ back) (c.move_after-2.ensures.spare ∙ c.move_after.ensures.spare))
+
+pub returns-clause-same_still : goal.returns-clause-same_still
+returns-clause-same_still c = λ e.
+    let g = c.args.graph.now.graph in
+    let end = c.end_of_chain.ensures.some c.in-Some-end_of_chain.end c.in-Some-end_of_chain.is in
+    let mid : c.move_after.new.self.graph ≡ carried c.args.graph.now.graph c.args.from c.args.to = c.move_after.ensures.graph ∙ ap (λ k. moved_after g c.args.to k c.args.from) end in
+    let previous : previous_key (slots_from 0 c.args.graph.now.graph.blocks) c.args.to ≡ Some c.in-Some.before = ap (λ (es : List (ℕ × Slot)). previous_key es c.args.to) (sym c.links.ensures.blocks) ∙ sym c.previous.ensures ∙ c.in-Some.is in
+    let back : moved_after c.move_after.new.self.graph c.args.to c.in-Some-end_of_chain.end c.in-Some.before ≡ c.args.graph.now.graph =
+    ap (λ (k : Graph). moved_after k c.args.to c.in-Some-end_of_chain.end c.in-Some.before) mid
+    ∙ ap (λ (k : ℕ). moved_after (carried g c.args.from c.args.to) c.args.to k c.in-Some.before) end
+    ∙ back_is g c.args.from c.args.to c.learn.ensures.rules c.requires c.in-Some.before previous in
+    same c.move_after-2.new.self c.args.graph.now (c.move_after-2.ensures.graph ∙ back) (c.move_after-2.ensures.spare ∙ c.move_after.ensures.spare)
+
+pub returns-then-is_near-clause-reach : goal.returns-then-is_near-clause-reach
+returns-then-is_near-clause-reach c = λ e. c.outlook_of-told.ensures.near (c.is_near.ensures.0 c.if-is_near.true)
+
+pub returns-clause-moved : goal.returns-clause-moved
+returns-clause-moved c = λ e. absurd (let yes = c.is_near.ensures.1 e in let no = c.if-is_near.false in cc)
+
+pub returns-clause-reach : goal.returns-clause-reach
+returns-clause-reach c = λ e. absurd (let yes = c.is_near.ensures.1 e in let no = c.if-is_near.false in cc)
+
+pub returns-clause-still : goal.returns-clause-still
+returns-clause-still c = λ e.
+    let g = c.args.graph.now.graph in
+    let end = c.end_of_chain.ensures.some c.in-Some-end_of_chain.end c.in-Some-end_of_chain.is in
+    let mid : c.move_after.new.self.graph ≡ carried c.args.graph.now.graph c.args.from c.args.to = c.move_after.ensures.graph ∙ ap (λ k. moved_after g c.args.to k c.args.from) end in
+    let few = c.outlook_of-told.ensures.still e in
+    let words = carried_words g c.args.from c.args.to c.learn.ensures.rules c.requires in
+    omega (arith, few, words, ap words_of mid, ap (λ (k : Graph). words_of (least_widened (fallen k))) mid)
