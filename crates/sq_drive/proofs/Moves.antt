@@ -55,7 +55,7 @@ row_rewrite done old new rewrite = record {
   is = subst (λ (g : Graph). AreAlike (canonical_of g) new) (sym (row_made rewrite.cut.row old rewrite.cut (not_moved old rewrite.cut rewrite.candidate))) rewrite.is;
 }
 
--- what a move makes is what its row makes
+-- a move is a rewrite by all rows
 pub move_rewrite : (done : Rewrite) (old new : Graph) → IsRewrite IsMove move_described done old new → IsRewrite IsCandidate described done old new
 move_rewrite done old new rewrite = record {
   cut = rewrite.cut;
@@ -68,6 +68,9 @@ move_rewrite done old new rewrite = record {
 -- rewrites by the rows of the passes are rewrites by all rows
 pub by_rows : (before after : Savings) (old new : Graph) → IsRewritten IsRowCandidate row_described before after old new → IsRewritten IsCandidate described before after old new
 by_rows = stepped_wider (IsRewrite IsRowCandidate row_described) (IsRewrite IsCandidate described) row_rewrite
+
+pub by_moves : (before after : Savings) (old new : Graph) → IsRewritten IsMove move_described before after old new → IsRewritten IsCandidate described before after old new
+by_moves = stepped_wider (IsRewrite IsMove move_described) (IsRewrite IsCandidate described) move_rewrite
 
 -- WHERE NO CANDIDATE IS LEFT
 

@@ -13,7 +13,7 @@ ghost use Rattle.sq_drive.specs.Rows.{IsCandidate, described, IsLeftoverFree};
 
 use crate::once::rewrite_once;
 use crate::rows::AllRows;
-use sq_chain::move_once;
+use sq_chain::{move_once, sweep_moves};
 use sq_graph::Graph;
 use sq_layout::{learn, words_of};
 use sq_num::{Memory, Savings};
@@ -45,9 +45,9 @@ pub fn settle_by<P: Pass>(
     }
 }
 
-/// Rewrites the graph by all rows until none has a candidate, and answers the savings with what each row saved. A chain
-/// moves only where no other row has a candidate, and then these are asked again. Where it finds no memory, the graph is
-/// left as the rewrites made it so far.
+/// Rewrites the graph by all rows until none has a candidate, and answers the savings with what each row saved. Chains move
+/// only where no other row has a candidate: one is sought in the whole graph, more are moved by one look over it, and then
+/// the other rows are asked again. Where it finds no memory, the graph is left as the rewrites made it so far.
 fn settle_from(alloc: Global, graph: &mut Graph, savings: Savings) -> Result<Savings, Memory>
     requires canonical { IsCanonical graph.old.graph }
     requires words { words_of graph.old.graph + words_saved savings ≤ 1048576 }
@@ -61,7 +61,7 @@ fn settle_from(alloc: Global, graph: &mut Graph, savings: Savings) -> Result<Sav
         let Some(done) = move_once(alloc, graph)? else {
             return Ok(saved);
         };
-        saved = done.count(saved);
+        saved = sweep_moves(alloc, graph, done.count(saved))?;
     }
 }
 
