@@ -196,10 +196,19 @@ fn others_for(
     ensures some { IfOk result (λ found. IfSome found (λ chosen. CanMake graph.now.graph first chosen.items)) }
     ensures none { result ≡ Ok None → (rest : List ℕ) → ¬ CanMake graph.now.graph first rest }
 {
+    let Some(fewest) = fewest_calls(graph.items(first).len()) else {
+        return Ok(None);
+    };
+    if group.len() < fewest {
+        return Ok(None);
+    }
     if !has_body(graph, live, first, first) {
         return Ok(None);
     }
     let others = others_of(alloc, graph, live, group, first)?;
+    if others.len() + 1 < fewest {
+        return Ok(None);
+    }
     chosen_of(alloc, graph, live, first, &others)
 }
 
