@@ -15,8 +15,8 @@ ghost use Rattle.sq_outline.specs.Still.{IsStill, IsStillDead, IsDying};
 
 use crate::call::{call, call_saving};
 use crate::callers::{Body, bodies_of, body_of, callee_of, proposal};
+use crate::groups::{Groups, body_groups};
 use crate::make::make;
-use sq_finger::{Classing, classes};
 use sq_graph::{Graph, Room};
 use sq_layout::learn;
 use sq_live::{Liveness, block_names, live};
@@ -25,7 +25,7 @@ use sq_num::{Memory, Savings};
 use sq_pass::{Cut, Rewrite, Row};
 use std::alloc::Global;
 
-/// How many bodies of a class the sweep tries as that of a procedure.
+/// How many bodies of a group the sweep tries as that of a procedure.
 const TRIED: usize = 64;
 
 /// Rewrites the graph by a cut of row O1, which leaves it canonical.
@@ -77,7 +77,7 @@ fn make_for(
     rewrite_made(graph, &cut, savings)
 }
 
-/// The same for the first bodies of a class, one after another.
+/// The same for the first bodies of a group, one after another.
 #[tactic(auto, using(sq_follow::proofs::Following::graph_follows_through))]
 fn make_each(
     alloc: Global,
@@ -99,13 +99,13 @@ fn make_each(
     Ok(after)
 }
 
-/// The same for each class of blocks.
+/// The same for each group of blocks.
 #[tactic(auto, using(sq_follow::proofs::Following::graph_follows_through))]
-fn make_classes(
+fn make_groups(
     alloc: Global,
     graph: &mut Graph,
     live: &Liveness,
-    classes: &Classing,
+    groups: &Groups,
     savings: Savings,
 ) -> Result<Savings, Memory>
     requires canonical { IsCanonical graph.old.graph }
@@ -116,8 +116,8 @@ fn make_classes(
     ensures still { IsStill graph.old.graph graph.new.graph }
 {
     let mut after = savings;
-    for class in 0..classes.len() {
-        let bodies = bodies_of(alloc, graph, live, classes.members(class))?;
+    for group in 0..groups.len() {
+        let bodies = bodies_of(alloc, graph, live, groups.members(group))?;
         after = make_each(alloc, graph, &bodies, after)?;
     }
     Ok(after)
@@ -178,7 +178,7 @@ fn call_each(graph: &mut Graph, live: &Liveness, names: &[u32], savings: Savings
 }
 
 /// Rewrites the graph by rows O1 and O2. It looks for live registers once, and again where a procedure's link isn't sure
-/// without them; of each class of blocks it compares all bodies with the first ones. It may leave candidates.
+/// without them; of each group of blocks it compares all bodies with the first ones. It may leave candidates.
 pub(crate) fn sweep(alloc: Global, graph: &mut Graph, savings: Savings) -> Result<Savings, Memory>
     requires canonical { IsCanonical graph.old.graph }
     requires words { words_of graph.old.graph + words_saved savings ≤ 1048576 }
@@ -187,8 +187,8 @@ pub(crate) fn sweep(alloc: Global, graph: &mut Graph, savings: Savings) -> Resul
 {
     learn(graph);
     let live = live(alloc, graph)?;
-    let classes = classes(alloc, graph)?;
-    let made = make_classes(alloc, graph, &live, &classes, savings)?;
+    let groups = body_groups(alloc, graph)?;
+    let made = make_groups(alloc, graph, &live, &groups, savings)?;
     learn(graph);
     let names = block_names(alloc, graph)?;
     Ok(call_each(graph, &live, &names, made))
