@@ -243,9 +243,9 @@ module _ (g : Graph) (site : Site) (procedure : ℕ) (can : MatchesAt g procedur
   blocks_after : (called_there g site.block site.at procedure).blocks ≡ spot.front ++ record spot.block { items = news } ∷ spot.back
   blocks_after = with_blocks-at (λ b. record b { items = replaced_items b.items site.at (length (body_of g procedure)) (Out procedure ∷ []) } ∷ []) g.blocks site.block spot
 
-  solid_at : (front : List Item) (rest : List Item) (name : ℕ) → (b : Block) → is_bare (record b { items = front ++ Out procedure ∷ rest }) ≡ false
-  solid_at [] rest name b = refl
-  solid_at (i ∷ front) rest name b = refl
+  solid_at : (front back : List Item) (b : Block) → is_bare (record b { items = front ++ Out procedure ∷ back }) ≡ false
+  solid_at [] back b = refl
+  solid_at (i ∷ front) back b = refl
 
   taken : take size (drop site.at olds) ≡ call_items g site.block site.at procedure
   taken = sym (range_is (items_of g site.block) site.at size ∙ ap (λ (js : List Item). take size (drop site.at js)) olds_are)
@@ -274,7 +274,7 @@ module _ (g : Graph) (site : Site) (procedure : ℕ) (can : MatchesAt g procedur
   pub called_canonical : IsCanonical g → IsCanonical (called_there g site.block site.at procedure)
   called_canonical canonical =
       subst (λ bs. IsCanonical (record g { blocks = bs })) (sym blocks_after)
-      (changed_canonical spot.block news spot.back g spot.front (solid_at (take site.at olds) (drop (site.at + size) olds) 0 spot.block) kept_uses
+      (changed_canonical spot.block news spot.back g spot.front (solid_at (take site.at olds) (drop (site.at + size) olds) spot.block) kept_uses
       (subst (λ bs. IsCanonical (record g { blocks = bs })) spot.whole canonical))
 
 -- calls at several places

@@ -6,6 +6,7 @@ pub mod Linking
 pub mod Calling
 pub mod Making
 pub mod Applying
+pub mod Printing
 pub mod Keeping
 pub mod Choosing
 pub mod Grouping

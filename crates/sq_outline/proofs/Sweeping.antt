@@ -1,9 +1,9 @@
 -- A sweep: what a new procedure and its calls add to the rewrites before.
-use Rattle.std.proofs.Common.{◌≡◌, ℕ, ◌+◌, ◌≤◌, ◌<◌, ◌^◌, false, List, [], ◌∷◌, length, sum_by, refl, sym, ap, ◌∙◌, subst, arith, length-append}
+use Rattle.std.proofs.Common.{◌≡◌, ℕ, ◌+◌, ◌≤◌, ◌<◌, ◌^◌, List, [], ◌∷◌, length, sum_by, refl, sym, ap, ◌∙◌, subst, arith, length-append}
 use Rattle.std.proofs.lemmas.List.Sums.{sum_by-cons}
 use Rattle.sq_num.specs.declared.packed.Savings.{Savings}
 use Rattle.sq_graph.specs.Graph.{Block, Procedure, Graph}
-use Rattle.sq_graph.specs.Blocks.{items_of, items_of_blocks, items_of_bodies}
+use Rattle.sq_graph.specs.Blocks.{HasProcedure, items_of, items_of_blocks, items_of_bodies}
 use Rattle.sq_graph.specs.Leaders.{IsCanonical}
 use Rattle.sq_graph.specs.Operations.{outlined}
 use Rattle.sq_graph.specs.Room.{IsSmall, sum_of, count_of}
@@ -17,12 +17,15 @@ use Rattle.sq_pass.specs.Counted.{counted}
 use Rattle.sq_pass.specs.Rewrites.{IsRewritten}
 use Rattle.sq_pass.proofs.Rewriting.{rewrite_made, lighter_itself, lighter_made, rewritten_once}
 use Rattle.sq_outline.specs.Candidates.{IsCutOf, IsCandidate, described}
+use Rattle.sq_patch.specs.Calls.{IsMatching}
+use Rattle.sq_outline.specs.Called.{MayCall, call_saving, called, call_cut, IsCalledCut}
 use Rattle.sq_outline.specs.Made.{IsMade, IsMadeCut, AreMade, first_block, starts_of, made}
 use Rattle.sq_outline.specs.Still.{IsStill}
 use Rattle.sq_outline.proofs.Making.{outline_rules, may_call, made_applied}
 use Rattle.sq_outline.proofs.Applying.{make_cut_applied}
-use Rattle.sq_outline.proofs.Kept.{outlined_canonical, each_canonical}
-use Rattle.sq_outline.proofs.Still.{made_still}
+use Rattle.sq_outline.proofs.Calling.{is_matching, called_applied}
+use Rattle.sq_outline.proofs.Kept.{outlined_canonical, called_canonical, each_canonical}
+use Rattle.sq_outline.proofs.Still.{made_still, call_still}
 
 -- ROOM
 
@@ -91,3 +94,29 @@ module _ (g h : Graph) (cut : Cut) (rules : IsGraph g) (candidate : IsMadeCut g 
 pub cut_words : (g : Graph) (cut : Cut) → IsGraph g → IsMadeCut g cut → cut.saving ≤ words_of g
 cut_words g cut rules candidate =
     let applied = made_applied g candidate.first candidate.others cut.link cut.saving rules candidate.made in omega (arith, applied.words)
+
+-- A CALL OF ROW O2
+
+module _ (g h : Graph) (block procedure : ℕ) (rules : IsGraph g) (there : HasProcedure g procedure) (may : MayCall g block procedure) (is : h ≡ called g block procedure) where
+  matching : IsMatching g block 0 procedure
+  matching = is_matching g block procedure (call_saving g procedure) rules may
+
+  is_cut : IsCalledCut g (call_cut block procedure (call_saving g procedure))
+  is_cut = record { block = block; called = may; is = refl }
+
+  pub called_still : IsStill g h
+  called_still = subst (IsStill g) (sym is) (call_still g (record { block = block; at = 0 }) procedure rules matching)
+
+  pub call_rewritten : (before after : Savings) → IsCanonical g → after ≡ counted before O2 (call_saving g procedure) → IsRewritten IsCandidate described before after g h
+  call_rewritten before after canonical counts =
+      let done = called_applied g block procedure (call_saving g procedure) rules may in
+      let applied : IsApplied (call_saving g procedure) (called g block procedure) g h = subst (IsApplied (call_saving g procedure) (called g block procedure) g) (sym is) done in
+      let still : IsCanonical h = subst IsCanonical (sym is) (called_canonical g (record { block = block; at = 0 }) procedure matching canonical) in
+      subst (λ s. IsRewritten IsCandidate described before s g h) (sym counts)
+      (rewritten_once IsCandidate described before (record { row = O2; saving = call_saving g procedure }) g h
+      (rewrite_made IsCandidate described (call_cut block procedure (call_saving g procedure)) g h h is_cut applied (sym (canonical_again h still)))
+      (lighter_made (call_saving g procedure) (called g block procedure) g h h applied (lighter_itself h still)))
+
+pub call_words : (g : Graph) (block procedure : ℕ) → IsGraph g → MayCall g block procedure → call_saving g procedure ≤ words_of g
+call_words g block procedure rules may =
+    let applied = called_applied g block procedure (call_saving g procedure) rules may in omega (arith, applied.words)

@@ -9,3 +9,4 @@ pub mod RecalledNumbers
 pub mod Inlined
 pub mod InlineSteps
 pub mod Still
+pub mod Prints

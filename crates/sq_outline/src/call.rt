@@ -96,7 +96,7 @@ fn find_call(graph: &Graph, live: &Liveness, names: &[u32]) -> Option<(u32, u32)
 }
 
 /// How many words a call of the procedure saves where its body stands.
-fn call_saving(graph: &Graph, block: u32, procedure: u32) -> u32
+pub(crate) fn call_saving(graph: &Graph, block: u32, procedure: u32) -> u32
     requires procedure { HasProcedure graph.now.graph procedure }
     requires may { MayCall graph.now.graph block procedure }
     ensures { result ≡ call_saving graph.now.graph procedure }

@@ -2,7 +2,8 @@
 
 ghost use Rattle.std.specs.Prelude.{◌<◌, IsTrue, IfOk, IfSome, length, slice_index};
 ghost use Rattle.std.specs.List.{All};
-ghost use Rattle.sq_graph.specs.Blocks.{HasBlock, items_of};
+ghost use Rattle.sq_graph.specs.Blocks.{HasBlock, HasProcedure, items_of};
+ghost use Rattle.sq_outline.specs.Called.{MayCall};
 ghost use Rattle.sq_outline.specs.Made.{HasBody, AreMade, IsMakeCut, IsMadeCut};
 ghost use Rattle.sq_outline.specs.Still.{IsStillDead, IsDying, IsCaller, MayCallThrough, IsFirstFree};
 
@@ -28,7 +29,7 @@ pub(crate) struct Body {
 }
 
 /// The body of a block, where its items are two at least and none of them is an Out, LR or SC.
-fn body_of(graph: &Graph, live: &Liveness, block: u32) -> Option<Body>
+pub(crate) fn body_of(graph: &Graph, live: &Liveness, block: u32) -> Option<Body>
     requires block { HasBlock graph.now.graph block }
     requires live { IsStillDead live.now graph.now.graph }
     ensures { IfSome result (IsDying graph.now.graph) }
@@ -254,4 +255,36 @@ pub(crate) fn proposal(
         return Ok(None);
     }
     cut_for(alloc, graph, first, &callers, fewest)
+}
+
+/// Whether a call of the procedure may stand for the body, and saves a word. It may miss one by registers that were live
+/// before.
+fn may_still_call(graph: &Graph, body: &Body, procedure: u32) -> bool
+    requires procedure { HasProcedure graph.now.graph procedure }
+    requires body { IsDying graph.now.graph body.now }
+    ensures { IsTrue result → MayCall graph.now.graph body.now.block procedure }
+{
+    learn(graph);
+    let items = graph.body(procedure);
+    if items.len() < 2 {
+        return false;
+    }
+    let dead = body.dead;
+    if !dead.has(graph.link(procedure)) {
+        return false;
+    }
+    has_items(graph, body, items)
+}
+
+/// The first procedure of which a call may stand for the body.
+pub(crate) fn callee_of(graph: &Graph, body: &Body) -> Option<u32>
+    requires { IsDying graph.now.graph body.now }
+    ensures { IfSome result (λ procedure. HasProcedure graph.now.graph procedure × MayCall graph.now.graph body.now.block procedure) }
+{
+    for procedure in 0..graph.procedures() {
+        if may_still_call(graph, body, procedure) {
+            return Some(procedure);
+        }
+    }
+    None
 }

@@ -7,6 +7,7 @@
 
 mod call;
 mod callers;
+mod groups;
 mod inline;
 mod link;
 mod make;

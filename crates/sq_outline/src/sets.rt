@@ -3,16 +3,15 @@
 ghost use Rattle.std.specs.Prelude.{◌≡◌, ◌↔◌, ◌<◌, ◌≤◌, ◌^◌, ℕ, List, None, Ok, IsTrue, IfOk, IfSome, MatchOption};
 ghost use Rattle.std.specs.List.{All};
 ghost use Rattle.sq_graph.specs.Blocks.{HasBlock, items_of};
-ghost use Rattle.sq_graph.specs.Parts.{names_of};
-ghost use Rattle.sq_finger.specs.Classes.{block_kind, classes_of};
 ghost use Rattle.sq_finger.specs.Groups.{AreClasses};
 ghost use Rattle.sq_live.specs.Liveness.{IsLivenessOf};
 ghost use Rattle.sq_outline.specs.Made.{HasBody};
+ghost use Rattle.sq_outline.specs.Prints.{print_of, print_groups};
 ghost use Rattle.sq_outline.specs.Sets.{Keeps, IsOther, AreOthers, IsGroupOf, IsDeadBehind, Pays, IsTried, CanMake};
 
+use crate::groups::{Groups, body_groups};
 use crate::link::{ORDER, is_unmentioned};
 use crate::plain::are_plain;
-use sq_finger::{Classing, classes};
 use sq_graph::Graph;
 use sq_isa::Reg;
 use sq_layout::learn;
@@ -196,10 +195,19 @@ fn others_for(
     ensures some { IfOk result (λ found. IfSome found (λ chosen. CanMake graph.now.graph first chosen.items)) }
     ensures none { result ≡ Ok None → (rest : List ℕ) → ¬ CanMake graph.now.graph first rest }
 {
+    let Some(fewest) = fewest_calls(graph.items(first).len()) else {
+        return Ok(None);
+    };
+    if group.len() < fewest {
+        return Ok(None);
+    }
     if !has_body(graph, live, first, first) {
         return Ok(None);
     }
     let others = others_of(alloc, graph, live, group, first)?;
+    if others.len() + 1 < fewest {
+        return Ok(None);
+    }
     chosen_of(alloc, graph, live, first, &others)
 }
 
@@ -223,22 +231,22 @@ fn find_in(
     Ok(None)
 }
 
-/// The same over all classes of blocks.
+/// The same over all groups of blocks.
 fn find_among(
     alloc: Global,
     graph: &Graph,
     live: &Liveness,
-    classes: &Classing,
+    groups: &Groups,
 ) -> Result<Option<(u32, Vec<u32>)>, Memory>
     requires live { IsLivenessOf graph.now.graph live.now }
-    requires value { classes.now ≡ classes_of graph.now.graph }
-    requires classes { AreClasses (block_kind graph.now.graph) (HasBlock graph.now.graph) classes.now }
+    requires value { groups.now ≡ print_groups graph.now.graph }
+    requires classes { AreClasses (print_of graph.now.graph) (HasBlock graph.now.graph) groups.now }
     ensures some { IfOk result (λ found. IfSome found (λ set. CanMake graph.now.graph set.0 set.1.items)) }
     ensures none { result ≡ Ok None → (first : ℕ) (rest : List ℕ) → ¬ CanMake graph.now.graph first rest }
 {
     learn(graph);
-    for number in 0..classes.len() {
-        if let Some(set) = find_in(alloc, graph, live, classes.members(number))? {
+    for number in 0..groups.len() {
+        if let Some(set) = find_in(alloc, graph, live, groups.members(number))? {
             return Ok(Some(set));
         }
     }
@@ -246,7 +254,7 @@ fn find_among(
 }
 
 /// A block, and others with which its body may become a procedure, where there are such. It compares the bodies of each
-/// class of blocks with each other.
+/// group of blocks whose items have equal forms with each other.
 pub(crate) fn find_set(
     alloc: Global,
     graph: &Graph,
@@ -256,6 +264,6 @@ pub(crate) fn find_set(
     ensures some { IfOk result (λ found. IfSome found (λ set. CanMake graph.now.graph set.0 set.1.items)) }
     ensures none { result ≡ Ok None → (first : ℕ) (rest : List ℕ) → ¬ CanMake graph.now.graph first rest }
 {
-    let classes = classes(alloc, graph)?;
-    find_among(alloc, graph, live, &classes)
+    let groups = body_groups(alloc, graph)?;
+    find_among(alloc, graph, live, &groups)
 }

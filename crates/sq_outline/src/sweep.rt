@@ -3,25 +3,29 @@
 ghost use Rattle.std.specs.Prelude.{◌≤◌, ◌+◌, IfOk};
 ghost use Rattle.std.specs.List.{All};
 ghost use Rattle.sq_num.specs.Saved.{words_saved};
+ghost use Rattle.sq_graph.specs.Blocks.{HasProcedure};
 ghost use Rattle.sq_graph.specs.Leaders.{IsCanonical};
 ghost use Rattle.sq_graph.specs.Words.{words_of};
 ghost use Rattle.sq_follow.specs.Follows.{Follows};
 ghost use Rattle.sq_pass.specs.Rewrites.{IsRewritten};
 ghost use Rattle.sq_outline.specs.Candidates.{IsCandidate, described};
+ghost use Rattle.sq_outline.specs.Called.{MayCall};
 ghost use Rattle.sq_outline.specs.Made.{IsMadeCut};
 ghost use Rattle.sq_outline.specs.Still.{IsStill, IsStillDead, IsDying};
 
-use crate::callers::{Body, bodies_of, proposal};
+use crate::call::{call, call_saving};
+use crate::callers::{Body, bodies_of, body_of, callee_of, proposal};
+use crate::groups::{Groups, body_groups};
 use crate::make::make;
-use sq_finger::{Classing, classes};
 use sq_graph::{Graph, Room};
 use sq_layout::learn;
-use sq_live::{Liveness, live};
+use sq_live::{Liveness, block_names, live};
+use sq_lookup::is_block;
 use sq_num::{Memory, Savings};
 use sq_pass::{Cut, Rewrite, Row};
 use std::alloc::Global;
 
-/// How many bodies of a class the sweep tries as that of a procedure.
+/// How many bodies of a group the sweep tries as that of a procedure.
 const TRIED: usize = 64;
 
 /// Rewrites the graph by a cut of row O1, which leaves it canonical.
@@ -73,7 +77,7 @@ fn make_for(
     rewrite_made(graph, &cut, savings)
 }
 
-/// The same for the first bodies of a class, one after another.
+/// The same for the first bodies of a group, one after another.
 #[tactic(auto, using(sq_follow::proofs::Following::graph_follows_through))]
 fn make_each(
     alloc: Global,
@@ -95,13 +99,13 @@ fn make_each(
     Ok(after)
 }
 
-/// The same for each class of blocks.
+/// The same for each group of blocks.
 #[tactic(auto, using(sq_follow::proofs::Following::graph_follows_through))]
-fn make_classes(
+fn make_groups(
     alloc: Global,
     graph: &mut Graph,
     live: &Liveness,
-    classes: &Classing,
+    groups: &Groups,
     savings: Savings,
 ) -> Result<Savings, Memory>
     requires canonical { IsCanonical graph.old.graph }
@@ -112,15 +116,69 @@ fn make_classes(
     ensures still { IsStill graph.old.graph graph.new.graph }
 {
     let mut after = savings;
-    for class in 0..classes.len() {
-        let bodies = bodies_of(alloc, graph, live, classes.members(class))?;
+    for group in 0..groups.len() {
+        let bodies = bodies_of(alloc, graph, live, groups.members(group))?;
         after = make_each(alloc, graph, &bodies, after)?;
     }
     Ok(after)
 }
 
+/// Makes the body of a block a call, by row O2, which leaves the graph canonical.
+fn rewrite_called(graph: &mut Graph, block: u32, procedure: u32, savings: Savings) -> Savings
+    requires canonical { IsCanonical graph.old.graph }
+    requires words { words_of graph.old.graph + words_saved savings ≤ 1048576 }
+    requires procedure { HasProcedure graph.old.graph procedure }
+    requires may { MayCall graph.old.graph block procedure }
+    ensures rewritten { IsRewritten IsCandidate described savings result graph.old.graph graph.new.graph }
+    ensures still { IsStill graph.old.graph graph.new.graph }
+{
+    learn(graph);
+    let saving = call_saving(graph, block, procedure);
+    call(graph, block, 0, procedure);
+    let done = Rewrite {
+        row: Row::O2,
+        saving,
+    };
+    done.count(savings)
+}
+
+/// The same where the block has a body that a call may stand for.
+#[tactic(auto, using(crate::proofs::Still::still_itself, sq_pass::proofs::Rewriting::rewritten_itself))]
+fn call_for(graph: &mut Graph, live: &Liveness, block: u32, savings: Savings) -> Savings
+    requires canonical { IsCanonical graph.old.graph }
+    requires words { words_of graph.old.graph + words_saved savings ≤ 1048576 }
+    requires live { IsStillDead live.now graph.old.graph }
+    ensures rewritten { IsRewritten IsCandidate described savings result graph.old.graph graph.new.graph }
+    ensures still { IsStill graph.old.graph graph.new.graph }
+{
+    if !is_block(graph, block) {
+        return savings;
+    }
+    let Some(body) = body_of(graph, live, block) else {
+        return savings;
+    };
+    let Some(procedure) = callee_of(graph, &body) else {
+        return savings;
+    };
+    rewrite_called(graph, body.block, procedure, savings)
+}
+
+/// The same for each of these blocks.
+fn call_each(graph: &mut Graph, live: &Liveness, names: &[u32], savings: Savings) -> Savings
+    requires canonical { IsCanonical graph.old.graph }
+    requires words { words_of graph.old.graph + words_saved savings ≤ 1048576 }
+    requires live { IsStillDead live.now graph.old.graph }
+    ensures { IsRewritten IsCandidate described savings result graph.old.graph graph.new.graph }
+{
+    let mut after = savings;
+    for name in names {
+        after = call_for(graph, live, *name, after);
+    }
+    after
+}
+
 /// Rewrites the graph by rows O1 and O2. It looks for live registers once, and again where a procedure's link isn't sure
-/// without them; of each class of blocks it compares all bodies with the first ones. It may leave candidates.
+/// without them; of each group of blocks it compares all bodies with the first ones. It may leave candidates.
 pub(crate) fn sweep(alloc: Global, graph: &mut Graph, savings: Savings) -> Result<Savings, Memory>
     requires canonical { IsCanonical graph.old.graph }
     requires words { words_of graph.old.graph + words_saved savings ≤ 1048576 }
@@ -129,6 +187,9 @@ pub(crate) fn sweep(alloc: Global, graph: &mut Graph, savings: Savings) -> Resul
 {
     learn(graph);
     let live = live(alloc, graph)?;
-    let classes = classes(alloc, graph)?;
-    make_classes(alloc, graph, &live, &classes, savings)
+    let groups = body_groups(alloc, graph)?;
+    let made = make_groups(alloc, graph, &live, &groups, savings)?;
+    learn(graph);
+    let names = block_names(alloc, graph)?;
+    Ok(call_each(graph, &live, &names, made))
 }

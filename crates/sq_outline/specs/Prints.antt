@@ -1,0 +1,34 @@
+-- Blocks in groups by the forms of their items.
+use Rattle.std.specs.Prelude.{ℕ, nat_eq, ◌+◌, ◌*◌, ◌%◌, ◌^◌, List, [], ◌∷◌, Some, map}
+use Rattle.sq_isa.specs.Encoding.{word_of}
+use Rattle.sq_graph.specs.declared.item.Item.{Item}
+use Rattle.sq_graph.specs.declared.item.Item.TheVariants.{Op, Hi, Lo, Out}
+use Rattle.sq_graph.specs.Graph.{Graph}
+use Rattle.sq_graph.specs.Blocks.{items_of}
+use Rattle.sq_graph.specs.Parts.{names_of}
+use Rattle.sq_rename.specs.Shapes.{shape_of}
+use Rattle.sq_finger.specs.Groups.{groups_of}
+use Rattle.sq_finger.specs.Numbers.{numbers_of}
+
+-- the number of an item: of an instruction its word, and else the block or the procedure that it names
+abbrev pub item_number : Item → ℕ
+item_number (Op insn) = word_of insn
+item_number (Hi rd to) = 2 ^ 32 + to
+item_number (Lo rd rs to) = 2 ^ 33 + to
+item_number (Out procedure) = 3 * 2 ^ 32 + procedure
+
+-- a print with one number more
+abbrev pub mixed : ℕ → ℕ → ℕ
+mixed print number = (print * 1540483477 + number) % 4294967291
+
+abbrev pub mixed_all : ℕ → List Item → ℕ
+mixed_all print [] = print
+mixed_all print (item ∷ items) = mixed_all (mixed print (item_number item)) items
+
+-- the print of a block: that of the shapes of its items
+abbrev pub print_of : Graph → ℕ → ℕ
+print_of g block = mixed_all 0 (map shape_of (items_of g block))
+
+-- the names of the blocks of one print are a group; the groups in the order in which they are first seen
+abbrev pub print_groups : Graph → List (List ℕ)
+print_groups g = groups_of (numbers_of nat_eq (map (λ name. Some (print_of g name)) (names_of g))) (names_of g)
