@@ -21,3 +21,6 @@ pub mod Admitting
 pub mod Sweeping
 pub mod Grown
 pub mod StillDead
+pub mod Uses
+pub mod Halved
+pub mod StillCanonical

@@ -19,6 +19,7 @@ use Rattle.sq_graph.specs.Room.{GraphAndRoom, IsSmall, sum_of, count_of, total_o
 use Rattle.sq_graph.specs.Rules.{IsGraph}
 use Rattle.sq_graph.specs.Soundness.{IsSound}
 use Rattle.sq_graph.specs.Words.{block_words, words_of}
+use Rattle.sq_graph.proofs.CanonicalLaws.{canonical_keeps_words}
 use Rattle.sq_graph.proofs.CanonicalReach.{canonical_in_reach}
 use Rattle.sq_follow.specs.Follows.{Follows}
 use Rattle.sq_patch.proofs.Joining.{canonical_follows, canonical_sound}
@@ -30,6 +31,7 @@ use Rattle.sq_pass.specs.Rewrites.{IsLighter, IsRewritten}
 use Rattle.sq_pass.proofs.Rewriting.{rewrite_made, lighter_made, rewritten_once, rewritten_through}
 use Rattle.sq_tail.specs.Candidates.{IsCandidate, described, one_block}
 use Rattle.sq_tail.specs.Ends.{IsLongestEnd}
+use Rattle.sq_tail.specs.StillDead.{IsJoinedWhole}
 use Rattle.sq_tail.specs.Tails.{end_words, tail_cut, AreTails, fresh, joined, IsJoined}
 use Rattle.sq_tail.proofs.Admitting.{tails_there, candidate_applied}
 use Rattle.sq_tail.proofs.Cutting.{end_cut}
@@ -85,6 +87,12 @@ pub pair_rewritten : (g mid new : Graph) (dropped kept n saving : ℕ) (before a
 pair_rewritten g mid new dropped kept n saving before after rules candidate join made canonical words is counts =
     subst (λ s. IsRewritten IsCandidate described before s g new) (sym (counts ∙ ap (counted before T) is))
     (cut_rewritten (tail_cut g dropped kept n) before g mid new candidate (candidate_applied g mid (tail_cut g dropped kept n) dropped kept rules candidate refl join) made canonical words)
+
+-- the same by the graph that they make
+pub whole_rewritten : (g new : Graph) (dropped kept n saving : ℕ) (before after : Savings) → IsGraph g → IsCandidate g (tail_cut g dropped kept n) → IsJoinedWhole g dropped kept n new → IsCanonical new → saving ≡ n - 1 + end_words g dropped → after ≡ counted before T saving → IsRewritten IsCandidate described before after g new
+whole_rewritten g new dropped kept n saving before after rules candidate (mid, (join, made)) canonical is counts =
+    let applied = candidate_applied g mid (tail_cut g dropped kept n) dropped kept rules candidate refl join in
+    pair_rewritten g mid new dropped kept n saving before after rules candidate join made canonical (ap words_of made ∙ canonical_keeps_words mid applied.rules) is counts
 
 pub pair_there : (g : Graph) (dropped kept n : ℕ) → IsCandidate g (tail_cut g dropped kept n) → AreTails g dropped kept n
 pair_there g dropped kept n candidate = tails_there g (tail_cut g dropped kept n) dropped kept candidate refl

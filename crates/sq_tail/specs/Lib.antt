@@ -8,3 +8,4 @@ pub mod BodiesPrints
 pub mod BodiesEarlier
 pub mod Admitted
 pub mod StillDead
+pub mod Names

@@ -159,8 +159,7 @@ fn join_all(
 }
 
 /// Rewrites the graph by row T where one look finds blocks that go on alike and whose last items are equal: first those
-/// with four of them, then with three, two and one. For each rewrite it makes the graph canonical. It may leave candidates,
-/// among them those that the rewrites make.
+/// with four of them, then with three, two and one. It may leave candidates, among them those that the rewrites make.
 pub(crate) fn sweep_ends(
     alloc: Global,
     graph: &mut Graph,
