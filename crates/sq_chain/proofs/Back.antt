@@ -8,6 +8,7 @@ use Rattle.sq_arena.proofs.EntriesLaws.{absent_ahead, behind-append, starting_at
 use Rattle.sq_graph.specs.Graph.{Block, Graph}
 use Rattle.sq_graph.specs.Blocks.{named, block_term}
 use Rattle.sq_graph.specs.Operations.{moved_after}
+use Rattle.sq_graph.specs.Room.{GraphAndRoom}
 use Rattle.sq_graph.specs.Rules.{IsGraph}
 use Rattle.sq_graph.specs.Slots.{slots_from}
 use Rattle.sq_graph.specs.Words.{block_words, words_of}
@@ -176,17 +177,33 @@ module _ (g : Graph) (from to : ℕ) (rules : IsGraph g) (movable : IsMovable g 
     ahead : last_key (before es to) ≡ Some p
     ahead = previous_named g.blocks to ∙ sym (previous_is g.blocks to) ∙ previous
 
-    pub back_run : IsRun (named (carried g from to).blocks) to (chain_end g to)
-    back_run =
-        subst (λ (ps : List (ℕ × Block)). IsRun ps to last) (sym (again g from to rules movable)) (back_is_run es to last from p rules.distinct (chain_run g from to rules movable) ahead)
+    -- the graph after the one move
+    module _ (mid : Graph) (end : ℕ) (end_is : end ≡ chain_end g to) (is : mid ≡ moved_after g to end from) where
+      mid_named : named mid.blocks ≡ M
+      mid_named =
+          ap (λ (k : Graph). named k.blocks) is
+          ∙ ap (λ (k : ℕ). named (moved_after g to k from).blocks) end_is
+          ∙ again g from to rules movable
 
-    pub back_after : ContainsKey (without_run (named (carried g from to).blocks) to (chain_end g to)) p
-    back_after =
-        subst (λ (ps : List (ℕ × Block)). ContainsKey (without_run ps to last) p) (sym (again g from to rules movable)) (back_outside es to last from p rules.distinct (chain_run g from to rules movable) ahead)
+      pub back_run : IsRun (named mid.blocks) to end
+      back_run =
+          subst (λ (k : ℕ). IsRun (named mid.blocks) to k) (sym end_is)
+          (subst (λ (ps : List (ℕ × Block)). IsRun ps to last) (sym mid_named) (back_is_run es to last from p rules.distinct (chain_run g from to rules movable) ahead))
 
-    pub back_is : moved_after (carried g from to) to (chain_end g to) p ≡ g
-    back_is =
-        ap (λ (bs : List Block). record g { blocks = bs })
-        (ap (λ (ps : List (ℕ × Block)). map (λ e. e.1) (move_run_after ps to last p)) (again g from to rules movable)
-        ∙ ap (λ (ps : List (ℕ × Block)). map (λ e. e.1) ps) (run_back es to last from p rules.distinct (chain_run g from to rules movable) ahead)
-        ∙ blocks_again g.blocks)
+      pub back_after : ContainsKey (without_run (named mid.blocks) to end) p
+      back_after =
+          subst (λ (k : ℕ). ContainsKey (without_run (named mid.blocks) to k) p) (sym end_is)
+          (subst (λ (ps : List (ℕ × Block)). ContainsKey (without_run ps to last) p) (sym mid_named) (back_outside es to last from p rules.distinct (chain_run g from to rules movable) ahead))
+
+      pub back_is : moved_after mid to end p ≡ g
+      back_is =
+          ap (λ (k : Graph). moved_after k to end p) is
+          ∙ ap (λ (k : ℕ). moved_after (moved_after g to k from) to k p) end_is
+          ∙ ap (λ (bs : List Block). record g { blocks = bs })
+          (ap (λ (ps : List (ℕ × Block)). map (λ e. e.1) (move_run_after ps to last p)) (again g from to rules movable)
+          ∙ ap (λ (ps : List (ℕ × Block)). map (λ e. e.1) ps) (run_back es to last from p rules.distinct (chain_run g from to rules movable) ahead)
+          ∙ blocks_again g.blocks)
+
+      -- and its room
+      pub room_back : (old there new : GraphAndRoom) → old.graph ≡ g → new.graph ≡ moved_after mid to end p → there.spare ≡ old.spare → new.spare ≡ there.spare → new ≡ old
+      room_back old there new was graph one two = λ i. record { graph = (graph ∙ back_is ∙ sym was) i; spare = (two ∙ one) i }
