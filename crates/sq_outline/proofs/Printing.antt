@@ -1,5 +1,5 @@
 -- Blocks whose items have equal forms have one print.
-use Rattle.std.proofs.Common.{◌≡◌, ℕ, ◌==◌, List, [], ◌∷◌, map, inl, inr, refl, sym, ap, ◌∙◌}
+use Rattle.std.proofs.Common.{◌≡◌, ℕ, ◌==◌, zero, suc, List, [], ◌∷◌, slice_get, Option, false, IsSome, is_some, map, inl, inr, refl, sym, ap, ◌∙◌, subst}
 use Rattle.std.specs.List.{All}
 use Rattle.std.proofs.lemmas.Bool.{cases_Bool}
 use Rattle.std.proofs.lemmas.List.Elements.{All-nil}
@@ -10,13 +10,14 @@ use Rattle.sq_isa.specs.Forms.{form_of, first_of, second_of, with_registers}
 use Rattle.sq_isa.specs.Uses.{destination_of}
 use Rattle.sq_graph.specs.declared.item.Item.{Item}
 use Rattle.sq_graph.specs.declared.item.Item.TheVariants.{Op, Hi, Lo, Out}
-use Rattle.sq_graph.specs.Graph.{Block, Graph}
-use Rattle.sq_graph.specs.Blocks.{named, block_items, items_of, items_of_blocks, items_of_bodies}
+use Rattle.sq_graph.specs.Graph.{Block, Procedure, Graph}
+use Rattle.sq_graph.specs.Blocks.{named, HasProcedure, block_items, items_of, body_of, procedure_body, items_of_blocks, items_of_bodies}
 use Rattle.sq_graph.specs.Matches.{IsSameForm, AreSameForms}
 use Rattle.sq_graph.specs.Rules.{ItemFits, IsGraph}
 use Rattle.sq_graph.proofs.Eachs.{All-left, All-right}
 use Rattle.sq_rename.specs.Shapes.{shape_of}
-use Rattle.sq_outline.specs.Prints.{mixed_all, print_of}
+use Rattle.sq_outline.specs.Prints.{mixed_all, print_of_items, print_of, HasPrints}
+use Rattle.sq_outline.specs.Called.{MayCall}
 
 -- the registers are no part of the form
 form_with : (d a b : ℕ) (insn : Insn) → form_of (with_registers d a b insn) ≡ form_of insn
@@ -51,8 +52,11 @@ same_shapes (i ∷ items) (j ∷ others) forms =
     let rest = same_shapes items others forms.1 in
     cc
 
+pub same_print : (items others : List Item) → AreSameForms items others → print_of_items others ≡ print_of_items items
+same_print items others forms = ap (mixed_all 0) (sym (same_shapes items others forms))
+
 pub one_print : (g : Graph) (a b : ℕ) → AreSameForms (items_of g a) (items_of g b) → print_of g b ≡ print_of g a
-one_print g a b forms = ap (mixed_all 0) (sym (same_shapes (items_of g a) (items_of g b) forms))
+one_print g a b forms = same_print (items_of g a) (items_of g b) forms
 
 -- THE ITEMS OF A BLOCK FIT
 
@@ -66,3 +70,18 @@ blocks_fit (b ∷ bs) name all =
 
 pub items_fit : (g : Graph) (name : ℕ) → IsGraph g → All ItemFits (items_of g name)
 items_fit g name rules = blocks_fit g.blocks name (All-left ItemFits (items_of_blocks g.blocks) (items_of_bodies g.procedures) rules.items)
+
+bodies_fit : (ps : List Procedure) (p : ℕ) → All ItemFits (items_of_bodies ps) → All ItemFits (procedure_body (slice_get ps p))
+bodies_fit [] p all = All-nil ItemFits
+bodies_fit (q ∷ ps) zero all = All-left ItemFits q.body (items_of_bodies ps) all
+bodies_fit (q ∷ ps) (suc p) all = bodies_fit ps p (All-right ItemFits q.body (items_of_bodies ps) all)
+
+pub body_fits : (g : Graph) (p : ℕ) → IsGraph g → All ItemFits (body_of g p)
+body_fits g p rules = bodies_fit g.procedures p (All-right ItemFits (items_of_blocks g.blocks) (items_of_bodies g.procedures) rules.items)
+
+-- where no procedure has the print of a block, none may be called there
+pub no_print : (g : Graph) (block : ℕ) (prints : ℕ → Option ℕ) → HasPrints g prints → is_some (prints (print_of g block)) ≡ false → (procedure : ℕ) → HasProcedure g procedure → ¬ MayCall g block procedure
+no_print g block prints has none procedure there may =
+    let same : print_of_items (body_of g procedure) ≡ print_of g block = same_print (items_of g block) (body_of g procedure) may.body.match.match.forms in
+    let some : IsSome (prints (print_of g block)) = subst (λ n. IsSome (prints n)) same (has procedure there) in
+    absurd (cc)
