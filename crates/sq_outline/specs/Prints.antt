@@ -1,6 +1,7 @@
 -- Blocks in groups by the forms of their items.
 use Rattle.std.specs.Prelude.{ℕ, nat_eq, ◌+◌, ◌*◌, ◌%◌, ◌^◌, List, [], ◌∷◌, Option, Some, IsSome, map}
 use Rattle.sq_isa.specs.Encoding.{word_of}
+use Rattle.sq_isa.specs.Forms.{first_of, second_of}
 use Rattle.sq_graph.specs.declared.item.Item.{Item}
 use Rattle.sq_graph.specs.declared.item.Item.TheVariants.{Op, Hi, Lo, Out}
 use Rattle.sq_graph.specs.Graph.{Graph}
@@ -25,9 +26,21 @@ abbrev pub mixed_all : ℕ → List Item → ℕ
 mixed_all print [] = print
 mixed_all print (item ∷ items) = mixed_all (mixed print (item_number item)) items
 
--- the print of items: that of their shapes
+-- The number of the registers that an item reads. Those that the first item of a body reads are written by none before it,
+-- so they are the same in all bodies that match.
+abbrev pub sources_number : Item → ℕ
+sources_number (Op insn) = first_of insn + 32 * second_of insn
+sources_number (Hi rd to) = 0
+sources_number (Lo rd rs to) = rs
+sources_number (Out procedure) = 0
+
+abbrev pub first_sources : List Item → ℕ
+first_sources [] = 0
+first_sources (item ∷ items) = sources_number item
+
+-- the print of items: that of their shapes, behind the registers that the first one reads
 abbrev pub print_of_items : List Item → ℕ
-print_of_items items = mixed_all 0 (map shape_of items)
+print_of_items items = mixed_all (first_sources items) (map shape_of items)
 
 abbrev pub print_of : Graph → ℕ → ℕ
 print_of g block = print_of_items (items_of g block)
