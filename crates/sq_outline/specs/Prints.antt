@@ -1,10 +1,11 @@
 -- Blocks in groups by the forms of their items.
-use Rattle.std.specs.Prelude.{ℕ, nat_eq, ◌+◌, ◌*◌, ◌%◌, ◌^◌, List, [], ◌∷◌, Some, map}
+use Rattle.std.specs.Prelude.{ℕ, nat_eq, ◌+◌, ◌*◌, ◌%◌, ◌^◌, List, [], ◌∷◌, Option, Some, IsSome, map}
 use Rattle.sq_isa.specs.Encoding.{word_of}
+use Rattle.sq_isa.specs.Forms.{first_of, second_of}
 use Rattle.sq_graph.specs.declared.item.Item.{Item}
 use Rattle.sq_graph.specs.declared.item.Item.TheVariants.{Op, Hi, Lo, Out}
 use Rattle.sq_graph.specs.Graph.{Graph}
-use Rattle.sq_graph.specs.Blocks.{items_of}
+use Rattle.sq_graph.specs.Blocks.{HasProcedure, items_of, body_of}
 use Rattle.sq_graph.specs.Parts.{names_of}
 use Rattle.sq_rename.specs.Shapes.{shape_of}
 use Rattle.sq_finger.specs.Groups.{groups_of}
@@ -25,9 +26,28 @@ abbrev pub mixed_all : ℕ → List Item → ℕ
 mixed_all print [] = print
 mixed_all print (item ∷ items) = mixed_all (mixed print (item_number item)) items
 
--- the print of a block: that of the shapes of its items
+-- The number of the registers that an item reads. Those that the first item of a body reads are written by none before it,
+-- so they are the same in all bodies that match.
+abbrev pub sources_number : Item → ℕ
+sources_number (Op insn) = first_of insn + 32 * second_of insn
+sources_number (Hi rd to) = 0
+sources_number (Lo rd rs to) = rs
+sources_number (Out procedure) = 0
+
+abbrev pub first_sources : List Item → ℕ
+first_sources [] = 0
+first_sources (item ∷ items) = sources_number item
+
+-- the print of items: that of their shapes, behind the registers that the first one reads
+abbrev pub print_of_items : List Item → ℕ
+print_of_items items = mixed_all (first_sources items) (map shape_of items)
+
 abbrev pub print_of : Graph → ℕ → ℕ
-print_of g block = mixed_all 0 (map shape_of (items_of g block))
+print_of g block = print_of_items (items_of g block)
+
+-- each print of a procedure's body has something
+abbrev pub HasPrints : Graph → (ℕ → Option ℕ) → Type 0
+HasPrints g prints = (p : ℕ) → HasProcedure g p → IsSome (prints (print_of_items (body_of g p)))
 
 -- the names of the blocks of one print are a group; the groups in the order in which they are first seen
 abbrev pub print_groups : Graph → List (List ℕ)

@@ -254,7 +254,7 @@ fn find_among(
 }
 
 /// A block, and others with which its body may become a procedure, where there are such. It compares the bodies of each
-/// group of blocks whose items have equal forms with each other.
+/// group of blocks of one print with each other.
 pub(crate) fn find_set(
     alloc: Global,
     graph: &Graph,

@@ -15,7 +15,7 @@ ghost use Rattle.sq_outline.specs.Still.{IsStill, IsStillDead, IsDying};
 
 use crate::call::{call, call_saving};
 use crate::callers::{Body, bodies_of, body_of, callee_of, proposal};
-use crate::groups::{Groups, body_groups};
+use crate::groups::{Groups, body_groups, has_print, procedure_prints};
 use crate::make::make;
 use sq_graph::{Graph, Room};
 use sq_layout::learn;
@@ -24,6 +24,7 @@ use sq_lookup::is_block;
 use sq_num::{Memory, Savings};
 use sq_pass::{Cut, Rewrite, Row};
 use std::alloc::Global;
+use std::collections::HashMap;
 
 /// How many bodies of a group the sweep tries as that of a procedure.
 const TRIED: usize = 64;
@@ -144,14 +145,20 @@ fn rewrite_called(graph: &mut Graph, block: u32, procedure: u32, savings: Saving
 
 /// The same where the block has a body that a call may stand for.
 #[tactic(auto, using(crate::proofs::Still::still_itself, sq_pass::proofs::Rewriting::rewritten_itself))]
-fn call_for(graph: &mut Graph, live: &Liveness, block: u32, savings: Savings) -> Savings
+fn call_for(
+    graph: &mut Graph,
+    live: &Liveness,
+    prints: &HashMap<u64, u32>,
+    block: u32,
+    savings: Savings,
+) -> Savings
     requires canonical { IsCanonical graph.old.graph }
     requires words { words_of graph.old.graph + words_saved savings ≤ 1048576 }
     requires live { IsStillDead live.now graph.old.graph }
     ensures rewritten { IsRewritten IsCandidate described savings result graph.old.graph graph.new.graph }
     ensures still { IsStill graph.old.graph graph.new.graph }
 {
-    if !is_block(graph, block) {
+    if !is_block(graph, block) || !has_print(graph, prints, block) {
         return savings;
     }
     let Some(body) = body_of(graph, live, block) else {
@@ -164,7 +171,13 @@ fn call_for(graph: &mut Graph, live: &Liveness, block: u32, savings: Savings) ->
 }
 
 /// The same for each of these blocks.
-fn call_each(graph: &mut Graph, live: &Liveness, names: &[u32], savings: Savings) -> Savings
+fn call_each(
+    graph: &mut Graph,
+    live: &Liveness,
+    prints: &HashMap<u64, u32>,
+    names: &[u32],
+    savings: Savings,
+) -> Savings
     requires canonical { IsCanonical graph.old.graph }
     requires words { words_of graph.old.graph + words_saved savings ≤ 1048576 }
     requires live { IsStillDead live.now graph.old.graph }
@@ -172,7 +185,7 @@ fn call_each(graph: &mut Graph, live: &Liveness, names: &[u32], savings: Savings
 {
     let mut after = savings;
     for name in names {
-        after = call_for(graph, live, *name, after);
+        after = call_for(graph, live, prints, *name, after);
     }
     after
 }
@@ -191,5 +204,6 @@ pub(crate) fn sweep(alloc: Global, graph: &mut Graph, savings: Savings) -> Resul
     let made = make_groups(alloc, graph, &live, &groups, savings)?;
     learn(graph);
     let names = block_names(alloc, graph)?;
-    Ok(call_each(graph, &live, &names, made))
+    let prints = procedure_prints(alloc, graph)?;
+    Ok(call_each(graph, &live, &prints, &names, made))
 }
