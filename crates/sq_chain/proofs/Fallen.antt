@@ -182,7 +182,7 @@ falls_to_end g h f = by_rest f.rest f.so_far f.at
     by_rest [] w e = falls_last g h w
     by_rest (b ∷ rest) w e = absurd (cc)
 
-named_length : (bs : List Block) → length (named bs) ≡ length bs
+pub named_length : (bs : List Block) → length (named bs) ≡ length bs
 named_length [] = refl
 named_length (b ∷ bs) = omega (arith, named_length bs)
 

@@ -13,5 +13,6 @@ pub mod Adding
 pub mod Previous
 pub mod Chains
 pub mod Lighter
-pub mod Back
+pub mod Carried
+pub mod Orders
 pub mod Moved

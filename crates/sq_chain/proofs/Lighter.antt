@@ -210,6 +210,10 @@ same_short address g n =
       | inr falls ↦ ap (is_short address (fallen g) n) (ap block_term falls.is) ∙ sym (ap (is_short address g n) (ap block_term falls.was ∙ ap Some falls.jump))
     ]
 
+-- the same of a graph with the same blocks
+pub ordered_short : (address : ℕ → ℕ) (g h : Graph) → ((n : ℕ) → block_of h n ≡ block_of g n) → (n : ℕ) → is_short address g n (term_of g n) ≡ is_short address h n (term_of h n)
+ordered_short address g h same n = sym (by_items address h g n (term_of h n) (ap block_items (same n)) ∙ ap (is_short address g n) (ap block_term (same n)))
+
 -- NOTHING TO BE WIDENED
 
 none_swollen : swollen (λ n. false) ≡ block_words

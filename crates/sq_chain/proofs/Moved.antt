@@ -33,7 +33,7 @@ use Rattle.sq_pass.proofs.Rewriting.{rewrite_made, lighter_made, rewritten_once}
 use Rattle.sq_chain.specs.Least.{least_widened}
 use Rattle.sq_chain.specs.Moves.{carried, fallen_blocks, fallen, IsMovable, moved, IsStill}
 use Rattle.sq_chain.specs.Candidates.{cut_of, IsCandidate, described, IsMoved, IsStillAt}
-use Rattle.sq_chain.proofs.Back.{carried_words, carried_jumps}
+use Rattle.sq_chain.proofs.Carried.{carried_words, carried_jumps}
 use Rattle.sq_chain.proofs.Fallen.{Keeps, keeps_through, fallen_keeps}
 use Rattle.sq_chain.proofs.Lighter.{falls_fewer, stays_narrow}
 use Rattle.sq_chain.proofs.Reordered.{chain_moved_rules, chain_reordered, chain_moved_length}

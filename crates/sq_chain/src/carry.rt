@@ -7,24 +7,19 @@
 //!              t: ..                         ret
 //!                 ret
 
-ghost use Rattle.std.specs.Prelude.{◌≡◌, ◌↔◌, ◌+◌, ◌≤◌, Ok, IsTrue, OnErr};
+ghost use Rattle.std.specs.Prelude.{◌≡◌, ◌↔◌, ◌+◌, IsTrue};
 ghost use Rattle.sq_graph.specs.Blocks.{HasBlock};
-ghost use Rattle.sq_graph.specs.Places.{IsInReach};
 ghost use Rattle.sq_graph.specs.Soundness.{IsSound};
 ghost use Rattle.sq_graph.specs.Words.{words_of};
 ghost use Rattle.sq_follow.specs.Follows.{Follows};
-ghost use Rattle.sq_chain.specs.Moves.{IsMovable, JumpsToNext, carried, fallen, moved};
-ghost use Rattle.sq_chain.specs.declared.outlook.Outlook.TheVariants.{Near, Still, Unsure};
+ghost use Rattle.sq_chain.specs.Moves.{IsMovable, JumpsToNext, carried, fallen};
 
 use crate::chain::end_of_chain;
-use crate::outlook::{Outlook, is_near, outlook_of};
 use sq_graph::{Graph, Term};
 use sq_layout::learn;
-use sq_num::Memory;
-use std::alloc::Global;
 
 /// Whether the block ends in a Jump to the next slot.
-pub(crate) fn jumps_to_next(graph: &Graph, block: u32) -> bool
+fn jumps_to_next(graph: &Graph, block: u32) -> bool
     requires { HasBlock graph.now.graph block }
     ensures { IsTrue result ↔ JumpsToNext graph.now.graph block }
 {
@@ -35,7 +30,7 @@ pub(crate) fn jumps_to_next(graph: &Graph, block: u32) -> bool
 }
 
 /// Makes each Jump to the next slot Fall, and answers how many these are: each is a word.
-pub(crate) fn fall_each(graph: &mut Graph) -> u32
+fn fall_each(graph: &mut Graph) -> u32
     ensures graph { graph.new.graph ≡ fallen graph.old.graph }
     ensures words { words_of graph.new.graph + result ≡ words_of graph.old.graph }
     ensures follows { Follows graph.old.graph graph.new.graph }
@@ -54,10 +49,11 @@ pub(crate) fn fall_each(graph: &mut Graph) -> u32
     falls
 }
 
-/// Moves the chain of `to` behind `from`, and makes each Jump to the next slot Fall.
-pub(crate) fn carry(graph: &mut Graph, from: u32, to: u32)
+/// Moves the chain of `to` behind `from`, makes each Jump to the next slot Fall, and answers how many these are.
+pub(crate) fn carry(graph: &mut Graph, from: u32, to: u32) -> u32
     requires { IsMovable graph.old.graph from to }
     ensures graph { graph.new.graph ≡ fallen (carried graph.old.graph from to) }
+    ensures words { words_of graph.new.graph + result ≡ words_of (carried graph.old.graph from to) }
     ensures follows { Follows graph.old.graph graph.new.graph }
     ensures sound { IsSound graph.old.graph → IsSound graph.new.graph }
 {
@@ -66,37 +62,5 @@ pub(crate) fn carry(graph: &mut Graph, from: u32, to: u32)
         unreachable!()
     };
     graph.move_after(to, end, from);
-    fall_each(graph);
-}
-
-/// Moves the chain of `to` behind `from` where each Branch reaches once Jumps to the next slot are Fall, and answers what the
-/// move comes to. Where one doesn't, the chain is moved back; one that begins the layout isn't tried.
-pub(crate) fn carry_near(
-    alloc: Global,
-    graph: &mut Graph,
-    from: u32,
-    to: u32,
-) -> Result<Outlook, Memory>
-    requires { IsMovable graph.old.graph from to }
-    ensures moved { result ≡ Ok Near → graph.new.graph ≡ carried graph.old.graph from to }
-    ensures reach { result ≡ Ok Near → IsInReach (fallen graph.new.graph) }
-    ensures still { result ≡ Ok Still → words_of graph.old.graph ≤ words_of (moved graph.old.graph from to) }
-    ensures same_still { result ≡ Ok Still → graph.new ≡ graph.old }
-    ensures same { result ≡ Ok Unsure → graph.new ≡ graph.old }
-    ensures kept { OnErr result (graph.new ≡ graph.old) }
-{
-    learn(graph);
-    let Some(before) = graph.links().previous(to) else {
-        return Ok(Outlook::Unsure);
-    };
-    let Some(end) = end_of_chain(graph, to, from) else {
-        unreachable!()
-    };
-    graph.move_after(to, end, from);
-    let told = outlook_of(alloc, graph);
-    if is_near(&told) {
-        return Ok(Outlook::Near);
-    }
-    graph.move_after(to, end, before);
-    told
+    fall_each(graph)
 }

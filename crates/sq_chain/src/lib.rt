@@ -11,6 +11,7 @@ mod chain;
 pub mod laws;
 mod least;
 mod moving;
+mod order;
 mod outlook;
 mod short;
 mod sweep;

@@ -10,9 +10,9 @@ ghost use Rattle.sq_pass.specs.Rewrites.{IsRewrite, IsLighter};
 ghost use Rattle.sq_chain.specs.Moves.{IsMovable, moved, IsStill};
 ghost use Rattle.sq_chain.specs.Candidates.{IsCandidate, described, IsMoved, HasMoved, IsStillAt};
 
-use crate::carry::{carry, carry_near, fall_each};
+use crate::carry::carry;
 use crate::chain::movable;
-use crate::outlook::Outlook;
+use crate::outlook::{Outlook, outlook_of};
 use crate::widening::widen;
 use sq_graph::{Graph, Term};
 use sq_layout::{learn, words_of};
@@ -37,8 +37,8 @@ pub(crate) fn move_near(
     ensures kept { OnErr result (graph.new ≡ graph.old) }
 {
     learn(graph);
-    match carry_near(alloc, graph, from, to)? {
-        Outlook::Near => Ok(Some(fall_each(graph))),
+    match outlook_of(alloc, graph, from, to)? {
+        Outlook::Near => Ok(Some(carry(graph, from, to))),
         Outlook::Still => Ok(None),
         Outlook::Unsure => Ok(None),
     }
@@ -78,9 +78,9 @@ pub fn try_move(alloc: Global, graph: &mut Graph, from: u32, to: u32) -> Result<
     ensures kept { OnErr result (graph.new ≡ graph.old) }
 {
     learn(graph);
-    match carry_near(alloc, graph, from, to)? {
+    match outlook_of(alloc, graph, from, to)? {
         Outlook::Near => {
-            fall_each(graph);
+            carry(graph, from, to);
             Ok(true)
         }
         Outlook::Still => Ok(false),

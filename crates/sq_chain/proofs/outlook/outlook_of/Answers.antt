@@ -1,16 +1,26 @@
-use Rattle.std.proofs.Common.{arith}
-use Rattle.sq_lookup.specs.Tables.{number_at}
-use Rattle.sq_chain.proofs.Lighter.{none_short, short_widened}
+use Rattle.std.proofs.Common.{◌∙◌, ℕ, List, sym, subst, arith}
+use Rattle.sq_chain.specs.Moves.{IsOrder, carried}
+use Rattle.sq_chain.proofs.Orders.{is_order}
 use Rattle.sq_chain.proofs.outlook.outlook_of.Goals as goal
 
-pub returns-then-short-eq0-clause-near : goal.returns-then-short-eq0-clause-near
-returns-then-short-eq0-clause-near c = λ e.
-    let none = c.if-short-eq0.true in
-    none_short c.args.graph.now.graph c.learn.ensures.rules (number_at c.in_ok-they.they.addresses) c.in_ok-they.ensures.addresses (omega (arith, none, c.count_short-short.ensures))
+pub ordered_outlook-requires : goal.ordered_outlook-requires
+ordered_outlook-requires c =
+    let g = c.args.graph.now.graph in
+    let order = is_order g c.args.from c.args.to c.learn.ensures.rules c.requires in
+    let mine = subst (λ (ns : List ℕ). IsOrder g (carried g c.args.from c.args.to) ns) (sym (c.deref.ensures.value ∙ c.in_ok-names.ensures)) order in
+    (carried g c.args.from c.args.to, mine)
 
-pub returns-then-they-short-clause-still : goal.returns-then-they-short-clause-still
-returns-then-they-short-clause-still c = λ e.
-    let many = c.if-they-short.true in
-    let falls = c.in_ok-they.ensures.falls in
-    let more = short_widened c.args.graph.now.graph c.learn.ensures.rules (number_at c.in_ok-they.they.addresses) c.in_ok-they.ensures.addresses in
-    omega (arith, many, falls, more, c.count_short-short.ensures)
+pub returns-clause-near : goal.returns-clause-near
+returns-clause-near c = λ e.
+    let g = c.args.graph.now.graph in
+    let order = is_order g c.args.from c.args.to c.learn.ensures.rules c.requires in
+    let mine = subst (λ (ns : List ℕ). IsOrder g (carried g c.args.from c.args.to) ns) (sym (c.deref.ensures.value ∙ c.in_ok-names.ensures)) order in
+    c.ordered_outlook.ensures.near e (carried g c.args.from c.args.to) mine
+
+pub returns-clause-still : goal.returns-clause-still
+returns-clause-still c = λ e.
+    let g = c.args.graph.now.graph in
+    let order = is_order g c.args.from c.args.to c.learn.ensures.rules c.requires in
+    let mine = subst (λ (ns : List ℕ). IsOrder g (carried g c.args.from c.args.to) ns) (sym (c.deref.ensures.value ∙ c.in_ok-names.ensures)) order in
+    let few = c.ordered_outlook.ensures.still e (carried g c.args.from c.args.to) mine in
+    omega (arith, few, order.words)
