@@ -5,7 +5,7 @@ use Rattle.std.specs.Str.{bytes_eq}
 use Rattle.sq_system.specs.Starts.{StartFits}
 use Rattle.sq_command.specs.Numbers.{number_of}
 use Rattle.sq_command.specs.declared.command.Command.{Command}
-use Rattle.sq_command.specs.declared.command.Command.TheVariants.{Pack, Run, Watch, Hex, Hexcheck}
+use Rattle.sq_command.specs.declared.command.Command.TheVariants.{Pack, Run, Watch, Hex, Hexcheck, Size}
 use Rattle.sq_command.specs.declared.run_words.RunWords.{RunWords}
 
 -- what `run` or `watch` asks for
@@ -29,6 +29,8 @@ pub data Form : Type 0 where
   HexForm : List ℕ → List ℕ → Form
   -- hexcheck IN HEX
   HexcheckForm : List ℕ → List ℕ → Form
+  -- size IN
+  SizeForm : List ℕ → Form
 
 -- at most so many steps
 abbrev pub most_steps : ℕ
@@ -52,6 +54,11 @@ abbrev pub pair_form : (List ℕ → List ℕ → Form) → List (List ℕ) → 
 pair_form make (first ∷ second ∷ []) = Some (make first second)
 pair_form make words = None
 
+-- the words behind `size`: one name
+abbrev pub single_form : (List ℕ → Form) → List (List ℕ) → Option Form
+single_form make (only ∷ []) = Some (make only)
+single_form make words = None
+
 -- the words behind `run` or `watch`
 abbrev pub run_request : List (List ℕ) → Option RunRequest
 run_request (file ∷ input ∷ limit ∷ base ∷ size ∷ arguments) =
@@ -67,6 +74,7 @@ form_of (verb ∷ words) =
     else if bytes_eq verb (codes "watch") then option_map WatchForm (run_request words)
     else if bytes_eq verb (codes "hex") then pair_form HexForm words
     else if bytes_eq verb (codes "hexcheck") then pair_form HexcheckForm words
+    else if bytes_eq verb (codes "size") then single_form SizeForm words
     else None
 
 -- the words are `VERB FILE INPUT LIMIT BASE SIZE ARG*`: numbers in decimal, each in its range
@@ -95,6 +103,10 @@ IsHex words input output = words ≡ codes "hex" ∷ input ∷ output ∷ []
 abbrev pub IsHexcheck : List (List ℕ) → List ℕ → List ℕ → Type 0
 IsHexcheck words input text = words ≡ codes "hexcheck" ∷ input ∷ text ∷ []
 
+-- the words are `size IN`
+abbrev pub IsSize : List (List ℕ) → List ℕ → Type 0
+IsSize words input = words ≡ codes "size" ∷ input ∷ []
+
 -- what the words of a run ask for
 abbrev pub request_of : List (List ℕ) → RunWords → RunRequest
 request_of words run =
@@ -107,3 +119,4 @@ form words (Run run) = RunForm (request_of words run)
 form words (Watch run) = WatchForm (request_of words run)
 form words (Hex input output) = HexForm input.now output.now
 form words (Hexcheck input text) = HexcheckForm input.now text.now
+form words (Size input) = SizeForm input.now

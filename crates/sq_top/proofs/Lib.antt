@@ -9,6 +9,9 @@ pub mod PackedFile
 pub mod Promised
 pub mod Refusals
 pub mod RunPromised
+pub mod SizeCases
+pub mod SizePromised
+pub mod SizeReported
 pub mod StatusesPromised
 pub mod WatchPromised
 pub mod Watched

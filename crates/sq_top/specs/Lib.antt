@@ -9,6 +9,7 @@ pub mod RunEndings
 pub mod RunPromises
 pub mod Running
 pub mod Settled
+pub mod SizePromises
 pub mod Statuses
 pub mod WatchEndings
 pub mod WatchPromises

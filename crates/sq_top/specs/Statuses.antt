@@ -1,7 +1,7 @@
 -- The statuses and the complaints of endings.
 use Rattle.std.specs.Prelude.{◌≡◌, ℕ, ◌≤◌, ◌⊎◌, List, ◌++◌, codes, decimal, Option, Some, None}
 use Rattle.sq_num.specs.RefusalTexts.{refusal_text}
-use Rattle.sq_command.specs.Commands.{Form, PackForm, RunForm, WatchForm, HexForm, HexcheckForm}
+use Rattle.sq_command.specs.Commands.{Form, PackForm, RunForm, WatchForm, HexForm, HexcheckForm, SizeForm}
 use Rattle.sq_top.specs.declared.ending.Ending.{Ending}
 use Rattle.sq_top.specs.declared.ending.Ending.TheVariants.{Done, Words, Desk, Refused, Memory, Break, Limit, BadStart, Differs}
 use Rattle.sq_top.specs.declared.ending.DeskCall.{DeskCall}
@@ -43,3 +43,4 @@ IsStatusOf (Some (RunForm request)) status = (status ≤ 4) ⊎ (status ≡ 6) �
 IsStatusOf (Some (WatchForm request)) status = (status ≤ 4) ⊎ (status ≡ 5) ⊎ (status ≡ 6) ⊎ (status ≡ 7)
 IsStatusOf (Some (HexForm input output)) status = status ≤ 4
 IsStatusOf (Some (HexcheckForm input text)) status = (status ≤ 4) ⊎ (status ≡ 8)
+IsStatusOf (Some (SizeForm input)) status = status ≤ 4

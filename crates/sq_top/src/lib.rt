@@ -18,6 +18,7 @@ mod loading;
 mod pack_command;
 mod packing;
 mod run_command;
+mod size_command;
 mod top;
 mod watch_command;
 
