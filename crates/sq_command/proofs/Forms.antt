@@ -1,5 +1,5 @@
 -- Words have a form exactly where they are those of a command.
-use Rattle.std.proofs.Common.{◌≡◌, ◌↔◌, ℕ, ◌≤◌, Bool, true, false, nat_le, ◌&&◌, List, [], ◌∷◌, drop, Option, Some, None, if◌then◌else◌, codes, refl, sym, ap, ◌∙◌, arith}
+use Rattle.std.proofs.Common.{◌≡◌, ◌↔◌, ℕ, ◌^◌, ◌<◌, ◌≤◌, Bool, true, false, nat_le, ◌&&◌, List, [], ◌∷◌, drop, Option, Some, None, if◌then◌else◌, codes, refl, sym, ap, ◌∙◌, arith}
 use Rattle.std.proofs.lemmas.Bool.Decides.{nat_tests}
 use Rattle.std.proofs.lemmas.Slice.Eq.{bytes_eq-Decides}
 use Rattle.std.specs.Fmt.{decimal}
@@ -8,7 +8,7 @@ use Rattle.std.specs.Option.{option_map}
 use Rattle.std.specs.Str.{bytes_eq}
 use Rattle.sq_system.specs.Starts.{StartFits}
 use Rattle.sq_command.specs.Numbers.{number_of}
-use Rattle.sq_command.specs.Commands.{RunRequest, Form, PackForm, RunForm, WatchForm, HexForm, HexcheckForm, SizeForm, most_steps, start_fits, run_of, pair_form, single_form, run_request, form_of, AsksRun, IsPack, IsRun, IsWatch, IsHex, IsHexcheck, IsSize}
+use Rattle.sq_command.specs.Commands.{RunRequest, Form, PackForm, RunForm, WatchForm, HexForm, HexcheckForm, SizeForm, TrialForm, most_steps, most_blocks, start_fits, run_of, pair_form, single_form, trial_of, trial_form, run_request, form_of, AsksRun, IsPack, IsRun, IsWatch, IsHex, IsHexcheck, IsSize, IsTrial}
 use Rattle.sq_command.proofs.NumberTexts.{number_is, number_back}
 use Rattle.sq_command.proofs.Words.{dropped}
 
@@ -56,9 +56,13 @@ pub at_size : (words : List (List ℕ)) (verb : List ℕ) → slice_get words 0 
 unfolding form_of
 at_size words verb there one two three four five is = ap form_of (dropped words 0 verb there) ∙ rw (one, two, three, four, five, is) refl
 
-pub at_other : (words : List (List ℕ)) (verb : List ℕ) → slice_get words 0 ≡ Some verb → bytes_eq verb (codes "pack") ≡ false → bytes_eq verb (codes "run") ≡ false → bytes_eq verb (codes "watch") ≡ false → bytes_eq verb (codes "hex") ≡ false → bytes_eq verb (codes "hexcheck") ≡ false → bytes_eq verb (codes "size") ≡ false → form_of words ≡ None
+pub at_trial : (words : List (List ℕ)) (verb : List ℕ) → slice_get words 0 ≡ Some verb → bytes_eq verb (codes "pack") ≡ false → bytes_eq verb (codes "run") ≡ false → bytes_eq verb (codes "watch") ≡ false → bytes_eq verb (codes "hex") ≡ false → bytes_eq verb (codes "hexcheck") ≡ false → bytes_eq verb (codes "size") ≡ false → bytes_eq verb (codes "trial") ≡ true → form_of words ≡ trial_form (drop 1 words)
 unfolding form_of
-at_other words verb there one two three four five six = ap form_of (dropped words 0 verb there) ∙ rw (one, two, three, four, five, six) refl
+at_trial words verb there one two three four five six is = ap form_of (dropped words 0 verb there) ∙ rw (one, two, three, four, five, six, is) refl
+
+pub at_other : (words : List (List ℕ)) (verb : List ℕ) → slice_get words 0 ≡ Some verb → bytes_eq verb (codes "pack") ≡ false → bytes_eq verb (codes "run") ≡ false → bytes_eq verb (codes "watch") ≡ false → bytes_eq verb (codes "hex") ≡ false → bytes_eq verb (codes "hexcheck") ≡ false → bytes_eq verb (codes "size") ≡ false → bytes_eq verb (codes "trial") ≡ false → form_of words ≡ None
+unfolding form_of
+at_other words verb there one two three four five six seven = ap form_of (dropped words 0 verb there) ∙ rw (one, two, three, four, five, six, seven) refl
 
 pub at_none : (words : List (List ℕ)) → slice_get words 0 ≡ None → form_of words ≡ None
 unfolding form_of
@@ -130,6 +134,7 @@ Spells (WatchForm request) words = IsWatch words request
 Spells (HexForm input output) words = IsHex words input output
 Spells (HexcheckForm input text) words = IsHexcheck words input text
 Spells (SizeForm input) words = IsSize words input
+Spells (TrialForm first blocks) words = IsTrial words first blocks
 
 -- by its verb, and the words behind it
 module _ (verb : List ℕ) where
@@ -153,27 +158,53 @@ module _ (verb : List ℕ) where
   by_request make words spelt (Some request) is f e = let same : make request ≡ f = cc e in rw (← same) (spelt request (asks_run words request is))
   by_request make words spelt None is f e = absurd (cc e)
 
+-- the numbers behind `trial`
+some_blocks : (blocks : ℕ) → (nat_le 1 blocks && nat_le blocks most_blocks) ≡ true → (1 ≤ blocks) × (blocks ≤ most_blocks)
+some_blocks blocks t = (grind (arith, nat_tests), grind (arith, nat_tests))
+
+by_range : (first blocks : ℕ) (range : Bool) → (nat_le 1 blocks && nat_le blocks most_blocks) ≡ range → first < 2 ^ 32 → (f : Form) → (if range then Some (TrialForm first blocks) else None) ≡ Some f → Spells f (codes "trial" ∷ decimal first ∷ decimal blocks ∷ [])
+by_range first blocks true is small f e =
+    let same : TrialForm first blocks ≡ f = cc e in
+    let fits : (1 ≤ blocks) × (blocks ≤ most_blocks) = some_blocks blocks is in
+    rw (← same) (record { words_are = refl; fits = small; some = fits.0; few = fits.1 })
+by_range first blocks false is small f e = absurd (cc e)
+
+by_numbers : (one two : List ℕ) (first blocks : Option ℕ) → number_of one ≡ first → number_of two ≡ blocks → (f : Form) → trial_of first blocks ≡ Some f → Spells f (codes "trial" ∷ one ∷ two ∷ [])
+by_numbers one two (Some first) (Some blocks) is also f e =
+    let f_is : (one ≡ decimal first) × (first < 2 ^ 32) = number_back one first is in
+    let b_is : (two ≡ decimal blocks) × (blocks < 2 ^ 32) = number_back two blocks also in
+    rw (f_is.0, b_is.0) (by_range first blocks (nat_le 1 blocks && nat_le blocks most_blocks) refl f_is.1 f e)
+by_numbers one two (Some first) None is also f e = absurd (cc e)
+by_numbers one two None blocks is also f e = absurd (cc e)
+
+by_trial : (words : List (List ℕ)) (f : Form) → trial_form words ≡ Some f → Spells f (codes "trial" ∷ words)
+by_trial (one ∷ two ∷ []) f e = by_numbers one two (number_of one) (number_of two) refl refl f e
+by_trial (one ∷ two ∷ word ∷ words) f e = absurd (cc e)
+by_trial (one ∷ []) f e = absurd (cc e)
+by_trial [] f e = absurd (cc e)
+
 -- a verb that is tested to be this one
 by_verb : (verb is : List ℕ) (words : List (List ℕ)) (f : Form) → bytes_eq verb is ≡ true → Spells f (is ∷ words) → Spells f (verb ∷ words)
 by_verb verb is words f same spelt = rw ((bytes_eq-Decides verb is).0 same) spelt
 
-by_tests : (verb : List ℕ) (words : List (List ℕ)) (f : Form) (p r w h c s : Bool) → bytes_eq verb (codes "pack") ≡ p → bytes_eq verb (codes "run") ≡ r → bytes_eq verb (codes "watch") ≡ w → bytes_eq verb (codes "hex") ≡ h → bytes_eq verb (codes "hexcheck") ≡ c → bytes_eq verb (codes "size") ≡ s →
-    (if p then pair_form PackForm words else if r then option_map RunForm (run_request words) else if w then option_map WatchForm (run_request words) else if h then pair_form HexForm words else if c then pair_form HexcheckForm words else if s then single_form SizeForm words else None) ≡ Some f →
+by_tests : (verb : List ℕ) (words : List (List ℕ)) (f : Form) (p r w h c s t : Bool) → bytes_eq verb (codes "pack") ≡ p → bytes_eq verb (codes "run") ≡ r → bytes_eq verb (codes "watch") ≡ w → bytes_eq verb (codes "hex") ≡ h → bytes_eq verb (codes "hexcheck") ≡ c → bytes_eq verb (codes "size") ≡ s → bytes_eq verb (codes "trial") ≡ t →
+    (if p then pair_form PackForm words else if r then option_map RunForm (run_request words) else if w then option_map WatchForm (run_request words) else if h then pair_form HexForm words else if c then pair_form HexcheckForm words else if s then single_form SizeForm words else if t then trial_form words else None) ≡ Some f →
     Spells f (verb ∷ words)
-by_tests verb words f true r w h c s one two three four five six e = by_verb verb (codes "pack") words f one (by_pair (codes "pack") PackForm (λ first second. refl) words f e)
-by_tests verb words f false true w h c s one two three four five six e = by_verb verb (codes "run") words f two (by_request (codes "run") RunForm words (λ request asks. asks) (run_request words) refl f e)
-by_tests verb words f false false true h c s one two three four five six e = by_verb verb (codes "watch") words f three (by_request (codes "watch") WatchForm words (λ request asks. asks) (run_request words) refl f e)
-by_tests verb words f false false false true c s one two three four five six e = by_verb verb (codes "hex") words f four (by_pair (codes "hex") HexForm (λ first second. refl) words f e)
-by_tests verb words f false false false false true s one two three four five six e = by_verb verb (codes "hexcheck") words f five (by_pair (codes "hexcheck") HexcheckForm (λ first second. refl) words f e)
-by_tests verb words f false false false false false true one two three four five six e = by_verb verb (codes "size") words f six (by_single (codes "size") SizeForm (λ only. refl) words f e)
-by_tests verb words f false false false false false false one two three four five six e = absurd (cc e)
+by_tests verb words f true r w h c s t one two three four five six seven e = by_verb verb (codes "pack") words f one (by_pair (codes "pack") PackForm (λ first second. refl) words f e)
+by_tests verb words f false true w h c s t one two three four five six seven e = by_verb verb (codes "run") words f two (by_request (codes "run") RunForm words (λ request asks. asks) (run_request words) refl f e)
+by_tests verb words f false false true h c s t one two three four five six seven e = by_verb verb (codes "watch") words f three (by_request (codes "watch") WatchForm words (λ request asks. asks) (run_request words) refl f e)
+by_tests verb words f false false false true c s t one two three four five six seven e = by_verb verb (codes "hex") words f four (by_pair (codes "hex") HexForm (λ first second. refl) words f e)
+by_tests verb words f false false false false true s t one two three four five six seven e = by_verb verb (codes "hexcheck") words f five (by_pair (codes "hexcheck") HexcheckForm (λ first second. refl) words f e)
+by_tests verb words f false false false false false true t one two three four five six seven e = by_verb verb (codes "size") words f six (by_single (codes "size") SizeForm (λ only. refl) words f e)
+by_tests verb words f false false false false false false true one two three four five six seven e = by_verb verb (codes "trial") words f seven (by_trial words f e)
+by_tests verb words f false false false false false false false one two three four five six seven e = absurd (cc e)
 
 -- words of this form are those of its command
 spelt : (words : List (List ℕ)) (f : Form) → form_of words ≡ Some f → Spells f words
 unfolding form_of
 spelt [] f e = absurd (cc e)
 spelt (verb ∷ words) f e =
-    by_tests verb words f (bytes_eq verb (codes "pack")) (bytes_eq verb (codes "run")) (bytes_eq verb (codes "watch")) (bytes_eq verb (codes "hex")) (bytes_eq verb (codes "hexcheck")) (bytes_eq verb (codes "size")) refl refl refl refl refl refl e
+    by_tests verb words f (bytes_eq verb (codes "pack")) (bytes_eq verb (codes "run")) (bytes_eq verb (codes "watch")) (bytes_eq verb (codes "hex")) (bytes_eq verb (codes "hexcheck")) (bytes_eq verb (codes "size")) (bytes_eq verb (codes "trial")) refl refl refl refl refl refl refl e
 
 pack_to : (words : List (List ℕ)) (input output : List ℕ) → IsPack words input output → form_of words ≡ Some (PackForm input output)
 unfolding form_of
@@ -191,6 +222,15 @@ size_to : (words : List (List ℕ)) (input : List ℕ) → IsSize words input �
 unfolding form_of
 size_to words input e = ap form_of e
 
+trial_to : (words : List (List ℕ)) (first blocks : ℕ) → IsTrial words first blocks → form_of words ≡ Some (TrialForm first blocks)
+unfolding form_of
+trial_to words first blocks is =
+    let f : number_of (decimal first) ≡ Some first = number_is (decimal first) first is.fits refl in
+    let b : number_of (decimal blocks) ≡ Some blocks = number_is (decimal blocks) blocks (omega (arith, is.few)) refl in
+    let low : nat_le 1 blocks ≡ true = grind (arith, nat_tests, is.some) in
+    let high : nat_le blocks most_blocks ≡ true = grind (arith, nat_tests, is.few) in
+    ap form_of is.words_are ∙ (λ i. trial_of (f i) (b i)) ∙ (λ i. if low i && high i then Some (TrialForm first blocks) else None)
+
 pub pack_is : (words : List (List ℕ)) (input output : List ℕ) → (form_of words ≡ Some (PackForm input output)) ↔ IsPack words input output
 pack_is words input output = (spelt words (PackForm input output), pack_to words input output)
 
@@ -202,6 +242,9 @@ hexcheck_is words input text = (spelt words (HexcheckForm input text), hexcheck_
 
 pub size_is : (words : List (List ℕ)) (input : List ℕ) → (form_of words ≡ Some (SizeForm input)) ↔ IsSize words input
 size_is words input = (spelt words (SizeForm input), size_to words input)
+
+pub trial_is : (words : List (List ℕ)) (first blocks : ℕ) → (form_of words ≡ Some (TrialForm first blocks)) ↔ IsTrial words first blocks
+trial_is words first blocks = (spelt words (TrialForm first blocks), trial_to words first blocks)
 
 -- the words that ask for a run are read as its request
 read_so : (request : RunRequest) → request.limit ≤ most_steps → StartFits request.base request.size →

@@ -10,6 +10,8 @@ pub mod RunPromises
 pub mod Running
 pub mod Settled
 pub mod SizePromises
+pub mod Trials
+pub mod TrialPromises
 pub mod Statuses
 pub mod WatchEndings
 pub mod WatchPromises

@@ -20,6 +20,7 @@ mod packing;
 mod run_command;
 mod size_command;
 mod top;
+mod trial_command;
 mod watch_command;
 
 pub use laws::written_files_read_back;

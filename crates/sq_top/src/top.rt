@@ -14,13 +14,15 @@ ghost use Rattle.sq_top.specs.WatchEndings.{PrintsWatch};
 ghost use Rattle.sq_top.specs.WatchPromises.{ForWatch, HasWatchRefusal, IsBadWatch, WatchesExactly, IsWatchComplete};
 ghost use Rattle.sq_top.specs.HexPromises.{ForHex, ForHexcheck, IsHexDone, HasHexRefusal, HexRefusesExactly, IsHexComplete, IsCheckDone, HasDifference, HasCheckFault, HasCheckRefusal, ChecksExactly, IsCheckComplete};
 ghost use Rattle.sq_top.specs.SizePromises.{ForSize, IsSizeDone, HasSizeFault, IsSizeComplete};
+ghost use Rattle.sq_top.specs.TrialPromises.{ForTrial, IsTrialDone, HasTrialFault, IsTrialComplete};
 ghost use Rattle.sq_top.specs.RunEndings.{PrintsRun};
 ghost use Rattle.sq_top.specs.RunPromises.{ForRun, HasRunFault, HasRunRefusal, IsBadRun, RunsExactly, IsRunComplete};
 
 use crate::complaint::complain;
 use crate::ending::Ending;
 use crate::{
-    hex_command, hexcheck_command, pack_command, run_command, size_command, watch_command,
+    hex_command, hexcheck_command, pack_command, run_command, size_command, trial_command,
+    watch_command,
 };
 use sq_command::{Command, command_of};
 use sq_desk::Desk;
@@ -34,7 +36,8 @@ use std::alloc::Global;
 /// for at most LIMIT steps, and prints the events and the end; `watch` with the same words does so under the
 /// monitor, which refuses all that `pack` refuses and ends at the first break too; `hex IN OUT` loads IN, stores its
 /// text of Intel HEX, and prints the number of records; `hexcheck IN HEX` prints `same` where HEX means what IN has in flash;
-/// `size IN` loads IN, packs it, stores nothing, and prints the report.
+/// `size IN` loads IN, packs it, stores nothing, and prints the report; `trial FIRST BLOCKS` generates a file, packs it,
+/// packs the result, stores nothing, and prints how many bytes of text each has.
 pub fn squeeze<D: Desk>(alloc: Global, desk: &mut D, words: &WordList) -> u8
     // Status 0: the headline.
     ensures done { ForPack words.now (λ input output. result ≡ 0 → IsDone input output (D.outside desk.old) (D.outside desk.new)) }
@@ -90,6 +93,12 @@ pub fn squeeze<D: Desk>(alloc: Global, desk: &mut D, words: &WordList) -> u8
     ensures size_complete { ForSize words.now (λ input. IsSizeComplete input result (D.outside desk.old) (D.outside desk.new)) }
     ensures size_files { ForSize words.now (λ _. KeepsFiles (D.outside desk.old) (D.outside desk.new)) }
 
+    // `trial`: with 0 the line of a packing of the generated file was printed; it is never refused.
+    ensures trial_done { ForTrial words.now (λ first blocks. result ≡ 0 → IsTrialDone first blocks (D.outside desk.old) (D.outside desk.new)) }
+    ensures trial_fault { ForTrial words.now (λ _ _. result ≡ 2 → HasTrialFault (D.outside desk.old) (D.outside desk.new)) }
+    ensures trial_complete { ForTrial words.now (λ _ _. IsTrialComplete result (D.outside desk.old) (D.outside desk.new)) }
+    ensures trial_files { ForTrial words.now (λ _ _. KeepsFiles (D.outside desk.old) (D.outside desk.new)) }
+
     // Words without a form, and statuses.
     ensures words { (result ≡ 1) ↔ (form_of words.now ≡ None) }
     ensures sound { ((place : Place) → (D.outside desk.new).faults place ≡ 0) → result ≢ 2 }
@@ -130,5 +139,6 @@ fn run<D: Desk>(alloc: Global, desk: &mut D, words: &WordList) -> Ending
             hexcheck_command::hexcheck(alloc, desk, input, text)
         }
         Some(Command::Size { input }) => size_command::size(alloc, desk, input),
+        Some(Command::Trial(asked)) => trial_command::trial(alloc, desk, asked),
     }
 }

@@ -1,5 +1,5 @@
 -- the words of each form
-use Rattle.sq_command.proofs.Forms.{pack_is, run_is, watch_is, hex_is, hexcheck_is, size_is}
+use Rattle.sq_command.proofs.Forms.{pack_is, run_is, watch_is, hex_is, hexcheck_is, size_is, trial_is}
 use Rattle.sq_command.proofs.command.command_of.Goals as goal
 
 pub returns-clause-pack : goal.returns-clause-pack
@@ -19,3 +19,6 @@ returns-clause-hexcheck c = hexcheck_is c.args.words.now
 
 pub returns-clause-size : goal.returns-clause-size
 returns-clause-size c = size_is c.args.words.now
+
+pub returns-clause-trial : goal.returns-clause-trial
+returns-clause-trial c = trial_is c.args.words.now
