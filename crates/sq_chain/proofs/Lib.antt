@@ -12,4 +12,6 @@ pub mod Placed
 pub mod Adding
 pub mod Previous
 pub mod Chains
+pub mod Lighter
+pub mod Back
 pub mod Moved

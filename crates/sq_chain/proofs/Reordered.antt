@@ -204,14 +204,14 @@ named_again : (es : List (ℕ × Block)) → AreNamed es → named (map (λ e. e
 named_again [] all = refl
 named_again (e ∷ es) all = ap (λ k. (k, e.1) ∷ named (map (λ f. f.1) es)) (sym all.0) ∙ ap (λ fs. e ∷ fs) (named_again es all.1)
 
-blocks_again : (bs : List Block) → map (λ e. e.1) (named bs) ≡ bs
+pub blocks_again : (bs : List Block) → map (λ e. e.1) (named bs) ≡ bs
 blocks_again [] = refl
 blocks_again (b ∷ bs) = ap (λ cs. b ∷ cs) (blocks_again bs)
 
 -- THE MOVE
 
 -- two pieces that stop change places, behind one that stops
-record Exchanges (old new : List (ℕ × Block)) : Type 0 where
+pub record Exchanges (old new : List (ℕ × Block)) : Type 0 where
   pub first : List (ℕ × Block)
   pub second : List (ℕ × Block)
   pub third : List (ℕ × Block)
@@ -369,10 +369,10 @@ module _ (g : Graph) (from to : ℕ) (rules : IsGraph g) (movable : IsMovable g 
             ∙ append_assoc A (through C from) (R ++ behind C from);
       }
 
-  exchange : Exchanges es M
+  pub exchange : Exchanges es M
   exchange = elim (some_or_none (value_of A from)) [ inl some ↦ moves_back some | inr none ↦ moves_ahead none ]
 
-  again : named (map (λ e. e.1) M) ≡ M
+  pub again : named (map (λ e. e.1) M) ≡ M
   again = named_again M (keeps_names es M exchange (all_named g.blocks))
 
   pub chain_moved_rules : IsGraph (moved_after g to (chain_end g to) from)

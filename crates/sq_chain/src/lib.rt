@@ -12,8 +12,10 @@ pub mod laws;
 mod least;
 mod moving;
 mod short;
+mod sweep;
 mod widening;
 
 pub use chain::movable;
 pub use moving::{move_once, try_move};
+pub use sweep::sweep_moves;
 pub use widening::widen;

@@ -1,3 +1,5 @@
 pub mod Rewrites
 pub mod Steps
 pub mod Slots
+pub mod RowPasses
+pub mod Moves
