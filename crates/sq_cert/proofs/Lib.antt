@@ -1,3 +1,4 @@
+pub mod Counts
 pub mod Lines
 pub mod Numerals
 pub mod RoundTrip

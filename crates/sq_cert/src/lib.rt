@@ -11,7 +11,9 @@ mod numbers;
 mod piece;
 mod read;
 mod step;
+mod verdict;
 
 pub use cert::Cert;
 pub use read::{Reading, read_cert};
 pub use step::Step;
+pub use verdict::Verdict;

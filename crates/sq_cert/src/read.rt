@@ -84,6 +84,7 @@ pub fn read_cert(alloc: Global, text: &[u8]) -> Result<Reading, Memory>
     requires { length text.now ≤ 134217728 }
     ensures value { IfOk result (λ said. said ≡ reading_of text.now) }
     ensures form { IfOk result (λ said. All HasForm said.cert) }
+    ensures few { IfOk result (λ said. length said.cert ≤ length text.now + 1) }
     ensures text { IfOk result (λ said. said.fault ≡ None → text.now ≡ text_of said.cert) }
     ensures each { IfOk result (λ said. (steps : List Told) → All HasForm steps → text.now ≡ text_of steps → said ≡ reading steps None) }
 {

@@ -1,4 +1,4 @@
-use Rattle.std.proofs.Common.{◌≡◌, List, None, ap, sym, ◌∙◌, subst}
+use Rattle.std.proofs.Common.{◌≡◌, ◌+◌, ◌≤◌, List, None, length, ap, sym, ◌∙◌, subst, arith}
 use Rattle.std.proofs.lemmas.Result.{IfOk-weaker}
 use Rattle.std.specs.List.{All}
 use Rattle.sq_cert.specs.declared.read.Reading.{Reading}
@@ -6,6 +6,7 @@ use Rattle.sq_cert.specs.declared.step.Step.{Step}
 use Rattle.sq_cert.specs.Readings.{reading, reading_of}
 use Rattle.sq_cert.specs.Steps.{HasForm}
 use Rattle.sq_cert.specs.Texts.{text_of}
+use Rattle.sq_cert.proofs.Counts.{text_few}
 use Rattle.sq_cert.proofs.RoundTrip.{text_form, text_read, text_found}
 use Rattle.sq_cert.proofs.read.read_cert.Goals as goal
 
@@ -14,6 +15,12 @@ returns-clause-form c =
     let text = c.args.text.now in
     IfOk-weaker c.read_text.result (λ said. said ≡ reading_of text) (λ said. All HasForm said.cert)
     (λ said is. let P : Reading → Type 0 = λ r. All HasForm r.cert in subst P (sym is) (text_form text)) c.read_text.ensures
+
+pub returns-clause-few : goal.returns-clause-few
+returns-clause-few c =
+    let text = c.args.text.now in
+    IfOk-weaker c.read_text.result (λ said. said ≡ reading_of text) (λ said. length said.cert ≤ length text + 1)
+    (λ said is. omega (arith, ap (λ r. length r.cert) is, text_few text)) c.read_text.ensures
 
 pub returns-clause-text : goal.returns-clause-text
 returns-clause-text c =
