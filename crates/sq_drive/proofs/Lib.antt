@@ -3,3 +3,4 @@ pub mod Steps
 pub mod Slots
 pub mod RowPasses
 pub mod Moves
+pub mod Replays

@@ -20,13 +20,13 @@ use Rattle.sq_drive.proofs.RowPasses.{its_row}
 
 -- WHAT THE ROW OF A CANDIDATE MAKES
 
-not_moved : (g : Graph) (cut : Cut) → IsRowCandidate g cut → cut.row ≢ L
+pub not_moved : (g : Graph) (cut : Cut) → IsRowCandidate g cut → cut.row ≢ L
 not_moved g cut (inl (inl unreached)) is = let same : U ≡ L = sym unreached.row ∙ is in cc
 not_moved g cut (inl (inr jump)) is = subst (λ row. HasRow row g jump.block) is jump.has_row
 not_moved g cut (inr (inl tail)) is = let same : Jumps ≡ Tails = sym (ap pass_of is) ∙ its_row Tails g cut tail in cc
 not_moved g cut (inr (inr outline)) is = let same : Jumps ≡ Outlines = sym (ap pass_of is) ∙ its_row Outlines g cut outline in cc
 
-row_made : (row : Row) (g : Graph) (cut : Cut) → row ≢ L → described_by row g cut ≡ row_described g cut
+pub row_made : (row : Row) (g : Graph) (cut : Cut) → row ≢ L → described_by row g cut ≡ row_described g cut
 row_made U g cut other = refl
 row_made J1 g cut other = refl
 row_made J2 g cut other = refl
@@ -41,7 +41,7 @@ row_made W g cut other = refl
 row_made V g cut other = refl
 row_made L g cut other = absurd (other refl)
 
-move_made : (g : Graph) (cut : Cut) → IsMove g cut → described g cut ≡ move_described g cut
+pub move_made : (g : Graph) (cut : Cut) → IsMove g cut → described g cut ≡ move_described g cut
 move_made g cut move = ap (λ row. described_by row g cut) (ap (λ (c : Cut). c.row) move.is)
 
 -- REWRITES

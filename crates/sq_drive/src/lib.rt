@@ -8,10 +8,12 @@
 
 mod listed;
 mod once;
+mod replaying;
 mod rows;
 mod settling;
 
 pub use listed::settle_with;
 pub use once::rewrite_once;
+pub use replaying::{replay, take_step};
 pub use rows::AllRows;
 pub use settling::{settle, settle_by, settle_slotted};
