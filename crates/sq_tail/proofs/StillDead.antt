@@ -68,10 +68,6 @@ module _ (g : Graph) (dropped kept : ℕ) (rules : IsGraph g) (bodies : HaveBodi
   keeps_dead h (whole, ((new, (unused, is)), made)) block items dead apart told =
       subst (λ k. IsStillDead k block items dead) (sym (made ∙ ap canonical_of (is ∙ body_merged g new dropped kept bodies))) (dead_still block items dead apart told)
 
--- where nothing is rewritten
-pub keeps_dead_itself : (g : Graph) (gone : ℕ) → KeepsDeadElsewhere g g gone
-keeps_dead_itself g gone block items dead apart told = told
-
 -- by what a rewrite answers
 pub keeps_dead_where : (g h : Graph) (dropped kept length_of : ℕ) (result : Result Savings Memory) → IsGraph g → HaveBodies g dropped kept → length_of ≡ length (items_of g kept) → IfOk result (λ after. IsJoinedWhole g dropped kept length_of h) → IfOk result (λ after. KeepsDeadElsewhere g h dropped)
 keeps_dead_where g h dropped kept n (Ok after) rules bodies is made = keeps_dead g dropped kept rules bodies h (subst (λ k. IsJoinedWhole g dropped kept k h) is made)
@@ -135,9 +131,6 @@ still_dead_ahead g h first names told place rules is below dead keeps = record {
   each = λ i b ahead there.
       keeps (slice_index names i) b.items b.dead (names_apart first names i place rules is ahead below) (dead.each i b (omega (arith, ahead)) there);
 }
-
-pub still_dead_less : (g : Graph) (names : List ℕ) (told : List (Option Behind)) (place : ℕ) → AreStillDead g names told (place + 1) → AreStillDead g names told place
-still_dead_less g names told place dead = record { many = dead.many; each = λ i b ahead there. dead.each i b (omega (arith, ahead)) there }
 
 -- what is told of a block where something is
 pub told_where : (P : Behind → Type 0) (told : Option Behind) → IfSome told P → (b : Behind) → told ≡ Some b → P b
