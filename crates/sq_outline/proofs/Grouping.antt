@@ -8,7 +8,7 @@ use Rattle.std.proofs.lemmas.List.Elements.{All-contains, All-from_recursion, re
 use Rattle.std.proofs.lemmas.Map.Keys.{IsDistinct-cons, IsDistinct-head, IsDistinct-tail}
 use Rattle.std.proofs.lemmas.Option.{get_or_from_slice_get, slice_get_within}
 use Rattle.sq_graph.specs.Graph.{Graph}
-use Rattle.sq_graph.specs.Blocks.{HasBlock, items_of}
+use Rattle.sq_graph.specs.Blocks.{HasBlock}
 use Rattle.sq_graph.specs.Parts.{names_of}
 use Rattle.sq_graph.specs.Rules.{IsGraph}
 use Rattle.sq_outline.specs.Prints.{print_of, print_groups}
@@ -18,7 +18,7 @@ use Rattle.sq_outline.proofs.Printing.{one_print}
 use Rattle.sq_live.proofs.Layouts.{block_at}
 use Rattle.sq_outline.specs.Sets.{IsGroupOf, CanMake}
 use Rattle.sq_outline.proofs.Keeping.{each_in, first_in, later_in, first_or_later, none_in}
-use Rattle.sq_outline.proofs.Choosing.{names_distinct, listed, can_own}
+use Rattle.sq_outline.proofs.Choosing.{names_distinct, can_own}
 
 -- a name is a block's
 has_name : (g : Graph) (b : ℕ) → IsGraph g → Contains (names_of g) b → HasBlock g b

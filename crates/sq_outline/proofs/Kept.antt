@@ -1,6 +1,6 @@
 -- A canonical graph stays canonical when items become the body of one more procedure, and when items that match a procedure's
 -- body become a call of it: the names that they use are used in the body.
-use Rattle.std.proofs.Common.{◌≡◌, ℕ, zero, suc, ◌+◌, ◌==◌, Bool, true, false, ◌&&◌, ◌||◌, not, List, [], ◌∷◌, ◌++◌, take, drop, length, slice_get, Option, None, Some, ◌⊎◌, inl, inr, refl, sym, ap, ◌∙◌, subst, arith}
+use Rattle.std.proofs.Common.{◌≡◌, ℕ, zero, suc, ◌+◌, ◌==◌, Bool, true, false, ◌&&◌, ◌||◌, not, List, [], ◌∷◌, ◌++◌, take, drop, length, slice_get, ◌⊎◌, inl, inr, refl, sym, ap, ◌∙◌, subst}
 use Rattle.std.specs.List.{All, slice_range}
 use Rattle.std.proofs.lemmas.Bool.{or_cases, or_left, or_right}
 use Rattle.std.proofs.lemmas.List.{take-append-drop, drop-drop}
@@ -9,7 +9,7 @@ use Rattle.sq_isa.specs.Registers.{is_among}
 use Rattle.sq_graph.specs.declared.item.Item.{Item}
 use Rattle.sq_graph.specs.declared.item.Item.TheVariants.{Op, Hi, Lo, Out}
 use Rattle.sq_graph.specs.Graph.{Block, Procedure, Graph}
-use Rattle.sq_graph.specs.Blocks.{block_of, block_items, items_of, items_of_blocks, items_of_bodies, procedure_body, body_of}
+use Rattle.sq_graph.specs.Blocks.{block_items, items_of, items_of_blocks, items_of_bodies, procedure_body, body_of}
 use Rattle.sq_graph.specs.Leaders.{is_fall, is_bare, follows_a_term, is_leader, FallsIntoLeaders, IsCanonical}
 use Rattle.sq_graph.specs.Matches.{AreSameForms}
 use Rattle.sq_graph.specs.Operations.{replaced_items, outlined}
@@ -20,7 +20,7 @@ use Rattle.sq_graph.proofs.Changes.{with_blocks-at}
 use Rattle.sq_graph.proofs.Located.{IsAt, located, items_of_blocks-append}
 use Rattle.sq_graph.proofs.Marks.{is_among-append}
 use Rattle.sq_graph.proofs.SlotReads.{block_at}
-use Rattle.sq_patch.specs.Calls.{IsMatching, call_items, called_there}
+use Rattle.sq_patch.specs.Calls.{call_items, called_there}
 use Rattle.sq_patch.proofs.Calls.{range_is}
 use Rattle.sq_outline.specs.declared.sites.Site.{Site}
 use Rattle.sq_outline.specs.Sites.{called_each, MatchesAt, MayCallEach}

@@ -1,5 +1,5 @@
 -- Blocks whose bodies match have one print.
-use Rattle.std.proofs.Common.{◌≡◌, ℕ, ◌==◌, zero, suc, List, [], ◌∷◌, slice_get, Option, Bool, true, false, true≢false, not, ◌&&◌, ◌||◌, ◌+◌, ◌*◌, IsSome, is_some, map, inl, inr, refl, sym, ap, ◌∙◌, subst, arith}
+use Rattle.std.proofs.Common.{◌≡◌, ℕ, ◌==◌, zero, suc, List, [], ◌∷◌, slice_get, Option, true, false, true≢false, not, ◌&&◌, IsSome, is_some, map, inl, inr, refl, sym, ap, ◌∙◌, subst, arith}
 use Rattle.std.specs.List.{All}
 use Rattle.std.proofs.lemmas.Bool.{cases_Bool, cases_eq, eqb-true, eq-eqb, or_left, or_right}
 use Rattle.std.proofs.lemmas.List.Elements.{All-nil}

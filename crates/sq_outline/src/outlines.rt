@@ -45,8 +45,9 @@ impl Pass for Outlines {
         }
     }
 
-    /// It compares the bodies of each class of blocks with each other, and with those of procedures of the same length; for O3 and O4 it
-    /// looks at each word once, and a few times more for a procedure that would save words.
+    /// It compares the bodies of each group of blocks of one print with each other, and those of blocks with those of all procedures
+    /// where one has their print; for O3 and O4 it looks at each word once, and a few times more for a procedure that would save
+    /// words.
     fn find(&self, alloc: Global, graph: &Graph, live: &Liveness) -> Result<Option<Cut>, Memory> {
         learn(graph);
         if let Some(cut) = find_made(alloc, graph, live)? {
@@ -93,8 +94,8 @@ impl Pass for Outlines {
         }
     }
 
-    /// Two looks at all bodies, and for each rewrite one at the bodies of its class. Where the link of a new procedure isn't sure
-    /// without it, a look for live registers.
+    /// Two looks at all bodies, and for each procedure that it makes one at the bodies of a group; where the link isn't sure
+    /// without it, also one for live registers.
     fn sweep(&self, alloc: Global, graph: &mut Graph, savings: Savings) -> Result<Savings, Memory> {
         sweep(alloc, graph, savings)
     }

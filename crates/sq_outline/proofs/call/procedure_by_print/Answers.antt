@@ -1,4 +1,4 @@
-use Rattle.std.proofs.Common.{nat_eq, sym, ◌∙◌}
+use Rattle.std.proofs.Common.{nat_eq}
 use Rattle.std.specs.HashMap.{get}
 use Rattle.sq_outline.proofs.Printing.{no_print}
 use Rattle.sq_outline.proofs.call.procedure_by_print.Goals as goal

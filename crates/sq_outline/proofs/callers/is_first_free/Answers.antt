@@ -1,4 +1,4 @@
-use Rattle.std.proofs.Common.{◌≡◌, ◌<◌, ℕ, length, get_or, drop, sym, ◌∙◌, subst, arith}
+use Rattle.std.proofs.Common.{◌≡◌, ◌<◌, ℕ, length, get_or, sym, ◌∙◌, subst, arith}
 use Rattle.sq_outline.specs.Links.{link_order, IsFirstOf}
 use Rattle.sq_outline.specs.Still.{IsFree}
 use Rattle.sq_outline.proofs.Linking.{register_at, first_here, first_later}
