@@ -6,12 +6,14 @@
 //! positions.
 #![tactic(auto)]
 
+mod checking;
 mod listed;
 mod once;
 mod replaying;
 mod rows;
 mod settling;
 
+pub use checking::check_graph;
 pub use listed::settle_with;
 pub use once::rewrite_once;
 pub use replaying::{replay, take_step};
