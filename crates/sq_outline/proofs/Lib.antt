@@ -16,3 +16,7 @@ pub mod Spreading
 pub mod Inlining
 pub mod InlineSteps
 pub mod InlineSearch
+pub mod WindowsStanding
+pub mod WindowsLining
+pub mod WindowsCalling
+pub mod WindowsApplying

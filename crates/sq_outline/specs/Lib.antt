@@ -8,3 +8,6 @@ pub mod Recalled
 pub mod RecalledNumbers
 pub mod Inlined
 pub mod InlineSteps
+pub mod WindowsPlaces
+pub mod WindowsInside
+pub mod WindowsCandidates

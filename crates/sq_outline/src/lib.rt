@@ -14,5 +14,7 @@ mod plain;
 mod recall;
 mod sets;
 mod sites;
+mod windows;
 
 pub use outlines::Outlines;
+pub use windows::Windows;
