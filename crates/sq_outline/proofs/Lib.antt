@@ -20,3 +20,10 @@ pub mod WindowsStanding
 pub mod WindowsLining
 pub mod WindowsCalling
 pub mod WindowsApplying
+pub mod WindowsApart
+pub mod WindowsLast
+pub mod WindowsBlocks
+pub mod WindowsMaking
+pub mod WindowsThin
+pub mod WindowsFinding
+pub mod WindowsClasses

@@ -10,4 +10,6 @@ pub mod Inlined
 pub mod InlineSteps
 pub mod WindowsPlaces
 pub mod WindowsInside
+pub mod WindowsMade
+pub mod WindowsSearch
 pub mod WindowsCandidates

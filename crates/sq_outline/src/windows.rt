@@ -1,7 +1,11 @@
 //! The rows on windows: items inside bodies that become calls.
 
+mod found;
 mod inside;
+mod occurrences;
 mod pass;
+mod search;
 mod stands;
+mod window;
 
 pub use pass::Windows;

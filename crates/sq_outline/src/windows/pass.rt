@@ -2,6 +2,8 @@
 
 use crate::call::call;
 use crate::windows::inside::{admit_inside, find_inside};
+use crate::windows::search::{admit_window, find_window};
+use crate::windows::window::make_window;
 use sq_graph::{Graph, Room};
 use sq_layout::learn;
 use sq_live::Liveness;
@@ -9,7 +11,7 @@ use sq_num::{Memory, Savings};
 use sq_pass::{Cut, Pass, Row};
 use std::alloc::Global;
 
-/// The pass of row V.
+/// The pass of rows W and V.
 #[derive(Clone, Copy, Debug)]
 pub struct Windows;
 
@@ -24,40 +26,53 @@ impl Pass for Windows {
 
     ghost saves = { λ _ graph cut. windows_save graph cut };
 
-    /// For V it looks at the items of the place.
+    /// For W it looks at each place, for V at the items of one.
     fn admit(
         &self,
-        _alloc: Global,
+        alloc: Global,
         graph: &Graph,
         live: &Liveness,
         cut: Cut,
     ) -> Result<Option<Cut>, Memory> {
         match cut.row {
+            Row::W => admit_window(alloc, graph, live, cut),
             Row::V => Ok(admit_inside(graph, live, cut)),
             _ => Ok(None),
         }
     }
 
-    /// For V it compares the items of each place with the body of each procedure.
+    /// For V it compares the items of each place with the body of each procedure; for W it numbers the windows of each
+    /// length, and looks at the places of those that stand twice.
     fn find(&self, alloc: Global, graph: &Graph, live: &Liveness) -> Result<Option<Cut>, Memory> {
-        find_inside(alloc, graph, live)
+        if let Some(cut) = find_inside(alloc, graph, live)? {
+            return Ok(Some(cut));
+        }
+        find_window(alloc, graph, live)
     }
 
     /// It looks at nothing.
-    fn room(&self, graph: &Graph, _cut: &Cut) -> Room {
+    fn room(&self, graph: &Graph, cut: &Cut) -> Room {
         learn(graph);
-        Room {
-            blocks: 0,
-            items: 0,
-            procedures: 0,
+        match cut.row {
+            Row::W => Room {
+                blocks: 0,
+                items: cut.length,
+                procedures: 1,
+            },
+            _ => Room {
+                blocks: 0,
+                items: 0,
+                procedures: 0,
+            },
         }
     }
 
-    /// A few calls of the graph.
+    /// A few calls of the graph; for W it looks at each place.
     fn apply(&self, graph: &mut Graph, cut: &Cut) {
         learn(graph);
         let blocks = cut.blocks.as_slice();
         match cut.row {
+            Row::W => make_window(graph, blocks[0], cut.other, cut.length, cut.link),
             Row::V => call(graph, blocks[0], cut.other, cut.procedure),
             _ => unreachable!(),
         }
