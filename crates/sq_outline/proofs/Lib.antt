@@ -19,6 +19,7 @@ pub mod InlineSearch
 pub mod WindowsStanding
 pub mod WindowsLining
 pub mod WindowsCalling
+pub mod WindowsHeading
 pub mod WindowsApplying
 pub mod WindowsApart
 pub mod WindowsLast

@@ -10,6 +10,7 @@ pub mod Inlined
 pub mod InlineSteps
 pub mod WindowsPlaces
 pub mod WindowsInside
+pub mod WindowsHeads
 pub mod WindowsMade
 pub mod WindowsSearch
 pub mod WindowsCandidates

@@ -1,6 +1,7 @@
 //! The rows on windows: items inside bodies that become calls.
 
 mod found;
+mod heads;
 mod inside;
 mod occurrences;
 mod pass;

@@ -12,8 +12,10 @@ ghost use Rattle.sq_pass.specs.declared.cut.Cut.{Cut as Told};
 ghost use Rattle.sq_pass.specs.declared.cut.Row.TheVariants.{V as Inside};
 ghost use Rattle.sq_pass.specs.Cuts.{IsCompleted};
 ghost use Rattle.sq_outline.specs.Called.{call_saving};
+ghost use Rattle.sq_outline.specs.WindowsHeads.{HasHeads};
 ghost use Rattle.sq_outline.specs.WindowsInside.{MayCallInside, IsInsideCut};
 
+use crate::windows::heads::{heads, may_begin};
 use crate::windows::stands::stand_at;
 use sq_finger::{WindowAt, all_places};
 use sq_graph::Graph;
@@ -25,6 +27,7 @@ use sq_num::Memory;
 use sq_pass::{Blocks, Cut, Row};
 use sq_rename::has_no_reservations;
 use std::alloc::Global;
+use std::collections::HashSet;
 
 /// Whether a call of the procedure may stand for items inside a block, and saves a word.
 fn may_call_inside(graph: &Graph, live: &Liveness, block: u32, at: u32, procedure: u32) -> bool
@@ -52,12 +55,21 @@ fn may_call_inside(graph: &Graph, live: &Liveness, block: u32, at: u32, procedur
 }
 
 /// The first procedure of which a call may stand for items from a place on.
-fn procedure_inside(graph: &Graph, live: &Liveness, place: WindowAt) -> Option<u32>
+fn procedure_inside(
+    graph: &Graph,
+    live: &Liveness,
+    heads: &HashSet<u64>,
+    place: WindowAt,
+) -> Option<u32>
+    requires heads { HasHeads graph.now.graph heads.now }
     requires block { HasBlock graph.now.graph place.block }
     requires live { IsLivenessOf graph.now.graph live.now }
     ensures some { IfSome result (λ procedure. HasProcedure graph.now.graph procedure × MayCallInside graph.now.graph place.block place.at procedure) }
     ensures none { result ≡ None → (procedure : ℕ) → HasProcedure graph.now.graph procedure → ¬ MayCallInside graph.now.graph place.block place.at procedure }
 {
+    if !may_begin(graph, heads, place) {
+        return None;
+    }
     for procedure in 0..graph.procedures() {
         if may_call_inside(graph, live, place.block, place.at, procedure) {
             return Some(procedure);
@@ -67,7 +79,13 @@ fn procedure_inside(graph: &Graph, live: &Liveness, place: WindowAt) -> Option<u
 }
 
 /// The first place from which on a call may stand for items, and the procedure.
-fn find_place(graph: &Graph, live: &Liveness, line: &[WindowAt]) -> Option<(WindowAt, u32)>
+fn find_place(
+    graph: &Graph,
+    live: &Liveness,
+    heads: &HashSet<u64>,
+    line: &[WindowAt],
+) -> Option<(WindowAt, u32)>
+    requires heads { HasHeads graph.now.graph heads.now }
     requires live { IsLivenessOf graph.now.graph live.now }
     requires line { line.now ≡ line_of graph.now.graph }
     ensures some { IfSome result (λ found. HasProcedure graph.now.graph found.1 × MayCallInside graph.now.graph found.0.block found.0.at found.1) }
@@ -75,7 +93,7 @@ fn find_place(graph: &Graph, live: &Liveness, line: &[WindowAt]) -> Option<(Wind
 {
     learn(graph);
     for place in line {
-        if let Some(procedure) = procedure_inside(graph, live, *place) {
+        if let Some(procedure) = procedure_inside(graph, live, heads, *place) {
             return Some((*place, procedure));
         }
     }
@@ -113,8 +131,9 @@ pub(crate) fn find_inside(
     ensures some { IfOk result (λ found. IfSome found (IsInsideCut graph.now.graph)) }
     ensures none { result ≡ Ok None → (cut : Told) → ¬ IsInsideCut graph.now.graph cut }
 {
+    let heads = heads(alloc, graph)?;
     let line = all_places(alloc, graph)?;
-    match find_place(graph, live, &line) {
+    match find_place(graph, live, &heads, &line) {
         Some((place, procedure)) => Ok(Some(inside_cut(alloc, graph, place, procedure)?)),
         None => Ok(None),
     }
