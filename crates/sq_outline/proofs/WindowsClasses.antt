@@ -171,6 +171,9 @@ first_numbered m (Some k ∷ numbers) (q ∷ line) p rest e =
       | inr apart ↦ let is : members_of m numbers line ≡ p ∷ rest = rw apart at e in let at = first_numbered m numbers line p rest is in (suc at.0, (at.1.0, at.1.1))
     ]
 
+not_both : (o : Option (Option ℕ)) → o ≡ Some None → (m : ℕ) × (o ≡ Some (Some m)) → ⊥
+not_both o none number = absurd (let both : Some None ≡ Some (Some number.0) = sym none ∙ number.1 in cc)
+
 module _ (g : Graph) (n : ℕ) (rules : IsGraph g) (some : 1 ≤ n) (line : List WindowAt) (numbers : List (Option ℕ)) (whole : line ≡ line_of g) (are : AreWindowNumbers g n line numbers) where
   module _ (i m : ℕ) (p : WindowAt) (at_line : slice_get line i ≡ Some p) (at_number : slice_get numbers i ≡ Some (Some m)) where
     window : IsWindow g n p
@@ -205,10 +208,9 @@ module _ (g : Graph) (n : ℕ) (rules : IsGraph g) (some : 1 ≤ n) (line : List
                 block =
                     subst (λ (r : WindowAt). HasBlock g r.block) (get_or_from_slice_get line j q q e) (place_block g rules line j q whole (slice_get_within line j q e));
                 within = omega (arith, size, long, some, length-take n (drop q.at (items_of g q.block)), length-drop q.at (items_of g q.block));
-                plain = ap (λ (is : List Item). list_all is_plain is) own ∙ window.plain;
+                plain = subst (λ (is : List Item). list_all is_plain is ≡ true) (sym own) window.plain;
               } in
-              let number = are.numbered j q e there in
-              absurd (let both : Some None ≡ Some (Some number.0) = sym f ∙ number.1 in cc)
+              absurd (not_both (slice_get numbers j) f (are.numbered j q e there))
           | inr none ↦ sym none
         ]
     told j q (Some k) e f =

@@ -42,16 +42,7 @@ fn head(items: &[Item]) -> Option<u64>
     Some(first * 4294967296 + second)
 }
 
-/// Puts a number into a set.
-fn put(heads: &mut HashSet<u64>, head: u64) -> Result<(), Memory>
-    ensures there { IfOk result (λ _. set.contains nat_eq heads.new head ≡ true) }
-    ensures kept { IfOk result (λ _. (h : ℕ) → set.contains nat_eq heads.old h ≡ true → set.contains nat_eq heads.new h ≡ true) }
-{
-    heads.insert(head)?;
-    Ok(())
-}
-
-/// The numbers of the procedures.
+/// The numbers of the first items of the procedures.
 pub(crate) fn heads(alloc: Global, graph: &Graph) -> Result<HashSet<u64>, Memory>
     ensures { IfOk result (HasHeads graph.now.graph) }
 {
@@ -59,7 +50,7 @@ pub(crate) fn heads(alloc: Global, graph: &Graph) -> Result<HashSet<u64>, Memory
     let mut heads = HashSet::new(alloc);
     for procedure in 0..graph.procedures() {
         if let Some(head) = head(graph.body(procedure)) {
-            put(&mut heads, head)?;
+            heads.insert(head)?;
         }
     }
     Ok(heads)

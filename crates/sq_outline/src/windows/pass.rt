@@ -41,8 +41,8 @@ impl Pass for Windows {
         }
     }
 
-    /// For V it compares the items of each place with the body of each procedure; for W it numbers the windows of each
-    /// length, and looks at the places of those that stand twice.
+    /// For V it looks at each place, and compares the items there with the body of each procedure where some procedure begins
+    /// with the first two of them; for W it numbers the windows of each length, and looks at those that stand twice.
     fn find(&self, alloc: Global, graph: &Graph, live: &Liveness) -> Result<Option<Cut>, Memory> {
         if let Some(cut) = find_inside(alloc, graph, live)? {
             return Ok(Some(cut));
