@@ -61,7 +61,7 @@ impl<M: Copy> Groups<M> {
     }
 
     /// Groups members by their numbers.
-    pub(crate) fn by_number(
+    pub fn by_number(
         alloc: Global,
         members: &[M],
         numbers: &[Option<u32>],

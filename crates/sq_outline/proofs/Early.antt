@@ -4,7 +4,7 @@ use Rattle.std.specs.List.{All}
 use Rattle.std.proofs.Math.Seq.{drop-cons, take-suc}
 use Rattle.std.proofs.lemmas.List.Elements.{All-push}
 
-first_part : {X : Type 0} (xs ys : List X) (at m : ℕ) → m ≤ at → at ≤ length xs → take m (take at xs ++ ys) ≡ take m xs
+pub first_part : {X : Type 0} (xs ys : List X) (at m : ℕ) → m ≤ at → at ≤ length xs → take m (take at xs ++ ys) ≡ take m xs
 first_part xs ys at zero before there = refl
 first_part [] ys at (suc m) before there = absurd (omega arith)
 first_part (x ∷ xs) ys zero (suc m) before there = absurd (omega arith)

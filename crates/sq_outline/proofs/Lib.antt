@@ -20,3 +20,15 @@ pub mod InlineSearch
 pub mod Kept
 pub mod Still
 pub mod Sweeping
+pub mod WindowsStanding
+pub mod WindowsLining
+pub mod WindowsCalling
+pub mod WindowsHeading
+pub mod WindowsApplying
+pub mod WindowsApart
+pub mod WindowsLast
+pub mod WindowsBlocks
+pub mod WindowsMaking
+pub mod WindowsThin
+pub mod WindowsFinding
+pub mod WindowsClasses

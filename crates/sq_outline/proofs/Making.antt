@@ -38,11 +38,11 @@ use Rattle.sq_outline.proofs.Plainness.{NoCalls, forms_length, plain_pair, plain
 use Rattle.sq_outline.proofs.Standing.{AreCalls, sites_called}
 
 -- the last of a list
-last_there : {X : Type 0} (xs : List X) (x : X) → slice_get (xs ++ x ∷ []) (length xs) ≡ Some x
+pub last_there : {X : Type 0} (xs : List X) (x : X) → slice_get (xs ++ x ∷ []) (length xs) ≡ Some x
 last_there [] x = refl
 last_there (y ∷ xs) x = last_there xs x
 
-same_some : {X : Type 0} (x y : X) → Some x ≡ Some y → x ≡ y
+pub same_some : {X : Type 0} (x y : X) → Some x ≡ Some y → x ≡ y
 same_some x y e = cc
 
 -- starts of different blocks are apart
@@ -67,7 +67,7 @@ pub some_items : (n k saving : ℕ) → saving + (n + 1) ≡ k * (n - 1) → 1 �
 some_items zero k saving saves some = absurd (omega arith)
 some_items (suc n) k saving saves some = omega arith
 
-saved_words : (n k saving : ℕ) → 1 ≤ n → saving + (n + 1) ≡ k * (n - 1) → (saving + (n + 1)) + k ≡ k * n
+pub saved_words : (n k saving : ℕ) → 1 ≤ n → saving + (n + 1) ≡ k * (n - 1) → (saving + (n + 1)) + k ≡ k * n
 saved_words zero k saving one saves = absurd (omega arith)
 saved_words (suc n) k saving one saves =
     let less : suc n - 1 ≡ n = omega arith in

@@ -10,3 +10,9 @@ pub mod Inlined
 pub mod InlineSteps
 pub mod Still
 pub mod Prints
+pub mod WindowsPlaces
+pub mod WindowsInside
+pub mod WindowsHeads
+pub mod WindowsMade
+pub mod WindowsSearch
+pub mod WindowsCandidates

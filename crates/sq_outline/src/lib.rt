@@ -1,8 +1,9 @@
-//! The pass of the rows that make procedures of bodies that match, and that undo procedures.
+//! The passes of the rows that make procedures of bodies that match, and that undo procedures.
 //!
 //! To the layers above it promises that `Outlines` keeps the laws of passes, for the rows O1, O2, O3 and O4: what it finds
 //! and admits are candidates of these rows, it misses none, whatever set of blocks is taken, and what it makes of a graph is
-//! exactly what the row says. Its sweep takes many candidates of O1 and O2 by one look.
+//! exactly what the row says. Its sweep takes many candidates of O1 and O2 by one look. The same of `Windows`, for the rows W
+//! and V: over all windows of all lengths it misses none.
 #![tactic(auto)]
 
 mod call;
@@ -17,5 +18,7 @@ mod recall;
 mod sets;
 mod sites;
 mod sweep;
+mod windows;
 
 pub use outlines::Outlines;
+pub use windows::Windows;

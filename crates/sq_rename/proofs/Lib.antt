@@ -1,5 +1,5 @@
-mod Equals
-mod Forms
+pub mod Equals
+pub mod Forms
 mod Joining
 mod Places
 mod Exchanges

@@ -1,0 +1,26 @@
+-- How bodies of procedures begin. No public clause cites this module.
+use Rattle.std.specs.Prelude.{◌≡◌, ℕ, ◌+◌, ◌*◌, true, nat_eq, List, [], ◌∷◌, Option, None, Some}
+use Rattle.std.specs.HashSet as set
+use Rattle.std.specs.HashSet.{HashSet}
+use Rattle.sq_graph.specs.declared.item.Item.{Item}
+use Rattle.sq_graph.specs.Graph.{Graph}
+use Rattle.sq_graph.specs.Blocks.{HasProcedure, body_of}
+use Rattle.sq_finger.specs.declared.keys.ItemKey.{ItemKey}
+use Rattle.sq_finger.specs.declared.keys.ItemKey.TheVariants.{Op, Hi, Lo, Out}
+use Rattle.sq_finger.specs.ItemKeys.{key_of}
+
+abbrev pub print_of : ItemKey → ℕ
+print_of (Op word) = word
+print_of (Hi rd to) = to
+print_of (Lo rd rs to) = to
+print_of (Out procedure) = procedure
+
+-- a number for the first two items, where there are two
+abbrev pub head_of : List Item → Option ℕ
+head_of [] = None
+head_of (first ∷ []) = None
+head_of (first ∷ second ∷ items) = Some (print_of (key_of first) * 4294967296 + print_of (key_of second))
+
+-- the set has the numbers of all procedures
+abbrev pub HasHeads : {S : Type 0} → Graph → HashSet ℕ S → Type 0
+HasHeads g heads = (procedure head : ℕ) → HasProcedure g procedure → head_of (body_of g procedure) ≡ Some head → set.contains nat_eq heads head ≡ true

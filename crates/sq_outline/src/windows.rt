@@ -1,0 +1,12 @@
+//! The rows on windows: items inside bodies that become calls.
+
+mod found;
+mod heads;
+mod inside;
+mod occurrences;
+mod pass;
+mod search;
+mod stands;
+mod window;
+
+pub use pass::Windows;

@@ -1,0 +1,74 @@
+//! How bodies of procedures begin, by which most places are told apart where none stands.
+
+ghost use Rattle.std.specs.Prelude.{◌≡◌, ◌≤◌, ◌<◌, ℕ, Some, true, false, IfOk, nat_eq, length};
+ghost use Rattle.std.specs.HashSet as set;
+ghost use Rattle.std.specs.List.{All};
+ghost use Rattle.sq_graph.specs.Blocks.{HasBlock, HasProcedure, body_of};
+ghost use Rattle.sq_graph.specs.Rules.{ItemFits};
+ghost use Rattle.sq_finger.specs.ItemKeys.{key_of};
+ghost use Rattle.sq_outline.specs.WindowsInside.{MayCallInside};
+ghost use Rattle.sq_outline.specs.WindowsHeads.{print_of, head_of, HasHeads};
+
+use sq_finger::{ItemKey, WindowAt, item_key};
+use sq_graph::{Graph, Item};
+use sq_layout::learn;
+use sq_num::Memory;
+use std::alloc::Global;
+use std::collections::HashSet;
+
+/// A number for an item; equal items have one.
+fn print(item: &Item) -> u32
+    requires { ItemFits item.now }
+    ensures { result ≡ print_of (key_of item.now) }
+{
+    match item_key(item) {
+        ItemKey::Op { word } => word,
+        ItemKey::Hi { to, .. } => to,
+        ItemKey::Lo { to, .. } => to,
+        ItemKey::Out { procedure } => procedure,
+    }
+}
+
+/// A number for the first two items, where there are two.
+fn head(items: &[Item]) -> Option<u64>
+    requires { All ItemFits items.now }
+    ensures { result ≡ head_of items.now }
+{
+    if items.len() < 2 {
+        return None;
+    }
+    let first = u64::from(print(&items[0]));
+    let second = u64::from(print(&items[1]));
+    Some(first * 4294967296 + second)
+}
+
+/// The numbers of the first items of the procedures.
+pub(crate) fn heads(alloc: Global, graph: &Graph) -> Result<HashSet<u64>, Memory>
+    ensures { IfOk result (HasHeads graph.now.graph) }
+{
+    learn(graph);
+    let mut heads = HashSet::new(alloc);
+    for procedure in 0..graph.procedures() {
+        if let Some(head) = head(graph.body(procedure)) {
+            heads.insert(head)?;
+        }
+    }
+    Ok(heads)
+}
+
+/// Whether the body of a procedure may stand from a place on, by its first two items.
+pub(crate) fn may_begin(graph: &Graph, heads: &HashSet<u64>, place: WindowAt) -> bool
+    requires block { HasBlock graph.now.graph place.block }
+    requires heads { HasHeads graph.now.graph heads.now }
+    ensures { result ≡ false → (procedure : ℕ) → HasProcedure graph.now.graph procedure → ¬ MayCallInside graph.now.graph place.block place.at procedure }
+{
+    learn(graph);
+    let items = graph.items(place.block);
+    if items.len() < place.at as usize {
+        return false;
+    }
+    match head(&items[place.at as usize..]) {
+        Some(head) => heads.contains(&head),
+        None => false,
+    }
+}

@@ -1,0 +1,168 @@
+//! Row V: items inside a block that equal a procedure's body become a call of it.
+//!
+//!     before   a: addi s0,s0,1; ..      after   a: addi s0,s0,1; jal l,p
+//!              p: ..                            p: ..
+//!                 jr l                             jr l
+
+ghost use Rattle.std.specs.Prelude.{◌≡◌, ◌≤◌, ◌<◌, ◌^◌, ◌+◌, ◌↔◌, ℕ, None, Ok, IsTrue, IfOk, IfSome, length};
+ghost use Rattle.sq_graph.specs.Blocks.{HasBlock, HasProcedure, items_of, body_of};
+ghost use Rattle.sq_finger.specs.Lines.{line_of};
+ghost use Rattle.sq_live.specs.Liveness.{IsLivenessOf};
+ghost use Rattle.sq_pass.specs.declared.cut.Cut.{Cut as Told};
+ghost use Rattle.sq_pass.specs.declared.cut.Row.TheVariants.{V as Inside};
+ghost use Rattle.sq_pass.specs.Cuts.{IsCompleted};
+ghost use Rattle.sq_outline.specs.Called.{call_saving};
+ghost use Rattle.sq_outline.specs.WindowsHeads.{HasHeads};
+ghost use Rattle.sq_outline.specs.WindowsInside.{MayCallInside, IsInsideCut};
+
+use crate::windows::heads::{heads, may_begin};
+use crate::windows::stands::stand_at;
+use sq_finger::{WindowAt, all_places};
+use sq_graph::Graph;
+use sq_isa::Reg;
+use sq_layout::learn;
+use sq_live::Liveness;
+use sq_lookup::is_block;
+use sq_num::Memory;
+use sq_pass::{Blocks, Cut, Row};
+use sq_rename::has_no_reservations;
+use std::alloc::Global;
+use std::collections::HashSet;
+
+/// Whether a call of the procedure may stand for items inside a block, and saves a word.
+fn may_call_inside(graph: &Graph, live: &Liveness, block: u32, at: u32, procedure: u32) -> bool
+    requires block { HasBlock graph.now.graph block }
+    requires procedure { HasProcedure graph.now.graph procedure }
+    requires live { IsLivenessOf graph.now.graph live.now }
+    ensures { IsTrue result ↔ MayCallInside graph.now.graph block at procedure }
+{
+    learn(graph);
+    let body = graph.body(procedure);
+    let count = body.len();
+    if count < 2 {
+        return false;
+    }
+    if graph.items(block).len() == count {
+        return false;
+    }
+    if !stand_at(graph, block, at, body) {
+        return false;
+    }
+    if !has_no_reservations(body) {
+        return false;
+    }
+    live.dead_at(block, at + count as u32, graph.link(procedure))
+}
+
+/// The first procedure of which a call may stand for items from a place on.
+fn procedure_inside(
+    graph: &Graph,
+    live: &Liveness,
+    heads: &HashSet<u64>,
+    place: WindowAt,
+) -> Option<u32>
+    requires heads { HasHeads graph.now.graph heads.now }
+    requires block { HasBlock graph.now.graph place.block }
+    requires live { IsLivenessOf graph.now.graph live.now }
+    ensures some { IfSome result (λ procedure. HasProcedure graph.now.graph procedure × MayCallInside graph.now.graph place.block place.at procedure) }
+    ensures none { result ≡ None → (procedure : ℕ) → HasProcedure graph.now.graph procedure → ¬ MayCallInside graph.now.graph place.block place.at procedure }
+{
+    if !may_begin(graph, heads, place) {
+        return None;
+    }
+    for procedure in 0..graph.procedures() {
+        if may_call_inside(graph, live, place.block, place.at, procedure) {
+            return Some(procedure);
+        }
+    }
+    None
+}
+
+/// The first place from which on a call may stand for items, and the procedure.
+fn find_place(
+    graph: &Graph,
+    live: &Liveness,
+    heads: &HashSet<u64>,
+    line: &[WindowAt],
+) -> Option<(WindowAt, u32)>
+    requires heads { HasHeads graph.now.graph heads.now }
+    requires live { IsLivenessOf graph.now.graph live.now }
+    requires line { line.now ≡ line_of graph.now.graph }
+    ensures some { IfSome result (λ found. HasProcedure graph.now.graph found.1 × MayCallInside graph.now.graph found.0.block found.0.at found.1) }
+    ensures none { result ≡ None → (block at procedure : ℕ) → ¬ MayCallInside graph.now.graph block at procedure }
+{
+    learn(graph);
+    for place in line {
+        if let Some(procedure) = procedure_inside(graph, live, heads, *place) {
+            return Some((*place, procedure));
+        }
+    }
+    None
+}
+
+/// The candidate of row V for a place and a procedure.
+fn inside_cut(alloc: Global, graph: &Graph, place: WindowAt, procedure: u32) -> Result<Cut, Memory>
+    requires procedure { HasProcedure graph.now.graph procedure }
+    requires may { MayCallInside graph.now.graph place.block place.at procedure }
+    ensures { IfOk result (IsInsideCut graph.now.graph) }
+{
+    learn(graph);
+    let length = graph.body(procedure).len() as u32;
+    let mut blocks = Blocks::new(alloc);
+    blocks.push(place.block)?;
+    Ok(Cut {
+        row: Row::V,
+        blocks,
+        procedure,
+        other: place.at,
+        length,
+        link: Reg::from_low_bits(0),
+        saving: length - 1,
+    })
+}
+
+/// A candidate of row V, or `None` where there is none.
+pub(crate) fn find_inside(
+    alloc: Global,
+    graph: &Graph,
+    live: &Liveness,
+) -> Result<Option<Cut>, Memory>
+    requires live { IsLivenessOf graph.now.graph live.now }
+    ensures some { IfOk result (λ found. IfSome found (IsInsideCut graph.now.graph)) }
+    ensures none { result ≡ Ok None → (cut : Told) → ¬ IsInsideCut graph.now.graph cut }
+{
+    let heads = heads(alloc, graph)?;
+    let line = all_places(alloc, graph)?;
+    match find_place(graph, live, &heads, &line) {
+        Some((place, procedure)) => Ok(Some(inside_cut(alloc, graph, place, procedure)?)),
+        None => Ok(None),
+    }
+}
+
+/// A cut of row V with its link and saving, or `None` where it is no candidate.
+pub(crate) fn admit_inside(graph: &Graph, live: &Liveness, cut: Cut) -> Option<Cut>
+    requires row { cut.row ≡ Inside }
+    requires live { IsLivenessOf graph.now.graph live.now }
+    ensures some { IfSome result (λ given. IsInsideCut graph.now.graph given × IsCompleted cut given) }
+    ensures none { result ≡ None → (given : Told) → IsCompleted cut given → ¬ IsInsideCut graph.now.graph given }
+{
+    learn(graph);
+    if cut.procedure >= graph.procedures() {
+        return None;
+    }
+    if graph.body(cut.procedure).len() != cut.length as usize {
+        return None;
+    }
+    let &[block] = cut.blocks.as_slice() else {
+        return None;
+    };
+    if !is_block(graph, block) || !may_call_inside(graph, live, block, cut.other, cut.procedure) {
+        return None;
+    }
+    let saving = cut.length - 1;
+    Some(Cut {
+        link: Reg::from_low_bits(0),
+        saving,
+        ..cut
+    })
+}

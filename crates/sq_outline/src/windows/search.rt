@@ -1,0 +1,192 @@
+//! The windows of a graph that may become procedures.
+
+ghost use Rattle.std.specs.Prelude.{◌≡◌, ◌≤◌, ◌<◌, ◌^◌, ◌+◌, ℕ, None, Ok, IsTrue, IfOk, IfSome, length};
+ghost use Rattle.sq_graph.specs.Blocks.{HasBlock, items_of};
+ghost use Rattle.sq_finger.specs.Groups.{group_count};
+ghost use Rattle.sq_finger.specs.Lines.{line_of, AreWindowNumbers};
+ghost use Rattle.sq_live.specs.Liveness.{IsLivenessOf};
+ghost use Rattle.sq_pass.specs.declared.cut.Cut.{Cut as Told};
+ghost use Rattle.sq_pass.specs.declared.cut.Row.TheVariants.{W as Window};
+ghost use Rattle.sq_pass.specs.Cuts.{IsCompleted};
+ghost use Rattle.sq_outline.specs.WindowsMade.{items_at, IsWindowMade, IsWindowCut};
+ghost use Rattle.sq_outline.specs.WindowsSearch.{standing, AreWindowClasses};
+
+use crate::windows::found::{Found, found_at, items_at};
+use crate::windows::stands::stand_at;
+use sq_finger::{Groups, WindowAt, all_places, number_items, number_longer_runs, window_laws};
+use sq_graph::Graph;
+use sq_layout::learn;
+use sq_live::Liveness;
+use sq_lookup::is_block;
+use sq_num::Memory;
+use sq_pass::{Blocks, Cut, Row};
+use std::alloc::Global;
+
+/// A window of n items that may become a procedure, among classes of places where the same items stand.
+fn found_among(
+    alloc: Global,
+    graph: &Graph,
+    live: &Liveness,
+    n: u32,
+    classes: &Groups<WindowAt>,
+) -> Result<Option<Found>, Memory>
+    requires live { IsLivenessOf graph.now.graph live.now }
+    requires least { 3 ≤ n }
+    requires most { n ≤ 16 }
+    requires classes { AreWindowClasses graph.now.graph n classes.now }
+    ensures some { IfOk result (λ found. IfSome found (λ made. IsWindowMade graph.now.graph made.first.block made.first.at n made.link made.saving)) }
+    ensures none { result ≡ Ok None → (block at link saving : ℕ) → ¬ IsWindowMade graph.now.graph block at n link saving }
+{
+    for number in 0..classes.len() {
+        if let Some(found) = found_at(alloc, graph, live, n, classes.members(number))? {
+            return Ok(Some(found));
+        }
+    }
+    Ok(None)
+}
+
+/// Whether there are fewer numbers than a table can have.
+fn are_few(numbers: &[Option<u32>]) -> bool
+    ensures { IsTrue result → group_count numbers.now < 2 ^ 32 }
+{
+    for number in numbers {
+        if number.unwrap_or(0) == u32::MAX {
+            return false;
+        }
+    }
+    true
+}
+
+/// The same among the places of a graph, where two have one number exactly where the same n items stand.
+fn found_in_line(
+    alloc: Global,
+    graph: &Graph,
+    live: &Liveness,
+    n: u32,
+    line: &[WindowAt],
+    numbers: &[Option<u32>],
+) -> Result<Option<Found>, Memory>
+    requires live { IsLivenessOf graph.now.graph live.now }
+    requires least { 3 ≤ n }
+    requires most { n ≤ 16 }
+    requires line { line.now ≡ line_of graph.now.graph }
+    requires numbers { AreWindowNumbers graph.now.graph n line.now numbers.now }
+    ensures some { IfOk result (λ found. IfSome found (λ made. IsWindowMade graph.now.graph made.first.block made.first.at n made.link made.saving)) }
+    ensures none { result ≡ Ok None → (block at link saving : ℕ) → ¬ IsWindowMade graph.now.graph block at n link saving }
+{
+    learn(graph);
+    if !are_few(numbers) {
+        return Err(Memory);
+    }
+    let classes = Groups::by_number(alloc, line, numbers)?;
+    found_among(alloc, graph, live, n, &classes)
+}
+
+/// The candidate of row W for a window of n items that may become a procedure.
+fn window_cut(alloc: Global, graph: &Graph, n: u32, found: Found) -> Result<Cut, Memory>
+    requires { IsWindowMade graph.now.graph found.first.block found.first.at n found.link found.saving }
+    ensures { IfOk result (IsWindowCut graph.now.graph) }
+{
+    let mut blocks = Blocks::new(alloc);
+    blocks.push(found.first.block)?;
+    Ok(Cut {
+        row: Row::W,
+        blocks,
+        procedure: 0,
+        other: found.first.at,
+        length: n,
+        link: found.link,
+        saving: found.saving,
+    })
+}
+
+/// A candidate of row W, or `None` where there is none, whatever window is taken. It numbers the windows of each length.
+pub(crate) fn find_window(
+    alloc: Global,
+    graph: &Graph,
+    live: &Liveness,
+) -> Result<Option<Cut>, Memory>
+    requires { IsLivenessOf graph.now.graph live.now }
+    ensures some { IfOk result (λ found. IfSome found (IsWindowCut graph.now.graph)) }
+    ensures none { result ≡ Ok None → (cut : Told) → ¬ IsWindowCut graph.now.graph cut }
+{
+    learn(graph);
+    let _room = graph.spare();
+    window_laws();
+    let line = all_places(alloc, graph)?;
+    let items = number_items(alloc, graph, &line)?;
+    let mut numbers = number_longer_runs(alloc, &items, &items)?;
+    for n in 3..17 {
+        numbers = number_longer_runs(alloc, &items, &numbers)?;
+        if let Some(found) = found_in_line(alloc, graph, live, n, &line, &numbers)? {
+            return Ok(Some(window_cut(alloc, graph, n, found)?));
+        }
+    }
+    Ok(None)
+}
+
+/// The places where the n items of a place stand.
+fn standing(
+    alloc: Global,
+    graph: &Graph,
+    block: u32,
+    at: u32,
+    n: u32,
+) -> Result<Vec<WindowAt>, Memory>
+    requires block { HasBlock graph.now.graph block }
+    requires within { at + n ≤ length (items_of graph.now.graph block) }
+    requires some { 1 ≤ n }
+    ensures { IfOk result (λ places. places.items ≡ standing graph.now.graph (items_at graph.now.graph block at n)) }
+{
+    learn(graph);
+    let line = all_places(alloc, graph)?;
+    let window = items_at(graph, block, at, n);
+    let mut places = Vec::new(alloc);
+    for place in &line {
+        if stand_at(graph, place.block, place.at, window) {
+            places.push(*place)?;
+        }
+    }
+    Ok(places)
+}
+
+/// A cut of row W with its link and saving, or `None` where it is no candidate. It looks at each place.
+pub(crate) fn admit_window(
+    alloc: Global,
+    graph: &Graph,
+    live: &Liveness,
+    cut: Cut,
+) -> Result<Option<Cut>, Memory>
+    requires row { cut.row ≡ Window }
+    requires live { IsLivenessOf graph.now.graph live.now }
+    ensures some { IfOk result (λ found. IfSome found (λ given. IsWindowCut graph.now.graph given × IsCompleted cut given)) }
+    ensures none { result ≡ Ok None → (given : Told) → IsCompleted cut given → ¬ IsWindowCut graph.now.graph given }
+{
+    learn(graph);
+    let n = cut.length;
+    if cut.procedure != 0 || n < 3 || n > 16 {
+        return Ok(None);
+    }
+    let &[block] = cut.blocks.as_slice() else {
+        return Ok(None);
+    };
+    if !is_block(graph, block) {
+        return Ok(None);
+    }
+    let count = graph.items(block).len();
+    if count < cut.other as usize + n as usize {
+        return Ok(None);
+    }
+    let places = standing(alloc, graph, block, cut.other, n)?;
+    let Some(found) = found_at(alloc, graph, live, n, &places)? else {
+        return Ok(None);
+    };
+    if found.first.block != block || found.first.at != cut.other {
+        return Ok(None);
+    }
+    Ok(Some(Cut {
+        link: found.link,
+        saving: found.saving,
+        ..cut
+    }))
+}
