@@ -1,5 +1,6 @@
 pub mod Checked
 pub mod Moves
+pub mod Noted
 pub mod OneReplay
 pub mod Replays
 pub mod Rewrites

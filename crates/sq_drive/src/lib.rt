@@ -8,6 +8,7 @@
 
 mod checking;
 mod listed;
+mod noting;
 mod once;
 mod replaying;
 mod rows;
@@ -15,6 +16,7 @@ mod settling;
 
 pub use checking::check_graph;
 pub use listed::settle_with;
+pub use noting::settle_noting;
 pub use once::rewrite_once;
 pub use replaying::{replay, take_step};
 pub use rows::AllRows;
