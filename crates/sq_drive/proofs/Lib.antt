@@ -1,4 +1,5 @@
 pub mod Checked
+pub mod Formed
 pub mod Moves
 pub mod Noted
 pub mod OneReplay

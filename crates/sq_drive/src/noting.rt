@@ -1,12 +1,14 @@
 //! Settling that notes each of its steps.
 
-ghost use Rattle.std.specs.Prelude.{◌≡◌, ℕ, ◌<◌, ◌≤◌, None, Ok, IfOk, IfSome, OnOk, OnErr, length, slice_index};
+ghost use Rattle.std.specs.Prelude.{◌≡◌, ℕ, ◌^◌, ◌<◌, ◌≤◌, None, Ok, IfOk, IfSome, OnOk, OnErr, length, slice_index};
+ghost use Rattle.std.specs.List.{All};
 ghost use Rattle.sq_graph.specs.Parts.{names_of};
 ghost use Rattle.sq_graph.specs.Leaders.{IsCanonical};
 ghost use Rattle.sq_graph.specs.Slotted.{IsSlotted};
 ghost use Rattle.sq_graph.specs.Words.{words_of};
 ghost use Rattle.sq_follow.specs.Follows.{Follows};
 ghost use Rattle.sq_pass.specs.declared.cut.Cut.{Cut as Told};
+ghost use Rattle.sq_cert.specs.Steps.{numbers_of, HasForm};
 ghost use Rattle.sq_chain.specs.Candidates.{IsMoved, IsStillAt};
 ghost use Rattle.sq_chain.specs.Moves.{IsStill};
 ghost use Rattle.sq_drive.specs.Noting.{step_of};
@@ -37,17 +39,9 @@ fn block_at(blocks: &Blocks, at: usize) -> u32
 fn step_of(cut: Cut) -> Step
     ensures { result ≡ step_of cut }
 {
-    let block = block_at(&cut.blocks, 0);
-    let second = block_at(&cut.blocks, 1);
-    let Cut {
-        row,
-        blocks,
-        procedure,
-        other,
-        length,
-        ..
-    } = cut;
-    match row {
+    let (block, second) = (block_at(&cut.blocks, 0), block_at(&cut.blocks, 1));
+    let (procedure, other, length) = (cut.procedure, cut.other, cut.length);
+    match cut.row {
         Row::U => Step::U,
         Row::J1 => Step::J1 { block },
         Row::J2 => Step::J2 { block },
@@ -58,7 +52,7 @@ fn step_of(cut: Cut) -> Step
             kept: second,
             length,
         },
-        Row::O1 => Step::O1 { blocks },
+        Row::O1 => Step::O1 { blocks: cut.blocks },
         Row::O2 => Step::O2 { block, procedure },
         Row::O3 => Step::O3 {
             stays: procedure,
@@ -182,6 +176,39 @@ fn note_step(alloc: Global, graph: &mut Graph) -> Result<Option<Step>, Memory>
     }
 }
 
+/// It does nothing. Numbers have 32 bits.
+fn learn_numbers(numbers: &[u32])
+    ensures { All (λ n. n < 2 ^ 32) numbers.now }
+{}
+
+/// It does nothing. So have those of a step.
+fn learn_step(step: &Step)
+    ensures { All (λ n. n < 2 ^ 32) (numbers_of step.now) }
+{
+    match step {
+        Step::U => learn_numbers(&[]),
+        Step::J1 { block } | Step::J2 { block } | Step::J3 { block } | Step::C { block } => {
+            learn_numbers(&[*block])
+        }
+        Step::T {
+            dropped,
+            kept,
+            length,
+        } => learn_numbers(&[*dropped, *kept, *length]),
+        Step::O1 { blocks } => learn_numbers(blocks.as_slice()),
+        Step::O2 { block, procedure } => learn_numbers(&[*block, *procedure]),
+        Step::O3 { stays, goes } => learn_numbers(&[*stays, *goes]),
+        Step::O4 { procedure } => learn_numbers(&[*procedure]),
+        Step::W { block, at, length } => learn_numbers(&[*block, *at, *length]),
+        Step::V {
+            block,
+            at,
+            procedure,
+        } => learn_numbers(&[*block, *at, *procedure]),
+        Step::L { from, to } => learn_numbers(&[*from, *to]),
+    }
+}
+
 /// Rewrites the graph by all rows until none has a candidate, and answers the certificate of the steps. It sweeps nothing:
 /// each step looks at the whole graph. After want of memory the graph is as the steps left it so far.
 pub fn settle_noting(alloc: Global, graph: &mut Graph) -> Result<Cert, Memory>
@@ -189,13 +216,16 @@ pub fn settle_noting(alloc: Global, graph: &mut Graph) -> Result<Cert, Memory>
     requires slotted { IsSlotted graph.old.graph }
     requires words { words_of graph.old.graph ≤ 1048576 }
     ensures replay { IfOk result (λ cert. IsReplay cert graph.old.graph graph.new.graph) }
+    ensures form { IfOk result (λ cert. All HasForm cert) }
     ensures left { OnOk result (IsLeftoverFree graph.new.graph) }
+    ensures still { OnOk result (IsStill graph.new.graph) }
     ensures lighter { OnOk result (IsLess graph.old.graph graph.new.graph) }
     ensures slotted { OnOk result (IsSlotted graph.new.graph) }
     ensures follows { Follows graph.old.graph graph.new.graph }
 {
     let mut cert = Cert::new(alloc);
     while let Some(step) = note_step(alloc, graph)? {
+        learn_step(&step);
         cert.push(step)?;
     }
     Ok(cert)

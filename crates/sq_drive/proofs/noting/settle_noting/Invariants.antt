@@ -1,4 +1,6 @@
 use Rattle.std.proofs.Common.{◌≤◌}
+use Rattle.std.specs.List.{All}
+use Rattle.sq_cert.specs.Steps.{HasForm}
 use Rattle.sq_graph.specs.Leaders.{IsCanonical}
 use Rattle.sq_graph.specs.Words.{words_of}
 use Rattle.sq_drive.specs.Replay.{IsReplay}
@@ -8,6 +10,7 @@ use Rattle.sq_drive.proofs.noting.settle_noting.Given as goal
 abbrev pub invariant-loop-cert : goal.invariant-loop-cert
 invariant-loop-cert l = record {
   replayed : IsReplay l.cert l.fn.graph.graph l.graph.graph;
+  form : All HasForm l.cert;
   less : IsLess l.fn.graph.graph l.graph.graph;
   canonical : IsCanonical l.graph.graph;
   words : words_of l.graph.graph ≤ 1048576;
