@@ -1,5 +1,7 @@
 pub mod Checked
+pub mod Formed
 pub mod Moves
+pub mod Noted
 pub mod OneReplay
 pub mod Replays
 pub mod Rewrites

@@ -8,7 +8,7 @@ use Rattle.sq_graph.specs.Canonical.{canonical_of}
 use Rattle.sq_graph.specs.Graph.{Graph}
 use Rattle.sq_graph.specs.Leaders.{IsCanonical}
 use Rattle.sq_graph.specs.Rules.{IsGraph}
-use Rattle.sq_graph.specs.Slotted.{slotted}
+use Rattle.sq_graph.specs.Slotted.{slotted, IsSlotted}
 use Rattle.sq_graph.specs.Words.{words_of}
 use Rattle.sq_graph.proofs.AlikeCanonical.{alike_canonical}
 use Rattle.sq_graph.proofs.CanonicalLaws.{canonical_is_graph}
@@ -22,7 +22,7 @@ use Rattle.sq_pass.specs.declared.cut.Row.TheVariants.{U, L}
 use Rattle.sq_pass.specs.Applied.{IsApplied}
 use Rattle.sq_pass.specs.Cuts.{IsCompleted}
 use Rattle.sq_pass.specs.Rewrites.{IsLighter}
-use Rattle.sq_pass.proofs.Rewriting.{lighter_through, lighter_made}
+use Rattle.sq_pass.proofs.Rewriting.{lighter_itself, lighter_through, lighter_made}
 use Rattle.sq_cert.specs.declared.step.Step.{Step}
 use Rattle.sq_chain.specs.Candidates.{cut_of as chain_cut, IsCandidate as IsMove, IsMoved}
 use Rattle.sq_chain.specs.Moves.{IsMovable, moved}
@@ -61,8 +61,8 @@ row_taken told given old mid new completed candidate applied tidied =
     let same = row_made given.row old given (not_moved old given candidate) in
     taken_by told given old mid new completed (inl candidate) (subst (λ (h : Graph). IsApplied given.saving h old mid) (sym same) applied) tidied
 
-pub less_by : (saving : ℕ) (made old mid new : Graph) → IsApplied saving made old mid → IsLighter 0 mid new → IsLess old new
-less_by saving made old mid new applied tidied = (saving, lighter_made saving made old mid new applied tidied)
+pub less_by : (saving : ℕ) (made old mid new : Graph) → IsApplied saving made old mid → IsLighter 0 mid new → IsSlotted new → IsLess old new
+less_by saving made old mid new applied tidied named = record { saved = saving; lighter = lighter_made saving made old mid new applied tidied; slotted = λ before. named }
 
 -- no row that a pass has is L
 pub none_given : (told : Cut) (g : Graph) → told.row ≢ L → ((given : Cut) → IsCompleted told given → ¬ IsRowCandidate g given) → ¬ IsGiven g told
@@ -126,4 +126,11 @@ replay_on [] step old mid new same taken = (new, (subst (λ (g : Graph). IsStep 
 replay_on (first ∷ front) step old mid new (next, leads) taken = (next, (leads.0, replay_on front step next mid new leads.1 taken))
 
 pub less_through : (old mid new : Graph) → IsLess old mid → IsLess mid new → IsLess old new
-less_through old mid new (first, one) (second, two) = (first + second, lighter_through first second old mid new one two)
+less_through old mid new one two = record {
+  saved = one.saved + two.saved;
+  lighter = lighter_through one.saved two.saved old mid new one.lighter two.lighter;
+  slotted = λ before. two.slotted (one.slotted before);
+}
+
+pub less_itself : (g : Graph) → IsCanonical g → IsLess g g
+less_itself g canonical = record { saved = 0; lighter = lighter_itself g canonical; slotted = λ before. before }

@@ -1,13 +1,17 @@
 -- What the steps of a replay make of a graph.
 use Rattle.std.specs.Prelude.{ℕ, [], ◌∷◌}
 use Rattle.sq_graph.specs.Graph.{Graph}
+use Rattle.sq_graph.specs.Slotted.{IsSlotted}
 use Rattle.sq_pass.specs.declared.cut.Cut.{Cut}
 use Rattle.sq_pass.specs.declared.cut.Row.TheVariants.{L}
 use Rattle.sq_pass.specs.Rewrites.{IsLighter}
 
--- it follows the old graph, is canonical, sound and in reach where that was, and has no more words
-abbrev pub IsLess : Graph → Graph → Type 0
-IsLess old new = (saved : ℕ) × IsLighter saved old new
+-- it follows the old graph, is canonical, sound and in reach where that was, has no more words, and its blocks are named by
+-- their places where those of the old one were
+pub record IsLess (old new : Graph) : Type 0 where
+  pub saved : ℕ
+  pub lighter : IsLighter saved old new
+  pub slotted : IsSlotted old → IsSlotted new
 
 -- the cut of the step L
 abbrev pub move_cut : ℕ → ℕ → Cut

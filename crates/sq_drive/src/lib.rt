@@ -3,11 +3,13 @@
 //! To the layers above it promises that the graph that is left follows the one before, is canonical, sound and in reach
 //! where that was, and has no candidate of any pass; that the words that it lost are those that the rows saved; of `settle`
 //! and `settle_slotted`, that no move of a chain saves a word; and of `settle_slotted`, that its blocks are named by their
-//! positions.
+//! positions. Of certificates it promises that `replay` and `check_graph` tell exactly whether each step is a candidate of the
+//! graph that the steps before it left, and that the steps which `settle_noting` notes replay.
 #![tactic(auto)]
 
 mod checking;
 mod listed;
+mod noting;
 mod once;
 mod replaying;
 mod rows;
@@ -15,6 +17,7 @@ mod settling;
 
 pub use checking::check_graph;
 pub use listed::settle_with;
+pub use noting::settle_noting;
 pub use once::rewrite_once;
 pub use replaying::{replay, take_step};
 pub use rows::AllRows;

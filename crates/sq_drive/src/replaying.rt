@@ -139,9 +139,10 @@ fn cut_of(alloc: Global, graph: &Graph, step: &Step) -> Result<Cut, Memory>
 }
 
 /// Makes the graph canonical, and names its blocks by their places.
-fn tidy(alloc: Global, graph: &mut Graph) -> Result<(), Memory>
+pub(crate) fn tidy(alloc: Global, graph: &mut Graph) -> Result<(), Memory>
     ensures graph { OnOk result (graph.new.graph ≡ slotted (canonical_of graph.old.graph)) }
     ensures lighter { OnOk result (IsLighter 0 graph.old.graph graph.new.graph) }
+    ensures slotted { OnOk result (IsSlotted graph.new.graph) }
     ensures follows { Follows graph.old.graph graph.new.graph }
 {
     learn(graph);

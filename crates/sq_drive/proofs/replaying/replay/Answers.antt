@@ -1,16 +1,15 @@
 use Rattle.std.proofs.Common.{◌≡◌, ℕ, ◌+◌, ◌<◌, List, [], ◌∷◌, ◌++◌, length, get_or, take, drop, Ok, refl, sym, ap, ◌∙◌, subst, arith}
 use Rattle.std.proofs.lemmas.List.{take-append-drop, take_more, drop_more, length-take-le}
 use Rattle.sq_follow.proofs.Following.{graph_follows_through}
-use Rattle.sq_pass.proofs.Rewriting.{lighter_itself}
 use Rattle.sq_cert.specs.declared.step.Step.{Step}
 use Rattle.sq_drive.specs.Replay.{IsReplay}
-use Rattle.sq_drive.proofs.Replays.{replay_on, less_through}
+use Rattle.sq_drive.proofs.Replays.{replay_on, less_itself, less_through}
 use Rattle.sq_drive.proofs.replaying.replay.Goals as goal
 
 pub loop-number-init : goal.loop-number-init
 loop-number-init c = record {
   replayed = refl;
-  less = (0, lighter_itself c.args.graph.now.graph c.requires.canonical);
+  less = less_itself c.args.graph.now.graph c.requires.canonical;
   canonical = c.requires.canonical;
   words = c.requires.words;
 }
@@ -18,7 +17,7 @@ loop-number-init c = record {
 pub returns-in_err-take_step-clause-follows : goal.returns-in_err-take_step-clause-follows
 returns-in_err-take_step-clause-follows c =
     let l = c.loop-number in
-    graph_follows_through c.args.graph.now.graph l.graph.graph c.take_step.new.graph.graph l.invariant.less.1.follows c.take_step.ensures.follows
+    graph_follows_through c.args.graph.now.graph l.graph.graph c.take_step.new.graph.graph l.invariant.less.lighter.follows c.take_step.ensures.follows
 
 -- a step, and those in front of it and behind it
 split : (steps : List Step) (n : ℕ) (step : Step) → n < length steps → step ≡ get_or steps n step → steps ≡ take n steps ++ step ∷ drop (n + 1) steps
@@ -57,6 +56,6 @@ loop-number-preserved c =
     record {
       replayed = subst (λ front. IsReplay front old new) (sym more) (replay_on (take l.number steps) step old l.graph.graph new l.invariant.replayed taken);
       less = less_through old l.graph.graph new l.invariant.less less;
-      canonical = less.1.canonical;
-      words = omega (arith, less.1.words, l.invariant.words);
+      canonical = less.lighter.canonical;
+      words = omega (arith, less.lighter.words, l.invariant.words);
     }

@@ -70,7 +70,7 @@ pub returns-clause-less : goal.returns-clause-less
 returns-clause-less c = λ e.
     let g = c.args.graph.now.graph in
     let m = c.in_ok-try_move.ensures.moved (cc) in
-    less_by m.saving (moved g c.args.from c.args.to) g c.try_move.new.graph.graph c.tidy.new.graph.graph m.applied c.in_ok-tidy.ensures.lighter
+    less_by m.saving (moved g c.args.from c.args.to) g c.try_move.new.graph.graph c.tidy.new.graph.graph m.applied c.in_ok-tidy.ensures.lighter c.in_ok-tidy.ensures.slotted
 
 pub returns-clause-follows : goal.returns-clause-follows
 returns-clause-follows c =

@@ -44,7 +44,7 @@ returns-clause-less c = λ e.
     let g = c.args.graph.now.graph in
     let mid = c.apply.new.graph.graph in
     let applied = subst (λ (same : Graph). IsApplied c.in-Some.cut.saving (row_described same c.in-Some.cut) same mid) c.reserve.ensures.graph c.apply.ensures.applied in
-    less_by c.in-Some.cut.saving (row_described g c.in-Some.cut) g mid c.tidy.new.graph.graph applied c.in_ok-tidy.ensures.lighter
+    less_by c.in-Some.cut.saving (row_described g c.in-Some.cut) g mid c.tidy.new.graph.graph applied c.in_ok-tidy.ensures.lighter c.in_ok-tidy.ensures.slotted
 
 pub returns-clause-follows : goal.returns-clause-follows
 returns-clause-follows c =

@@ -1,5 +1,7 @@
 use Rattle.std.proofs.Common.{sym, ap, subst}
 use Rattle.sq_graph.specs.Room.{GraphAndRoom}
+use Rattle.sq_graph.specs.Slotted.{IsSlotted}
+use Rattle.sq_graph.proofs.Slotting.{slotted_again}
 use Rattle.sq_follow.specs.Follows.{Follows}
 use Rattle.sq_drive.proofs.Replays.{tidy_lighter}
 use Rattle.sq_drive.proofs.Rewrites.{made_canonical}
@@ -16,6 +18,9 @@ pub returns-clause-lighter : goal.returns-clause-lighter
 returns-clause-lighter c =
     let made = c.canonical.ensures in
     tidy_lighter c.args.graph.now.graph c.canonical.new.self.graph c.name_by_slots.new.self.graph c.learn.ensures.rules made.rules made.graph made.canonical made.words c.in_ok-name_by_slots.ensures.graph
+
+pub returns-clause-slotted : goal.returns-clause-slotted
+returns-clause-slotted c = subst IsSlotted (sym c.in_ok-name_by_slots.ensures.graph) (slotted_again c.canonical.new.self.graph c.canonical.ensures.rules)
 
 pub returns-clause-follows : goal.returns-clause-follows
 returns-clause-follows c = (returns-clause-lighter c).follows

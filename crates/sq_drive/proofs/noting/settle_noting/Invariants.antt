@@ -1,0 +1,20 @@
+use Rattle.std.proofs.Common.{◌≤◌}
+use Rattle.std.specs.List.{All}
+use Rattle.sq_cert.specs.Steps.{HasForm}
+use Rattle.sq_graph.specs.Leaders.{IsCanonical}
+use Rattle.sq_graph.specs.Words.{words_of}
+use Rattle.sq_drive.specs.Replay.{IsReplay}
+use Rattle.sq_drive.specs.Replaying.{IsLess}
+use Rattle.sq_drive.proofs.noting.settle_noting.Given as goal
+
+abbrev pub invariant-loop-cert : goal.invariant-loop-cert
+invariant-loop-cert l = record {
+  replayed : IsReplay l.cert l.fn.graph.graph l.graph.graph;
+  form : All HasForm l.cert;
+  less : IsLess l.fn.graph.graph l.graph.graph;
+  canonical : IsCanonical l.graph.graph;
+  words : words_of l.graph.graph ≤ 1048576;
+}
+
+abbrev pub decreases-loop-cert : goal.decreases-loop-cert
+decreases-loop-cert l = words_of l.graph.graph
