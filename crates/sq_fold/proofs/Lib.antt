@@ -1,2 +1,3 @@
+mod Bareness
 mod Growing
 mod Refining
