@@ -1,3 +1,4 @@
 mod Bareness
+mod Finding
 mod Growing
 mod Refining
