@@ -1,0 +1,4 @@
+mod Bareness
+mod Finding
+mod Growing
+mod Refining

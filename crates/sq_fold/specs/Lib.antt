@@ -1,0 +1,4 @@
+pub mod Index
+pub mod Labels
+pub mod Partition
+pub mod Stable
