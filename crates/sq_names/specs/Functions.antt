@@ -1,12 +1,13 @@
 -- The functions of a file: symbols that name words of text.
-use Rattle.std.specs.Prelude.{ℕ, zero, suc, ◌/◌, Bool, ◌&&◌, nat_eq, bit_and, if◌then◌else◌, List, [], ◌∷◌, ◌++◌, Option, Some, None}
+use Rattle.std.specs.Prelude.{◌≡◌, ◌≢◌, ℕ, zero, suc, ◌/◌, Bool, true, false, ◌&&◌, nat_eq, bit_and, if◌then◌else◌, List, [], ◌∷◌, ◌++◌, Option, Some, None}
 use Rattle.std.specs.Option.{unwrap_or}
+use Rattle.std.specs.List.{list_any}
 use Rattle.sq_elf.specs.declared.section.Section.{Section}
 use Rattle.sq_elf.specs.declared.text.Text.{Text}
 use Rattle.sq_elf.specs.Reading.{contents_of}
 use Rattle.sq_elf.specs.Text.{text_of, is_text_word}
 use Rattle.sq_names.specs.declared.symbol.Symbol.{Symbol}
-use Rattle.sq_names.specs.Symbols.{symbol_table_of, is_readable, symbol_at, string_at}
+use Rattle.sq_names.specs.Symbols.{symbol_table_of, is_readable, symbol_at, is_zero, string_at}
 
 -- a function: the address of its first word, and the bytes of its name
 pub record NamedFunction : Type 0 where
@@ -52,3 +53,9 @@ functions_in bytes (Some table) = if is_readable bytes table then functions_befo
 -- THE functions of a file, in the order of their symbols
 abbrev pub functions_of : List ℕ → List NamedFunction
 functions_of bytes = functions_in bytes (symbol_table_of bytes)
+
+-- what is promised of each: its value is the address of a word of text, and its name some bytes of which none is zero
+pub record IsNamedIn (text : Text) (function : NamedFunction) : Type 0 where
+  pub word : is_text_word text function.value ≡ true
+  pub some : function.name ≢ []
+  pub ended : list_any is_zero function.name ≡ false

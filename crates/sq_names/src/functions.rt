@@ -1,8 +1,9 @@
 //! Which symbols of a file are functions.
 
 ghost use Rattle.std.specs.Prelude.{◌≡◌, ◌≤◌, ◌+◌, ◌/◌, length, map, option_map, IfOk, OnOk};
+ghost use Rattle.std.specs.List.{AllByRecursion};
 ghost use Rattle.sq_elf.specs.Text.{text_of};
-ghost use Rattle.sq_names.specs.Functions.{is_function, function_of, strings_of, functions_before, functions_of, followed};
+ghost use Rattle.sq_names.specs.Functions.{is_function, function_of, strings_of, functions_before, functions_of, followed, IsNamedIn};
 ghost use Rattle.sq_names.specs.Names.{seen};
 
 use crate::names::{Function, Names};
@@ -83,8 +84,10 @@ fn functions_in<'a>(
 }
 
 /// The functions of the file, in the order of their symbols.
+#[tactic(auto, using(crate::proofs::Named::all_named))]
 pub fn function_names<'a>(alloc: Global, elf: &Elf<'a>) -> Result<Names<'a>, Memory>
-    ensures { IfOk result (λ names. names ≡ functions_of elf.now) }
+    ensures value { IfOk result (λ names. names ≡ functions_of elf.now) }
+    ensures each { AllByRecursion (IsNamedIn (text_of elf.now)) (functions_of elf.now) }
 {
     match symbol_table(elf) {
         Some(table) if is_readable(elf, table) => {
