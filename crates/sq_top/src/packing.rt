@@ -53,7 +53,7 @@ pub(crate) fn bytes_fit(bytes: &[u8])
 }
 
 /// Writes the graph of the file in the place of its text.
-fn write_graph(
+pub(crate) fn write_graph(
     alloc: Global,
     elf: &Elf<'_>,
     relocs: &Relocs<'_>,

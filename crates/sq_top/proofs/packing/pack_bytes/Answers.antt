@@ -8,7 +8,8 @@ use Rattle.sq_program.specs.FilePrograms.{IsRefusalOf}
 use Rattle.sq_program.specs.FilePrograms.IsRefusalOf.{by_file, by_relocs}
 use Rattle.sq_lifted.proofs.Accepting.{not_refused}
 use Rattle.sq_top.specs.Packing.{Packs}
-use Rattle.sq_top.proofs.PackedFile.{packs, rewritten_fits, small_text, few_bytes, enough_loaded}
+use Rattle.sq_top.proofs.LighterFile.{small_text}
+use Rattle.sq_top.proofs.PackedFile.{packs, rewritten_fits, few_bytes, enough_loaded}
 use Rattle.sq_top.proofs.Refusals.{file_exact, relocs_exact, lift_exact, lift_refused}
 use Rattle.sq_top.proofs.packing.pack_bytes.Goals as goal
 
