@@ -64,11 +64,6 @@ is_proved given output first last fit lifted fits less rules is =
       loads_no_more = loads_less given first last less.0 fit lifted fits less.1 rules;
     })
 
--- two accepted files have no refusal
-pub neither_refused : (given output : List ℕ) → IsAcceptedFile given → IsAcceptedFile output → (refusal : Refusal) → ¬ IsRefusalOfEither given output refusal
-neither_refused given output first second refusal (inl refused) = not_refused given first refusal refused
-neither_refused given output first second refusal (inr refused) = not_refused output second refusal refused.1
-
 -- where reading the first file fails, and where reading the second does
 pub first_exact : (given output : List ℕ) (d : Denied) → ((r : Refusal) → d ≡ Refused r → IsRefusalOf given r) → ((r : Refusal) → IsRefusalOf given r → (d ≡ Refused r) ⊎ (d ≡ Memory)) → (r : Refusal) → IsRefusalOfEither given output r → (d ≡ Refused r) ⊎ (d ≡ Memory)
 first_exact given output d told exact r (inl refused) = exact r refused
