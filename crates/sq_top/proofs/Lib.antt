@@ -6,9 +6,11 @@ pub mod GeneratedFiles
 pub mod HexPromised
 pub mod HexWritten
 pub mod Later
+pub mod LighterFile
 pub mod SettledFiles
 pub mod PackedFile
 pub mod Promised
+pub mod ProvedFile
 pub mod Refusals
 pub mod RunPromised
 pub mod SizeCases

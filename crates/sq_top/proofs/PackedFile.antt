@@ -1,37 +1,22 @@
 -- What the file of a lifted graph is of the file that the graph was lifted from.
-use Rattle.std.proofs.Common.{◌≡◌, ℕ, ◌+◌, ◌*◌, ◌-◌, ◌<◌, ◌≤◌, None, IsSome, List, [], ◌∷◌, map, length, refl, sym, ap, ◌∙◌, subst, arith}
+use Rattle.std.proofs.Common.{◌≡◌, ℕ, ◌+◌, ◌*◌, ◌<◌, ◌≤◌, None, List, length, refl, sym, ap, ◌∙◌, subst, arith}
 use Rattle.std.specs.List.{AllByRecursion}
-use Rattle.std.proofs.lemmas.List.Elements.{All-from_recursion, recursion_from_All}
 use Rattle.sq_num.specs.declared.packed.Packed.{Packed}
 use Rattle.sq_num.specs.declared.packed.Savings.{Savings}
 use Rattle.sq_num.specs.Saved.{words_saved}
-use Rattle.sq_elf.specs.declared.text.Text.{Text}
 use Rattle.sq_elf.specs.Refusing.{text_size, file_refusal_of}
 use Rattle.sq_elf.specs.Sizes.{loaded_of}
 use Rattle.sq_elf.specs.Text.{text_of}
-use Rattle.sq_reloc.specs.declared.mark.CodeWord.{CodeWord}
-use Rattle.sq_reloc.specs.Outside.{code_word_at}
-use Rattle.sq_graph.specs.declared.parts.CodeRef.{CodeRef}
 use Rattle.sq_graph.specs.Graph.{Graph}
 use Rattle.sq_graph.specs.Rules.{IsGraph}
 use Rattle.sq_graph.specs.Slotted.{IsSlotted}
 use Rattle.sq_graph.specs.Words.{words_of}
-use Rattle.sq_follow.specs.Follows.{word_address}
-use Rattle.sq_program.specs.FilePrograms.{IsAcceptedFile}
-use Rattle.sq_program.specs.Lifted.{code_ref, lifted}
 use Rattle.sq_write.specs.Written.{written}
-use Rattle.sq_write.proofs.AlikeGraphs.{alike_fit}
 use Rattle.sq_write.proofs.SegmentFacts.{few_text}
 use Rattle.sq_outputs.specs.Writing.{IsWritable, HasSizes}
 use Rattle.sq_outputs.proofs.Bytes.{written_is_bytes}
-use Rattle.sq_outputs.proofs.Writing.{written_sizes}
-use Rattle.sq_writing.specs.Files.{code_word_address, IsWritableInto}
-use Rattle.sq_writing.proofs.FileStarts.{written_files_show_graphs}
 use Rattle.sq_lifted.specs.LiftedFiles.{IsLiftedFile, FitsFile}
-use Rattle.sq_lifted.specs.Same.{Same}
-use Rattle.sq_lifted.proofs.FileWorlds.{files_good}
 use Rattle.sq_lifted.proofs.OneReading.{lifted_one}
-use Rattle.sq_lifted.proofs.SameFiles.{same_through}
 use Rattle.sq_num.specs.declared.packed.TheConstants.Savings.{NONE}
 use Rattle.sq_pass.specs.Rewrites.{IsLighter, IsRewritten}
 use Rattle.sq_drive.specs.Rows.{IsCandidate, described, IsLeftoverFree}
@@ -41,80 +26,21 @@ use Rattle.sq_top.specs.Packing.{CanBeWritten, IsReachedFile, GoodOutput, Packs}
 use Rattle.sq_top.proofs.ReadBack.{reads_back}
 use Rattle.sq_top.proofs.SettledFiles.{written_is_settled, settled_stays}
 use Rattle.sq_top.proofs.WholeGraphs.{whole_without_candidates}
-
-refs_at : (ws : List CodeWord) → map word_address (map code_ref ws) ≡ map code_word_address ws
-refs_at [] = refl
-refs_at (w ∷ ws) = ap (λ xs. w.at ∷ xs) (refs_at ws)
-
--- what holds at each of equal addresses
-at_each : (P : ℕ → Type 0) (ws vs : List CodeRef) → map word_address ws ≡ map word_address vs → AllByRecursion (λ w. P w.at) vs → AllByRecursion (λ w. P w.at) ws
-at_each P [] vs e all = tt
-at_each P (w ∷ ws) [] e all = absurd (cc)
-at_each P (w ∷ ws) (v ∷ vs) e all =
-    let here : w.at ≡ v.at = cc in
-    let rest : map word_address ws ≡ map word_address vs = cc in
-    (subst P (sym here) all.0, at_each P ws vs rest all.1)
+use Rattle.sq_top.proofs.LighterFile.{lighter_fits, lifted_is_accepted, lighter_writable, lighter_is_same, lighter_sizes, text_written, loads_less}
 
 -- a graph that was made by rewriting can be written where the first one can
-module _ (bytes : List ℕ) (first g : Graph) (savings : Savings) (f : FitsFile bytes first) (r : IsRewritten IsCandidate described NONE savings first g) where
-  s : IsLighter r.saved first g
-  s = r.lighter
-
-  pub rewritten_fits : CanBeWritten bytes g
-  rewritten_fits = record {
-    reach = s.reach f.reach;
-    words = omega (arith, f.words, s.words);
-    code_words =
-        All-from_recursion (λ word. IsSome (code_word_at bytes word.at)) g.code_words
-        (at_each (λ x. IsSome (code_word_at bytes x)) g.code_words first.code_words s.follows.addresses
-        (recursion_from_All (λ word. IsSome (code_word_at bytes word.at)) first.code_words f.code_words));
-  }
-
-pub small_text : (bytes : List ℕ) (g : Graph) → file_refusal_of bytes ≡ None → FitsFile bytes g → words_of g ≤ 1048576
-small_text bytes g accepted f = omega (arith, f.words, few_text bytes accepted)
+pub rewritten_fits : (bytes : List ℕ) (first g : Graph) (savings : Savings) → FitsFile bytes first → IsRewritten IsCandidate described NONE savings first g → CanBeWritten bytes g
+rewritten_fits bytes first g savings f r = lighter_fits bytes first g r.saved f r.lighter
 
 module _ (bytes : List ℕ) (first g : Graph) (savings : Savings) (fit : AllByRecursion (λ b. b < 256) bytes) (l : IsLiftedFile bytes first) (f : FitsFile bytes first) (r : IsRewritten IsCandidate described NONE savings first g) (rules : IsGraph g) where
   lighter : IsLighter r.saved first g
   lighter = r.lighter
 
-  accepted : IsAcceptedFile bytes
-  accepted = record { reached = l.is; program = l.program; accepted = l.lifted.accepted }
-
-  can : CanBeWritten bytes g
-  can = rewritten_fits bytes first g savings f r
-
   writable : IsWritable bytes g
-  writable = record {
-    bytes = fit;
-    accepted = l.lifted.accepted.read.file;
-    relocs = l.lifted.accepted.read.relocs;
-    rules = rules;
-    code_words = can.code_words;
-    reach = can.reach;
-    words = can.words;
-  }
-
-  into : IsWritableInto bytes l.program g
-  into = record {
-    rules = rules;
-    reach = can.reach;
-    words = can.words;
-    code_words = lighter.follows.addresses ∙ ((alike_fit (lifted l.is l.program) first (files_good bytes l.is l.program fit l.lifted.accepted).graph l.lifted.alike).code_words ∙ refs_at l.program.code_words);
-  }
-
-  same : Same bytes (written bytes g)
-  same =
-      same_through bytes (written bytes g) l.is l.program first g fit l.lifted lighter.follows
-      (written_files_show_graphs bytes l.is l.program g fit l.lifted.accepted.read into)
+  writable = lighter_writable bytes first g r.saved fit l f lighter rules
 
   sizes : HasSizes bytes g (written bytes g)
-  sizes = written_sizes bytes g writable
-
-  text_written : text_size (written bytes g) ≡ 4 * words_of g
-  text_written = ap (λ (t : Text). t.hi - t.lo) sizes.text ∙ omega arith
-
-  loads_less : loaded_of (written bytes g) ≤ loaded_of bytes
-  loads_less = omega (arith, sizes.size, can.words)
+  sizes = lighter_sizes bytes first g r.saved fit l f lighter rules
 
   pub enough_loaded : text_size bytes ≤ loaded_of bytes + 4 * words_of g
   enough_loaded = omega (arith, sizes.size)
@@ -133,9 +59,9 @@ module _ (bytes : List ℕ) (first g : Graph) (savings : Savings) (fit : AllByRe
 
     abbrev good : GoodOutput bytes (written bytes g)
     good = record {
-      accepted = accepted;
-      same = same;
-      loads_no_more = loads_less;
+      accepted = lifted_is_accepted bytes first l;
+      same = lighter_is_same bytes first g r.saved fit l f lighter rules;
+      loads_no_more = loads_less bytes first g r.saved fit l f lighter rules;
       first = first;
       lifted = l;
       graph = g;
@@ -155,7 +81,7 @@ module _ (bytes : List ℕ) (first g : Graph) (savings : Savings) (fit : AllByRe
         subst (Packs bytes) (ap (λ file. record packed { bytes = file }) (sym output)) (record {
           good = good;
           text_before = before;
-          text_after = after ∙ sym text_written;
+          text_after = after ∙ sym (text_written bytes first g r.saved fit l f lighter rules);
           loaded_before = loaded;
           loaded_after = omega (arith, left, sizes.size);
           procedures = procedures;

@@ -5,6 +5,7 @@ pub mod HexPromises
 pub mod Hexing
 pub mod Packing
 pub mod Promises
+pub mod Proving
 pub mod RunEndings
 pub mod RunPromises
 pub mod Running

@@ -17,6 +17,8 @@ mod lines;
 mod loading;
 mod pack_command;
 mod packing;
+mod proving;
+mod reading;
 mod run_command;
 mod size_command;
 mod top;
@@ -25,4 +27,5 @@ mod watch_command;
 
 pub use laws::written_files_read_back;
 pub use packing::pack_bytes;
+pub use proving::check_files;
 pub use top::squeeze;

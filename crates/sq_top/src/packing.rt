@@ -14,13 +14,13 @@ ghost use Rattle.sq_write.specs.Written.{written};
 ghost use Rattle.sq_top.specs.Packing.{Packs, GoodOutput, CanBeWritten};
 ghost use Rattle.sq_top.specs.Settled.{IsSettledFile};
 
+use crate::reading::{FileGraph, read_graph};
 use sq_drive::settle_slotted;
-use sq_elf::{Elf, read_elf};
+use sq_elf::Elf;
 use sq_graph::Graph;
 use sq_layout::{place, words_of};
-use sq_lifted::lift;
 use sq_num::{Bytes, Denied, Memory, Packed, Savings};
-use sq_reloc::{Relocs, read_relocs};
+use sq_reloc::Relocs;
 use sq_write::write_elf;
 use std::alloc::Global;
 
@@ -36,9 +36,11 @@ pub fn pack_bytes(alloc: Global, bytes: &[u8]) -> Result<Packed, Denied>
     ensures exact { (refusal : Refusal) → IsRefusalOf bytes.now refusal → (result ≡ Err (Denied.Refused refusal)) ⊎ (result ≡ Err Denied.Memory) }
 {
     bytes_fit(bytes);
-    let elf = read_elf(alloc, bytes)?;
-    let relocs = read_relocs(alloc, &elf)?;
-    let mut graph = lift(alloc, &elf, &relocs)?;
+    let FileGraph {
+        elf,
+        relocs,
+        mut graph,
+    } = read_graph(alloc, bytes)?;
     let reached = words_of(&graph);
     let savings = settle_slotted(alloc, &mut graph)?;
     let file = write_graph(alloc, &elf, &relocs, &graph)?;
@@ -53,7 +55,7 @@ pub(crate) fn bytes_fit(bytes: &[u8])
 }
 
 /// Writes the graph of the file in the place of its text.
-fn write_graph(
+pub(crate) fn write_graph(
     alloc: Global,
     elf: &Elf<'_>,
     relocs: &Relocs<'_>,
