@@ -61,6 +61,8 @@ check 0 "text 16 -> 16, loaded 16 -> 16" "" pack smallest out
 holds out smallest
 check 0 "hex 62" "" hex again text.hex
 check 0 "same" "" hexcheck again text.hex
+check 0 '{"loaded_after":16,"loaded_before":16,"moved":0,"procedures":0,"rows":{"C":0,"J1":0,"J2":0,"J3":0,"O1":0,"O2":0,"O3":0,"O4":0,"T":0,"U":0},"text_after":16,"text_before":16,"unreached":0}' "" size smallest
+check 0 "trial 0 8: text 244 -> 244, again 244" "" trial 0 8
 check 0 "exit 7" "" run smallest empty $machine
 check 0 "exit 7" "" watch smallest empty $machine
 check 0 "exit 0" "" run usual-link empty $machine
@@ -71,6 +73,8 @@ check 0 "exit 7" "" run smallest empty $machine $many
 check 1 "" "words"
 check 1 "" "words" pack smallest
 check 1 "" "words" pack smallest out more
+check 1 "" "words" size smallest out
+check 1 "" "words" trial 0 4001
 # shellcheck disable=SC2086
 check 1 "" "words" pack $many
 check 1 "" "words" run smallest empty 010 1048576 65536
@@ -79,6 +83,7 @@ check 1 "" "words" pack "$(printf 'a\377')" out
 # 2: a file that isn't there, a folder, a name that is too long, and an OUT that can't be written
 check 2 "" "desk load" pack missing out
 check 2 "" "desk load" pack . out
+check 2 "" "desk load" size missing
 check 2 "" "desk load" pack "$(printf 'n%.0s' $(seq 1 5000))" out
 check 2 "" "desk store" pack smallest missing/out
 check 2 "" "desk store" pack smallest .
@@ -86,6 +91,7 @@ check 2 "" "desk load" run smallest missing $machine
 
 # 3
 check 3 "" "refused 2 0x00000000" pack empty out
+check 3 "" "refused 2 0x00000000" size empty
 check 3 "" "refused 2 0x00000000" run empty missing $machine
 holds out smallest
 

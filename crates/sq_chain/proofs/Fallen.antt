@@ -1,16 +1,19 @@
 -- A graph in which each Jump to the next slot is Fall follows it.
-use Rattle.std.proofs.Common.{◌≡◌, ◌≢◌, ℕ, ◌==◌, false, if◌then◌else◌, List, [], ◌∷◌, ◌++◌, Some, is_some, inl, inr, refl, sym, ap, ◌∙◌, subst, append_assoc}
+use Rattle.std.proofs.Common.{◌≡◌, ◌≢◌, ℕ, ◌+◌, ◌==◌, false, if◌then◌else◌, List, [], ◌∷◌, ◌++◌, length, Option, Some, None, is_some, inl, inr, refl, sym, ap, ◌∙◌, subst, arith, append_assoc}
 use Rattle.std.proofs.lemmas.Bool.{cases_Bool, eqb-true, eq-eqb, ne_eqb}
 use Rattle.std.proofs.lemmas.List.Elements.{All-nil}
-use Rattle.sq_arena.specs.Entries.{first_key}
+use Rattle.sq_arena.specs.Entries.{starting_at, first_key}
+use Rattle.sq_arena.proofs.EntriesLaws.{starting_at-append}
 use Rattle.sq_graph.specs.declared.item.Term.{Term}
 use Rattle.sq_graph.specs.declared.item.Term.TheVariants.{Fall, Jump, Branch, Call, PartJump, Indirect, Stop}
 use Rattle.sq_graph.specs.Graph.{Block, Graph}
-use Rattle.sq_graph.specs.Blocks.{named, HasBlock, block_of, block_term, next_of, term_of}
+use Rattle.sq_graph.specs.Blocks.{named, HasBlock, block_of, block_term, first_of, next_of, term_of}
+use Rattle.sq_graph.specs.Cursor.{rest_from}
 use Rattle.sq_graph.specs.Operations.{with_blocks, with_term}
 use Rattle.sq_graph.specs.Rules.{IsGraph}
 use Rattle.sq_graph.specs.Soundness.{IsSound}
 use Rattle.sq_graph.proofs.Changes.{with_blocks-at}
+use Rattle.sq_graph.proofs.Located.{named-append}
 use Rattle.sq_graph.proofs.OperationRules.{with_term_rules}
 use Rattle.sq_follow.specs.Follows.{Follows}
 use Rattle.sq_follow.proofs.Following.{graph_follows_itself, graph_follows_through}
@@ -160,3 +163,77 @@ module _ (g h : Graph) (b : Block) (rest : List Block) (w : FallsSoFar g h (b �
         whole = append_assoc w.front (b ∷ []) (fallen_blocks rest) ∙ ap (λ bs. w.front ++ bs) (sym (others_stay b rest apart)) ∙ w.whole;
         keeps = w.keeps;
       }
+
+-- A WALK
+
+-- the blocks from this place on are still to fall
+pub record FallsFrom (g h : Graph) (place : Option ℕ) : Type 0 where
+  pub rest : List Block
+  pub so_far : FallsSoFar g h rest
+  pub at : place ≡ first_key (named rest)
+
+pub falls_from_first : (g : Graph) (n : ℕ) → IsGraph g → first_of g ≡ Some n → FallsFrom g g (Some n)
+falls_from_first g n rules first = record { rest = g.blocks; so_far = falls_first g rules; at = sym first }
+
+pub falls_to_end : (g h : Graph) → FallsFrom g h None → h ≡ fallen g
+falls_to_end g h f = by_rest f.rest f.so_far f.at
+  where
+    by_rest : (rest : List Block) → FallsSoFar g h rest → None ≡ first_key (named rest) → h ≡ fallen g
+    by_rest [] w e = falls_last g h w
+    by_rest (b ∷ rest) w e = absurd (cc)
+
+pub named_length : (bs : List Block) → length (named bs) ≡ length bs
+named_length [] = refl
+named_length (b ∷ bs) = omega (arith, named_length bs)
+
+-- how many are left
+pub falls_left : (g h : Graph) (place : Option ℕ) (f : FallsFrom g h place) → length (rest_from (named h.blocks) place) ≡ length f.rest
+falls_left g h place f = by_rest f.rest f.so_far f.at
+  where
+    by_rest : (rest : List Block) → FallsSoFar g h rest → place ≡ first_key (named rest) → length (rest_from (named h.blocks) place) ≡ length rest
+    by_rest [] w e = ap (λ (o : Option ℕ). length (rest_from (named h.blocks) o)) e
+    by_rest (b ∷ rest) w e =
+        let spot = here h w.keeps.rules w.front b rest (blocks g h b rest w) in
+        let start : starting_at (named h.blocks) b.name ≡ (b.name, b) ∷ named rest =
+        ap (λ (es : List (ℕ × Block)). starting_at es b.name) (ap named (blocks g h b rest w) ∙ named-append w.front (b ∷ rest)) ∙ starting_at-append (named w.front) (named rest) b.name b spot.ahead in
+        omega (arith, ap (λ (o : Option ℕ). length (rest_from (named h.blocks) o)) e, ap (λ (es : List (ℕ × Block)). length es) start, named_length rest)
+
+module _ (g h : Graph) (n : ℕ) (f : FallsFrom g h (Some n)) where
+  pub first_left : (b : Block) × ((rest : List Block) × ((f.rest ≡ b ∷ rest) × (b.name ≡ n)))
+  first_left = by_rest f.rest f.at
+    where
+      by_rest : (rest : List Block) → Some n ≡ first_key (named rest) → (b : Block) × ((others : List Block) × ((rest ≡ b ∷ others) × (b.name ≡ n)))
+      by_rest [] e = absurd (cc)
+      by_rest (b ∷ rest) e = (b, (rest, (refl, cc)))
+
+  pub falls_here : FallsSoFar g h (first_left.0 ∷ first_left.1.0)
+  falls_here = subst (FallsSoFar g h) first_left.1.1.0 f.so_far
+
+  pub slot_left : next_of h n ≡ first_key (named first_left.1.0)
+  slot_left = ap (next_of h) (sym first_left.1.1.1) ∙ slot_is g h first_left.0 first_left.1.0 falls_here
+
+  pub falls_has : HasBlock h n
+  falls_has = subst (HasBlock h) first_left.1.1.1 (falls_there g h first_left.0 first_left.1.0 falls_here)
+
+  abbrev pub falls_next : JumpsToNext h n → FallsFrom g (with_term h n Fall) (next_of h n)
+  falls_next j = record {
+    rest = first_left.1.0;
+    so_far = subst (λ (k : ℕ). FallsSoFar g (with_term h k Fall) first_left.1.0) first_left.1.1.1 (falls_on g h first_left.0 first_left.1.0 falls_here (subst (JumpsToNext h) (sym first_left.1.1.1) j));
+    at = slot_left;
+  }
+
+  abbrev pub falls_past : ¬ JumpsToNext h n → FallsFrom g h (next_of h n)
+  falls_past other = record {
+    rest = first_left.1.0;
+    so_far = falls_not g h first_left.0 first_left.1.0 falls_here (λ j. other (subst (JumpsToNext h) first_left.1.1.1 j));
+    at = slot_left;
+  }
+
+  falls_shorter : length first_left.1.0 + 1 ≡ length f.rest
+  falls_shorter = omega (arith, ap (λ (bs : List Block). length bs) first_left.1.1.0)
+
+  pub next_left : (j : JumpsToNext h n) → length (rest_from (named (with_term h n Fall).blocks) (next_of h n)) + 1 ≡ length (rest_from (named h.blocks) (Some n))
+  next_left j = omega (arith, falls_left g (with_term h n Fall) (next_of h n) (falls_next j), falls_shorter, falls_left g h (Some n) f)
+
+  pub past_left : ¬ JumpsToNext h n → length (rest_from (named h.blocks) (next_of h n)) + 1 ≡ length (rest_from (named h.blocks) (Some n))
+  past_left other = omega (arith, falls_left g h (next_of h n) (falls_past other), falls_shorter, falls_left g h (Some n) f)

@@ -12,4 +12,7 @@ pub mod Placed
 pub mod Adding
 pub mod Previous
 pub mod Chains
+pub mod Lighter
+pub mod Carried
+pub mod Orders
 pub mod Moved

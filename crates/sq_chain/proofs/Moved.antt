@@ -3,6 +3,7 @@ use Rattle.std.proofs.Common.{◌≡◌, ℕ, ◌+◌, ◌-◌, ◌≤◌, ◌<�
 use Rattle.std.specs.List.{All, AllByRecursion}
 use Rattle.std.proofs.lemmas.List.Elements.{recursion_from_All}
 use Rattle.std.proofs.lemmas.List.Sums.{sum_by-cons}
+use Rattle.sq_num.specs.declared.packed.Savings.{Savings}
 use Rattle.sq_graph.specs.declared.item.Item.{Item}
 use Rattle.sq_graph.specs.declared.item.Term.{Term}
 use Rattle.sq_graph.specs.declared.item.Term.TheVariants.{Fall, Jump, Branch, Call, PartJump, Indirect, Stop}
@@ -15,6 +16,7 @@ use Rattle.sq_graph.specs.Places.{IsInReach}
 use Rattle.sq_graph.specs.Rules.{IsGraph}
 use Rattle.sq_graph.specs.Soundness.{IsSound}
 use Rattle.sq_graph.specs.Words.{block_words, words_of}
+use Rattle.sq_graph.proofs.AlikeGraphs.{alike_itself}
 use Rattle.sq_graph.proofs.CanonicalReach.{canonical_in_reach}
 use Rattle.sq_graph.proofs.RenamedReach.{alike_words}
 use Rattle.sq_follow.specs.Follows.{Follows}
@@ -24,12 +26,16 @@ use Rattle.sq_patch.proofs.Joining.{canonical_follows, canonical_sound}
 use Rattle.sq_patch.proofs.Reordering.{reorder_follows, reorder_sound}
 use Rattle.sq_pass.specs.declared.cut.Cut.{Cut}
 use Rattle.sq_pass.specs.declared.cut.Row.TheVariants.{L}
-use Rattle.sq_pass.specs.Rewrites.{IsRewrite, IsLighter}
-use Rattle.sq_pass.proofs.Rewriting.{rewrite_made, lighter_made}
+use Rattle.sq_pass.specs.Applied.{IsApplied}
+use Rattle.sq_pass.specs.Counted.{counted}
+use Rattle.sq_pass.specs.Rewrites.{IsRewrite, IsLighter, IsRewritten}
+use Rattle.sq_pass.proofs.Rewriting.{rewrite_made, lighter_made, rewritten_once}
 use Rattle.sq_chain.specs.Least.{least_widened}
 use Rattle.sq_chain.specs.Moves.{carried, fallen_blocks, fallen, IsMovable, moved, IsStill}
 use Rattle.sq_chain.specs.Candidates.{cut_of, IsCandidate, described, IsMoved, IsStillAt}
-use Rattle.sq_chain.proofs.Fallen.{Keeps}
+use Rattle.sq_chain.proofs.Carried.{carried_words, carried_jumps}
+use Rattle.sq_chain.proofs.Fallen.{Keeps, keeps_through, fallen_keeps}
+use Rattle.sq_chain.proofs.Lighter.{falls_fewer, stays_narrow}
 use Rattle.sq_chain.proofs.Reordered.{chain_moved_rules, chain_reordered, chain_moved_length}
 
 -- the chain moves
@@ -72,6 +78,43 @@ module _ (g h new : Graph) (from to : ℕ) (movable : IsMovable g from to) (is :
       described = moved_alike;
     };
   }
+
+-- what is left where each Branch reaches once the chain has moved
+module _ (g mid : Graph) (from to : ℕ) (rules : IsGraph g) (movable : IsMovable g from to) (is : mid ≡ carried g from to) (near : IsInReach (fallen mid)) where
+  abbrev narrow : Graph
+  narrow = fallen (carried g from to)
+
+  near_keeps : Keeps g narrow
+  near_keeps =
+      let keeps = carried_keeps g from to rules movable in
+      keeps_through g (carried g from to) narrow keeps (fallen_keeps (carried g from to) keeps.rules)
+
+  near_reach : IsInReach narrow
+  near_reach = subst (λ (k : Graph). IsInReach (fallen k)) is near
+
+  module _ (new : Graph) (saved : ℕ) (fell : new ≡ fallen mid) (words : words_of new + saved ≡ words_of mid) where
+    new_is : new ≡ narrow
+    new_is = fell ∙ ap fallen is
+
+    mid_words : words_of mid ≡ words_of g
+    mid_words = ap words_of is ∙ carried_words g from to rules movable
+
+    pub near_saves : 1 ≤ saved
+    near_saves =
+        let fewer = falls_fewer (carried g from to) from (carried_jumps g from to rules movable) in
+        omega (arith, fewer, words, ap words_of new_is, ap words_of is)
+
+    pub near_applied : IsApplied saved (moved g from to) g new
+    near_applied =
+        subst (λ (k : Graph). IsApplied saved (moved g from to) g k) (sym new_is)
+        (record {
+          rules = near_keeps.rules;
+          follows = near_keeps.follows;
+          sound = near_keeps.sound;
+          reach = λ was. near_reach;
+          words = omega (arith, words, mid_words, ap words_of new_is);
+          described = subst (λ (k : Graph). AreAlike narrow k) (sym (stays_narrow narrow near_keeps.rules near_reach)) (alike_itself narrow);
+        })
 
 -- ROW L
 
@@ -133,6 +176,15 @@ module _ (old mid new : Graph) (from to : ℕ) (m : IsMoved from to old mid) (ma
 
   pub move_saves : 1 ≤ saving
   move_saves = subst (λ n. 1 ≤ n) saving_is m.some
+
+-- one rewrite, counted
+pub near_rewritten : (old mid new : Graph) (from to saved : ℕ) (before after : Savings) → IsMovable old from to → 1 ≤ saved → IsApplied saved (moved old from to) old mid → new ≡ canonical_of mid → IsCanonical new → words_of new ≡ words_of mid → after ≡ counted before L saved → IsRewritten IsCandidate described before after old new
+near_rewritten old mid new from to saved before after movable some applied made canonical words counts =
+    let m : IsMoved from to old mid = record { movable = movable; saving = saved; some = some; applied = applied } in
+    let was = applied.words in
+    let is : saved ≡ words_of old - words_of new = omega (arith, was, words) in
+    subst (λ (s : Savings). IsRewritten IsCandidate described before s old new) (sym counts)
+    (rewritten_once IsCandidate described before (record { row = L; saving = saved }) old new (move_rewrite old mid new from to m made canonical words saved is) (move_lighter old mid new from to m made canonical words saved is))
 
 -- WHERE NO MOVE SAVES A WORD
 

@@ -33,7 +33,7 @@ stops_append (e ∷ []) [] first second = first
 stops_append (e ∷ []) (y ∷ ys) first second = second
 stops_append (e ∷ f ∷ xs) ys first second = stops_append (f ∷ xs) ys first second
 
-stops_back : (xs ys : List (ℕ × Block)) → Stops (xs ++ ys) → Stops ys
+pub stops_back : (xs ys : List (ℕ × Block)) → Stops (xs ++ ys) → Stops ys
 stops_back [] ys stops = stops
 stops_back (e ∷ []) [] stops = refl
 stops_back (e ∷ []) (y ∷ ys) stops = stops
@@ -65,15 +65,15 @@ next_out : (xs ys : List (ℕ × Block)) (n : ℕ) → value_of xs n ≡ None �
 next_out xs ys n none = ap first_key (behind-out xs ys n none)
 
 -- a key stands in one piece alone
-apart_from : (xs ys : List (ℕ × Block)) (n : ℕ) → HasDistinctKeys (xs ++ ys) → IsSome (value_of xs n) → value_of ys n ≡ None
+pub apart_from : (xs ys : List (ℕ × Block)) (n : ℕ) → HasDistinctKeys (xs ++ ys) → IsSome (value_of xs n) → value_of ys n ≡ None
 apart_from xs ys n distinct some =
     value_of-absent ys n (omega (arith, times_at_most_once (xs ++ ys) distinct (Some n), present_if_value xs n some, times-places-append (Some n) xs ys))
 
-some_or_none : {T : Type 0} (o : Option T) → IsSome o ⊎ (o ≡ None)
+pub some_or_none : {T : Type 0} (o : Option T) → IsSome o ⊎ (o ≡ None)
 some_or_none None = inr refl
 some_or_none (Some x) = inl refl
 
-or_first : {T : Type 0} (a b : Option T) (x : T) → or_value a b ≡ Some x → IsSome a → a ≡ Some x
+pub or_first : {T : Type 0} (a b : Option T) (x : T) → or_value a b ≡ Some x → IsSome a → a ≡ Some x
 or_first None b x e some = absurd (cc)
 or_first (Some y) b x e some = e
 
@@ -204,14 +204,14 @@ named_again : (es : List (ℕ × Block)) → AreNamed es → named (map (λ e. e
 named_again [] all = refl
 named_again (e ∷ es) all = ap (λ k. (k, e.1) ∷ named (map (λ f. f.1) es)) (sym all.0) ∙ ap (λ fs. e ∷ fs) (named_again es all.1)
 
-blocks_again : (bs : List Block) → map (λ e. e.1) (named bs) ≡ bs
+pub blocks_again : (bs : List Block) → map (λ e. e.1) (named bs) ≡ bs
 blocks_again [] = refl
 blocks_again (b ∷ bs) = ap (λ cs. b ∷ cs) (blocks_again bs)
 
 -- THE MOVE
 
 -- two pieces that stop change places, behind one that stops
-record Exchanges (old new : List (ℕ × Block)) : Type 0 where
+pub record Exchanges (old new : List (ℕ × Block)) : Type 0 where
   pub first : List (ℕ × Block)
   pub second : List (ℕ × Block)
   pub third : List (ℕ × Block)
@@ -286,26 +286,26 @@ module _ (g : Graph) (from to : ℕ) (rules : IsGraph g) (movable : IsMovable g 
   abbrev C : List (ℕ × Block)
   C = behind (starting_at es to) last
 
-  whole : es ≡ A ++ (R ++ C)
+  pub whole : es ≡ A ++ (R ++ C)
   whole = (shape_of es to last chain_run).whole
 
   all_stops : Stops es
   all_stops = ap last_goes_on (blocks_again g.blocks) ∙ rules.ends
 
-  r_stops : Stops R
+  pub r_stops : Stops R
   r_stops =
       subst (λ (xs : List (ℕ × Block)). Stops (through xs (end_of xs to))) (sym start)
       (chain_stops (to, head.0) (behind es to) to (stops_back A ((to, head.0) ∷ behind es to) (subst Stops split all_stops))
       (distinct_back A ((to, head.0) ∷ behind es to) (subst (λ (xs : List (ℕ × Block)). HasDistinctKeys xs) split rules.distinct)))
 
-  a_stops : Stops A
+  pub a_stops : Stops A
   a_stops = ahead_stops g to [] A head.0 (behind es to) rules.distinct movable.apart split
 
   c_stops : Stops C
   c_stops = stops_back R C (stops_back A (R ++ C) (subst Stops whole all_stops))
 
   -- the block that jumps, which isn't in the chain
-  jumping : (b : Block) × (block_of g from ≡ Some b) × (b.term ≡ Jump to)
+  pub jumping : (b : Block) × (block_of g from ≡ Some b) × (b.term ≡ Jump to)
   jumping = block_with (block_of g from) (Jump to) movable.jump
 
   off : goes_on jumping.0.term ≡ false
@@ -314,11 +314,11 @@ module _ (g : Graph) (from to : ℕ) (rules : IsGraph g) (movable : IsMovable g 
   out_r : value_of R from ≡ None
   out_r = elim (some_or_none (value_of R from)) [ inl some ↦ absurd (movable.outside some) | inr none ↦ none ]
 
-  found : or_value (value_of A from) (or_value (value_of R from) (value_of C from)) ≡ Some jumping.0
+  pub found : or_value (value_of A from) (or_value (value_of R from) (value_of C from)) ≡ Some jumping.0
   found =
       ap (or_value (value_of A from)) (sym (value_of-append R C from)) ∙ sym (value_of-append A (R ++ C) from) ∙ ap (λ xs. value_of xs from) (sym whole) ∙ jumping.1
 
-  in_c : value_of A from ≡ None → value_of C from ≡ Some jumping.0
+  pub in_c : value_of A from ≡ None → value_of C from ≡ Some jumping.0
   in_c none = or_second (value_of R from) (value_of C from) jumping.0 (or_second (value_of A from) (or_value (value_of R from) (value_of C from)) jumping.0 found none) out_r
 
   pub jumping_outside : ContainsKey (without_run (named g.blocks) to (chain_end g to)) from
@@ -332,10 +332,10 @@ module _ (g : Graph) (from to : ℕ) (rules : IsGraph g) (movable : IsMovable g 
   abbrev M : List (ℕ × Block)
   M = move_run_after es to last from
 
-  jump_stops : (xs : List (ℕ × Block)) → value_of xs from ≡ Some jumping.0 → Stops (through xs from)
+  pub jump_stops : (xs : List (ℕ × Block)) → value_of xs from ≡ Some jumping.0 → Stops (through xs from)
   jump_stops xs e = subst Stops (sym (through-before xs from jumping.0 e)) (stops_last (before xs from) from jumping.0 off)
 
-  moves_back : IsSome (value_of A from) → Exchanges es M
+  abbrev pub moves_back : IsSome (value_of A from) → Exchanges es M
   moves_back some =
       let there = or_first (value_of A from) (or_value (value_of R from) (value_of C from)) jumping.0 found some in
       let parts : through A from ++ behind A from ≡ A = through-behind A from in
@@ -351,7 +351,7 @@ module _ (g : Graph) (from to : ℕ) (rules : IsGraph g) (movable : IsMovable g 
         is = ap (λ xs. xs ++ (R ++ behind (A ++ C) from)) (through-in A C from some) ∙ ap (λ xs. through A from ++ (R ++ xs)) (behind-in A C from some);
       }
 
-  moves_ahead : value_of A from ≡ None → Exchanges es M
+  abbrev pub moves_ahead : value_of A from ≡ None → Exchanges es M
   moves_ahead none =
       let parts : through C from ++ behind C from ≡ C = through-behind C from in
       record {
@@ -369,10 +369,10 @@ module _ (g : Graph) (from to : ℕ) (rules : IsGraph g) (movable : IsMovable g 
             ∙ append_assoc A (through C from) (R ++ behind C from);
       }
 
-  exchange : Exchanges es M
+  pub exchange : Exchanges es M
   exchange = elim (some_or_none (value_of A from)) [ inl some ↦ moves_back some | inr none ↦ moves_ahead none ]
 
-  again : named (map (λ e. e.1) M) ≡ M
+  pub again : named (map (λ e. e.1) M) ≡ M
   again = named_again M (keeps_names es M exchange (all_named g.blocks))
 
   pub chain_moved_rules : IsGraph (moved_after g to (chain_end g to) from)

@@ -33,7 +33,7 @@ rounds_branches g rules (suc k) n e = grown_branches g (after_rounds g k) rules 
 abbrev pub IsClosed : Graph → (ℕ → Bool) → Type 0
 IsClosed g S = (n : ℕ) → falls_short g S n ≡ true → S n ≡ true
 
-closed_valid : (g : Graph) (S : ℕ → Bool) → IsGraph g → ((n : ℕ) → S n ≡ true → EndsInBranch g n) → IsClosed g S → IsValid g S
+pub closed_valid : (g : Graph) (S : ℕ → Bool) → IsGraph g → ((n : ℕ) → S n ≡ true → EndsInBranch g n) → IsClosed g S → IsValid g S
 closed_valid g S rules branches closed = record {
   branches = branches;
   reach = λ n cond a b to e out.
@@ -79,7 +79,7 @@ count_few S (b ∷ bs) =
       | inr absent ↦ omega (arith, count_few S bs, count_no S b bs absent)
     ]
 
-count_more : (S T : ℕ → Bool) (bs : List Block) → IsWithin S T → count_of S bs ≤ count_of T bs
+pub count_more : (S T : ℕ → Bool) (bs : List Block) → IsWithin S T → count_of S bs ≤ count_of T bs
 count_more S T [] within = omega arith
 count_more S T (b ∷ bs) within =
     elim (cases_Bool (S b.name)) [

@@ -2,8 +2,8 @@
 //!
 //! To the layers above it promises that `widen` widens exactly the least set of Branches that brings the graph in reach; that
 //! `movable` is exact; that `try_move` moves a chain exactly where the words are fewer then, and else leaves the graph as it
-//! was; and that `move_once` makes such a move, or there is none. What is left follows the graph before, is in reach, and
-//! sound where that was; the names of the new blocks don't matter.
+//! was; that `move_once` makes such a move, or there is none; and that `sweep_moves` makes many, one after another. What is
+//! left follows the graph before, is in reach, and sound where that was; the names of the new blocks don't matter.
 #![tactic(auto)]
 
 mod carry;
@@ -11,9 +11,13 @@ mod chain;
 pub mod laws;
 mod least;
 mod moving;
+mod order;
+mod outlook;
 mod short;
+mod sweep;
 mod widening;
 
 pub use chain::movable;
 pub use moving::{move_once, try_move};
+pub use sweep::sweep_moves;
 pub use widening::widen;

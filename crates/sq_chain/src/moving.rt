@@ -1,10 +1,10 @@
 //! Row L: a chain moves behind the Jump to it, where the words are fewer then.
 
 ghost use Rattle.std.specs.Prelude.{◌≡◌, ℕ, ◌≤◌, true, false, length, None, Ok, IfOk, IfSome, OnErr};
-ghost use Rattle.sq_graph.specs.Blocks.{HasBlock};
 ghost use Rattle.sq_graph.specs.Leaders.{IsCanonical};
 ghost use Rattle.sq_graph.specs.Parts.{names_of};
 ghost use Rattle.sq_graph.specs.Words.{words_of};
+ghost use Rattle.sq_pass.specs.Applied.{IsApplied};
 ghost use Rattle.sq_pass.specs.declared.cut.Cut.{Cut as Told};
 ghost use Rattle.sq_pass.specs.Rewrites.{IsRewrite, IsLighter};
 ghost use Rattle.sq_chain.specs.Moves.{IsMovable, moved, IsStill};
@@ -12,17 +12,41 @@ ghost use Rattle.sq_chain.specs.Candidates.{IsCandidate, described, IsMoved, Has
 
 use crate::carry::carry;
 use crate::chain::movable;
+use crate::outlook::{Outlook, outlook_of};
 use crate::widening::widen;
 use sq_graph::{Graph, Term};
 use sq_layout::{learn, words_of};
 use sq_live::block_names;
+use sq_lookup::is_block;
 use sq_num::Memory;
 use sq_pass::{Rewrite, Row};
 use std::alloc::Global;
 
+/// Moves the chain of `to` behind `from` and makes each Jump to the next slot Fall, where each Branch reaches then: how many
+/// words that saves. It makes no copy.
+pub(crate) fn move_near(
+    alloc: Global,
+    graph: &mut Graph,
+    from: u32,
+    to: u32,
+) -> Result<Option<u32>, Memory>
+    requires movable { IsMovable graph.old.graph from to }
+    ensures some { IfOk result (λ done. IfSome done (λ saved. 1 ≤ saved)) }
+    ensures applied { IfOk result (λ done. IfSome done (λ saved. IsApplied saved (moved graph.old.graph from to) graph.old.graph graph.new.graph)) }
+    ensures same { result ≡ Ok None → graph.new ≡ graph.old }
+    ensures kept { OnErr result (graph.new ≡ graph.old) }
+{
+    learn(graph);
+    match outlook_of(alloc, graph, from, to)? {
+        Outlook::Near => Ok(Some(carry(graph, from, to))),
+        Outlook::Still => Ok(None),
+        Outlook::Unsure => Ok(None),
+    }
+}
+
 /// Moves the chain of `to` behind `from` on a copy of the graph, makes each Jump to the next slot Fall, and widens the
 /// Branches of the least set. Where the words are fewer then, the graph becomes that copy; else it stays as it was.
-pub fn try_move(alloc: Global, graph: &mut Graph, from: u32, to: u32) -> Result<bool, Memory>
+fn move_wide(alloc: Global, graph: &mut Graph, from: u32, to: u32) -> Result<bool, Memory>
     requires movable { IsMovable graph.old.graph from to }
     requires blocks { length graph.old.graph.blocks ≤ 16777216 }
     ensures moved { result ≡ Ok true → IsMoved from to graph.old.graph graph.new.graph }
@@ -32,7 +56,7 @@ pub fn try_move(alloc: Global, graph: &mut Graph, from: u32, to: u32) -> Result<
 {
     learn(graph);
     let mut trial = graph.copy(alloc)?;
-    carry(alloc, &mut trial, from, to)?;
+    carry(&mut trial, from, to);
     widen(alloc, &mut trial)?;
     learn(&trial);
     if words_of(&trial) < words_of(graph) {
@@ -42,23 +66,59 @@ pub fn try_move(alloc: Global, graph: &mut Graph, from: u32, to: u32) -> Result<
     Ok(false)
 }
 
+/// Moves the chain of `to` behind `from`, makes each Jump to the next slot Fall, and widens the Branches of the least set,
+/// where the words are fewer then; else the graph stays as it was. It makes a copy only where there are Branches that don't
+/// reach, but fewer than words are saved.
+pub fn try_move(alloc: Global, graph: &mut Graph, from: u32, to: u32) -> Result<bool, Memory>
+    requires movable { IsMovable graph.old.graph from to }
+    requires blocks { length graph.old.graph.blocks ≤ 16777216 }
+    ensures moved { result ≡ Ok true → IsMoved from to graph.old.graph graph.new.graph }
+    ensures still { result ≡ Ok false → words_of graph.old.graph ≤ words_of (moved graph.old.graph from to) }
+    ensures same { result ≡ Ok false → graph.new ≡ graph.old }
+    ensures kept { OnErr result (graph.new ≡ graph.old) }
+{
+    learn(graph);
+    match outlook_of(alloc, graph, from, to)? {
+        Outlook::Near => {
+            carry(graph, from, to);
+            Ok(true)
+        }
+        Outlook::Still => Ok(false),
+        Outlook::Unsure => move_wide(alloc, graph, from, to),
+    }
+}
+
+/// The block to which this one jumps, where there is this one and the pair is movable.
+pub(crate) fn movable_target(graph: &Graph, from: u32) -> Option<u32>
+    ensures some { IfSome result (λ to. IsMovable graph.now.graph from to) }
+    ensures none { result ≡ None → (to : ℕ) → ¬ IsMovable graph.now.graph from to }
+{
+    learn(graph);
+    if !is_block(graph, from) {
+        return None;
+    }
+    let Term::Jump { to } = graph.term(from) else {
+        return None;
+    };
+    if movable(graph, from, to) {
+        Some(to)
+    } else {
+        None
+    }
+}
+
 /// The same for the block to which this one jumps, where the pair is movable.
 fn move_behind(alloc: Global, graph: &mut Graph, from: u32) -> Result<bool, Memory>
-    requires from { HasBlock graph.old.graph from }
     requires blocks { length graph.old.graph.blocks ≤ 16777216 }
     ensures moved { result ≡ Ok true → HasMoved graph.old.graph graph.new.graph }
     ensures still { result ≡ Ok false → IsStillAt graph.old.graph from }
     ensures same { result ≡ Ok false → graph.new ≡ graph.old }
     ensures kept { OnErr result (graph.new ≡ graph.old) }
 {
-    learn(graph);
-    let Term::Jump { to } = graph.term(from) else {
-        return Ok(false);
-    };
-    if !movable(graph, from, to) {
-        return Ok(false);
+    match movable_target(graph, from) {
+        Some(to) => try_move(alloc, graph, from, to),
+        None => Ok(false),
     }
-    try_move(alloc, graph, from, to)
 }
 
 /// The same for the first of the blocks whose chain has such a move. The names are those of the blocks in layout order.
@@ -80,7 +140,7 @@ fn move_first(alloc: Global, graph: &mut Graph, names: &[u32]) -> Result<bool, M
 }
 
 /// Moves one chain, where that saves words, and makes the graph canonical. None where no movable pair has such a move. It
-/// tries the blocks that end in a Jump in layout order, each on a copy of the graph.
+/// tries the blocks that end in a Jump in layout order.
 pub fn move_once(alloc: Global, graph: &mut Graph) -> Result<Option<Rewrite>, Memory>
     requires canonical { IsCanonical graph.old.graph }
     requires words { words_of graph.old.graph ≤ 1048576 }

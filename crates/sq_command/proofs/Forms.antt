@@ -1,5 +1,5 @@
 -- Words have a form exactly where they are those of a command.
-use Rattle.std.proofs.Common.{◌≡◌, ◌↔◌, ℕ, ◌≤◌, Bool, true, false, nat_le, ◌&&◌, List, [], ◌∷◌, drop, Option, Some, None, if◌then◌else◌, codes, refl, sym, ap, ◌∙◌, arith}
+use Rattle.std.proofs.Common.{◌≡◌, ◌↔◌, ℕ, ◌^◌, ◌<◌, ◌≤◌, Bool, true, false, nat_le, ◌&&◌, List, [], ◌∷◌, drop, Option, Some, None, if◌then◌else◌, codes, refl, sym, ap, ◌∙◌, arith}
 use Rattle.std.proofs.lemmas.Bool.Decides.{nat_tests}
 use Rattle.std.proofs.lemmas.Slice.Eq.{bytes_eq-Decides}
 use Rattle.std.specs.Fmt.{decimal}
@@ -8,7 +8,7 @@ use Rattle.std.specs.Option.{option_map}
 use Rattle.std.specs.Str.{bytes_eq}
 use Rattle.sq_system.specs.Starts.{StartFits}
 use Rattle.sq_command.specs.Numbers.{number_of}
-use Rattle.sq_command.specs.Commands.{RunRequest, Form, PackForm, RunForm, WatchForm, HexForm, HexcheckForm, most_steps, start_fits, run_of, pair_form, run_request, form_of, AsksRun, IsPack, IsRun, IsWatch, IsHex, IsHexcheck}
+use Rattle.sq_command.specs.Commands.{RunRequest, Form, PackForm, RunForm, WatchForm, HexForm, HexcheckForm, SizeForm, TrialForm, most_steps, most_blocks, start_fits, run_of, pair_form, single_form, trial_of, trial_form, run_request, form_of, AsksRun, IsPack, IsRun, IsWatch, IsHex, IsHexcheck, IsSize, IsTrial}
 use Rattle.sq_command.proofs.NumberTexts.{number_is, number_back}
 use Rattle.sq_command.proofs.Words.{dropped}
 
@@ -52,9 +52,17 @@ pub at_hexcheck : (words : List (List ℕ)) (verb : List ℕ) → slice_get word
 unfolding form_of
 at_hexcheck words verb there one two three four is = ap form_of (dropped words 0 verb there) ∙ rw (one, two, three, four, is) refl
 
-pub at_other : (words : List (List ℕ)) (verb : List ℕ) → slice_get words 0 ≡ Some verb → bytes_eq verb (codes "pack") ≡ false → bytes_eq verb (codes "run") ≡ false → bytes_eq verb (codes "watch") ≡ false → bytes_eq verb (codes "hex") ≡ false → bytes_eq verb (codes "hexcheck") ≡ false → form_of words ≡ None
+pub at_size : (words : List (List ℕ)) (verb : List ℕ) → slice_get words 0 ≡ Some verb → bytes_eq verb (codes "pack") ≡ false → bytes_eq verb (codes "run") ≡ false → bytes_eq verb (codes "watch") ≡ false → bytes_eq verb (codes "hex") ≡ false → bytes_eq verb (codes "hexcheck") ≡ false → bytes_eq verb (codes "size") ≡ true → form_of words ≡ single_form SizeForm (drop 1 words)
 unfolding form_of
-at_other words verb there one two three four five = ap form_of (dropped words 0 verb there) ∙ rw (one, two, three, four, five) refl
+at_size words verb there one two three four five is = ap form_of (dropped words 0 verb there) ∙ rw (one, two, three, four, five, is) refl
+
+pub at_trial : (words : List (List ℕ)) (verb : List ℕ) → slice_get words 0 ≡ Some verb → bytes_eq verb (codes "pack") ≡ false → bytes_eq verb (codes "run") ≡ false → bytes_eq verb (codes "watch") ≡ false → bytes_eq verb (codes "hex") ≡ false → bytes_eq verb (codes "hexcheck") ≡ false → bytes_eq verb (codes "size") ≡ false → bytes_eq verb (codes "trial") ≡ true → form_of words ≡ trial_form (drop 1 words)
+unfolding form_of
+at_trial words verb there one two three four five six is = ap form_of (dropped words 0 verb there) ∙ rw (one, two, three, four, five, six, is) refl
+
+pub at_other : (words : List (List ℕ)) (verb : List ℕ) → slice_get words 0 ≡ Some verb → bytes_eq verb (codes "pack") ≡ false → bytes_eq verb (codes "run") ≡ false → bytes_eq verb (codes "watch") ≡ false → bytes_eq verb (codes "hex") ≡ false → bytes_eq verb (codes "hexcheck") ≡ false → bytes_eq verb (codes "size") ≡ false → bytes_eq verb (codes "trial") ≡ false → form_of words ≡ None
+unfolding form_of
+at_other words verb there one two three four five six seven = ap form_of (dropped words 0 verb there) ∙ rw (one, two, three, four, five, six, seven) refl
 
 pub at_none : (words : List (List ℕ)) → slice_get words 0 ≡ None → form_of words ≡ None
 unfolding form_of
@@ -95,50 +103,6 @@ asks file input None base size arguments request e = absurd (cc e)
 asks file input (Some limit) None size arguments request e = absurd (cc e)
 asks file input (Some limit) (Some base) None arguments request e = absurd (cc e)
 
--- which form it is
-tag : Form → ℕ
-tag (PackForm input output) = 0
-tag (RunForm request) = 1
-tag (WatchForm request) = 2
-tag (HexForm input output) = 3
-tag (HexcheckForm input text) = 4
-
-tag_pair : (make : List ℕ → List ℕ → Form) (number : ℕ) → ((first second : List ℕ) → tag (make first second) ≡ number) → (words : List (List ℕ)) (f : Form) → pair_form make words ≡ Some f → tag f ≡ number
-tag_pair make number is (first ∷ second ∷ []) f e = let same : make first second ≡ f = cc e in sym (ap tag same) ∙ is first second
-tag_pair make number is (first ∷ second ∷ word ∷ words) f e = absurd (cc e)
-tag_pair make number is (first ∷ []) f e = absurd (cc e)
-tag_pair make number is [] f e = absurd (cc e)
-
-tag_map : (make : RunRequest → Form) (number : ℕ) → ((request : RunRequest) → tag (make request) ≡ number) → (asked : Option RunRequest) (f : Form) → option_map make asked ≡ Some f → tag f ≡ number
-tag_map make number is (Some request) f e = let same : make request ≡ f = cc e in sym (ap tag same) ∙ is request
-tag_map make number is None f e = absurd (cc e)
-
-run_asked : (asked : Option RunRequest) (request : RunRequest) → option_map RunForm asked ≡ Some (RunForm request) → asked ≡ Some request
-run_asked (Some other) request e = cc e
-run_asked None request e = absurd (cc e)
-
-watch_asked : (asked : Option RunRequest) (request : RunRequest) → option_map WatchForm asked ≡ Some (WatchForm request) → asked ≡ Some request
-watch_asked (Some other) request e = cc e
-watch_asked None request e = absurd (cc e)
-
-pack_words : (words : List (List ℕ)) (input output : List ℕ) → pair_form PackForm words ≡ Some (PackForm input output) → words ≡ input ∷ output ∷ []
-pack_words (given ∷ taken ∷ []) input output e = cc e
-pack_words (given ∷ taken ∷ word ∷ words) input output e = absurd (cc e)
-pack_words (given ∷ []) input output e = absurd (cc e)
-pack_words [] input output e = absurd (cc e)
-
-hex_words : (words : List (List ℕ)) (input output : List ℕ) → pair_form HexForm words ≡ Some (HexForm input output) → words ≡ input ∷ output ∷ []
-hex_words (given ∷ taken ∷ []) input output e = cc e
-hex_words (given ∷ taken ∷ word ∷ words) input output e = absurd (cc e)
-hex_words (given ∷ []) input output e = absurd (cc e)
-hex_words [] input output e = absurd (cc e)
-
-hexcheck_words : (words : List (List ℕ)) (input output : List ℕ) → pair_form HexcheckForm words ≡ Some (HexcheckForm input output) → words ≡ input ∷ output ∷ []
-hexcheck_words (given ∷ taken ∷ []) input output e = cc e
-hexcheck_words (given ∷ taken ∷ word ∷ words) input output e = absurd (cc e)
-hexcheck_words (given ∷ []) input output e = absurd (cc e)
-hexcheck_words [] input output e = absurd (cc e)
-
 -- the words behind `run` or `watch`
 record RunTail (words : List (List ℕ)) (request : RunRequest) : Type 0 where
   tail_is : words ≡ request.file ∷ request.input ∷ decimal request.limit ∷ decimal request.base ∷ decimal request.size ∷ request.arguments
@@ -162,118 +126,125 @@ run_tail (file ∷ given ∷ []) request e = absurd (cc e)
 run_tail (file ∷ []) request e = absurd (cc e)
 run_tail [] request e = absurd (cc e)
 
--- a form comes by its verb
-data Chosen (verb : List ℕ) (words : List (List ℕ)) (f : Form) : Type 0 where
-  packs : verb ≡ codes "pack" → pair_form PackForm words ≡ Some f → Chosen verb words f
-  runs : verb ≡ codes "run" → option_map RunForm (run_request words) ≡ Some f → Chosen verb words f
-  watches : verb ≡ codes "watch" → option_map WatchForm (run_request words) ≡ Some f → Chosen verb words f
-  hexes : verb ≡ codes "hex" → pair_form HexForm words ≡ Some f → Chosen verb words f
-  checks : verb ≡ codes "hexcheck" → pair_form HexcheckForm words ≡ Some f → Chosen verb words f
+-- the words of a form
+abbrev Spells : Form → List (List ℕ) → Type 0
+Spells (PackForm input output) words = IsPack words input output
+Spells (RunForm request) words = IsRun words request
+Spells (WatchForm request) words = IsWatch words request
+Spells (HexForm input output) words = IsHex words input output
+Spells (HexcheckForm input text) words = IsHexcheck words input text
+Spells (SizeForm input) words = IsSize words input
+Spells (TrialForm first blocks) words = IsTrial words first blocks
 
-by_tests : (verb : List ℕ) (words : List (List ℕ)) (f : Form) (p r w h c : Bool) → bytes_eq verb (codes "pack") ≡ p → bytes_eq verb (codes "run") ≡ r → bytes_eq verb (codes "watch") ≡ w → bytes_eq verb (codes "hex") ≡ h → bytes_eq verb (codes "hexcheck") ≡ c →
-    (if p then pair_form PackForm words else if r then option_map RunForm (run_request words) else if w then option_map WatchForm (run_request words) else if h then pair_form HexForm words else if c then pair_form HexcheckForm words else None) ≡ Some f →
-    Chosen verb words f
-by_tests verb words f true r w h c one two three four five e = packs ((bytes_eq-Decides verb (codes "pack")).0 one) e
-by_tests verb words f false true w h c one two three four five e = runs ((bytes_eq-Decides verb (codes "run")).0 two) e
-by_tests verb words f false false true h c one two three four five e = watches ((bytes_eq-Decides verb (codes "watch")).0 three) e
-by_tests verb words f false false false true c one two three four five e = hexes ((bytes_eq-Decides verb (codes "hex")).0 four) e
-by_tests verb words f false false false false true one two three four five e = checks ((bytes_eq-Decides verb (codes "hexcheck")).0 five) e
-by_tests verb words f false false false false false one two three four five e = absurd (cc e)
+-- by its verb, and the words behind it
+module _ (verb : List ℕ) where
+  by_pair : (make : List ℕ → List ℕ → Form) → ((first second : List ℕ) → Spells (make first second) (verb ∷ first ∷ second ∷ [])) → (words : List (List ℕ)) (f : Form) → pair_form make words ≡ Some f → Spells f (verb ∷ words)
+  by_pair make spelt (first ∷ second ∷ []) f e = let same : make first second ≡ f = cc e in rw (← same) (spelt first second)
+  by_pair make spelt (first ∷ second ∷ word ∷ words) f e = absurd (cc e)
+  by_pair make spelt (first ∷ []) f e = absurd (cc e)
+  by_pair make spelt [] f e = absurd (cc e)
 
-chosen : (verb : List ℕ) (words : List (List ℕ)) (f : Form) → form_of (verb ∷ words) ≡ Some f → Chosen verb words f
+  by_single : (make : List ℕ → Form) → ((only : List ℕ) → Spells (make only) (verb ∷ only ∷ [])) → (words : List (List ℕ)) (f : Form) → single_form make words ≡ Some f → Spells f (verb ∷ words)
+  by_single make spelt (only ∷ []) f e = let same : make only ≡ f = cc e in rw (← same) (spelt only)
+  by_single make spelt (only ∷ word ∷ words) f e = absurd (cc e)
+  by_single make spelt [] f e = absurd (cc e)
+
+  asks_run : (words : List (List ℕ)) (request : RunRequest) → run_request words ≡ Some request → AsksRun verb (verb ∷ words) request
+  asks_run words request e =
+      let tail : RunTail words request = run_tail words request e in
+      record { words_are = λ i. verb ∷ tail.tail_is i; limit = tail.few; fits = tail.fits }
+
+  by_request : (make : RunRequest → Form) (words : List (List ℕ)) → ((request : RunRequest) → AsksRun verb (verb ∷ words) request → Spells (make request) (verb ∷ words)) → (asked : Option RunRequest) → run_request words ≡ asked → (f : Form) → option_map make asked ≡ Some f → Spells f (verb ∷ words)
+  by_request make words spelt (Some request) is f e = let same : make request ≡ f = cc e in rw (← same) (spelt request (asks_run words request is))
+  by_request make words spelt None is f e = absurd (cc e)
+
+-- the numbers behind `trial`
+some_blocks : (blocks : ℕ) → (nat_le 1 blocks && nat_le blocks most_blocks) ≡ true → (1 ≤ blocks) × (blocks ≤ most_blocks)
+some_blocks blocks t = (grind (arith, nat_tests), grind (arith, nat_tests))
+
+by_range : (first blocks : ℕ) (range : Bool) → (nat_le 1 blocks && nat_le blocks most_blocks) ≡ range → first < 2 ^ 32 → (f : Form) → (if range then Some (TrialForm first blocks) else None) ≡ Some f → Spells f (codes "trial" ∷ decimal first ∷ decimal blocks ∷ [])
+by_range first blocks true is small f e =
+    let same : TrialForm first blocks ≡ f = cc e in
+    let fits : (1 ≤ blocks) × (blocks ≤ most_blocks) = some_blocks blocks is in
+    rw (← same) (record { words_are = refl; fits = small; some = fits.0; few = fits.1 })
+by_range first blocks false is small f e = absurd (cc e)
+
+by_numbers : (one two : List ℕ) (first blocks : Option ℕ) → number_of one ≡ first → number_of two ≡ blocks → (f : Form) → trial_of first blocks ≡ Some f → Spells f (codes "trial" ∷ one ∷ two ∷ [])
+by_numbers one two (Some first) (Some blocks) is also f e =
+    let f_is : (one ≡ decimal first) × (first < 2 ^ 32) = number_back one first is in
+    let b_is : (two ≡ decimal blocks) × (blocks < 2 ^ 32) = number_back two blocks also in
+    rw (f_is.0, b_is.0) (by_range first blocks (nat_le 1 blocks && nat_le blocks most_blocks) refl f_is.1 f e)
+by_numbers one two (Some first) None is also f e = absurd (cc e)
+by_numbers one two None blocks is also f e = absurd (cc e)
+
+by_trial : (words : List (List ℕ)) (f : Form) → trial_form words ≡ Some f → Spells f (codes "trial" ∷ words)
+by_trial (one ∷ two ∷ []) f e = by_numbers one two (number_of one) (number_of two) refl refl f e
+by_trial (one ∷ two ∷ word ∷ words) f e = absurd (cc e)
+by_trial (one ∷ []) f e = absurd (cc e)
+by_trial [] f e = absurd (cc e)
+
+-- a verb that is tested to be this one
+by_verb : (verb is : List ℕ) (words : List (List ℕ)) (f : Form) → bytes_eq verb is ≡ true → Spells f (is ∷ words) → Spells f (verb ∷ words)
+by_verb verb is words f same spelt = rw ((bytes_eq-Decides verb is).0 same) spelt
+
+by_tests : (verb : List ℕ) (words : List (List ℕ)) (f : Form) (p r w h c s t : Bool) → bytes_eq verb (codes "pack") ≡ p → bytes_eq verb (codes "run") ≡ r → bytes_eq verb (codes "watch") ≡ w → bytes_eq verb (codes "hex") ≡ h → bytes_eq verb (codes "hexcheck") ≡ c → bytes_eq verb (codes "size") ≡ s → bytes_eq verb (codes "trial") ≡ t →
+    (if p then pair_form PackForm words else if r then option_map RunForm (run_request words) else if w then option_map WatchForm (run_request words) else if h then pair_form HexForm words else if c then pair_form HexcheckForm words else if s then single_form SizeForm words else if t then trial_form words else None) ≡ Some f →
+    Spells f (verb ∷ words)
+by_tests verb words f true r w h c s t one two three four five six seven e = by_verb verb (codes "pack") words f one (by_pair (codes "pack") PackForm (λ first second. refl) words f e)
+by_tests verb words f false true w h c s t one two three four five six seven e = by_verb verb (codes "run") words f two (by_request (codes "run") RunForm words (λ request asks. asks) (run_request words) refl f e)
+by_tests verb words f false false true h c s t one two three four five six seven e = by_verb verb (codes "watch") words f three (by_request (codes "watch") WatchForm words (λ request asks. asks) (run_request words) refl f e)
+by_tests verb words f false false false true c s t one two three four five six seven e = by_verb verb (codes "hex") words f four (by_pair (codes "hex") HexForm (λ first second. refl) words f e)
+by_tests verb words f false false false false true s t one two three four five six seven e = by_verb verb (codes "hexcheck") words f five (by_pair (codes "hexcheck") HexcheckForm (λ first second. refl) words f e)
+by_tests verb words f false false false false false true t one two three four five six seven e = by_verb verb (codes "size") words f six (by_single (codes "size") SizeForm (λ only. refl) words f e)
+by_tests verb words f false false false false false false true one two three four five six seven e = by_verb verb (codes "trial") words f seven (by_trial words f e)
+by_tests verb words f false false false false false false false one two three four five six seven e = absurd (cc e)
+
+-- words of this form are those of its command
+spelt : (words : List (List ℕ)) (f : Form) → form_of words ≡ Some f → Spells f words
 unfolding form_of
-chosen verb words f e =
-    by_tests verb words f (bytes_eq verb (codes "pack")) (bytes_eq verb (codes "run")) (bytes_eq verb (codes "watch")) (bytes_eq verb (codes "hex")) (bytes_eq verb (codes "hexcheck")) refl refl refl refl refl e
-
-none_asked : (f : Form) → form_of [] ≡ Some f → ⊥
-unfolding form_of
-none_asked f e = cc e
-
-asks_run : (verb is : List ℕ) (words : List (List ℕ)) (request : RunRequest) → verb ≡ is → run_request words ≡ Some request → AsksRun is (verb ∷ words) request
-asks_run verb is words request v e =
-    let tail : RunTail words request = run_tail words request e in
-    record { words_are = λ i. v i ∷ tail.tail_is i; limit = tail.few; fits = tail.fits }
-
-pack_chosen : (verb : List ℕ) (words : List (List ℕ)) (input output : List ℕ) → Chosen verb words (PackForm input output) → verb ∷ words ≡ codes "pack" ∷ input ∷ output ∷ []
-unfolding tag
-pack_chosen verb words input output (packs v e) = λ i. v i ∷ pack_words words input output e i
-pack_chosen verb words input output (runs v e) = absurd (omega (arith, tag_map RunForm 1 (λ request. refl) (run_request words) (PackForm input output) e))
-pack_chosen verb words input output (watches v e) = absurd (omega (arith, tag_map WatchForm 2 (λ request. refl) (run_request words) (PackForm input output) e))
-pack_chosen verb words input output (hexes v e) = absurd (omega (arith, tag_pair HexForm 3 (λ first second. refl) words (PackForm input output) e))
-pack_chosen verb words input output (checks v e) = absurd (omega (arith, tag_pair HexcheckForm 4 (λ first second. refl) words (PackForm input output) e))
-
-pack_from : (words : List (List ℕ)) (input output : List ℕ) → form_of words ≡ Some (PackForm input output) → IsPack words input output
-pack_from [] input output e = absurd (none_asked (PackForm input output) e)
-pack_from (verb ∷ words) input output e = pack_chosen verb words input output (chosen verb words (PackForm input output) e)
+spelt [] f e = absurd (cc e)
+spelt (verb ∷ words) f e =
+    by_tests verb words f (bytes_eq verb (codes "pack")) (bytes_eq verb (codes "run")) (bytes_eq verb (codes "watch")) (bytes_eq verb (codes "hex")) (bytes_eq verb (codes "hexcheck")) (bytes_eq verb (codes "size")) (bytes_eq verb (codes "trial")) refl refl refl refl refl refl refl e
 
 pack_to : (words : List (List ℕ)) (input output : List ℕ) → IsPack words input output → form_of words ≡ Some (PackForm input output)
 unfolding form_of
 pack_to words input output e = ap form_of e
 
-pub pack_is : (words : List (List ℕ)) (input output : List ℕ) → (form_of words ≡ Some (PackForm input output)) ↔ IsPack words input output
-pack_is words input output = (pack_from words input output, pack_to words input output)
-
-hex_chosen : (verb : List ℕ) (words : List (List ℕ)) (input output : List ℕ) → Chosen verb words (HexForm input output) → verb ∷ words ≡ codes "hex" ∷ input ∷ output ∷ []
-unfolding tag
-hex_chosen verb words input output (packs v e) = absurd (omega (arith, tag_pair PackForm 0 (λ first second. refl) words (HexForm input output) e))
-hex_chosen verb words input output (runs v e) = absurd (omega (arith, tag_map RunForm 1 (λ request. refl) (run_request words) (HexForm input output) e))
-hex_chosen verb words input output (watches v e) = absurd (omega (arith, tag_map WatchForm 2 (λ request. refl) (run_request words) (HexForm input output) e))
-hex_chosen verb words input output (hexes v e) = λ i. v i ∷ hex_words words input output e i
-hex_chosen verb words input output (checks v e) = absurd (omega (arith, tag_pair HexcheckForm 4 (λ first second. refl) words (HexForm input output) e))
-
-hex_from : (words : List (List ℕ)) (input output : List ℕ) → form_of words ≡ Some (HexForm input output) → IsHex words input output
-hex_from [] input output e = absurd (none_asked (HexForm input output) e)
-hex_from (verb ∷ words) input output e = hex_chosen verb words input output (chosen verb words (HexForm input output) e)
-
 hex_to : (words : List (List ℕ)) (input output : List ℕ) → IsHex words input output → form_of words ≡ Some (HexForm input output)
 unfolding form_of
 hex_to words input output e = ap form_of e
 
-pub hex_is : (words : List (List ℕ)) (input output : List ℕ) → (form_of words ≡ Some (HexForm input output)) ↔ IsHex words input output
-hex_is words input output = (hex_from words input output, hex_to words input output)
-
-hexcheck_chosen : (verb : List ℕ) (words : List (List ℕ)) (input output : List ℕ) → Chosen verb words (HexcheckForm input output) → verb ∷ words ≡ codes "hexcheck" ∷ input ∷ output ∷ []
-unfolding tag
-hexcheck_chosen verb words input output (packs v e) = absurd (omega (arith, tag_pair PackForm 0 (λ first second. refl) words (HexcheckForm input output) e))
-hexcheck_chosen verb words input output (runs v e) = absurd (omega (arith, tag_map RunForm 1 (λ request. refl) (run_request words) (HexcheckForm input output) e))
-hexcheck_chosen verb words input output (watches v e) = absurd (omega (arith, tag_map WatchForm 2 (λ request. refl) (run_request words) (HexcheckForm input output) e))
-hexcheck_chosen verb words input output (hexes v e) = absurd (omega (arith, tag_pair HexForm 3 (λ first second. refl) words (HexcheckForm input output) e))
-hexcheck_chosen verb words input output (checks v e) = λ i. v i ∷ hexcheck_words words input output e i
-
-hexcheck_from : (words : List (List ℕ)) (input output : List ℕ) → form_of words ≡ Some (HexcheckForm input output) → IsHexcheck words input output
-hexcheck_from [] input output e = absurd (none_asked (HexcheckForm input output) e)
-hexcheck_from (verb ∷ words) input output e = hexcheck_chosen verb words input output (chosen verb words (HexcheckForm input output) e)
-
-hexcheck_to : (words : List (List ℕ)) (input output : List ℕ) → IsHexcheck words input output → form_of words ≡ Some (HexcheckForm input output)
+hexcheck_to : (words : List (List ℕ)) (input text : List ℕ) → IsHexcheck words input text → form_of words ≡ Some (HexcheckForm input text)
 unfolding form_of
-hexcheck_to words input output e = ap form_of e
+hexcheck_to words input text e = ap form_of e
 
-pub hexcheck_is : (words : List (List ℕ)) (input output : List ℕ) → (form_of words ≡ Some (HexcheckForm input output)) ↔ IsHexcheck words input output
-hexcheck_is words input output = (hexcheck_from words input output, hexcheck_to words input output)
+size_to : (words : List (List ℕ)) (input : List ℕ) → IsSize words input → form_of words ≡ Some (SizeForm input)
+unfolding form_of
+size_to words input e = ap form_of e
 
-run_chosen : (verb : List ℕ) (words : List (List ℕ)) (request : RunRequest) → Chosen verb words (RunForm request) → IsRun (verb ∷ words) request
-unfolding tag
-run_chosen verb words request (packs v e) = absurd (omega (arith, tag_pair PackForm 0 (λ first second. refl) words (RunForm request) e))
-run_chosen verb words request (runs v e) = asks_run verb (codes "run") words request v (run_asked (run_request words) request e)
-run_chosen verb words request (watches v e) = absurd (omega (arith, tag_map WatchForm 2 (λ request. refl) (run_request words) (RunForm request) e))
-run_chosen verb words request (hexes v e) = absurd (omega (arith, tag_pair HexForm 3 (λ first second. refl) words (RunForm request) e))
-run_chosen verb words request (checks v e) = absurd (omega (arith, tag_pair HexcheckForm 4 (λ first second. refl) words (RunForm request) e))
+trial_to : (words : List (List ℕ)) (first blocks : ℕ) → IsTrial words first blocks → form_of words ≡ Some (TrialForm first blocks)
+unfolding form_of
+trial_to words first blocks is =
+    let f : number_of (decimal first) ≡ Some first = number_is (decimal first) first is.fits refl in
+    let b : number_of (decimal blocks) ≡ Some blocks = number_is (decimal blocks) blocks (omega (arith, is.few)) refl in
+    let low : nat_le 1 blocks ≡ true = grind (arith, nat_tests, is.some) in
+    let high : nat_le blocks most_blocks ≡ true = grind (arith, nat_tests, is.few) in
+    ap form_of is.words_are ∙ (λ i. trial_of (f i) (b i)) ∙ (λ i. if low i && high i then Some (TrialForm first blocks) else None)
 
-run_from : (words : List (List ℕ)) (request : RunRequest) → form_of words ≡ Some (RunForm request) → IsRun words request
-run_from [] request e = absurd (none_asked (RunForm request) e)
-run_from (verb ∷ words) request e = run_chosen verb words request (chosen verb words (RunForm request) e)
+pub pack_is : (words : List (List ℕ)) (input output : List ℕ) → (form_of words ≡ Some (PackForm input output)) ↔ IsPack words input output
+pack_is words input output = (spelt words (PackForm input output), pack_to words input output)
 
-watch_chosen : (verb : List ℕ) (words : List (List ℕ)) (request : RunRequest) → Chosen verb words (WatchForm request) → IsWatch (verb ∷ words) request
-unfolding tag
-watch_chosen verb words request (packs v e) = absurd (omega (arith, tag_pair PackForm 0 (λ first second. refl) words (WatchForm request) e))
-watch_chosen verb words request (runs v e) = absurd (omega (arith, tag_map RunForm 1 (λ request. refl) (run_request words) (WatchForm request) e))
-watch_chosen verb words request (watches v e) = asks_run verb (codes "watch") words request v (watch_asked (run_request words) request e)
-watch_chosen verb words request (hexes v e) = absurd (omega (arith, tag_pair HexForm 3 (λ first second. refl) words (WatchForm request) e))
-watch_chosen verb words request (checks v e) = absurd (omega (arith, tag_pair HexcheckForm 4 (λ first second. refl) words (WatchForm request) e))
+pub hex_is : (words : List (List ℕ)) (input output : List ℕ) → (form_of words ≡ Some (HexForm input output)) ↔ IsHex words input output
+hex_is words input output = (spelt words (HexForm input output), hex_to words input output)
 
-watch_from : (words : List (List ℕ)) (request : RunRequest) → form_of words ≡ Some (WatchForm request) → IsWatch words request
-watch_from [] request e = absurd (none_asked (WatchForm request) e)
-watch_from (verb ∷ words) request e = watch_chosen verb words request (chosen verb words (WatchForm request) e)
+pub hexcheck_is : (words : List (List ℕ)) (input text : List ℕ) → (form_of words ≡ Some (HexcheckForm input text)) ↔ IsHexcheck words input text
+hexcheck_is words input text = (spelt words (HexcheckForm input text), hexcheck_to words input text)
+
+pub size_is : (words : List (List ℕ)) (input : List ℕ) → (form_of words ≡ Some (SizeForm input)) ↔ IsSize words input
+size_is words input = (spelt words (SizeForm input), size_to words input)
+
+pub trial_is : (words : List (List ℕ)) (first blocks : ℕ) → (form_of words ≡ Some (TrialForm first blocks)) ↔ IsTrial words first blocks
+trial_is words first blocks = (spelt words (TrialForm first blocks), trial_to words first blocks)
 
 -- the words that ask for a run are read as its request
 read_so : (request : RunRequest) → request.limit ≤ most_steps → StartFits request.base request.size →
@@ -295,7 +266,7 @@ unfolding form_of
 watch_to words request is = ap form_of is.words_are ∙ ap (option_map WatchForm) (read_so request is.limit is.fits)
 
 pub run_is : (words : List (List ℕ)) (request : RunRequest) → (form_of words ≡ Some (RunForm request)) ↔ IsRun words request
-run_is words request = (run_from words request, run_to words request)
+run_is words request = (spelt words (RunForm request), run_to words request)
 
 pub watch_is : (words : List (List ℕ)) (request : RunRequest) → (form_of words ≡ Some (WatchForm request)) ↔ IsWatch words request
-watch_is words request = (watch_from words request, watch_to words request)
+watch_is words request = (spelt words (WatchForm request), watch_to words request)

@@ -1,12 +1,13 @@
 -- The forms of a command line.
-use Rattle.std.specs.Prelude.{◌≡◌, ℕ, ◌+◌, ◌%◌, ◌^◌, ◌≤◌, Bool, ◌==◌, ◌&&◌, nat_le, List, [], ◌∷◌, drop, Option, Some, None, if◌then◌else◌, codes, decimal}
+use Rattle.std.specs.Prelude.{◌≡◌, ℕ, ◌+◌, ◌%◌, ◌^◌, ◌<◌, ◌≤◌, Bool, ◌==◌, ◌&&◌, nat_le, List, [], ◌∷◌, drop, Option, Some, None, if◌then◌else◌, codes, decimal}
 use Rattle.std.specs.Option.{option_map}
 use Rattle.std.specs.Str.{bytes_eq}
 use Rattle.sq_system.specs.Starts.{StartFits}
 use Rattle.sq_command.specs.Numbers.{number_of}
 use Rattle.sq_command.specs.declared.command.Command.{Command}
-use Rattle.sq_command.specs.declared.command.Command.TheVariants.{Pack, Run, Watch, Hex, Hexcheck}
+use Rattle.sq_command.specs.declared.command.Command.TheVariants.{Pack, Run, Watch, Hex, Hexcheck, Size, Trial}
 use Rattle.sq_command.specs.declared.run_words.RunWords.{RunWords}
+use Rattle.sq_command.specs.declared.trial_words.TrialWords.{TrialWords}
 
 -- what `run` or `watch` asks for
 pub record RunRequest : Type 0 where
@@ -29,10 +30,18 @@ pub data Form : Type 0 where
   HexForm : List ℕ → List ℕ → Form
   -- hexcheck IN HEX
   HexcheckForm : List ℕ → List ℕ → Form
+  -- size IN
+  SizeForm : List ℕ → Form
+  -- trial FIRST BLOCKS
+  TrialForm : ℕ → ℕ → Form
 
 -- at most so many steps
 abbrev pub most_steps : ℕ
 most_steps = 10000000
+
+-- at most so many blocks
+abbrev pub most_blocks : ℕ
+most_blocks = 4000
 
 -- whether RAM may be `size` bytes from `base` on
 abbrev pub start_fits : ℕ → ℕ → Bool
@@ -52,6 +61,22 @@ abbrev pub pair_form : (List ℕ → List ℕ → Form) → List (List ℕ) → 
 pair_form make (first ∷ second ∷ []) = Some (make first second)
 pair_form make words = None
 
+-- the words behind `size`: one name
+abbrev pub single_form : (List ℕ → Form) → List (List ℕ) → Option Form
+single_form make (only ∷ []) = Some (make only)
+single_form make words = None
+
+-- the trial of these numbers, where the words have them and the second is in its range
+abbrev pub trial_of : Option ℕ → Option ℕ → Option Form
+trial_of (Some first) (Some blocks) =
+    if nat_le 1 blocks && nat_le blocks most_blocks then Some (TrialForm first blocks) else None
+trial_of first blocks = None
+
+-- the words behind `trial`: two numbers
+abbrev pub trial_form : List (List ℕ) → Option Form
+trial_form (first ∷ blocks ∷ []) = trial_of (number_of first) (number_of blocks)
+trial_form words = None
+
 -- the words behind `run` or `watch`
 abbrev pub run_request : List (List ℕ) → Option RunRequest
 run_request (file ∷ input ∷ limit ∷ base ∷ size ∷ arguments) =
@@ -67,6 +92,8 @@ form_of (verb ∷ words) =
     else if bytes_eq verb (codes "watch") then option_map WatchForm (run_request words)
     else if bytes_eq verb (codes "hex") then pair_form HexForm words
     else if bytes_eq verb (codes "hexcheck") then pair_form HexcheckForm words
+    else if bytes_eq verb (codes "size") then single_form SizeForm words
+    else if bytes_eq verb (codes "trial") then trial_form words
     else None
 
 -- the words are `VERB FILE INPUT LIMIT BASE SIZE ARG*`: numbers in decimal, each in its range
@@ -95,10 +122,25 @@ IsHex words input output = words ≡ codes "hex" ∷ input ∷ output ∷ []
 abbrev pub IsHexcheck : List (List ℕ) → List ℕ → List ℕ → Type 0
 IsHexcheck words input text = words ≡ codes "hexcheck" ∷ input ∷ text ∷ []
 
+-- the words are `size IN`
+abbrev pub IsSize : List (List ℕ) → List ℕ → Type 0
+IsSize words input = words ≡ codes "size" ∷ input ∷ []
+
+-- the words are `trial FIRST BLOCKS`: numbers in decimal, each in its range
+pub record IsTrial (words : List (List ℕ)) (first blocks : ℕ) : Type 0 where
+  pub words_are : words ≡ codes "trial" ∷ decimal first ∷ decimal blocks ∷ []
+  pub fits : first < 2 ^ 32
+  pub some : 1 ≤ blocks
+  pub few : blocks ≤ most_blocks
+
 -- what the words of a run ask for
 abbrev pub request_of : List (List ℕ) → RunWords → RunRequest
 request_of words run =
     record { file = run.file.now; input = run.input.now; limit = run.limit; base = run.base; size = run.size; arguments = drop 6 words }
+
+-- the form of a trial
+abbrev pub trial_asked : TrialWords → Form
+trial_asked trial = TrialForm trial.first trial.blocks
 
 -- the form that a command has
 abbrev pub form : List (List ℕ) → Command → Form
@@ -107,3 +149,5 @@ form words (Run run) = RunForm (request_of words run)
 form words (Watch run) = WatchForm (request_of words run)
 form words (Hex input output) = HexForm input.now output.now
 form words (Hexcheck input text) = HexcheckForm input.now text.now
+form words (Size input) = SizeForm input.now
+form words (Trial trial) = trial_asked trial

@@ -2,10 +2,11 @@
 
 ghost use Rattle.std.specs.Prelude.{◌≡◌, ◌↔◌, ℕ, List, drop};
 ghost use Rattle.std.specs.Option.{option_map};
-ghost use Rattle.sq_command.specs.Commands.{Form, PackForm, RunForm, WatchForm, HexForm, HexcheckForm, RunRequest, form, form_of, pair_form, run_request, run_of, request_of, IsPack, IsRun, IsWatch, IsHex, IsHexcheck};
+ghost use Rattle.sq_command.specs.Commands.{Form, PackForm, RunForm, WatchForm, HexForm, HexcheckForm, SizeForm, TrialForm, RunRequest, form, form_of, pair_form, single_form, trial_of, trial_form, trial_asked, run_request, run_of, request_of, IsPack, IsRun, IsWatch, IsHex, IsHexcheck, IsSize, IsTrial};
 
 use crate::number::number_of;
 use crate::run_words::RunWords;
+use crate::trial_words::TrialWords;
 use sq_num::WordList;
 use sq_system::start_fits;
 
@@ -22,10 +23,17 @@ pub enum Command<'w> {
     Hex { input: &'w str, output: &'w str },
     /// `hexcheck IN HEX`
     Hexcheck { input: &'w str, text: &'w str },
+    /// `size IN`
+    Size { input: &'w str },
+    /// `trial FIRST BLOCKS`
+    Trial(TrialWords),
 }
 
 /// The most steps that a run is allowed.
 const MOST_STEPS: u32 = 10_000_000;
+
+/// The most blocks of a generated file.
+const MOST_BLOCKS: u32 = 4_000;
 
 /// `pack` with the words behind it.
 fn pack_words(words: &WordList) -> Option<Command<'_>>
@@ -61,6 +69,42 @@ fn hexcheck_words(words: &WordList) -> Option<Command<'_>>
     let input = words.get(1)?;
     let text = words.get(2)?;
     Some(Command::Hexcheck { input, text })
+}
+
+/// `size` with the word behind it.
+fn size_words(words: &WordList) -> Option<Command<'_>>
+    ensures { option_map (form words.now) result ≡ single_form SizeForm (drop 1 words.now) }
+{
+    if words.len() != 2 {
+        return None;
+    }
+    let input = words.get(1)?;
+    Some(Command::Size { input })
+}
+
+/// A trial of these numbers, where the words have them and the second is in its range.
+fn trial_of(first: Option<u32>, blocks: Option<u32>) -> Option<TrialWords>
+    ensures { option_map trial_asked result ≡ trial_of first blocks }
+{
+    let first = first?;
+    let blocks = blocks?;
+    if 1 <= blocks && blocks <= MOST_BLOCKS {
+        Some(TrialWords { first, blocks })
+    } else {
+        None
+    }
+}
+
+/// `trial` with the words behind it.
+fn trial_words(words: &WordList) -> Option<Command<'_>>
+    ensures { option_map (form words.now) result ≡ trial_form (drop 1 words.now) }
+{
+    if words.len() != 3 {
+        return None;
+    }
+    let first = words.get(1)?;
+    let blocks = words.get(2)?;
+    Some(Command::Trial(trial_of(number_of(first), number_of(blocks))?))
 }
 
 /// A run with these numbers, where the words have them and they are in their ranges.
@@ -121,14 +165,9 @@ fn watch_command(words: &WordList) -> Option<Command<'_>>
     Some(Command::Watch(run_words(words)?))
 }
 
-/// The command of the words, or None where they have no form. It takes no memory.
-pub fn command_of(words: &WordList) -> Option<Command<'_>>
-    ensures value { option_map (form words.now) result ≡ form_of words.now }
-    ensures pack { (input output : List ℕ) → (form_of words.now ≡ Some (PackForm input output)) ↔ IsPack words.now input output }
-    ensures run { (request : RunRequest) → (form_of words.now ≡ Some (RunForm request)) ↔ IsRun words.now request }
-    ensures watch { (request : RunRequest) → (form_of words.now ≡ Some (WatchForm request)) ↔ IsWatch words.now request }
-    ensures hex { (input output : List ℕ) → (form_of words.now ≡ Some (HexForm input output)) ↔ IsHex words.now input output }
-    ensures hexcheck { (input text : List ℕ) → (form_of words.now ≡ Some (HexcheckForm input text)) ↔ IsHexcheck words.now input text }
+/// The command that the first word names.
+fn named_command(words: &WordList) -> Option<Command<'_>>
+    ensures { option_map (form words.now) result ≡ form_of words.now }
 {
     let verb = words.get(0)?;
     if verb == "pack" {
@@ -141,7 +180,25 @@ pub fn command_of(words: &WordList) -> Option<Command<'_>>
         hex_words(words)
     } else if verb == "hexcheck" {
         hexcheck_words(words)
+    } else if verb == "size" {
+        size_words(words)
+    } else if verb == "trial" {
+        trial_words(words)
     } else {
         None
     }
+}
+
+/// The command of the words, or None where they have no form. It takes no memory.
+pub fn command_of(words: &WordList) -> Option<Command<'_>>
+    ensures value { option_map (form words.now) result ≡ form_of words.now }
+    ensures pack { (input output : List ℕ) → (form_of words.now ≡ Some (PackForm input output)) ↔ IsPack words.now input output }
+    ensures run { (request : RunRequest) → (form_of words.now ≡ Some (RunForm request)) ↔ IsRun words.now request }
+    ensures watch { (request : RunRequest) → (form_of words.now ≡ Some (WatchForm request)) ↔ IsWatch words.now request }
+    ensures hex { (input output : List ℕ) → (form_of words.now ≡ Some (HexForm input output)) ↔ IsHex words.now input output }
+    ensures hexcheck { (input text : List ℕ) → (form_of words.now ≡ Some (HexcheckForm input text)) ↔ IsHexcheck words.now input text }
+    ensures size { (input : List ℕ) → (form_of words.now ≡ Some (SizeForm input)) ↔ IsSize words.now input }
+    ensures trial { (first blocks : ℕ) → (form_of words.now ≡ Some (TrialForm first blocks)) ↔ IsTrial words.now first blocks }
+{
+    named_command(words)
 }

@@ -7,7 +7,9 @@
 mod command;
 mod number;
 mod run_words;
+mod trial_words;
 
 pub use command::{Command, command_of};
 pub use number::number_of;
 pub use run_words::RunWords;
+pub use trial_words::TrialWords;

@@ -1,3 +1,8 @@
+pub mod Checked
+pub mod Moves
+pub mod OneReplay
+pub mod Replays
 pub mod Rewrites
-pub mod Steps
+pub mod RowPasses
 pub mod Slots
+pub mod Steps

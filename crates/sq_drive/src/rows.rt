@@ -1,29 +1,57 @@
-//! The pass of all rows that are built.
+//! The pass of all rows that passes have.
+
+ghost use Rattle.std.specs.Prelude.{◌≡◌};
+ghost use Rattle.sq_drive.specs.Rows.{pass_of};
 
 use sq_graph::{Graph, Room};
 use sq_jumps::Jumps;
 use sq_live::Liveness;
 use sq_num::{Memory, Savings};
-use sq_pass::{Cut, Pass};
+use sq_outline::Outlines;
+use sq_pass::{Cut, Pass, Row};
+use sq_tail::Tails;
 use std::alloc::Global;
 
-/// All rows of the cost rule that are built, as one pass. It asks the passes in the order of the rule; a pass to come takes
-/// its place in each of the calls.
+/// The passes, in the order of the cost rule. A pass to come takes its place here, and the checks ask for its place in each
+/// of the calls below.
+#[derive(Clone, Copy)]
+enum RowPass {
+    /// Rows U, J1, J2, J3 and C.
+    Jumps,
+    /// Row T.
+    Tails,
+    /// Rows O1, O2, O3 and O4.
+    Outlines,
+}
+
+impl RowPass {
+    /// The pass that has the row. A row that none has counts with the first one, which has no candidate of it.
+    fn of(row: Row) -> RowPass
+        ensures { result ≡ pass_of row }
+    {
+        match row {
+            Row::T => RowPass::Tails,
+            Row::O1 | Row::O2 | Row::O3 | Row::O4 => RowPass::Outlines,
+            _ => RowPass::Jumps,
+        }
+    }
+}
+
+/// All rows of the cost rule that passes have, as one pass: all but row L, which moves chains. It asks the passes in the
+/// order of the rule.
 #[derive(Clone, Copy, Debug)]
 pub struct AllRows;
 
 impl Pass for AllRows {
-    ghost use Rattle.sq_graph.specs.Room.{no_room};
-    ghost use Rattle.sq_drive.specs.Rows.{IsCandidate, described};
-    ghost use Rattle.sq_jumps.specs.Candidates.{saves_a_word};
+    ghost use Rattle.sq_drive.specs.Rows.{IsRowCandidate, row_described, row_room, row_saves};
 
-    ghost is_candidate = { λ _ graph cut. IsCandidate graph cut };
+    ghost is_candidate = { λ _ graph cut. IsRowCandidate graph cut };
 
-    ghost described = { λ _ graph cut. described graph cut };
+    ghost described = { λ _ graph cut. row_described graph cut };
 
-    ghost room_for = { λ _ _ _. no_room };
+    ghost room_for = { λ _ graph cut. row_room graph cut };
 
-    ghost saves = { λ _ graph cut. saves_a_word graph cut };
+    ghost saves = { λ _ graph cut. row_saves graph cut };
 
     fn admit(
         &self,
@@ -32,22 +60,42 @@ impl Pass for AllRows {
         live: &Liveness,
         cut: Cut,
     ) -> Result<Option<Cut>, Memory> {
-        Jumps.admit(alloc, graph, live, cut)
+        match RowPass::of(cut.row) {
+            RowPass::Jumps => Jumps.admit(alloc, graph, live, cut),
+            RowPass::Tails => Tails.admit(alloc, graph, live, cut),
+            RowPass::Outlines => Outlines.admit(alloc, graph, live, cut),
+        }
     }
 
     fn find(&self, alloc: Global, graph: &Graph, live: &Liveness) -> Result<Option<Cut>, Memory> {
-        Jumps.find(alloc, graph, live)
+        if let Some(cut) = Jumps.find(alloc, graph, live)? {
+            return Ok(Some(cut));
+        }
+        if let Some(cut) = Tails.find(alloc, graph, live)? {
+            return Ok(Some(cut));
+        }
+        Outlines.find(alloc, graph, live)
     }
 
     fn room(&self, graph: &Graph, cut: &Cut) -> Room {
-        Jumps.room(graph, cut)
+        match RowPass::of(cut.row) {
+            RowPass::Jumps => Jumps.room(graph, cut),
+            RowPass::Tails => Tails.room(graph, cut),
+            RowPass::Outlines => Outlines.room(graph, cut),
+        }
     }
 
     fn apply(&self, graph: &mut Graph, cut: &Cut) {
-        Jumps.apply(graph, cut)
+        match RowPass::of(cut.row) {
+            RowPass::Jumps => Jumps.apply(graph, cut),
+            RowPass::Tails => Tails.apply(graph, cut),
+            RowPass::Outlines => Outlines.apply(graph, cut),
+        }
     }
 
     fn sweep(&self, alloc: Global, graph: &mut Graph, savings: Savings) -> Result<Savings, Memory> {
-        Jumps.sweep(alloc, graph, savings)
+        let after_jumps = Jumps.sweep(alloc, graph, savings)?;
+        let after_tails = Tails.sweep(alloc, graph, after_jumps)?;
+        Outlines.sweep(alloc, graph, after_tails)
     }
 }

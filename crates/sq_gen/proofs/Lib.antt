@@ -1,1 +1,1 @@
-mod WordCounts
+pub mod WordCounts

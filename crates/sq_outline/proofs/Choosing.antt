@@ -1,5 +1,5 @@
 -- The blocks that are chosen for a register are as many as any that may be called through it.
-use Rattle.std.proofs.Common.{◌≡◌, ◌≢◌, ℕ, zero, suc, nat_eq, false, ◌+◌, ◌*◌, ◌-◌, ◌≤◌, ◌<◌, List, [], ◌∷◌, length, get_or, ◌^◌, ◌==◌, Option, None, Some, inl, inr, refl, sym, ap, ◌∙◌, subst, arith}
+use Rattle.std.proofs.Common.{◌≡◌, ◌≢◌, ℕ, zero, suc, nat_eq, false, ◌↔◌, ◌+◌, ◌*◌, ◌-◌, ◌≤◌, ◌<◌, List, [], ◌∷◌, ◌++◌, length, get_or, ◌^◌, ◌==◌, Option, None, Some, inl, inr, refl, sym, ap, ◌∙◌, subst, arith}
 use Rattle.std.specs.Prelude.{MatchOption, IfSome}
 use Rattle.std.specs.List.{All, AllByRecursion, Contains, IsDistinct}
 use Rattle.std.proofs.Math.Nat.{mul-le-mul_right}
@@ -23,7 +23,7 @@ use Rattle.sq_pass.specs.declared.cut.Row.TheVariants.{U, O1}
 use Rattle.sq_pass.specs.Cuts.{IsCompleted}
 use Rattle.sq_outline.specs.Made.{HasBody, ends_of, IsMade, AreMade, make_cut, IsMadeCut}
 use Rattle.sq_outline.specs.Sites.{IsPlace}
-use Rattle.sq_outline.specs.Sets.{Keeps, IsOther, AreOthers, IsGroupOf, IsDeadBehind, Pays, IsTried, CanMake, HaveLink}
+use Rattle.sq_outline.specs.Sets.{Keeps, AreDeadBehind, AreDeadSets, IsOther, AreOthers, IsGroupOf, IsDeadBehind, Pays, IsTried, CanMake, HaveLink}
 use Rattle.sq_outline.proofs.Keeping.{each_in, keeps_from, keeps_each, keeps_distinct, keeps_fewer, no_more}
 use Rattle.sq_outline.proofs.Linking.{link_may}
 use Rattle.sq_outline.proofs.Making.{each_mapped, made_applied}
@@ -117,6 +117,65 @@ can_dead g first rest r can is =
 
 pub can_free : (g : Graph) (first : ℕ) (rest : List ℕ) (r : ℕ) → (can : CanMake g first rest) → can.register ≡ r → All (λ item. mentions item r ≡ false) (items_of g first)
 can_free g first rest r can is = subst (λ q. All (λ item. mentions item q ≡ false) (items_of g first)) is can.may.free
+
+-- so many calls at least
+abbrev AreFewest : ℕ → ℕ → Type 0
+AreFewest fewest items = (calls : ℕ) → Pays calls items ↔ (fewest ≤ calls)
+
+-- a choice of fewer blocks than a group has, or than there are others and the first
+pub few_in_group : (g : Graph) (first : ℕ) (group rest : List ℕ) (items : List Item) (fewest : ℕ) → items ≡ items_of g first → AreFewest fewest (length items) → IsGroupOf g first group → CanMake g first rest → length group < fewest → ⊥
+few_in_group g first group rest items fewest is least of can few =
+    let bodies = can.bodies in
+    let inside : (b : ℕ) → Contains (first ∷ rest) b → Contains group b = λ b there. of.whole b (All-contains (HasBody g (items_of g first)) (first ∷ rest) b bodies there) in
+    let fewer = no_more (first ∷ rest) group can.distinct inside in
+    let enough = (least (length (first ∷ rest))).0 (subst (λ (js : List Item). Pays (length (first ∷ rest)) (length js)) (sym is) can.pays) in
+    omega (arith, fewer, enough, few)
+
+pub few_others : (g : Graph) (first : ℕ) (others rest : List ℕ) (items : List Item) (fewest : ℕ) → items ≡ items_of g first → AreFewest fewest (length items) → AreOthers g first others → CanMake g first rest → length others + 1 < fewest → ⊥
+few_others g first others rest items fewest is least are can few =
+    let bodies = All-tail (HasBody g (items_of g first)) first rest can.bodies in
+    let apart : All (λ b. nat_eq first b ≡ false) rest = All-from_recursion (λ b. nat_eq first b ≡ false) rest (IsDistinct-head nat_eq first rest can.distinct) in
+    let inside : (b : ℕ) → Contains rest b → Contains others b = λ b there.
+    are.all b (λ same. eqb-false first b (All-contains (λ b. nat_eq first b ≡ false) rest b apart there) (sym same), All-contains (HasBody g (items_of g first)) rest b bodies there) in
+    let fewer = no_more rest others (IsDistinct-tail nat_eq first rest can.distinct) inside in
+    let enough = (least (length (first ∷ rest))).0 (subst (λ (js : List Item). Pays (length (first ∷ rest)) (length js)) (sym is) can.pays) in
+    omega (arith, fewer, enough, few)
+
+pub none_pays : (g : Graph) (first : ℕ) (rest : List ℕ) (items : List Item) → items ≡ items_of g first → ((calls : ℕ) → ¬ Pays calls (length items)) → ¬ CanMake g first rest
+none_pays g first rest items is never can = never (length (first ∷ rest)) (subst (λ (js : List Item). Pays (length (first ∷ rest)) (length js)) (sym is) can.pays)
+
+-- two blocks at least
+pub two_in_group : (g : Graph) (first : ℕ) (group rest : List ℕ) → IsGroupOf g first group → CanMake g first rest → length group < 2 → ⊥
+two_in_group g first group rest of can few =
+    let inside : (b : ℕ) → Contains (first ∷ rest) b → Contains group b = λ b there. of.whole b (All-contains (HasBody g (items_of g first)) (first ∷ rest) b can.bodies there) in
+    let fewer = no_more (first ∷ rest) group can.distinct inside in
+    pays_two (length (first ∷ rest)) (length (items_of g first)) can.pays (omega (arith, fewer, few))
+  where
+    pays_two : (calls n : ℕ) → Pays calls n → calls < 2 → ⊥
+    pays_two zero n paid under = omega (arith, paid)
+    pays_two (suc zero) n paid under = omega (arith, paid)
+    pays_two (suc (suc calls)) n paid under = omega (arith, under)
+
+-- what is dead behind blocks, one more at the end, and at a place
+module _ (g : Graph) where
+  pub sets_push : (blocks sets : List ℕ) (block set : ℕ) → AreDeadSets g blocks sets → AreDeadBehind set g block → AreDeadSets g (blocks ++ block ∷ []) (sets ++ set ∷ [])
+  sets_push [] [] block set are own = (own, tt)
+  sets_push [] (s ∷ sets) block set are own = absurd are
+  sets_push (b ∷ blocks) [] block set are own = absurd are
+  sets_push (b ∷ blocks) (s ∷ sets) block set are own = (are.0, sets_push blocks sets block set are.1 own)
+
+  pub sets_long : (blocks sets : List ℕ) → AreDeadSets g blocks sets → length sets ≡ length blocks
+  sets_long [] [] are = refl
+  sets_long [] (s ∷ sets) are = absurd are
+  sets_long (b ∷ blocks) [] are = absurd are
+  sets_long (b ∷ blocks) (s ∷ sets) are = ap suc (sets_long blocks sets are.1)
+
+  pub set_at : (blocks sets : List ℕ) (i : ℕ) → AreDeadSets g blocks sets → i < length blocks → AreDeadBehind (get_or sets i 0) g (get_or blocks i 0)
+  set_at [] [] i are there = absurd (omega (arith, there))
+  set_at [] (s ∷ sets) i are there = absurd are
+  set_at (b ∷ blocks) [] i are there = absurd are
+  set_at (b ∷ blocks) (s ∷ sets) zero are there = are.0
+  set_at (b ∷ blocks) (s ∷ sets) (suc i) are there = set_at blocks sets i are.1 (omega (arith, there))
 
 -- a candidate is such a choice
 

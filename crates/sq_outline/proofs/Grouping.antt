@@ -8,17 +8,17 @@ use Rattle.std.proofs.lemmas.List.Elements.{All-contains, All-from_recursion, re
 use Rattle.std.proofs.lemmas.Map.Keys.{IsDistinct-cons, IsDistinct-head, IsDistinct-tail}
 use Rattle.std.proofs.lemmas.Option.{get_or_from_slice_get, slice_get_within}
 use Rattle.sq_graph.specs.Graph.{Graph}
-use Rattle.sq_graph.specs.Blocks.{HasBlock, items_of}
+use Rattle.sq_graph.specs.Blocks.{HasBlock}
 use Rattle.sq_graph.specs.Parts.{names_of}
 use Rattle.sq_graph.specs.Rules.{IsGraph}
-use Rattle.sq_finger.specs.Classes.{is_same_kind, block_kind, classes_of}
+use Rattle.sq_outline.specs.Prints.{print_of, print_groups}
 use Rattle.sq_finger.specs.Groups.{group_count, is_number, members_of, groups_of, AreClasses}
 use Rattle.sq_finger.specs.Numbers.{numbers_of}
-use Rattle.sq_finger.proofs.Weighing.{kind_of_forms}
+use Rattle.sq_outline.proofs.Printing.{one_print}
 use Rattle.sq_live.proofs.Layouts.{block_at}
 use Rattle.sq_outline.specs.Sets.{IsGroupOf, CanMake}
 use Rattle.sq_outline.proofs.Keeping.{each_in, first_in, later_in, first_or_later, none_in}
-use Rattle.sq_outline.proofs.Choosing.{names_distinct, listed, can_own}
+use Rattle.sq_outline.proofs.Choosing.{names_distinct, can_own}
 
 -- a name is a block's
 has_name : (g : Graph) (b : ℕ) → IsGraph g → Contains (names_of g) b → HasBlock g b
@@ -66,8 +66,8 @@ group_is numbers xs k group is =
     let below : k < group_count numbers = omega (arith, length-map-range_with_len f 0 (group_count numbers)) in
     sym (get_or_from_slice_get (groups_of numbers xs) k group [] is) ∙ get_or-map-range_with_len f 0 (group_count numbers) k k [] below (omega arith)
 
-module _ (g : Graph) (classes : List (List ℕ)) (are : AreClasses (block_kind g) (HasBlock g) classes) where
-  module _ (k : ℕ) (group : List ℕ) (rules : IsGraph g) (value : classes ≡ classes_of g) (is : slice_get classes k ≡ Some group) where
+module _ (g : Graph) (classes : List (List ℕ)) (are : AreClasses (print_of g) (HasBlock g) classes) where
+  module _ (k : ℕ) (group : List ℕ) (rules : IsGraph g) (value : classes ≡ print_groups g) (is : slice_get classes k ≡ Some group) where
     group_there : (b : ℕ) → Contains group b → HasBlock g b
     group_there b there = are.known k b (group, (is, there))
 
@@ -79,7 +79,7 @@ module _ (g : Graph) (classes : List (List ℕ)) (are : AreClasses (block_kind g
           (members_distinct k numbers (names_of g) (names_distinct g rules));
       whole = λ b body.
           let every = are.every b body.there in
-          let kinds : block_kind g first ≡ block_kind g b = kind_of_forms (items_of g b) (items_of g first) body.match.match.forms in
+          let kinds : print_of g first ≡ print_of g b = one_print g b first body.match.match in
           let same : k ≡ every.0 = (are.same k every.0 first b (group, (is, own)) every.1).1 kinds in
           let other = every.1 in
           let groups : other.0 ≡ group = let e : Some other.0 ≡ Some group = sym (subst (λ n. slice_get classes n ≡ Some other.0) (sym same) other.1.0) ∙ is in cc in
@@ -87,7 +87,7 @@ module _ (g : Graph) (classes : List (List ℕ)) (are : AreClasses (block_kind g
     }
       where
         numbers : List (Option ℕ)
-        numbers = numbers_of is_same_kind (map (λ name. Some (block_kind g name)) (names_of g))
+        numbers = numbers_of nat_eq (map (λ name. Some (print_of g name)) (names_of g))
 
   pub none_in_classes : ((k : ℕ) (group : List ℕ) → slice_get classes k ≡ Some group → All (λ first. (rest : List ℕ) → ¬ CanMake g first rest) group) → (first : ℕ) (rest : List ℕ) → ¬ CanMake g first rest
   none_in_classes none first rest can =
@@ -96,5 +96,5 @@ module _ (g : Graph) (classes : List (List ℕ)) (are : AreClasses (block_kind g
       let group = every.1 in
       All-contains (λ first. (rest : List ℕ) → ¬ CanMake g first rest) group.0 first (none every.0 group.0 group.1.0) group.1.1 rest can
 
-pub class_groups : (g : Graph) (classes : List (List ℕ)) (k : ℕ) (group : List ℕ) → IsGraph g → classes ≡ classes_of g → AreClasses (block_kind g) (HasBlock g) classes → slice_get classes k ≡ Some group → All (λ first. IsGroupOf g first group) group
+pub class_groups : (g : Graph) (classes : List (List ℕ)) (k : ℕ) (group : List ℕ) → IsGraph g → classes ≡ print_groups g → AreClasses (print_of g) (HasBlock g) classes → slice_get classes k ≡ Some group → All (λ first. IsGroupOf g first group) group
 class_groups g classes k group rules value are is = each_in (λ first. IsGroupOf g first group) group (λ first own. class_group g classes are k group rules value is first own)

@@ -6,6 +6,7 @@ pub mod Linking
 pub mod Calling
 pub mod Making
 pub mod Applying
+pub mod Printing
 pub mod Keeping
 pub mod Choosing
 pub mod Grouping
@@ -16,3 +17,6 @@ pub mod Spreading
 pub mod Inlining
 pub mod InlineSteps
 pub mod InlineSearch
+pub mod Kept
+pub mod Still
+pub mod Sweeping

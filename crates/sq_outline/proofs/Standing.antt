@@ -69,7 +69,7 @@ module _ (g : Graph) (site : Site) (procedure : ℕ) (rules : IsGraph g) (can : 
   abbrev changed : Block → Block
   changed b = record b { items = replaced_items b.items site.at (length (body_of g procedure)) (Out procedure ∷ []) }
 
-  elsewhere : (m : ℕ) → m ≢ site.block → block_of h m ≡ block_of g m
+  pub elsewhere : (m : ℕ) → m ≢ site.block → block_of h m ≡ block_of g m
   elsewhere m other = block_of-changed changed g.blocks site.block m (λ b. refl) other
 
   here : block_of h site.block ≡ option_map changed (block_of g site.block)
@@ -87,7 +87,7 @@ module _ (g : Graph) (site : Site) (procedure : ℕ) (rules : IsGraph g) (can : 
   term_stays None = refl
   term_stays (Some b) = refl
 
-  items_here : items_of h site.block ≡ replaced_items (items_of g site.block) site.at n out
+  pub items_here : items_of h site.block ≡ replaced_items (items_of g site.block) site.at n out
   items_here = ap block_items here ∙ items_change (block_of g site.block) can.block_there
 
   pub still_block : (m : ℕ) → HasBlock g m → HasBlock h m

@@ -8,3 +8,5 @@ pub mod Recalled
 pub mod RecalledNumbers
 pub mod Inlined
 pub mod InlineSteps
+pub mod Still
+pub mod Prints

@@ -4,7 +4,8 @@
 //!              p: ..                 p: ..
 //!                 jr l                  jr l
 
-ghost use Rattle.std.specs.Prelude.{◌≡◌, ◌≤◌, ◌↔◌, ℕ, None, Ok, IsTrue, IfOk, IfSome, MatchOption, length};
+ghost use Rattle.std.specs.Prelude.{◌≡◌, ◌≤◌, ◌↔◌, ℕ, nat_eq, None, Ok, IsTrue, IfOk, IfSome, MatchOption, length};
+ghost use Rattle.std.specs.HashMap.{get};
 ghost use Rattle.std.specs.List.{All};
 ghost use Rattle.sq_graph.specs.Blocks.{HasBlock, HasProcedure, body_of};
 ghost use Rattle.sq_graph.specs.Parts.{names_of};
@@ -15,7 +16,9 @@ ghost use Rattle.sq_pass.specs.declared.cut.Cut.{Cut as Told};
 ghost use Rattle.sq_pass.specs.declared.cut.Row.TheVariants.{O2 as Called};
 ghost use Rattle.sq_pass.specs.Cuts.{IsCompleted};
 ghost use Rattle.sq_outline.specs.Called.{MayCall, call_saving, IsCalledCut};
+ghost use Rattle.sq_outline.specs.Prints.{HasPrints};
 
+use crate::groups::{has_print, procedure_prints};
 use crate::plain::are_plain;
 use sq_graph::{Graph, Item};
 use sq_isa::Reg;
@@ -26,6 +29,7 @@ use sq_num::Memory;
 use sq_pass::{Blocks, Cut, Row};
 use sq_rename::matches_body;
 use std::alloc::Global;
+use std::collections::HashMap;
 
 /// Makes items that match the body of a procedure a call of it.
 pub(crate) fn call(graph: &mut Graph, block: u32, at: u32, procedure: u32)
@@ -79,16 +83,41 @@ fn procedure_for(graph: &Graph, live: &Liveness, block: u32) -> Option<u32>
     None
 }
 
-/// The first block for whose body a call may stand, and the procedure.
-fn find_call(graph: &Graph, live: &Liveness, names: &[u32]) -> Option<(u32, u32)>
+/// The same, where these are the prints of procedures. It looks at the procedures only where one has the print of the block.
+fn procedure_by_print(
+    graph: &Graph,
+    live: &Liveness,
+    prints: &HashMap<u64, u32>,
+    block: u32,
+) -> Option<u32>
+    requires block { HasBlock graph.now.graph block }
     requires live { IsLivenessOf graph.now.graph live.now }
+    requires prints { HasPrints graph.now.graph (get nat_eq prints.now) }
+    ensures some { IfSome result (λ procedure. HasProcedure graph.now.graph procedure × MayCall graph.now.graph block procedure) }
+    ensures none { result ≡ None → (procedure : ℕ) → HasProcedure graph.now.graph procedure → ¬ MayCall graph.now.graph block procedure }
+{
+    if !has_print(graph, prints, block) {
+        return None;
+    }
+    procedure_for(graph, live, block)
+}
+
+/// The first block for whose body a call may stand, and the procedure.
+fn find_call(
+    graph: &Graph,
+    live: &Liveness,
+    prints: &HashMap<u64, u32>,
+    names: &[u32],
+) -> Option<(u32, u32)>
+    requires live { IsLivenessOf graph.now.graph live.now }
+    requires prints { HasPrints graph.now.graph (get nat_eq prints.now) }
     requires names { names.now ≡ names_of graph.now.graph }
     ensures some { IfSome result (λ found. HasProcedure graph.now.graph found.1 × MayCall graph.now.graph found.0 found.1) }
     ensures none { result ≡ None → All (λ block. (procedure : ℕ) → HasProcedure graph.now.graph procedure → ¬ MayCall graph.now.graph block procedure) names.now }
 {
     learn(graph);
     for name in names {
-        if let Some(procedure) = procedure_for(graph, live, *name) {
+        if let Some(procedure) = procedure_by_print(graph, live, prints, *name) {
             return Some((*name, procedure));
         }
     }
@@ -96,7 +125,7 @@ fn find_call(graph: &Graph, live: &Liveness, names: &[u32]) -> Option<(u32, u32)
 }
 
 /// How many words a call of the procedure saves where its body stands.
-fn call_saving(graph: &Graph, block: u32, procedure: u32) -> u32
+pub(crate) fn call_saving(graph: &Graph, block: u32, procedure: u32) -> u32
     requires procedure { HasProcedure graph.now.graph procedure }
     requires may { MayCall graph.now.graph block procedure }
     ensures { result ≡ call_saving graph.now.graph procedure }
@@ -125,8 +154,8 @@ fn call_cut(alloc: Global, graph: &Graph, block: u32, procedure: u32) -> Result<
     })
 }
 
-/// A candidate of row O2, or `None` where there is none. It compares the body of each block with those of procedures of the
-/// same length.
+/// A candidate of row O2, or `None` where there is none. It compares the body of each block with those of procedures,
+/// where one has its print.
 pub(crate) fn find_called(
     alloc: Global,
     graph: &Graph,
@@ -138,7 +167,8 @@ pub(crate) fn find_called(
     ensures some { IfOk result (λ found. IfSome found (IsCalledCut graph.now.graph)) }
     ensures none { result ≡ Ok None → (cut : Told) → ¬ IsCalledCut graph.now.graph cut }
 {
-    match find_call(graph, live, names) {
+    let prints = procedure_prints(alloc, graph)?;
+    match find_call(graph, live, &prints, names) {
         Some((block, procedure)) => Ok(Some(call_cut(alloc, graph, block, procedure)?)),
         None => Ok(None),
     }

@@ -2,10 +2,12 @@
 //!
 //! To the layers above it promises that `Outlines` keeps the laws of passes, for the rows O1, O2, O3 and O4: what it finds
 //! and admits are candidates of these rows, it misses none, whatever set of blocks is taken, and what it makes of a graph is
-//! exactly what the row says.
+//! exactly what the row says. Its sweep takes many candidates of O1 and O2 by one look.
 #![tactic(auto)]
 
 mod call;
+mod callers;
+mod groups;
 mod inline;
 mod link;
 mod make;
@@ -14,5 +16,6 @@ mod plain;
 mod recall;
 mod sets;
 mod sites;
+mod sweep;
 
 pub use outlines::Outlines;

@@ -81,7 +81,7 @@ fn ends_of(alloc: Global, graph: &Graph, blocks: &[u32]) -> Result<Vec<Site>, Me
 }
 
 /// Whether no block is listed twice.
-fn are_distinct(alloc: Global, blocks: &[u32]) -> Result<bool, Memory>
+pub(crate) fn are_distinct(alloc: Global, blocks: &[u32]) -> Result<bool, Memory>
     ensures { IfOk result (λ distinct. IsTrue distinct ↔ AllPairs (λ m n. m ≢ n) blocks.now) }
 {
     let names: HashSet<u32> = blocks.iter().copied().collect(alloc)?;
@@ -138,7 +138,7 @@ fn link_of(
 }
 
 /// The cut with this link, and the words that it saves.
-fn completed(graph: &Graph, cut: Cut, link: Reg) -> Cut
+pub(crate) fn completed(graph: &Graph, cut: Cut, link: Reg) -> Cut
     requires cut { IsMakeCut cut }
     requires made { AreMade graph.now.graph cut.blocks link }
     ensures made { IsMadeCut graph.now.graph result }
@@ -178,7 +178,7 @@ pub(crate) fn admit_make(
 }
 
 /// A cut of row O1 for these blocks, without link and saving.
-fn set_cut(alloc: Global, first: u32, others: &[u32]) -> Result<Cut, Memory>
+pub(crate) fn set_cut(alloc: Global, first: u32, others: &[u32]) -> Result<Cut, Memory>
     ensures { IfOk result (λ cut. cut ≡ make_cut (first ∷ others.now) 0 0) }
 {
     let mut blocks = Blocks::new(alloc);

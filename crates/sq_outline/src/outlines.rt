@@ -4,6 +4,7 @@ use crate::call::{admit_call, call, find_called};
 use crate::inline::{admit_inline, apply_inline, find_inline, inline_room};
 use crate::make::{admit_make, find_made, make};
 use crate::recall::{admit_recall, apply_recall, find_recall};
+use crate::sweep::sweep;
 use sq_graph::{Graph, Room};
 use sq_layout::learn;
 use sq_live::{Liveness, block_names};
@@ -44,8 +45,9 @@ impl Pass for Outlines {
         }
     }
 
-    /// It compares the bodies of each class of blocks with each other, and with those of procedures of the same length; for O3 and O4 it
-    /// looks at each word once, and a few times more for a procedure that would save words.
+    /// It compares the bodies of each group of blocks of one print with each other, and those of blocks with those of all procedures
+    /// where one has their print; for O3 and O4 it looks at each word once, and a few times more for a procedure that would save
+    /// words.
     fn find(&self, alloc: Global, graph: &Graph, live: &Liveness) -> Result<Option<Cut>, Memory> {
         learn(graph);
         if let Some(cut) = find_made(alloc, graph, live)? {
@@ -92,13 +94,9 @@ impl Pass for Outlines {
         }
     }
 
-    /// It leaves all to `find`, since each rewrite changes which registers are live.
-    fn sweep(
-        &self,
-        _alloc: Global,
-        _graph: &mut Graph,
-        savings: Savings,
-    ) -> Result<Savings, Memory> {
-        Ok(savings)
+    /// Two looks at all bodies, and for each procedure that it makes one at the bodies of a group; where the link isn't sure
+    /// without it, also one for live registers.
+    fn sweep(&self, alloc: Global, graph: &mut Graph, savings: Savings) -> Result<Savings, Memory> {
+        sweep(alloc, graph, savings)
     }
 }

@@ -1,24 +1,24 @@
 //! Which bodies may become calls of one new procedure, for row O1.
 
-ghost use Rattle.std.specs.Prelude.{◌≡◌, ◌↔◌, ◌<◌, ◌^◌, ℕ, List, None, Ok, IsTrue, IfOk, IfSome};
+ghost use Rattle.std.specs.Prelude.{◌≡◌, ◌↔◌, ◌<◌, ◌≤◌, ◌^◌, ℕ, List, None, Ok, IsTrue, IfOk, IfSome, MatchOption};
 ghost use Rattle.std.specs.List.{All};
 ghost use Rattle.sq_graph.specs.Blocks.{HasBlock, items_of};
-ghost use Rattle.sq_graph.specs.Parts.{names_of};
-ghost use Rattle.sq_finger.specs.Classes.{block_kind, classes_of};
 ghost use Rattle.sq_finger.specs.Groups.{AreClasses};
 ghost use Rattle.sq_live.specs.Liveness.{IsLivenessOf};
+ghost use Rattle.sq_rename.specs.Bodies.{IsBodyMatch, IsLiveBehind};
 ghost use Rattle.sq_outline.specs.Made.{HasBody};
-ghost use Rattle.sq_outline.specs.Sets.{Keeps, IsOther, AreOthers, IsGroupOf, IsDeadBehind, Pays, IsTried, CanMake};
+ghost use Rattle.sq_outline.specs.Prints.{print_of, print_groups};
+ghost use Rattle.sq_outline.specs.Sets.{Keeps, AreDeadBehind, AreDeadSets, IsOther, AreOthers, IsGroupOf, IsDeadBehind, Pays, IsTried, CanMake};
 
+use crate::groups::{Groups, body_groups};
 use crate::link::{ORDER, is_unmentioned};
 use crate::plain::are_plain;
-use sq_finger::{Classing, classes};
 use sq_graph::Graph;
-use sq_isa::Reg;
+use sq_isa::{Reg, RegSet};
 use sq_layout::learn;
 use sq_live::Liveness;
 use sq_num::Memory;
-use sq_rename::matches;
+use sq_rename::{dead_registers, match_items, matches};
 use std::alloc::Global;
 
 /// Whether the body of a block matches that of the first.
@@ -38,36 +38,78 @@ pub(crate) fn has_body(graph: &Graph, live: &Liveness, block: u32, first: u32) -
     matches(graph, live, block, first).is_some()
 }
 
-/// Whether the block is another than the first, whose body it matches.
-fn is_other(graph: &Graph, live: &Liveness, block: u32, first: u32) -> bool
+/// Whether the items of one block match those of another, where these are the registers that are dead behind the first.
+fn items_match(graph: &Graph, a: u32, b: u32, dead: RegSet) -> bool
+    requires first { HasBlock graph.now.graph a }
+    requires second { HasBlock graph.now.graph b }
+    requires dead { AreDeadBehind dead graph.now.graph a }
+    ensures { IsTrue result ↔ IsBodyMatch graph.now.graph.procedures (items_of graph.now.graph a) (items_of graph.now.graph b) (IsLiveBehind graph.now.graph a) }
+{
+    match_items(graph, graph.items(a), graph.items(b), dead).is_some()
+}
+
+/// Whether the block, behind whose items these registers are dead, is another than the first, whose body it matches.
+fn is_other(graph: &Graph, block: u32, first: u32, dead: RegSet) -> bool
     requires block { HasBlock graph.now.graph block }
     requires first { HasBlock graph.now.graph first }
-    requires live { IsLivenessOf graph.now.graph live.now }
+    requires dead { AreDeadBehind dead graph.now.graph block }
     ensures { IsTrue result ↔ IsOther graph.now.graph first block }
 {
     if block == first {
         return false;
     }
-    has_body(graph, live, block, first)
+    if !are_plain(graph.items(block)) {
+        return false;
+    }
+    items_match(graph, block, first, dead)
 }
 
-/// Those of a group that are other blocks than the first, whose body they match.
-fn others_of(
+/// The registers that are dead behind the items of a block, without x0.
+fn dead_set(graph: &Graph, live: &Liveness, block: u32) -> RegSet
+    requires live { IsLivenessOf graph.now.graph live.now }
+    requires block { HasBlock graph.now.graph block }
+    ensures { AreDeadBehind result graph.now.graph block }
+{
+    learn(graph);
+    dead_registers(live, block, graph.items(block).len() as u32)
+}
+
+/// The same for each of these blocks.
+fn dead_sets(
     alloc: Global,
     graph: &Graph,
     live: &Liveness,
     group: &[u32],
+) -> Result<Vec<RegSet>, Memory>
+    requires live { IsLivenessOf graph.now.graph live.now }
+    requires group { All (HasBlock graph.now.graph) group.now }
+    ensures { IfOk result (λ sets. AreDeadSets graph.now.graph group.now sets.items) }
+{
+    let mut sets = Vec::new(alloc);
+    for name in group {
+        sets.push(dead_set(graph, live, *name))?;
+    }
+    Ok(sets)
+}
+
+/// Those of a group that are other blocks than the first, whose body they match. These are what is dead behind them.
+fn others_of(
+    alloc: Global,
+    graph: &Graph,
+    group: &[u32],
+    sets: &[RegSet],
     first: u32,
 ) -> Result<Vec<u32>, Memory>
     requires first { HasBlock graph.now.graph first }
-    requires live { IsLivenessOf graph.now.graph live.now }
     requires group { All (HasBlock graph.now.graph) group.now }
+    requires sets { AreDeadSets graph.now.graph group.now sets.now }
     ensures { IfOk result (λ others. Keeps (IsOther graph.now.graph first) group.now others.items) }
 {
     let mut others = Vec::new(alloc);
-    for name in group {
-        if is_other(graph, live, *name, first) {
-            others.push(*name)?;
+    for i in 0..group.len() {
+        let dead = sets[i];
+        if is_other(graph, group[i], first, dead) {
+            others.push(group[i])?;
         }
     }
     Ok(others)
@@ -112,6 +154,18 @@ pub(crate) fn pays(calls: usize, items: usize) -> bool
     ensures { IsTrue result ↔ Pays calls items }
 {
     items as u64 + 2 <= calls as u64 * (items as u64).saturating_sub(1)
+}
+
+/// How many calls for bodies of so many items save a word at least, or `None` where no number of calls does.
+pub(crate) fn fewest_calls(items: usize) -> Option<usize>
+    ensures { MatchOption result ((calls : ℕ) → ¬ Pays calls items) (λ fewest. (calls : ℕ) → Pays calls items ↔ (fewest ≤ calls)) }
+{
+    match items {
+        0 | 1 => None,
+        2 => Some(4),
+        3 => Some(3),
+        _ => Some(2),
+    }
 }
 
 /// Those of the others that may be called through the register, with the first, where that pays.
@@ -176,18 +230,29 @@ fn others_for(
     graph: &Graph,
     live: &Liveness,
     group: &[u32],
+    sets: &[RegSet],
     first: u32,
 ) -> Result<Option<Vec<u32>>, Memory>
     requires first { HasBlock graph.now.graph first }
     requires live { IsLivenessOf graph.now.graph live.now }
     requires group { IsGroupOf graph.now.graph first group.now }
+    requires sets { AreDeadSets graph.now.graph group.now sets.now }
     ensures some { IfOk result (λ found. IfSome found (λ chosen. CanMake graph.now.graph first chosen.items)) }
     ensures none { result ≡ Ok None → (rest : List ℕ) → ¬ CanMake graph.now.graph first rest }
 {
+    let Some(fewest) = fewest_calls(graph.items(first).len()) else {
+        return Ok(None);
+    };
+    if group.len() < fewest {
+        return Ok(None);
+    }
     if !has_body(graph, live, first, first) {
         return Ok(None);
     }
-    let others = others_of(alloc, graph, live, group, first)?;
+    let others = others_of(alloc, graph, group, sets, first)?;
+    if others.len() + 1 < fewest {
+        return Ok(None);
+    }
     chosen_of(alloc, graph, live, first, &others)
 }
 
@@ -203,30 +268,34 @@ fn find_in(
     ensures some { IfOk result (λ found. IfSome found (λ set. CanMake graph.now.graph set.0 set.1.items)) }
     ensures none { result ≡ Ok None → All (λ first. (rest : List ℕ) → ¬ CanMake graph.now.graph first rest) group.now }
 {
+    if group.len() < 2 {
+        return Ok(None);
+    }
+    let sets = dead_sets(alloc, graph, live, group)?;
     for name in group {
-        if let Some(others) = others_for(alloc, graph, live, group, *name)? {
+        if let Some(others) = others_for(alloc, graph, live, group, &sets, *name)? {
             return Ok(Some((*name, others)));
         }
     }
     Ok(None)
 }
 
-/// The same over all classes of blocks.
+/// The same over all groups of blocks.
 fn find_among(
     alloc: Global,
     graph: &Graph,
     live: &Liveness,
-    classes: &Classing,
+    groups: &Groups,
 ) -> Result<Option<(u32, Vec<u32>)>, Memory>
     requires live { IsLivenessOf graph.now.graph live.now }
-    requires value { classes.now ≡ classes_of graph.now.graph }
-    requires classes { AreClasses (block_kind graph.now.graph) (HasBlock graph.now.graph) classes.now }
+    requires value { groups.now ≡ print_groups graph.now.graph }
+    requires classes { AreClasses (print_of graph.now.graph) (HasBlock graph.now.graph) groups.now }
     ensures some { IfOk result (λ found. IfSome found (λ set. CanMake graph.now.graph set.0 set.1.items)) }
     ensures none { result ≡ Ok None → (first : ℕ) (rest : List ℕ) → ¬ CanMake graph.now.graph first rest }
 {
     learn(graph);
-    for number in 0..classes.len() {
-        if let Some(set) = find_in(alloc, graph, live, classes.members(number))? {
+    for number in 0..groups.len() {
+        if let Some(set) = find_in(alloc, graph, live, groups.members(number))? {
             return Ok(Some(set));
         }
     }
@@ -234,7 +303,7 @@ fn find_among(
 }
 
 /// A block, and others with which its body may become a procedure, where there are such. It compares the bodies of each
-/// class of blocks with each other.
+/// group of blocks of one print with each other.
 pub(crate) fn find_set(
     alloc: Global,
     graph: &Graph,
@@ -244,6 +313,6 @@ pub(crate) fn find_set(
     ensures some { IfOk result (λ found. IfSome found (λ set. CanMake graph.now.graph set.0 set.1.items)) }
     ensures none { result ≡ Ok None → (first : ℕ) (rest : List ℕ) → ¬ CanMake graph.now.graph first rest }
 {
-    let classes = classes(alloc, graph)?;
-    find_among(alloc, graph, live, &classes)
+    let groups = body_groups(alloc, graph)?;
+    find_among(alloc, graph, live, &groups)
 }

@@ -19,3 +19,8 @@ pub mod BodiesEarlier
 pub mod BodiesFound
 pub mod Admitting
 pub mod Sweeping
+pub mod Grown
+pub mod StillDead
+pub mod Uses
+pub mod Halved
+pub mod StillCanonical

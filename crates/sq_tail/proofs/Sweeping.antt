@@ -1,8 +1,10 @@
 -- A sweep: what joining two blocks adds to the rewrites before.
-use Rattle.std.proofs.Common.{◌≡◌, ◌≢◌, ℕ, ◌+◌, ◌-◌, ◌≤◌, false, List, [], ◌∷◌, length, sum_by, inl, refl, sym, ap, ◌∙◌, subst, arith}
+use Rattle.std.proofs.Common.{Result, Ok, Err, ◌≡◌, ◌≢◌, ℕ, ◌+◌, ◌-◌, ◌≤◌, false, List, [], ◌∷◌, length, sum_by, inl, refl, sym, ap, ◌∙◌, subst, arith}
+use Rattle.std.specs.Prelude.{IfOk}
 use Rattle.std.specs.List.{AllByRecursion}
 use Rattle.std.proofs.lemmas.List.Elements.{recursion_from_All}
 use Rattle.std.proofs.lemmas.List.Sums.{sum_by-cons}
+use Rattle.sq_num.specs.declared.memory.Memory.{Memory}
 use Rattle.sq_num.specs.declared.packed.Savings.{Savings}
 use Rattle.sq_graph.specs.declared.item.Item.{Item}
 use Rattle.sq_graph.specs.declared.item.Term.{Term}
@@ -17,6 +19,7 @@ use Rattle.sq_graph.specs.Room.{GraphAndRoom, IsSmall, sum_of, count_of, total_o
 use Rattle.sq_graph.specs.Rules.{IsGraph}
 use Rattle.sq_graph.specs.Soundness.{IsSound}
 use Rattle.sq_graph.specs.Words.{block_words, words_of}
+use Rattle.sq_graph.proofs.CanonicalLaws.{canonical_keeps_words}
 use Rattle.sq_graph.proofs.CanonicalReach.{canonical_in_reach}
 use Rattle.sq_follow.specs.Follows.{Follows}
 use Rattle.sq_patch.proofs.Joining.{canonical_follows, canonical_sound}
@@ -25,9 +28,10 @@ use Rattle.sq_pass.specs.declared.cut.Row.TheVariants.{T}
 use Rattle.sq_pass.specs.Applied.{IsApplied}
 use Rattle.sq_pass.specs.Counted.{counted}
 use Rattle.sq_pass.specs.Rewrites.{IsLighter, IsRewritten}
-use Rattle.sq_pass.proofs.Rewriting.{rewrite_made, lighter_made, rewritten_once}
+use Rattle.sq_pass.proofs.Rewriting.{rewrite_made, lighter_made, rewritten_once, rewritten_through}
 use Rattle.sq_tail.specs.Candidates.{IsCandidate, described, one_block}
 use Rattle.sq_tail.specs.Ends.{IsLongestEnd}
+use Rattle.sq_tail.specs.StillDead.{IsJoinedWhole}
 use Rattle.sq_tail.specs.Tails.{end_words, tail_cut, AreTails, fresh, joined, IsJoined}
 use Rattle.sq_tail.proofs.Admitting.{tails_there, candidate_applied}
 use Rattle.sq_tail.proofs.Cutting.{end_cut}
@@ -84,6 +88,12 @@ pair_rewritten g mid new dropped kept n saving before after rules candidate join
     subst (λ s. IsRewritten IsCandidate described before s g new) (sym (counts ∙ ap (counted before T) is))
     (cut_rewritten (tail_cut g dropped kept n) before g mid new candidate (candidate_applied g mid (tail_cut g dropped kept n) dropped kept rules candidate refl join) made canonical words)
 
+-- the same by the graph that they make
+pub whole_rewritten : (g new : Graph) (dropped kept n saving : ℕ) (before after : Savings) → IsGraph g → IsCandidate g (tail_cut g dropped kept n) → IsJoinedWhole g dropped kept n new → IsCanonical new → saving ≡ n - 1 + end_words g dropped → after ≡ counted before T saving → IsRewritten IsCandidate described before after g new
+whole_rewritten g new dropped kept n saving before after rules candidate (mid, (join, made)) canonical is counts =
+    let applied = candidate_applied g mid (tail_cut g dropped kept n) dropped kept rules candidate refl join in
+    pair_rewritten g mid new dropped kept n saving before after rules candidate join made canonical (ap words_of made ∙ canonical_keeps_words mid applied.rules) is counts
+
 pub pair_there : (g : Graph) (dropped kept n : ℕ) → IsCandidate g (tail_cut g dropped kept n) → AreTails g dropped kept n
 pair_there g dropped kept n candidate = tails_there g (tail_cut g dropped kept n) dropped kept candidate refl
 
@@ -99,3 +109,9 @@ pair_words g dropped kept n rules candidate =
 pub end_candidate : (g : Graph) (dropped kept n : ℕ) → kept ≢ dropped → 1 ≤ n → IsLongestEnd (items_of g dropped) (items_of g kept) n → resolved_term_of g dropped ≡ resolved_term_of g kept → 1 ≤ n - 1 + end_words g dropped → IsCandidate g (tail_cut g dropped kept n)
 end_candidate g dropped kept n other some most terms saves =
     inl (end_cut g dropped kept n (tail_cut g dropped kept n) (record { other = other; some = some; items = most.common; terms = terms }) saves refl)
+
+-- TWO SWEEPS
+
+pub swept_on : (savings at : Savings) (old mid new : Graph) (result : Result Savings Memory) → IsRewritten IsCandidate described savings at old mid → IfOk result (λ after. IsRewritten IsCandidate described at after mid new) → IfOk result (λ after. IsRewritten IsCandidate described savings after old new)
+swept_on savings at old mid new (Ok after) first second = rewritten_through IsCandidate described savings at after old mid new first second
+swept_on savings at old mid new (Err e) first second = second

@@ -7,3 +7,5 @@ pub mod Bodies
 pub mod BodiesPrints
 pub mod BodiesEarlier
 pub mod Admitted
+pub mod StillDead
+pub mod Names

@@ -21,8 +21,8 @@ ghost use Rattle.sq_tail.specs.BodiesPrints.{print_of};
 
 use crate::ends::end_words;
 use crate::resolved::resolved_term;
-use earlier::earlier_places;
-use prints::prints;
+pub(crate) use earlier::earlier_places;
+pub(crate) use prints::prints;
 use sq_graph::Graph;
 use sq_isa::RegSet;
 use sq_layout::learn;
@@ -39,7 +39,7 @@ pub struct BodyPair {
 }
 
 /// Whether the block has items, none of them LR or SC, and more words than a Jump.
-fn may_drop(graph: &Graph, block: u32) -> bool
+pub(crate) fn may_drop(graph: &Graph, block: u32) -> bool
     requires { HasBlock graph.now.graph block }
     ensures { IsTrue result ↔ MayDrop graph.now.graph block }
 {

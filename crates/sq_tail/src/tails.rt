@@ -3,6 +3,7 @@
 use crate::admit::admit_cut;
 use crate::find::find_cut;
 use crate::joining::join;
+use crate::sweep::sweep;
 use sq_graph::{Graph, Room};
 use sq_layout::learn;
 use sq_live::Liveness;
@@ -58,13 +59,9 @@ impl Pass for Tails {
         join(graph, blocks[0], blocks[1], cut.length);
     }
 
-    /// It rewrites nothing: `find` gives each candidate.
-    fn sweep(
-        &self,
-        _alloc: Global,
-        graph: &mut Graph,
-        savings: Savings,
-    ) -> Result<Savings, Memory> {
-        Ok(savings)
+    /// One look at all blocks, and for each rewrite one at the whole graph, which becomes canonical. It joins equal ends and
+    /// leaves bodies that match to `find`.
+    fn sweep(&self, alloc: Global, graph: &mut Graph, savings: Savings) -> Result<Savings, Memory> {
+        sweep(alloc, graph, savings)
     }
 }

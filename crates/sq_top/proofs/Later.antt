@@ -6,14 +6,17 @@ use Rattle.sq_desk.specs.Outside.{Outside, Place, Rose, NoneFall, Complaining, K
 use Rattle.sq_top.specs.declared.ending.Ending.{Ending}
 use Rattle.sq_top.specs.declared.ending.Ending.TheVariants.{Done, Words, Desk, Refused, Memory, Break, Limit, BadStart, Differs}
 use Rattle.sq_top.specs.declared.ending.DeskCall.TheVariants.{Load, Store, Print}
-use Rattle.sq_command.specs.Commands.{RunRequest, Form, PackForm, RunForm, WatchForm, HexForm, HexcheckForm, form_of}
+use Rattle.sq_command.specs.Commands.{RunRequest, Form, PackForm, RunForm, WatchForm, HexForm, HexcheckForm, SizeForm, TrialForm, form_of}
 use Rattle.sq_top.specs.Statuses.{complaint_of}
-use Rattle.sq_top.specs.Endings.{StoresPacked, LeavesPack, Leaves, ComplainsLine}
+use Rattle.sq_top.specs.Endings.{StoresPacked, LeavesPack, SizeLeft, Leaves, ComplainsLine}
 use Rattle.sq_top.specs.RunEndings.{FailsToLoad, IsReadable, RunLeft}
 use Rattle.sq_top.specs.WatchEndings.{WatchLeft}
 use Rattle.sq_top.specs.HexEndings.{StoresText, LeavesHex, FailsToCheck, CheckLeft}
 use Rattle.sq_program.specs.FilePrograms.{IsAcceptedFile}
 use Rattle.sq_top.specs.Promises.{Ends}
+use Rattle.sq_top.proofs.SizeCases.{size_by_case}
+use Rattle.sq_top.specs.Trials.{TrialLeft}
+use Rattle.sq_top.proofs.TrialCases.{trial_by_case}
 
 -- a complaint: files and what is printed stay, and no faults fall
 pub record OnlyComplains (before after : Outside) : Type 0 where
@@ -121,6 +124,22 @@ module _ (before middle after : Outside) (first : NoneFall before middle) (quiet
   check_on input text BadStart left = left
   check_on input text (Differs line) left = (quiet.printed ∙ left.0, left.1)
 
+  size_on : (input : List ℕ) (ending : Ending) → SizeLeft input ending before middle → SizeLeft input ending before after
+  size_on input = size_by_case input before middle (λ e. SizeLeft input e before after) (record {
+    done = λ left. (left.0, left.1, quiet.printed ∙ left.2);
+    load = λ left. (quiet.printed ∙ left.0, rose_on _ before middle after first quiet.faults left.1);
+    print = λ left. (rose_on _ before middle after first quiet.faults left.0, left.1, left.2, (left.3.0, quiet.printed ∙ left.3.1));
+    refused = λ refusal left. (quiet.printed ∙ left.0, left.1);
+    memory = λ left. quiet.printed ∙ left;
+  })
+
+  trial_on : (number blocks : ℕ) (ending : Ending) → TrialLeft number blocks ending before middle → TrialLeft number blocks ending before after
+  trial_on number blocks = trial_by_case number blocks before middle (λ e. TrialLeft number blocks e before after) (record {
+    done = λ left. (left.0, left.1, quiet.printed ∙ left.2);
+    print = λ left. (rose_on _ before middle after first quiet.faults left.0, left.1, left.2, (left.3.0, quiet.printed ∙ left.3.1));
+    memory = λ left. quiet.printed ∙ left;
+  })
+
   leaves_on : (form : Option Form) (ending : Ending) → Leaves form ending before middle → Leaves form ending before after
   leaves_on None ending left = (left.0, quiet.files ∙ left.1, quiet.printed ∙ left.2)
   leaves_on (Some (PackForm input output)) ending left = pack_on input output ending left
@@ -128,6 +147,8 @@ module _ (before middle after : Outside) (first : NoneFall before middle) (quiet
   leaves_on (Some (WatchForm request)) ending left = (quiet.files ∙ left.0, watch_left_on request ending left.1)
   leaves_on (Some (HexForm input output)) ending left = hex_on input output ending left
   leaves_on (Some (HexcheckForm input text)) ending left = (quiet.files ∙ left.0, check_on input text ending left.1)
+  leaves_on (Some (SizeForm input)) ending left = (quiet.files ∙ left.0, size_on input ending left.1)
+  leaves_on (Some (TrialForm number blocks)) ending left = (quiet.files ∙ left.0, trial_on number blocks ending left.1)
 
   complains_on : (line : Option (List ℕ)) → KeepsComplained before middle → ComplainsLine line middle after → ComplainsLine line before after
   complains_on None silent said = said ∙ silent

@@ -1,6 +1,8 @@
 pub mod WholeGraphs
 pub mod ReadBack
 pub mod EarlyEndings
+pub mod GeneratedWords
+pub mod GeneratedFiles
 pub mod HexPromised
 pub mod HexWritten
 pub mod Later
@@ -9,6 +11,12 @@ pub mod PackedFile
 pub mod Promised
 pub mod Refusals
 pub mod RunPromised
+pub mod SizeCases
+pub mod SizePromised
+pub mod SizeReported
 pub mod StatusesPromised
+pub mod TrialCases
+pub mod TrialPromised
+pub mod TrialTold
 pub mod WatchPromised
 pub mod Watched

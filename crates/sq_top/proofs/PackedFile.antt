@@ -35,6 +35,7 @@ use Rattle.sq_lifted.proofs.SameFiles.{same_through}
 use Rattle.sq_num.specs.declared.packed.TheConstants.Savings.{NONE}
 use Rattle.sq_pass.specs.Rewrites.{IsLighter, IsRewritten}
 use Rattle.sq_drive.specs.Rows.{IsCandidate, described, IsLeftoverFree}
+use Rattle.sq_drive.proofs.Moves.{leftover_free_is_still}
 use Rattle.sq_readback.specs.Whole.{IsWhole}
 use Rattle.sq_top.specs.Packing.{CanBeWritten, IsReachedFile, GoodOutput, Packs}
 use Rattle.sq_top.proofs.ReadBack.{reads_back}
@@ -143,6 +144,7 @@ module _ (bytes : List ℕ) (first g : Graph) (savings : Savings) (fit : AllByRe
       rewritten = r;
       slotted = slotted;
       left = left;
+      still = λ h lifted named. leftover_free_is_still h (left h lifted named);
       output_is = refl;
       settled = written_is_settled bytes g writable back.lifted slotted none;
       again = settled_stays bytes first g NONE savings fit l slotted_first r;

@@ -6,7 +6,7 @@ use Rattle.sq_desk.specs.Outside.{Outside, Files, content_of, with_file}
 use Rattle.sq_top.specs.declared.ending.Ending.{Ending}
 use Rattle.sq_top.specs.declared.ending.Ending.TheVariants.{Done, Words, Desk, Refused, Memory, Break, Limit, BadStart, Differs}
 use Rattle.sq_top.specs.declared.ending.DeskCall.TheVariants.{Load, Store, Print}
-use Rattle.sq_command.specs.Commands.{Form, PackForm, RunForm, WatchForm, HexForm, HexcheckForm, form_of}
+use Rattle.sq_command.specs.Commands.{Form, PackForm, RunForm, WatchForm, HexForm, HexcheckForm, SizeForm, TrialForm, form_of}
 use Rattle.sq_top.specs.Packing.{Packs, Headline, packed_text, sizes_text}
 use Rattle.sq_top.specs.Statuses.{status_of, complaint_of}
 use Rattle.sq_top.specs.Endings.{StoresPacked, LeavesPack, Leaves, ComplainsLine}
@@ -123,3 +123,5 @@ files_promised words ending before after ends = by_form (form_of words) refl end
     by_form (Some (WatchForm request)) form gone = inl gone.0
     by_form (Some (HexForm input output)) form gone = hex_case input output form ending gone
     by_form (Some (HexcheckForm input text)) form gone = inl gone.0
+    by_form (Some (SizeForm input)) form gone = inl gone.0
+    by_form (Some (TrialForm first blocks)) form gone = inl gone.0

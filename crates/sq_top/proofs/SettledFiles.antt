@@ -7,6 +7,7 @@ use Rattle.sq_graph.specs.Slotted.{IsSlotted}
 use Rattle.sq_pass.specs.declared.rewrite.Rewrite.{Rewrite}
 use Rattle.sq_pass.specs.Rewrites.{IsRewrite, AreSteps, IsRewritten}
 use Rattle.sq_drive.specs.Rows.{IsCandidate, described, IsLeftoverFree}
+use Rattle.sq_drive.proofs.Moves.{leftover_free_is_still}
 use Rattle.sq_write.specs.Written.{written}
 use Rattle.sq_outputs.specs.Writing.{IsWritable}
 use Rattle.sq_outputs.proofs.Again.{written_again}
@@ -24,7 +25,14 @@ nothing_to_do before after old new none rewritten = go rewritten.rewrites rewrit
 
 pub written_is_settled : (bytes : List ℕ) (g : Graph) → IsWritable bytes g → IsLiftedFile (written bytes g) g → IsSlotted g → IsLeftoverFree g → IsSettledFile (written bytes g)
 written_is_settled bytes g can lifted slotted none =
-    record { graph = g; lifted = lifted; slotted = slotted; is = sym (written_again bytes g can); left = none }
+    record {
+      graph = g;
+      lifted = lifted;
+      slotted = slotted;
+      is = sym (written_again bytes g can);
+      left = none;
+      still = leftover_free_is_still g none;
+    }
 
 pub settled_stays : (bytes : List ℕ) (first g : Graph) (before after : Savings) → AllByRecursion (λ b. b < 256) bytes → IsLiftedFile bytes first → IsSlotted first → IsRewritten IsCandidate described before after first g → IsSettledFile bytes → written bytes g ≡ bytes
 settled_stays bytes first g before after fit lifted slotted rewritten settled =

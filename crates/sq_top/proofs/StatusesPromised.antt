@@ -2,13 +2,13 @@
 use Rattle.std.proofs.Common.{◌≡◌, ◌≢◌, ◌↔◌, ℕ, ◌≤◌, ◌⊎◌, inl, inr, List, Option, Some, None, refl, ap, arith}
 use Rattle.std.specs.Prelude.{⊤}
 use Rattle.sq_num.specs.declared.packed.Packed.{Packed}
-use Rattle.sq_command.specs.Commands.{RunRequest, Form, PackForm, RunForm, WatchForm, HexForm, HexcheckForm, form_of}
+use Rattle.sq_command.specs.Commands.{RunRequest, Form, PackForm, RunForm, WatchForm, HexForm, HexcheckForm, SizeForm, TrialForm, form_of}
 use Rattle.sq_desk.specs.Outside.{Outside, Place, ForFiles, content_of, Loading, Storing, Printing, Rose}
 use Rattle.sq_top.specs.declared.ending.Ending.{Ending}
 use Rattle.sq_top.specs.declared.ending.Ending.TheVariants.{Done, Words, Desk, Refused, Memory, Break, Limit, BadStart, Differs}
 use Rattle.sq_top.specs.declared.ending.DeskCall.TheVariants.{Load, Store, Print}
 use Rattle.sq_top.specs.Statuses.{status_of, complaint_of, IsStatusOf}
-use Rattle.sq_top.specs.Endings.{PacksFile, LeavesPack, Leaves, ComplainsLine}
+use Rattle.sq_top.specs.Endings.{PacksFile, LeavesPack, SizeLeft, Leaves, ComplainsLine}
 use Rattle.sq_top.specs.RunEndings.{RunLeft}
 use Rattle.sq_top.specs.WatchEndings.{WatchLeft}
 use Rattle.sq_top.specs.HexEndings.{LeavesHex, CheckLeft}
@@ -18,6 +18,9 @@ use Rattle.sq_system.specs.declared.event.Event.{Event}
 use Rattle.sq_system.specs.declared.event.Halt.{Halt}
 use Rattle.sq_lifted.proofs.Accepting.{not_refused}
 use Rattle.sq_top.specs.Promises.{Ends, ForPack, HasFault, RefusesExactly, PrintsAsSaid}
+use Rattle.sq_top.proofs.SizeCases.{size_by_case}
+use Rattle.sq_top.specs.Trials.{TrialLeft}
+use Rattle.sq_top.proofs.TrialCases.{trial_by_case}
 
 -- where no faults are counted none rose
 none_rose : (place : Place) (before after : Outside) → after.faults place ≡ 0 → Rose place before after → ⊥
@@ -87,6 +90,22 @@ module _ (words : List (List ℕ)) (ending : Ending) (before after : Outside) (e
       check_else input text BadStart gone one = gone
       check_else input text (Differs line) gone one = absurd (cc one)
 
+      size_else : (input : List ℕ) (e : Ending) → SizeLeft input e before after → status_of e ≡ 1 → ⊥
+      size_else input = size_by_case input before after (λ e. status_of e ≡ 1 → ⊥) (record {
+        done = λ gone one. absurd (cc one);
+        load = λ gone one. absurd (cc one);
+        print = λ gone one. absurd (cc one);
+        refused = λ refusal gone one. absurd (cc one);
+        memory = λ gone one. absurd (cc one);
+      })
+
+      trial_else : (first blocks : ℕ) (e : Ending) → TrialLeft first blocks e before after → status_of e ≡ 1 → ⊥
+      trial_else first blocks = trial_by_case first blocks before after (λ e. status_of e ≡ 1 → ⊥) (record {
+        done = λ gone one. absurd (cc one);
+        print = λ gone one. absurd (cc one);
+        memory = λ gone one. absurd (cc one);
+      })
+
       only : (form : Option Form) → form_of words ≡ form → Leaves form ending before after → status_of ending ≡ 1 → form_of words ≡ None
       only None is gone one = is
       only (Some (PackForm input output)) is gone one = absurd (pack_else input output ending gone one)
@@ -94,6 +113,8 @@ module _ (words : List (List ℕ)) (ending : Ending) (before after : Outside) (e
       only (Some (WatchForm request)) is gone one = absurd (watch_else request ending gone.1 one)
       only (Some (HexForm input output)) is gone one = absurd (hex_else input output ending gone one)
       only (Some (HexcheckForm input text)) is gone one = absurd (check_else input text ending gone.1 one)
+      only (Some (SizeForm input)) is gone one = absurd (size_else input ending gone.1 one)
+      only (Some (TrialForm first blocks)) is gone one = absurd (trial_else first blocks ending gone.1 one)
 
   -- each form has its statuses
   pub statuses_promised : IsStatusOf (form_of words) (status_of ending)
@@ -154,6 +175,22 @@ module _ (words : List (List ℕ)) (ending : Ending) (before after : Outside) (e
       check_status input text BadStart gone = absurd gone
       check_status input text (Differs line) gone = inr refl
 
+      size_status : (input : List ℕ) (e : Ending) → SizeLeft input e before after → status_of e ≤ 4
+      size_status input = size_by_case input before after (λ e. status_of e ≤ 4) (record {
+        done = λ gone. omega arith;
+        load = λ gone. omega arith;
+        print = λ gone. omega arith;
+        refused = λ refusal gone. omega arith;
+        memory = λ gone. omega arith;
+      })
+
+      trial_status : (first blocks : ℕ) (e : Ending) → TrialLeft first blocks e before after → (status_of e ≡ 0) ⊎ (status_of e ≡ 2) ⊎ (status_of e ≡ 4)
+      trial_status first blocks = trial_by_case first blocks before after (λ e. (status_of e ≡ 0) ⊎ (status_of e ≡ 2) ⊎ (status_of e ≡ 4)) (record {
+        done = λ gone. inl refl;
+        print = λ gone. inr (inl refl);
+        memory = λ gone. inr (inr refl);
+      })
+
       by_form : (form : Option Form) → Leaves form ending before after → IsStatusOf form (status_of ending)
       by_form None gone = ap status_of gone.0
       by_form (Some (PackForm input output)) gone = pack_status input output ending gone
@@ -161,6 +198,8 @@ module _ (words : List (List ℕ)) (ending : Ending) (before after : Outside) (e
       by_form (Some (WatchForm request)) gone = watch_status request ending gone.1
       by_form (Some (HexForm input output)) gone = hex_status input output ending gone
       by_form (Some (HexcheckForm input text)) gone = check_status input text ending gone.1
+      by_form (Some (SizeForm input)) gone = size_status input ending gone.1
+      by_form (Some (TrialForm first blocks)) gone = trial_status first blocks ending gone.1
 
   -- without faults the status is not 2
   pub sound_promised : ((place : Place) → after.faults place ≡ 0) → status_of ending ≢ 2
@@ -234,6 +273,22 @@ module _ (words : List (List ℕ)) (ending : Ending) (before after : Outside) (e
       check_sound input text BadStart gone is = gone
       check_sound input text (Differs line) gone is = absurd (cc is)
 
+      size_sound : (input : List ℕ) (e : Ending) → SizeLeft input e before after → status_of e ≡ 2 → ⊥
+      size_sound input = size_by_case input before after (λ e. status_of e ≡ 2 → ⊥) (record {
+        done = λ gone is. absurd (cc is);
+        load = λ gone is. none_rose (Loading input) before after (none (Loading input)) gone.1;
+        print = λ gone is. none_rose Printing before after (none Printing) gone.0;
+        refused = λ refusal gone is. absurd (cc is);
+        memory = λ gone is. absurd (cc is);
+      })
+
+      trial_sound : (first blocks : ℕ) (e : Ending) → TrialLeft first blocks e before after → status_of e ≡ 2 → ⊥
+      trial_sound first blocks = trial_by_case first blocks before after (λ e. status_of e ≡ 2 → ⊥) (record {
+        done = λ gone is. absurd (cc is);
+        print = λ gone is. none_rose Printing before after (none Printing) gone.0;
+        memory = λ gone is. absurd (cc is);
+      })
+
       by_form : (form : Option Form) → Leaves form ending before after → ⊥
       by_form None gone = absurd (cc (gone.0, two))
       by_form (Some (PackForm input output)) gone = pack_sound input output ending gone two
@@ -241,6 +296,8 @@ module _ (words : List (List ℕ)) (ending : Ending) (before after : Outside) (e
       by_form (Some (WatchForm request)) gone = watch_sound request ending gone.1 two
       by_form (Some (HexForm input output)) gone = hex_sound input output ending gone two
       by_form (Some (HexcheckForm input text)) gone = check_sound input text ending gone.1 two
+      by_form (Some (SizeForm input)) gone = size_sound input ending gone.1 two
+      by_form (Some (TrialForm first blocks)) gone = trial_sound first blocks ending gone.1 two
 
   left : (input output : List ℕ) → form_of words ≡ Some (PackForm input output) → LeavesPack input output ending before after
   left input output form = rw form at ends.leaves
@@ -340,17 +397,33 @@ module _ (words : List (List ℕ)) (ending : Ending) (before after : Outside) (e
       hex_printed input output form (Differs line) gone = absurd gone
 
       check_printed : (input text : List ℕ) → form_of words ≡ Some (HexcheckForm input text) → (e : Ending) → CheckLeft input text e before after → PrintsAsSaid words (status_of e) before after
-      check_printed input text form Done gone = inr (inr (inr (inr (inr (input, text, form, gone.0, inl (refl, gone.1))))))
+      check_printed input text form Done gone = inr (inr (inr (inr (inr (inl (input, text, form, gone.0, inl (refl, gone.1)))))))
       check_printed input text form Words gone = absurd gone
       check_printed input text form (Desk Load) gone = inl ((λ is. cc is), (λ is. cc is), (λ is. cc is), gone.0)
       check_printed input text form (Desk Store) gone = absurd gone
-      check_printed input text form (Desk Print) gone = inr (inr (inr (inr (inr (input, text, form, gone.1, inr (refl, gone.0, gone.2))))))
+      check_printed input text form (Desk Print) gone = inr (inr (inr (inr (inr (inl (input, text, form, gone.1, inr (refl, gone.0, gone.2)))))))
       check_printed input text form (Refused refusal) gone = inl ((λ is. cc is), (λ is. cc is), (λ is. cc is), gone.0)
       check_printed input text form Memory gone = inl ((λ is. cc is), (λ is. cc is), (λ is. cc is), gone)
       check_printed input text form Break gone = absurd gone
       check_printed input text form Limit gone = absurd gone
       check_printed input text form BadStart gone = absurd gone
       check_printed input text form (Differs line) gone = inl ((λ is. cc is), (λ is. cc is), (λ is. cc is), gone.0)
+
+      size_printed : (input : List ℕ) → form_of words ≡ Some (SizeForm input) → (e : Ending) → SizeLeft input e before after → PrintsAsSaid words (status_of e) before after
+      size_printed input form = size_by_case input before after (λ e. PrintsAsSaid words (status_of e) before after) (record {
+        done = λ gone. inr (inr (inr (inr (inr (inr (inl (input, form, gone.0, gone.1, inl (refl, gone.2))))))));
+        load = λ gone. inl ((λ is. cc is), (λ is. cc is), (λ is. cc is), gone.0);
+        print = λ gone. inr (inr (inr (inr (inr (inr (inl (input, form, gone.1, gone.2, inr (refl, gone.0, gone.3))))))));
+        refused = λ refusal gone. inl ((λ is. cc is), (λ is. cc is), (λ is. cc is), gone.0);
+        memory = λ gone. inl ((λ is. cc is), (λ is. cc is), (λ is. cc is), gone);
+      })
+
+      trial_printed : (first blocks : ℕ) → form_of words ≡ Some (TrialForm first blocks) → (e : Ending) → TrialLeft first blocks e before after → PrintsAsSaid words (status_of e) before after
+      trial_printed first blocks form = trial_by_case first blocks before after (λ e. PrintsAsSaid words (status_of e) before after) (record {
+        done = λ gone. inr (inr (inr (inr (inr (inr (inr (first, blocks, form, gone.0, gone.1, inl (refl, gone.2))))))));
+        print = λ gone. inr (inr (inr (inr (inr (inr (inr (first, blocks, form, gone.1, gone.2, inr (refl, gone.0, gone.3))))))));
+        memory = λ gone. inl ((λ is. cc is), (λ is. cc is), (λ is. cc is), gone);
+      })
 
       by_form : (form : Option Form) → form_of words ≡ form → Leaves form ending before after → PrintsAsSaid words (status_of ending) before after
       by_form None is gone = inl ((λ zero. cc (gone.0, zero)), (λ five. cc (gone.0, five)), (λ six. cc (gone.0, six)), gone.2)
@@ -359,3 +432,5 @@ module _ (words : List (List ℕ)) (ending : Ending) (before after : Outside) (e
       by_form (Some (WatchForm request)) is gone = watch_printed request is ending gone.1
       by_form (Some (HexForm input output)) is gone = hex_printed input output is ending gone
       by_form (Some (HexcheckForm input text)) is gone = check_printed input text is ending gone.1
+      by_form (Some (SizeForm input)) is gone = size_printed input is ending gone.1
+      by_form (Some (TrialForm first blocks)) is gone = trial_printed first blocks is ending gone.1

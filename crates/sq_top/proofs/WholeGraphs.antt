@@ -81,7 +81,7 @@ module _ (g : Graph) (rules : IsGraph g) (canonical : IsCanonical g) (none : IsL
       by zero e = e
       by (suc n) e =
           absurd (none (record { row = U; blocks = gone; procedure = 0; other = 0; length = 0; link = 0; saving = words_gone g gone })
-          (inl (record { row = refl; unreached = unreached; procedure = refl; other = refl; length = refl; link = refl; saving = refl; some = omega (arith, e) })))
+          (inl (inl (inl (record { row = refl; unreached = unreached; procedure = refl; other = refl; length = refl; link = refl; saving = refl; some = omega (arith, e) })))))
 
   each_reached : (n : ℕ) → HasBlock g n → IsReachedBlock g n
   each_reached n has =

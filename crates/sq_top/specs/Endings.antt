@@ -1,16 +1,18 @@
 -- What a command leaves outside, by how it ends.
-use Rattle.std.specs.Prelude.{◌≡◌, ℕ, ◌⊎◌, List, Option, Some, None, ⊤}
+use Rattle.std.specs.Prelude.{◌≡◌, ℕ, ◌⊎◌, List, ◌++◌, codes, Option, Some, None, ⊤}
 use Rattle.sq_num.specs.declared.packed.Packed.{Packed}
 use Rattle.sq_desk.specs.Outside.{Outside, content_of, Rose, Loading, Storing, Printing, Complaining, KeepsFiles, SetsFile, LosesFile, KeepsPrinted, KeepsComplained, Prints, PrintsPrefix, Complains, ComplainsPrefix, ForFiles}
 use Rattle.sq_top.specs.declared.ending.Ending.{Ending}
 use Rattle.sq_top.specs.declared.ending.Ending.TheVariants.{Done, Words, Desk, Refused, Memory, Break, Limit, BadStart, Differs}
 use Rattle.sq_top.specs.declared.ending.DeskCall.TheVariants.{Load, Store, Print}
-use Rattle.sq_command.specs.Commands.{Form, PackForm, RunForm, WatchForm, HexForm, HexcheckForm}
+use Rattle.sq_command.specs.Commands.{Form, PackForm, RunForm, WatchForm, HexForm, HexcheckForm, SizeForm, TrialForm}
 use Rattle.sq_top.specs.Packing.{Packs, packed_text}
 use Rattle.sq_program.specs.FilePrograms.{IsRefusalOf}
+use Rattle.sq_report.specs.Report.{report_text}
 use Rattle.sq_top.specs.RunEndings.{LeavesRun}
 use Rattle.sq_top.specs.WatchEndings.{LeavesWatch}
 use Rattle.sq_top.specs.HexEndings.{LeavesHex, LeavesCheck}
+use Rattle.sq_top.specs.Trials.{LeavesTrial}
 
 -- what the named file holds was packed so
 abbrev pub PacksFile : List ℕ → Packed → Outside → Type 0
@@ -65,6 +67,29 @@ LeavesPack input output Limit before after = ⊥
 LeavesPack input output BadStart before after = ⊥
 LeavesPack input output (Differs line) before after = ⊥
 
+-- the line of a packing's report
+abbrev pub report_line : Packed → List ℕ
+report_line packed = report_text packed ++ codes "\n"
+
+-- the line is the report of a packing of what the named file holds
+abbrev pub ReportsFile : List ℕ → List ℕ → Outside → Type 0
+ReportsFile input line before = (packed : Packed) × PacksFile input packed before × (line ≡ report_line packed)
+
+-- what `size` leaves printed, by how it ends
+abbrev pub SizeLeft : List ℕ → Ending → Outside → Outside → Type 0
+SizeLeft input Done before after = (packed : Packed) × PacksFile input packed before × Prints (report_line packed) before after
+SizeLeft input (Desk Load) before after = KeepsPrinted before after × Rose (Loading input) before after
+SizeLeft input (Desk Print) before after =
+    Rose Printing before after × (packed : Packed) × PacksFile input packed before × PrintsPrefix (report_line packed) before after
+SizeLeft input (Refused refusal) before after =
+    KeepsPrinted before after × ForFiles before (λ files. IsRefusalOf (content_of files input) refusal)
+SizeLeft input Memory before after = KeepsPrinted before after
+SizeLeft input other before after = ⊥
+
+-- what `size` leaves, by how it ends: no file changes
+abbrev pub LeavesSize : List ℕ → Ending → Outside → Outside → Type 0
+LeavesSize input ending before after = KeepsFiles before after × SizeLeft input ending before after
+
 -- what a command leaves, by how it ends: words without a form touch nothing
 abbrev pub Leaves : Option Form → Ending → Outside → Outside → Type 0
 Leaves None ending before after = (ending ≡ Words) × KeepsFiles before after × KeepsPrinted before after
@@ -73,6 +98,8 @@ Leaves (Some (RunForm request)) ending before after = LeavesRun request ending b
 Leaves (Some (WatchForm request)) ending before after = LeavesWatch request ending before after
 Leaves (Some (HexForm input output)) ending before after = LeavesHex input output ending before after
 Leaves (Some (HexcheckForm input text)) ending before after = LeavesCheck input text ending before after
+Leaves (Some (SizeForm input)) ending before after = LeavesSize input ending before after
+Leaves (Some (TrialForm first blocks)) ending before after = LeavesTrial first blocks ending before after
 
 -- the line was complained, or a prefix of it where complaining failed, or nothing for want of memory
 abbrev pub ComplainsLine : Option (List ℕ) → Outside → Outside → Type 0

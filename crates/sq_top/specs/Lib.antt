@@ -9,6 +9,9 @@ pub mod RunEndings
 pub mod RunPromises
 pub mod Running
 pub mod Settled
+pub mod SizePromises
+pub mod Trials
+pub mod TrialPromises
 pub mod Statuses
 pub mod WatchEndings
 pub mod WatchPromises

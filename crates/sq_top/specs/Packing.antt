@@ -16,6 +16,7 @@ use Rattle.sq_graph.specs.Soundness.{IsSound}
 use Rattle.sq_graph.specs.Words.{words_of}
 use Rattle.sq_num.specs.declared.packed.TheConstants.Savings.{NONE}
 use Rattle.sq_pass.specs.Rewrites.{IsRewritten}
+use Rattle.sq_chain.specs.Moves.{IsStill}
 use Rattle.sq_drive.specs.Rows.{IsCandidate, described, IsLeftoverFree}
 use Rattle.sq_program.specs.Programs.{IsWord}
 use Rattle.sq_program.specs.Reached.{IsReached}
@@ -76,8 +77,9 @@ pub record GoodOutput (given output : List ℕ) : Type 0 where
   -- its blocks are named by their positions
   pub slotted : IsSlotted graph
   -- Nothing is left over: whatever graph the output is read back as, named by positions, no row that is built has a
-  -- candidate in it
+  -- candidate in it, and no move of a chain of its blocks saves a word
   pub left : (reading : Graph) → IsLiftedFile output reading → IsSlotted reading → IsLeftoverFree reading
+  pub still : (reading : Graph) → IsLiftedFile output reading → IsSlotted reading → IsStill reading
   -- the output is made of the data of the given file and of the words of that graph
   pub output_is : output ≡ written given graph
   -- packing is done once: the output is settled, and where the given file is settled, the output is this file

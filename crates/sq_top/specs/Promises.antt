@@ -7,13 +7,14 @@ use Rattle.sq_desk.specs.Outside.{Outside, Place, Loading, Storing, Printing, co
 use Rattle.sq_top.specs.declared.ending.Ending.{Ending}
 use Rattle.sq_top.specs.declared.ending.DeskCall.{DeskCall}
 use Rattle.sq_top.specs.declared.ending.DeskCall.TheVariants.{Load, Store, Print}
-use Rattle.sq_command.specs.Commands.{RunRequest, PackForm, RunForm, WatchForm, HexForm, HexcheckForm, form_of}
+use Rattle.sq_command.specs.Commands.{RunRequest, PackForm, RunForm, WatchForm, HexForm, HexcheckForm, SizeForm, TrialForm, form_of}
 use Rattle.sq_top.specs.Packing.{GoodOutput, Headline, packed_text}
 use Rattle.sq_program.specs.FilePrograms.{IsRefusalOf}
 use Rattle.sq_top.specs.Statuses.{call_text, complaint_of}
-use Rattle.sq_top.specs.Endings.{PacksFile, Leaves, ComplainsLine}
+use Rattle.sq_top.specs.Endings.{PacksFile, report_line, Leaves, ComplainsLine}
 use Rattle.sq_top.specs.Running.{HasRun}
 use Rattle.sq_top.specs.Watching.{HasWatched}
+use Rattle.sq_top.specs.Trials.{TellsTrial}
 use Rattle.sq_top.specs.Hexing.{HasHexText, hex_line, same_line, IsSame}
 
 -- the call ended so: with what the form leaves, and with the ending's complaint
@@ -88,7 +89,19 @@ PrintsSame words status before after =
     (input : List ℕ) × (text : List ℕ) × (form_of words ≡ Some (HexcheckForm input text)) × ForFiles before (IsSame input text)
     × (((status ≡ 0) × Prints same_line before after) ⊎ ((status ≡ 2) × Rose Printing before after × PrintsPrefix same_line before after))
 
--- nothing was printed, but with status 0, 5 or 6; or what a packing, a run, a watch, a text or a check prints
+-- what was printed of a report: the line with status 0, or a prefix of it where printing failed
+abbrev pub PrintsReport : List (List ℕ) → ℕ → Outside → Outside → Type 0
+PrintsReport words status before after =
+    (input : List ℕ) × (form_of words ≡ Some (SizeForm input)) × (packed : Packed) × PacksFile input packed before
+    × (((status ≡ 0) × Prints (report_line packed) before after) ⊎ ((status ≡ 2) × Rose Printing before after × PrintsPrefix (report_line packed) before after))
+
+-- what was printed of a trial: its line with status 0, or a prefix of it where printing failed
+abbrev pub PrintsTrial : List (List ℕ) → ℕ → Outside → Outside → Type 0
+PrintsTrial words status before after =
+    (first : ℕ) × (blocks : ℕ) × (form_of words ≡ Some (TrialForm first blocks)) × (line : List ℕ) × TellsTrial first blocks line
+    × (((status ≡ 0) × Prints line before after) ⊎ ((status ≡ 2) × Rose Printing before after × PrintsPrefix line before after))
+
+-- nothing was printed, but with status 0, 5 or 6; or what a packing, a run, a watch, a text, a check, a report or a trial prints
 abbrev pub PrintsAsSaid : List (List ℕ) → ℕ → Outside → Outside → Type 0
 PrintsAsSaid words status before after =
     ((status ≢ 0) × (status ≢ 5) × (status ≢ 6) × KeepsPrinted before after)
@@ -97,6 +110,8 @@ PrintsAsSaid words status before after =
     ⊎ PrintsWatchLines words status before after
     ⊎ PrintsRecords words status before after
     ⊎ PrintsSame words status before after
+    ⊎ PrintsReport words status before after
+    ⊎ PrintsTrial words status before after
 
 -- status 2 has its cause, and its line names it
 abbrev pub HasFault : List ℕ → List ℕ → Outside → Outside → Type 0

@@ -18,7 +18,9 @@ mod loading;
 mod pack_command;
 mod packing;
 mod run_command;
+mod size_command;
 mod top;
+mod trial_command;
 mod watch_command;
 
 pub use laws::written_files_read_back;

@@ -36,7 +36,11 @@ pub fn pack<D: Desk>(alloc: Global, desk: &mut D, input: &str, output: &str) -> 
 }
 
 /// The packing of the file of `input`, or how the command ends without one.
-fn load_and_pack<D: Desk>(alloc: Global, desk: &mut D, input: &str) -> Result<Packed, Ending>
+pub(crate) fn load_and_pack<D: Desk>(
+    alloc: Global,
+    desk: &mut D,
+    input: &str,
+) -> Result<Packed, Ending>
     ensures packs { IfOk result (λ packed. PacksFile input.now packed (D.outside desk.old)) }
     ensures fails { IfErr result (λ ending. LeavesUnpacked input.now ending (D.outside desk.old) (D.outside desk.new)) }
     ensures files { KeepsFiles (D.outside desk.old) (D.outside desk.new) }

@@ -13,12 +13,17 @@ ghost use Rattle.sq_top.specs.Watching.{HasBroken};
 ghost use Rattle.sq_top.specs.WatchEndings.{PrintsWatch};
 ghost use Rattle.sq_top.specs.WatchPromises.{ForWatch, HasWatchRefusal, IsBadWatch, WatchesExactly, IsWatchComplete};
 ghost use Rattle.sq_top.specs.HexPromises.{ForHex, ForHexcheck, IsHexDone, HasHexRefusal, HexRefusesExactly, IsHexComplete, IsCheckDone, HasDifference, HasCheckFault, HasCheckRefusal, ChecksExactly, IsCheckComplete};
+ghost use Rattle.sq_top.specs.SizePromises.{ForSize, IsSizeDone, HasSizeFault, IsSizeComplete};
+ghost use Rattle.sq_top.specs.TrialPromises.{ForTrial, IsTrialDone, HasTrialFault, IsTrialComplete};
 ghost use Rattle.sq_top.specs.RunEndings.{PrintsRun};
 ghost use Rattle.sq_top.specs.RunPromises.{ForRun, HasRunFault, HasRunRefusal, IsBadRun, RunsExactly, IsRunComplete};
 
 use crate::complaint::complain;
 use crate::ending::Ending;
-use crate::{hex_command, hexcheck_command, pack_command, run_command, watch_command};
+use crate::{
+    hex_command, hexcheck_command, pack_command, run_command, size_command, trial_command,
+    watch_command,
+};
 use sq_command::{Command, command_of};
 use sq_desk::Desk;
 use sq_num::WordList;
@@ -30,7 +35,9 @@ use std::alloc::Global;
 /// OUT, and prints the sizes; `run FILE INPUT LIMIT BASE SIZE ARG*` loads FILE and INPUT, runs FILE
 /// for at most LIMIT steps, and prints the events and the end; `watch` with the same words does so under the
 /// monitor, which refuses all that `pack` refuses and ends at the first break too; `hex IN OUT` loads IN, stores its
-/// text of Intel HEX, and prints the number of records; `hexcheck IN HEX` prints `same` where HEX means what IN has in flash.
+/// text of Intel HEX, and prints the number of records; `hexcheck IN HEX` prints `same` where HEX means what IN has in flash;
+/// `size IN` loads IN, packs it, stores nothing, and prints the report; `trial FIRST BLOCKS` generates a file, packs it,
+/// packs the result, stores nothing, and prints how many bytes of text each has.
 pub fn squeeze<D: Desk>(alloc: Global, desk: &mut D, words: &WordList) -> u8
     // Status 0: the headline.
     ensures done { ForPack words.now (λ input output. result ≡ 0 → IsDone input output (D.outside desk.old) (D.outside desk.new)) }
@@ -78,6 +85,20 @@ pub fn squeeze<D: Desk>(alloc: Global, desk: &mut D, words: &WordList) -> u8
     ensures check_complete { ForHexcheck words.now (λ input text. IsCheckComplete input text result (D.outside desk.old) (D.outside desk.new)) }
     ensures check_files { ForHexcheck words.now (λ _ _. KeepsFiles (D.outside desk.old) (D.outside desk.new)) }
 
+    // `size`: with 0 the report of a packing of IN was printed; each other status has its cause.
+    ensures size_done { ForSize words.now (λ input. result ≡ 0 → IsSizeDone input (D.outside desk.old) (D.outside desk.new)) }
+    ensures size_fault { ForSize words.now (λ input. result ≡ 2 → HasSizeFault input (D.outside desk.old) (D.outside desk.new)) }
+    ensures size_refused { ForSize words.now (λ input. result ≡ 3 → HasRefusal input (D.outside desk.old) (D.outside desk.new)) }
+    ensures size_exact { ForSize words.now (λ input. RefusesExactly input result (D.outside desk.old) (D.outside desk.new)) }
+    ensures size_complete { ForSize words.now (λ input. IsSizeComplete input result (D.outside desk.old) (D.outside desk.new)) }
+    ensures size_files { ForSize words.now (λ _. KeepsFiles (D.outside desk.old) (D.outside desk.new)) }
+
+    // `trial`: with 0 the line of a packing of the generated file was printed; it is never refused.
+    ensures trial_done { ForTrial words.now (λ first blocks. result ≡ 0 → IsTrialDone first blocks (D.outside desk.old) (D.outside desk.new)) }
+    ensures trial_fault { ForTrial words.now (λ _ _. result ≡ 2 → HasTrialFault (D.outside desk.old) (D.outside desk.new)) }
+    ensures trial_complete { ForTrial words.now (λ _ _. IsTrialComplete result (D.outside desk.old) (D.outside desk.new)) }
+    ensures trial_files { ForTrial words.now (λ _ _. KeepsFiles (D.outside desk.old) (D.outside desk.new)) }
+
     // Words without a form, and statuses.
     ensures words { (result ≡ 1) ↔ (form_of words.now ≡ None) }
     ensures sound { ((place : Place) → (D.outside desk.new).faults place ≡ 0) → result ≢ 2 }
@@ -117,5 +138,7 @@ fn run<D: Desk>(alloc: Global, desk: &mut D, words: &WordList) -> Ending
         Some(Command::Hexcheck { input, text }) => {
             hexcheck_command::hexcheck(alloc, desk, input, text)
         }
+        Some(Command::Size { input }) => size_command::size(alloc, desk, input),
+        Some(Command::Trial(asked)) => trial_command::trial(alloc, desk, asked),
     }
 }

@@ -1,18 +1,10 @@
-use Rattle.std.proofs.Common.{◌∙◌, get_or, is_some, sym, ap, subst, arith}
+use Rattle.std.proofs.Common.{◌∙◌, get_or, subst, arith}
 use Rattle.std.specs.List.{All}
-use Rattle.sq_graph.specs.Blocks.{HasBlock}
 use Rattle.sq_graph.specs.Room.{GraphAndRoom}
-use Rattle.sq_live.proofs.Layouts.{block_at}
 use Rattle.sq_lookup.proofs.Reaching.{one_more, all_taken}
 use Rattle.sq_chain.specs.Candidates.{IsStillAt}
 use Rattle.sq_chain.proofs.Moved.{all_still}
 use Rattle.sq_chain.proofs.moving.move_first.Goals as goal
-
-pub move_behind-requires-clause-from : goal.move_behind-requires-clause-from
-move_behind-requires-clause-from c =
-    let name = get_or c.args.names.now c.loop-name.name-index 0 in
-    let b = block_at c.args.graph.now.graph c.args.names.now c.loop-name.name-index c.learn.ensures.rules c.requires.names c.loop-name-test.true in
-    subst (λ (v : GraphAndRoom). HasBlock v.graph name) (sym c.loop-name.invariant.same) (ap is_some b.found)
 
 pub loop-name-preserved : goal.loop-name-preserved
 loop-name-preserved c =

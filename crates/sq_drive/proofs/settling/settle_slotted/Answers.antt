@@ -10,8 +10,8 @@ use Rattle.sq_follow.specs.Follows.{Follows}
 use Rattle.sq_follow.proofs.Following.{graph_follows_through}
 use Rattle.sq_pass.specs.Rewrites.{IsRewritten}
 use Rattle.sq_pass.proofs.Rewriting.{rewritten_itself, rewritten_through, rewritten_none, rewritten_named}
-use Rattle.sq_jumps.specs.Candidates.{saves_a_word}
-use Rattle.sq_drive.specs.Rows.{IsCandidate, described}
+use Rattle.sq_drive.specs.Rows.{IsCandidate, described, saves_a_word}
+use Rattle.sq_drive.proofs.Moves.{leftover_free_is_still}
 use Rattle.sq_drive.proofs.Slots.{slotted_lighter}
 use Rattle.sq_drive.proofs.settling.settle_slotted.Goals as goal
 
@@ -24,15 +24,18 @@ loop-savings-init c = record {
 -- what is left after a round that lost no word is what was there before it
 pub returns-then-words_of-before-clause-rewritten : goal.returns-then-words_of-before-clause-rewritten
 returns-then-words_of-before-clause-rewritten c =
-    rewritten_through IsCandidate described NONE c.loop-savings.savings c.in_ok-savings.savings c.args.graph.now.graph c.loop-savings.graph.graph c.settle_by.new.graph.graph
+    rewritten_through IsCandidate described NONE c.loop-savings.savings c.in_ok-savings.savings c.args.graph.now.graph c.loop-savings.graph.graph c.settle_from.new.graph.graph
     c.loop-savings.invariant.rewritten c.in_ok-savings.ensures.rewritten
 
 pub returns-then-words_of-before-clause-slotted : goal.returns-then-words_of-before-clause-slotted
 returns-then-words_of-before-clause-slotted c =
     subst IsSlotted
-    (sym (rewritten_none IsCandidate described saves_a_word c.loop-savings.savings c.in_ok-savings.savings c.loop-savings.graph.graph c.settle_by.new.graph.graph c.in_ok-savings.ensures.rewritten
+    (sym (rewritten_none IsCandidate described saves_a_word c.loop-savings.savings c.in_ok-savings.savings c.loop-savings.graph.graph c.settle_from.new.graph.graph c.in_ok-savings.ensures.rewritten
     (omega (arith, c.if-words_of-before.true, c.words_of.ensures, c.words_of-before.ensures))))
     c.loop-savings.invariant.slotted
+
+pub returns-then-words_of-before-clause-still : goal.returns-then-words_of-before-clause-still
+returns-then-words_of-before-clause-still c = leftover_free_is_still c.settle_from.new.graph.graph c.in_ok-savings.ensures.left
 
 pub returns-then-words_of-before-clause-follows : goal.returns-then-words_of-before-clause-follows
 returns-then-words_of-before-clause-follows c = (returns-then-words_of-before-clause-rewritten c).lighter.follows
@@ -40,7 +43,7 @@ returns-then-words_of-before-clause-follows c = (returns-then-words_of-before-cl
 pub loop-savings-preserved : goal.loop-savings-preserved
 loop-savings-preserved c =
     let old = c.args.graph.now.graph in
-    let mid = c.settle_by.new.graph.graph in
+    let mid = c.settle_from.new.graph.graph in
     let round : IsRewritten IsCandidate described c.loop-savings.savings c.in_ok-savings.savings c.loop-savings.graph.graph mid = c.in_ok-savings.ensures.rewritten in
     let done = rewritten_through IsCandidate described NONE c.loop-savings.savings c.in_ok-savings.savings old c.loop-savings.graph.graph mid c.loop-savings.invariant.rewritten round in
     let fewer : words_of mid < words_of old = omega (arith, c.if-words_of-before.false, c.words_of.ensures, c.words_of-before.ensures, round.lighter.words, c.loop-savings.invariant.rewritten.lighter.words) in
@@ -52,7 +55,7 @@ loop-savings-preserved c =
 
 pub loop-savings-smaller : goal.loop-savings-smaller
 loop-savings-smaller c =
-    let mid = c.settle_by.new.graph.graph in
+    let mid = c.settle_from.new.graph.graph in
     let round : IsRewritten IsCandidate described c.loop-savings.savings c.in_ok-savings.savings c.loop-savings.graph.graph mid = c.in_ok-savings.ensures.rewritten in
     let same = alike_words mid (slotted mid) (slotted_alike mid) in
     subst (λ (g : Graph). words_of g < words_of c.loop-savings.graph.graph) (sym c.in_ok-name_by_slots.ensures.graph)
@@ -60,9 +63,9 @@ loop-savings-smaller c =
 
 pub returns-in_err-savings-clause-follows : goal.returns-in_err-savings-clause-follows
 returns-in_err-savings-clause-follows c =
-    graph_follows_through c.args.graph.now.graph c.loop-savings.graph.graph c.settle_by.new.graph.graph c.loop-savings.invariant.rewritten.lighter.follows c.settle_by.ensures.follows
+    graph_follows_through c.args.graph.now.graph c.loop-savings.graph.graph c.settle_from.new.graph.graph c.loop-savings.invariant.rewritten.lighter.follows c.settle_from.ensures.follows
 
 pub returns-in_err-name_by_slots-clause-follows : goal.returns-in_err-name_by_slots-clause-follows
 returns-in_err-name_by_slots-clause-follows c =
-    let follows = graph_follows_through c.args.graph.now.graph c.loop-savings.graph.graph c.settle_by.new.graph.graph c.loop-savings.invariant.rewritten.lighter.follows c.settle_by.ensures.follows in
+    let follows = graph_follows_through c.args.graph.now.graph c.loop-savings.graph.graph c.settle_from.new.graph.graph c.loop-savings.invariant.rewritten.lighter.follows c.settle_from.ensures.follows in
     subst (Follows c.args.graph.now.graph) (sym (ap (λ (v : GraphAndRoom). v.graph) c.in_err-name_by_slots.ensures.err)) follows

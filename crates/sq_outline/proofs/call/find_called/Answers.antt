@@ -1,5 +1,5 @@
 use Rattle.sq_outline.proofs.Calling.{no_call}
 use Rattle.sq_outline.proofs.call.find_called.Goals as goal
 
-pub returns-in-None-clause-none : goal.returns-in-None-clause-none
-returns-in-None-clause-none c = λ e cut candidate. no_call c.args.graph.now.graph c.args.names.now c.requires.names (c.find_call.ensures.none c.in-None.is) cut candidate
+pub returns-clause-none : goal.returns-clause-none
+returns-clause-none c = λ e cut candidate. no_call c.args.graph.now.graph c.args.names.now c.requires.names (c.find_call.ensures.none c.in-None.is) cut candidate

@@ -7,7 +7,7 @@ use Rattle.sq_outline.proofs.sets.find_among.Goals as goal
 
 pub find_in-requires-clause-group : goal.find_in-requires-clause-group
 find_in-requires-clause-group c =
-    class_groups c.args.graph.now.graph c.args.classes.now c.loop-number.number c.members.result.now c.learn.ensures.rules c.requires.value c.requires.classes c.members.ensures
+    class_groups c.args.graph.now.graph c.args.groups.now c.loop-number.number c.members.result.now c.learn.ensures.rules c.requires.value c.requires.classes c.members.ensures
 
 pub loop-number-preserved : goal.loop-number-preserved
 loop-number-preserved c =
@@ -19,6 +19,6 @@ loop-number-preserved c =
 
 pub returns-clause-none : goal.returns-clause-none
 returns-clause-none c = λ e first rest can.
-    none_in_classes c.args.graph.now.graph c.args.classes.now c.requires.classes
-    (λ k group is. let there = slice_get_within c.args.classes.now k group is in let past = c.loop-number-test.false in let count = c.len-number-end.ensures in c.loop-number.invariant k (omega arith) group is)
+    none_in_classes c.args.graph.now.graph c.args.groups.now c.requires.classes
+    (λ k group is. let there = slice_get_within c.args.groups.now k group is in let past = c.loop-number-test.false in let count = c.len-number-end.ensures in c.loop-number.invariant k (omega arith) group is)
     first rest can

@@ -6,4 +6,4 @@ use Rattle.sq_outline.proofs.sets.find_among.Given as goal
 -- none in the classes so far
 abbrev pub invariant-loop-number : goal.invariant-loop-number
 invariant-loop-number l =
-    (k : ℕ) → k < l.number → (group : List ℕ) → slice_get l.classes k ≡ Some group → All (λ first. (rest : List ℕ) → ¬ CanMake l.graph.graph first rest) group
+    (k : ℕ) → k < l.number → (group : List ℕ) → slice_get l.groups k ≡ Some group → All (λ first. (rest : List ℕ) → ¬ CanMake l.graph.graph first rest) group

@@ -1,7 +1,8 @@
-use Rattle.std.proofs.Common.{◌≤◌, ℕ, List, length, Ok, ap, ◌∙◌, subst, arith}
+use Rattle.std.proofs.Common.{◌≤◌, ℕ, List, length, get_or, Ok, ap, ◌∙◌, subst, arith}
 use Rattle.std.specs.List.{All}
 use Rattle.std.proofs.lemmas.List.{take_all}
 use Rattle.sq_outline.specs.Sets.{CanMake}
+use Rattle.sq_outline.proofs.Choosing.{two_in_group}
 use Rattle.sq_outline.proofs.Early.{one_more}
 use Rattle.sq_outline.proofs.sets.find_in.Goals as goal
 
@@ -21,3 +22,7 @@ returns-clause-none c = λ e.
 
 pub others_for-requires-clause-group : goal.others_for-requires-clause-group
 others_for-requires-clause-group c = c.requires.group c.loop-name.name-index 0 c.loop-name-test.true
+
+pub returns-then-group-lt2-clause-none : goal.returns-then-group-lt2-clause-none
+returns-then-group-lt2-clause-none c = λ e k d l rest can.
+    two_in_group c.args.graph.now.graph (get_or c.args.group.now k d) c.args.group.now rest (c.requires.group k d l) can (omega (arith, c.if-group-lt2.true))

@@ -1,26 +1,42 @@
-use Rattle.std.proofs.Common.{List, ℕ, [], ◌+◌, take, sym, ap, ◌∙◌, subst}
-use Rattle.sq_outline.specs.Sets.{Keeps, nothing, IsOther}
+use Rattle.std.proofs.Common.{List, ℕ, [], ◌+◌, take, get_or, sym, ap, ◌∙◌, subst, arith}
+use Rattle.std.proofs.lemmas.List.{get_or_default}
+use Rattle.sq_outline.specs.Sets.{Keeps, nothing, AreDeadBehind, IsOther}
 use Rattle.sq_outline.proofs.Keeping.{keeps_next, leaves_next}
+use Rattle.sq_outline.proofs.Choosing.{set_at, sets_long}
 use Rattle.sq_outline.proofs.sets.others_of.Goals as goal
 use Rattle.sq_outline.proofs.sets.others_of.Goals.{then-is_other+in_ok-push, else-is_other}
 
-pub loop-name-init : goal.loop-name-init
-loop-name-init c = subst (λ (ys : List ℕ). Keeps (IsOther c.args.graph.now.graph c.args.first) [] ys) (sym c.new-others.ensures.items) nothing
+pub loop-i-init : goal.loop-i-init
+loop-i-init c = subst (λ (ys : List ℕ). Keeps (IsOther c.args.graph.now.graph c.args.first) [] ys) (sym c.new-others.ensures.items) nothing
 
 pub is_other-requires-clause-block : goal.is_other-requires-clause-block
-is_other-requires-clause-block c =
-    c.requires.group c.loop-name.name-index 0 c.loop-name-test.true
+is_other-requires-clause-block c = c.requires.group c.loop-i.i 0 c.loop-i-test.true
 
-pub loop-name-preserved : goal.loop-name-preserved
-loop-name-preserved c =
+pub bounds-sets-i : goal.bounds-sets-i
+bounds-sets-i c =
+    let long = sets_long c.args.graph.now.graph c.args.group.now c.args.sets.now c.requires.sets in
+    let there = c.loop-i-test.true in
+    omega arith
+
+pub is_other-requires-clause-dead : goal.is_other-requires-clause-dead
+is_other-requires-clause-dead c =
+    let g = c.args.graph.now.graph in
+    let i = c.loop-i.i in
+    let long = sets_long g c.args.group.now c.args.sets.now c.requires.sets in
+    let there = c.loop-i-test.true in
+    subst (λ set. AreDeadBehind set g (get_or c.args.group.now i 0)) (get_or_default c.args.sets.now i 0 c.index-sets-i.result (omega (arith, there, long)) ∙ sym c.index-sets-i.is)
+    (set_at g c.args.group.now c.args.sets.now i c.requires.sets there)
+
+pub loop-i-preserved : goal.loop-i-preserved
+loop-i-preserved c =
     let P = IsOther c.args.graph.now.graph c.args.first in
     let names = c.args.group.now in
-    let i = c.loop-name.name-index in
+    let i = c.loop-i.i in
     elim c.if-is_other.branch [
       | then-is_other+in_ok-push w ↦
           subst (λ (ys : List ℕ). Keeps P (take (i + 1) names) ys) (sym (ap (λ others. others.items) w.others-is ∙ w.in_ok-push.ensures.items))
-          (keeps_next P names c.loop-name.others.items i c.loop-name-test.true c.loop-name.invariant (c.is_other.ensures.0 w.if-is_other.true))
+          (keeps_next P names c.loop-i.others.items i c.loop-i-test.true c.loop-i.invariant (c.is_other.ensures.0 w.if-is_other.true))
       | else-is_other w ↦
           subst (λ (ys : List ℕ). Keeps P (take (i + 1) names) ys) (sym (ap (λ others. others.items) w.others-is))
-          (leaves_next P names c.loop-name.others.items i c.loop-name-test.true c.loop-name.invariant (λ holds. let yes = c.is_other.ensures.1 holds in let no = w.if-is_other.false in absurd (cc)))
+          (leaves_next P names c.loop-i.others.items i c.loop-i-test.true c.loop-i.invariant (λ holds. let yes = c.is_other.ensures.1 holds in let no = w.if-is_other.false in absurd (cc)))
     ]

@@ -12,6 +12,10 @@ use Rattle.sq_top.specs.WatchPromises.{ForWatch, WatchesExactly, IsWatchComplete
 use Rattle.sq_top.proofs.WatchPromised.{watch_files_promised, watch_done_promised, watch_break_promised, watch_limit_promised, watch_bad_promised, watch_fault_promised, watch_refused_promised, watch_exact_promised, watch_complete_promised}
 use Rattle.sq_top.specs.HexPromises.{ForHex, ForHexcheck, HexRefusesExactly, IsHexComplete, ChecksExactly, IsCheckComplete}
 use Rattle.sq_top.proofs.HexPromised.{hex_done_promised, hex_fault_promised, hex_refused_promised, hex_exact_promised, hex_complete_promised, check_done_promised, check_differs_promised, check_fault_promised, check_refused_promised, check_exact_promised, check_complete_promised, check_files_promised}
+use Rattle.sq_top.specs.SizePromises.{ForSize, IsSizeComplete}
+use Rattle.sq_top.proofs.SizePromised.{size_done_promised, size_fault_promised, size_refused_promised, size_exact_promised, size_complete_promised, size_files_promised}
+use Rattle.sq_top.specs.TrialPromises.{IsTrialComplete, ForTrial}
+use Rattle.sq_top.proofs.TrialPromised.{trial_done_promised, trial_fault_promised, trial_complete_promised, trial_files_promised}
 use Rattle.sq_top.proofs.top.squeeze.Goals as goal
 
 pub returns-clause-done : goal.returns-clause-done
@@ -176,6 +180,53 @@ returns-clause-check_complete g c =
 
 pub returns-clause-check_files : goal.returns-clause-check_files
 returns-clause-check_files g c = check_files_promised c.args.words.now c.run_and_complain-ending.result _ _ c.run_and_complain-ending.ensures
+
+pub returns-clause-size_done : goal.returns-clause-size_done
+returns-clause-size_done g c = λ input form status.
+    size_done_promised c.args.words.now c.run_and_complain-ending.result _ _ c.run_and_complain-ending.ensures input form (sym c.status.ensures ∙ status)
+
+pub returns-clause-size_fault : goal.returns-clause-size_fault
+returns-clause-size_fault g c = λ input form status.
+    size_fault_promised c.args.words.now c.run_and_complain-ending.result _ _ c.run_and_complain-ending.ensures input form (sym c.status.ensures ∙ status)
+
+pub returns-clause-size_refused : goal.returns-clause-size_refused
+returns-clause-size_refused g c = λ input form status.
+    size_refused_promised c.args.words.now c.run_and_complain-ending.result _ _ c.run_and_complain-ending.ensures input form (sym c.status.ensures ∙ status)
+
+pub returns-clause-size_exact : goal.returns-clause-size_exact
+returns-clause-size_exact g c =
+    let before : Outside = g.D.Desk.outside c.args.desk.now in
+    let after : Outside = g.D.Desk.outside c.run_and_complain-ending.new.desk in
+    let P : ℕ → Type 0 = λ status. ForSize c.args.words.now (λ input. RefusesExactly input status before after) in
+    subst P (sym c.status.ensures) (size_exact_promised c.args.words.now c.run_and_complain-ending.result before after c.run_and_complain-ending.ensures)
+
+pub returns-clause-size_complete : goal.returns-clause-size_complete
+returns-clause-size_complete g c =
+    let before : Outside = g.D.Desk.outside c.args.desk.now in
+    let after : Outside = g.D.Desk.outside c.run_and_complain-ending.new.desk in
+    let P : ℕ → Type 0 = λ status. ForSize c.args.words.now (λ input. IsSizeComplete input status before after) in
+    subst P (sym c.status.ensures) (size_complete_promised c.args.words.now c.run_and_complain-ending.result before after c.run_and_complain-ending.ensures)
+
+pub returns-clause-size_files : goal.returns-clause-size_files
+returns-clause-size_files g c = size_files_promised c.args.words.now c.run_and_complain-ending.result _ _ c.run_and_complain-ending.ensures
+
+pub returns-clause-trial_done : goal.returns-clause-trial_done
+returns-clause-trial_done g c = λ first blocks form status.
+    trial_done_promised c.args.words.now c.run_and_complain-ending.result _ _ c.run_and_complain-ending.ensures first blocks form (sym c.status.ensures ∙ status)
+
+pub returns-clause-trial_fault : goal.returns-clause-trial_fault
+returns-clause-trial_fault g c = λ first blocks form status.
+    trial_fault_promised c.args.words.now c.run_and_complain-ending.result _ _ c.run_and_complain-ending.ensures first blocks form (sym c.status.ensures ∙ status)
+
+pub returns-clause-trial_complete : goal.returns-clause-trial_complete
+returns-clause-trial_complete g c =
+    let before : Outside = g.D.Desk.outside c.args.desk.now in
+    let after : Outside = g.D.Desk.outside c.run_and_complain-ending.new.desk in
+    let P : ℕ → Type 0 = λ status. ForTrial c.args.words.now (λ _ _. IsTrialComplete status before after) in
+    subst P (sym c.status.ensures) (trial_complete_promised c.args.words.now c.run_and_complain-ending.result before after c.run_and_complain-ending.ensures)
+
+pub returns-clause-trial_files : goal.returns-clause-trial_files
+returns-clause-trial_files g c = trial_files_promised c.args.words.now c.run_and_complain-ending.result _ _ c.run_and_complain-ending.ensures
 
 pub returns-clause-words : goal.returns-clause-words
 returns-clause-words g c =

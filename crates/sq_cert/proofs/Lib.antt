@@ -1,0 +1,5 @@
+pub mod Counts
+pub mod Lines
+pub mod Numerals
+pub mod RoundTrip
+pub mod Splitting

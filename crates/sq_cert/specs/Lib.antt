@@ -1,0 +1,5 @@
+pub mod Names
+pub mod Pieces
+pub mod Readings
+pub mod Steps
+pub mod Texts

@@ -1,0 +1,17 @@
+use Rattle.sq_follow.proofs.Following.{graph_follows_itself, graph_follows_through}
+use Rattle.sq_pass.proofs.Rewriting.{rewritten_itself, rewritten_through}
+use Rattle.sq_chain.specs.Candidates.{IsCandidate, described}
+use Rattle.sq_chain.proofs.sweep.sweep_moves.Goals as goal
+
+pub returns-in_err-names-clause-follows : goal.returns-in_err-names-clause-follows
+returns-in_err-names-clause-follows c = graph_follows_itself c.args.graph.now.graph
+
+pub loop-name-init : goal.loop-name-init
+loop-name-init c = rewritten_itself IsCandidate described c.args.savings c.args.graph.now.graph c.requires.canonical
+
+pub returns-in_err-next-clause-follows : goal.returns-in_err-next-clause-follows
+returns-in_err-next-clause-follows c = graph_follows_through c.args.graph.now.graph c.loop-name.graph.graph c.sweep_behind.new.graph.graph c.loop-name.invariant.lighter.follows c.sweep_behind.ensures.follows
+
+pub loop-name-preserved : goal.loop-name-preserved
+loop-name-preserved c =
+    rewritten_through IsCandidate described c.args.savings c.loop-name.after c.in_ok-next.next c.args.graph.now.graph c.loop-name.graph.graph c.sweep_behind.new.graph.graph c.loop-name.invariant c.in_ok-next.ensures.rewritten

@@ -1,0 +1,6 @@
+use Rattle.sq_pass.specs.Rewrites.{IsRewritten}
+use Rattle.sq_chain.specs.Candidates.{IsCandidate, described}
+use Rattle.sq_chain.proofs.sweep.sweep_moves.Given as goal
+
+abbrev pub invariant-loop-name : goal.invariant-loop-name
+invariant-loop-name l = IsRewritten IsCandidate described l.fn.savings l.after l.initial.graph.graph l.graph.graph

@@ -1,0 +1,65 @@
+//! Moves many chains by one look over the blocks.
+
+ghost use Rattle.std.specs.Prelude.{◌≤◌, ◌+◌, IfOk};
+ghost use Rattle.sq_num.specs.Saved.{words_saved};
+ghost use Rattle.sq_graph.specs.Leaders.{IsCanonical};
+ghost use Rattle.sq_graph.specs.Words.{words_of};
+ghost use Rattle.sq_follow.specs.Follows.{Follows};
+ghost use Rattle.sq_pass.specs.Rewrites.{IsRewritten};
+ghost use Rattle.sq_chain.specs.Candidates.{IsCandidate, described};
+
+use crate::moving::{movable_target, move_near};
+use sq_graph::Graph;
+use sq_layout::learn;
+use sq_live::block_names;
+use sq_num::{Memory, Savings};
+use sq_pass::{Rewrite, Row};
+use std::alloc::Global;
+
+/// Moves the chain to which this block jumps behind it, where the pair is movable and each Branch reaches then, and makes
+/// the graph canonical.
+fn sweep_behind(
+    alloc: Global,
+    graph: &mut Graph,
+    from: u32,
+    savings: Savings,
+) -> Result<Savings, Memory>
+    requires canonical { IsCanonical graph.old.graph }
+    requires words { words_of graph.old.graph + words_saved savings ≤ 1048576 }
+    ensures rewritten { IfOk result (λ after. IsRewritten IsCandidate described savings after graph.old.graph graph.new.graph) }
+    ensures follows { Follows graph.old.graph graph.new.graph }
+{
+    learn(graph);
+    let Some(to) = movable_target(graph, from) else {
+        return Ok(savings);
+    };
+    let Some(saving) = move_near(alloc, graph, from, to)? else {
+        return Ok(savings);
+    };
+    graph.canonical();
+    let done = Rewrite {
+        row: Row::L,
+        saving,
+    };
+    Ok(done.count(savings))
+}
+
+/// Moves chains by one look over the blocks in layout order, each where the pair is movable and each Branch reaches then,
+/// and makes the graph canonical after each. It makes no copy of the graph. It may leave moves: those that widen a Branch
+/// and save words still, and those of pairs that came to be movable behind the look.
+#[tactic(auto, using(sq_follow::proofs::Following::graph_follows_through))]
+pub fn sweep_moves(alloc: Global, graph: &mut Graph, savings: Savings) -> Result<Savings, Memory>
+    requires canonical { IsCanonical graph.old.graph }
+    requires words { words_of graph.old.graph + words_saved savings ≤ 1048576 }
+    ensures rewritten { IfOk result (λ after. IsRewritten IsCandidate described savings after graph.old.graph graph.new.graph) }
+    ensures follows { Follows graph.old.graph graph.new.graph }
+{
+    learn(graph);
+    let names = block_names(alloc, graph)?;
+    let mut after = savings;
+    for name in &names {
+        let next = sweep_behind(alloc, graph, *name, after)?;
+        after = next;
+    }
+    Ok(after)
+}

@@ -1,0 +1,88 @@
+-- Moves beside the rows of the passes.
+use Rattle.std.proofs.Common.{◌≡◌, ◌≢◌, ℕ, zero, suc, ◌-◌, ◌≤◌, inl, inr, refl, sym, ap, ◌∙◌, subst, arith}
+use Rattle.sq_num.specs.declared.packed.Savings.{Savings}
+use Rattle.sq_graph.specs.Alike.{AreAlike}
+use Rattle.sq_graph.specs.Canonical.{canonical_of}
+use Rattle.sq_graph.specs.Graph.{Graph}
+use Rattle.sq_graph.specs.Words.{words_of}
+use Rattle.sq_pass.specs.declared.cut.Cut.{Cut}
+use Rattle.sq_pass.specs.declared.cut.Row.{Row}
+use Rattle.sq_pass.specs.declared.cut.Row.TheVariants.{U, J1, J2, J3, C, T, O1, O2, O3, O4, W, V, L}
+use Rattle.sq_pass.specs.declared.rewrite.Rewrite.{Rewrite}
+use Rattle.sq_pass.specs.Rewrites.{IsRewrite, IsRewritten}
+use Rattle.sq_pass.proofs.Rewriting.{stepped_wider}
+use Rattle.sq_jumps.specs.Candidates.{HasRow}
+use Rattle.sq_chain.specs.Candidates.{cut_of, IsCandidate as IsMove, described as move_described}
+use Rattle.sq_chain.specs.Moves.{moved, IsStill}
+use Rattle.sq_drive.specs.declared.rows.RowPass.TheVariants.{Jumps, Tails, Outlines}
+use Rattle.sq_drive.specs.Rows.{pass_of, IsRowCandidate, row_described, IsCandidate, described_by, described, IsLeftoverFree}
+use Rattle.sq_drive.proofs.RowPasses.{its_row}
+
+-- WHAT THE ROW OF A CANDIDATE MAKES
+
+pub not_moved : (g : Graph) (cut : Cut) → IsRowCandidate g cut → cut.row ≢ L
+not_moved g cut (inl (inl unreached)) is = let same : U ≡ L = sym unreached.row ∙ is in cc
+not_moved g cut (inl (inr jump)) is = subst (λ row. HasRow row g jump.block) is jump.has_row
+not_moved g cut (inr (inl tail)) is = let same : Jumps ≡ Tails = sym (ap pass_of is) ∙ its_row Tails g cut tail in cc
+not_moved g cut (inr (inr outline)) is = let same : Jumps ≡ Outlines = sym (ap pass_of is) ∙ its_row Outlines g cut outline in cc
+
+pub row_made : (row : Row) (g : Graph) (cut : Cut) → row ≢ L → described_by row g cut ≡ row_described g cut
+row_made U g cut other = refl
+row_made J1 g cut other = refl
+row_made J2 g cut other = refl
+row_made J3 g cut other = refl
+row_made C g cut other = refl
+row_made T g cut other = refl
+row_made O1 g cut other = refl
+row_made O2 g cut other = refl
+row_made O3 g cut other = refl
+row_made O4 g cut other = refl
+row_made W g cut other = refl
+row_made V g cut other = refl
+row_made L g cut other = absurd (other refl)
+
+pub move_made : (g : Graph) (cut : Cut) → IsMove g cut → described g cut ≡ move_described g cut
+move_made g cut move = ap (λ row. described_by row g cut) (ap (λ (c : Cut). c.row) move.is)
+
+-- REWRITES
+
+row_rewrite : (done : Rewrite) (old new : Graph) → IsRewrite IsRowCandidate row_described done old new → IsRewrite IsCandidate described done old new
+row_rewrite done old new rewrite = record {
+  cut = rewrite.cut;
+  candidate = inl rewrite.candidate;
+  row = rewrite.row;
+  saving = rewrite.saving;
+  is = subst (λ (g : Graph). AreAlike (canonical_of g) new) (sym (row_made rewrite.cut.row old rewrite.cut (not_moved old rewrite.cut rewrite.candidate))) rewrite.is;
+}
+
+-- a move is a rewrite by all rows
+pub move_rewrite : (done : Rewrite) (old new : Graph) → IsRewrite IsMove move_described done old new → IsRewrite IsCandidate described done old new
+move_rewrite done old new rewrite = record {
+  cut = rewrite.cut;
+  candidate = inr rewrite.candidate;
+  row = rewrite.row;
+  saving = rewrite.saving;
+  is = subst (λ (g : Graph). AreAlike (canonical_of g) new) (sym (move_made old rewrite.cut rewrite.candidate)) rewrite.is;
+}
+
+-- rewrites by the rows of the passes are rewrites by all rows
+pub by_rows : (before after : Savings) (old new : Graph) → IsRewritten IsRowCandidate row_described before after old new → IsRewritten IsCandidate described before after old new
+by_rows = stepped_wider (IsRewrite IsRowCandidate row_described) (IsRewrite IsCandidate described) row_rewrite
+
+pub by_moves : (before after : Savings) (old new : Graph) → IsRewritten IsMove move_described before after old new → IsRewritten IsCandidate described before after old new
+by_moves = stepped_wider (IsRewrite IsMove move_described) (IsRewrite IsCandidate described) move_rewrite
+
+-- WHERE NO CANDIDATE IS LEFT
+
+pub none_left : (g : Graph) → ((cut : Cut) → ¬ IsRowCandidate g cut) → ((cut : Cut) → ¬ IsMove g cut) → IsLeftoverFree g
+none_left g rows moves cut (inl row) = rows cut row
+none_left g rows moves cut (inr move) = moves cut move
+
+-- the graph is still: a move after which the words are fewer would be a candidate
+pub leftover_free_is_still : (g : Graph) → IsLeftoverFree g → IsStill g
+leftover_free_is_still g none from to movable = by_saving (words_of g - words_of (moved g from to)) refl
+  where
+    by_saving : (n : ℕ) → words_of g - words_of (moved g from to) ≡ n → words_of g ≤ words_of (moved g from to)
+    by_saving zero e = omega (arith, e)
+    by_saving (suc n) e =
+        absurd (none (cut_of from to (suc n)) (inr (record { from = from; to = to; movable = movable; words = omega (arith, e); some = omega arith; is = refl })))

@@ -1,0 +1,232 @@
+//! The replay of a certificate: each step has to be a candidate of the graph that the steps before it left.
+
+ghost use Rattle.std.specs.Prelude.{◌≡◌, ◌≢◌, ℕ, ◌≤◌, true, false, None, Some, Ok, IfOk, OnOk, length};
+ghost use Rattle.sq_graph.specs.Blocks.{body_of};
+ghost use Rattle.sq_graph.specs.Leaders.{IsCanonical};
+ghost use Rattle.sq_graph.specs.Slotted.{slotted, IsSlotted};
+ghost use Rattle.sq_graph.specs.Canonical.{canonical_of};
+ghost use Rattle.sq_graph.specs.Words.{words_of};
+ghost use Rattle.sq_follow.specs.Follows.{Follows};
+ghost use Rattle.sq_pass.specs.Rewrites.{IsLighter};
+ghost use Rattle.sq_cert.specs.Steps.{row_of};
+ghost use Rattle.sq_drive.specs.Replay.{blocks_of, procedure_of, other_of, length_of, cut_of, IsGiven, IsTaken, MayStep, IsStep, IsReplay, FailsAt};
+ghost use Rattle.sq_drive.specs.Replaying.{IsLess, move_cut};
+
+use crate::rows::AllRows;
+use sq_cert::Step;
+use sq_chain::{movable, try_move};
+use sq_graph::Graph;
+use sq_isa::Reg;
+use sq_layout::learn;
+use sq_live::live;
+use sq_lookup::is_block;
+use sq_num::Memory;
+use sq_pass::{Blocks, Cut, Pass, Row};
+use std::alloc::Global;
+
+/// The row of a step.
+fn row_of(step: &Step) -> Row
+    ensures { result ≡ row_of step.now }
+{
+    match step {
+        Step::U => Row::U,
+        Step::J1 { .. } => Row::J1,
+        Step::J2 { .. } => Row::J2,
+        Step::J3 { .. } => Row::J3,
+        Step::C { .. } => Row::C,
+        Step::T { .. } => Row::T,
+        Step::O1 { .. } => Row::O1,
+        Step::O2 { .. } => Row::O2,
+        Step::O3 { .. } => Row::O3,
+        Step::O4 { .. } => Row::O4,
+        Step::W { .. } => Row::W,
+        Step::V { .. } => Row::V,
+        Step::L { .. } => Row::L,
+    }
+}
+
+/// A copy of these names.
+fn copy_of(alloc: Global, names: &[u32]) -> Result<Blocks, Memory>
+    ensures { IfOk result (λ blocks. blocks ≡ names.now) }
+{
+    let mut blocks = Blocks::new(alloc);
+    for name in names {
+        blocks.push(*name)?;
+    }
+    Ok(blocks)
+}
+
+/// The blocks of a step.
+fn blocks_of(alloc: Global, step: &Step) -> Result<Blocks, Memory>
+    ensures { IfOk result (λ blocks. blocks ≡ blocks_of step.now) }
+{
+    match step {
+        Step::U | Step::O3 { .. } | Step::O4 { .. } => copy_of(alloc, &[]),
+        Step::J1 { block }
+        | Step::J2 { block }
+        | Step::J3 { block }
+        | Step::C { block }
+        | Step::O2 { block, .. }
+        | Step::W { block, .. }
+        | Step::V { block, .. } => copy_of(alloc, &[*block]),
+        Step::T { dropped, kept, .. } => copy_of(alloc, &[*dropped, *kept]),
+        Step::O1 { blocks } => copy_of(alloc, blocks.as_slice()),
+        Step::L { from, to } => copy_of(alloc, &[*from, *to]),
+    }
+}
+
+/// The procedure of a step, or 0 where it has none.
+fn procedure_of(step: &Step) -> u32
+    ensures { result ≡ procedure_of step.now }
+{
+    match step {
+        Step::O2 { procedure, .. } | Step::O4 { procedure } | Step::V { procedure, .. } => {
+            *procedure
+        }
+        Step::O3 { stays, .. } => *stays,
+        _ => 0,
+    }
+}
+
+/// The procedure that goes by a step, or the place of its first item, or 0 where it has none.
+fn other_of(step: &Step) -> u32
+    ensures { result ≡ other_of step.now }
+{
+    match step {
+        Step::O3 { goes, .. } => *goes,
+        Step::W { at, .. } | Step::V { at, .. } => *at,
+        _ => 0,
+    }
+}
+
+/// How many items a procedure has, 0 where there is no such procedure.
+fn body_length(graph: &Graph, procedure: u32) -> u32
+    ensures { result ≡ length (body_of graph.now.graph procedure) }
+{
+    learn(graph);
+    if procedure < graph.procedures() {
+        graph.body(procedure).len() as u32
+    } else {
+        0
+    }
+}
+
+/// How many items a step is about, or 0.
+fn length_of(graph: &Graph, step: &Step) -> u32
+    ensures { result ≡ length_of graph.now.graph step.now }
+{
+    match step {
+        Step::T { length, .. } | Step::W { length, .. } => *length,
+        Step::V { procedure, .. } => body_length(graph, *procedure),
+        _ => 0,
+    }
+}
+
+/// The cut of a step, but for what its row determines.
+fn cut_of(alloc: Global, graph: &Graph, step: &Step) -> Result<Cut, Memory>
+    ensures { IfOk result (λ cut. cut ≡ cut_of graph.now.graph step.now) }
+{
+    let blocks = blocks_of(alloc, step)?;
+    Ok(Cut {
+        row: row_of(step),
+        blocks,
+        procedure: procedure_of(step),
+        other: other_of(step),
+        length: length_of(graph, step),
+        link: Reg::from_low_bits(0),
+        saving: 0,
+    })
+}
+
+/// Makes the graph canonical, and names its blocks by their places.
+fn tidy(alloc: Global, graph: &mut Graph) -> Result<(), Memory>
+    ensures graph { OnOk result (graph.new.graph ≡ slotted (canonical_of graph.old.graph)) }
+    ensures lighter { OnOk result (IsLighter 0 graph.old.graph graph.new.graph) }
+    ensures follows { Follows graph.old.graph graph.new.graph }
+{
+    learn(graph);
+    graph.canonical();
+    learn(graph);
+    graph.name_by_slots(alloc)?;
+    Ok(())
+}
+
+/// Applies the cut of a row that passes have with what its row determines, where it is a candidate then, and tidies the graph.
+fn take_row(alloc: Global, graph: &mut Graph, cut: Cut) -> Result<bool, Memory>
+    requires canonical { IsCanonical graph.old.graph }
+    requires words { words_of graph.old.graph ≤ 1048576 }
+    requires row { cut.row ≢ Row.L }
+    ensures taken { result ≡ Ok true → IsTaken cut graph.old.graph graph.new.graph }
+    ensures less { result ≡ Ok true → IsLess graph.old.graph graph.new.graph }
+    ensures none { result ≡ Ok false → ¬ IsGiven graph.old.graph cut }
+    ensures same { result ≡ Ok false → graph.new.graph ≡ graph.old.graph }
+    ensures follows { Follows graph.old.graph graph.new.graph }
+{
+    let live = live(alloc, graph)?;
+    let Some(cut) = AllRows.admit(alloc, graph, &live, cut)? else {
+        return Ok(false);
+    };
+    graph.reserve(AllRows.room(graph, &cut))?;
+    AllRows.apply(graph, &cut);
+    tidy(alloc, graph)?;
+    Ok(true)
+}
+
+/// The same for the move of the chain of `to` behind `from`.
+fn take_move(alloc: Global, graph: &mut Graph, from: u32, to: u32) -> Result<bool, Memory>
+    requires canonical { IsCanonical graph.old.graph }
+    requires words { words_of graph.old.graph ≤ 1048576 }
+    ensures taken { result ≡ Ok true → IsTaken (move_cut from to) graph.old.graph graph.new.graph }
+    ensures less { result ≡ Ok true → IsLess graph.old.graph graph.new.graph }
+    ensures none { result ≡ Ok false → ¬ IsGiven graph.old.graph (move_cut from to) }
+    ensures same { result ≡ Ok false → graph.new.graph ≡ graph.old.graph }
+    ensures follows { Follows graph.old.graph graph.new.graph }
+{
+    learn(graph);
+    if !is_block(graph, from) || !is_block(graph, to) {
+        return Ok(false);
+    }
+    if !movable(graph, from, to) {
+        return Ok(false);
+    }
+    if !try_move(alloc, graph, from, to)? {
+        return Ok(false);
+    }
+    tidy(alloc, graph)?;
+    Ok(true)
+}
+
+/// Takes a step, where it is a candidate, and tidies the graph; else the graph stays as it was. It looks at the whole graph.
+pub fn take_step(alloc: Global, graph: &mut Graph, step: &Step) -> Result<bool, Memory>
+    requires canonical { IsCanonical graph.old.graph }
+    requires words { words_of graph.old.graph ≤ 1048576 }
+    ensures taken { result ≡ Ok true → IsStep step.now graph.old.graph graph.new.graph }
+    ensures less { result ≡ Ok true → IsLess graph.old.graph graph.new.graph }
+    ensures none { result ≡ Ok false → ¬ MayStep graph.old.graph step.now }
+    ensures same { result ≡ Ok false → graph.new.graph ≡ graph.old.graph }
+    ensures follows { Follows graph.old.graph graph.new.graph }
+{
+    if let Step::L { from, to } = step {
+        return take_move(alloc, graph, *from, *to);
+    }
+    let cut = cut_of(alloc, graph, step)?;
+    take_row(alloc, graph, cut)
+}
+
+/// Takes the steps one after another, as long as they are candidates: the number of the first that isn't, or None.
+pub fn replay(alloc: Global, graph: &mut Graph, steps: &[Step]) -> Result<Option<usize>, Memory>
+    requires canonical { IsCanonical graph.old.graph }
+    requires slotted { IsSlotted graph.old.graph }
+    requires words { words_of graph.old.graph ≤ 1048576 }
+    ensures replay { result ≡ Ok None → IsReplay steps.now graph.old.graph graph.new.graph }
+    ensures fault { (number : ℕ) → result ≡ Ok (Some number) → FailsAt steps.now graph.old.graph number }
+    ensures lighter { OnOk result (IsLess graph.old.graph graph.new.graph) }
+    ensures follows { Follows graph.old.graph graph.new.graph }
+{
+    for (number, step) in steps.iter().enumerate() {
+        if !take_step(alloc, graph, step)? {
+            return Ok(Some(number));
+        }
+    }
+    Ok(None)
+}

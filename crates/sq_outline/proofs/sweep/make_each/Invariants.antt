@@ -1,0 +1,10 @@
+use Rattle.sq_pass.specs.Rewrites.{IsRewritten}
+use Rattle.sq_outline.specs.Candidates.{IsCandidate, described}
+use Rattle.sq_outline.specs.Still.{IsStill}
+use Rattle.sq_outline.proofs.sweep.make_each.Given as goal
+
+abbrev pub invariant-loop-at : goal.invariant-loop-at
+invariant-loop-at l = record {
+  rewritten : IsRewritten IsCandidate described l.fn.savings l.after l.initial.graph.graph l.graph.graph;
+  still : IsStill l.initial.graph.graph l.graph.graph;
+}

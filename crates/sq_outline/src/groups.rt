@@ -1,0 +1,224 @@
+//! Blocks in groups, such that all blocks whose bodies match are in one.
+
+ghost use Rattle.std.specs.Prelude.{◌≡◌, ◌+◌, ◌*◌, ◌≤◌, ◌<◌, ◌^◌, nat_eq, is_some, Some, map, IfOk};
+ghost use Rattle.std.specs.HashMap.{get};
+ghost use Rattle.std.specs.List.{All};
+ghost use Rattle.sq_isa.specs.Forms.{first_of, second_of};
+ghost use Rattle.sq_graph.specs.Blocks.{HasBlock};
+ghost use Rattle.sq_graph.specs.Parts.{names_of};
+ghost use Rattle.sq_graph.specs.Rules.{ItemFits};
+ghost use Rattle.sq_rename.specs.Shapes.{shape_of};
+ghost use Rattle.sq_finger.specs.Groups.{AreClasses};
+ghost use Rattle.sq_outline.specs.Prints.{item_number, mixed, first_sources, print_of_items, print_of, print_groups, HasPrints};
+
+use sq_encode::encode;
+use sq_finger::number_all;
+use sq_graph::{Graph, Item};
+use sq_isa::Insn;
+use sq_layout::learn;
+use sq_live::block_names;
+use sq_num::Memory;
+use sq_rename::shape;
+use std::alloc::Global;
+use std::collections::HashMap;
+use std::marker::Model;
+
+/// The number of an item's shape.
+fn shape_number(item: &Item) -> u64
+    requires { ItemFits item.now }
+    ensures value { result ≡ item_number (shape_of item.now) }
+    ensures small { result < 2 ^ 34 }
+{
+    match shape(item) {
+        Item::Op(insn) => u64::from(encode(&insn)),
+        Item::Hi { to, .. } => (1 << 32) + u64::from(to),
+        Item::Lo { to, .. } => (1 << 33) + u64::from(to),
+        Item::Out { procedure } => (3 << 32) + u64::from(procedure),
+    }
+}
+
+/// A print with one number more.
+fn mixed(print: u64, number: u64) -> u64
+    requires print { print ≤ 2 ^ 32 }
+    requires number { number < 2 ^ 34 }
+    ensures value { result ≡ mixed print number }
+    ensures small { result ≤ 2 ^ 32 }
+{
+    (print * 1_540_483_477 + number) % 4_294_967_291
+}
+
+/// The number of the registers that an instruction reads, one source or two.
+fn insn_sources(insn: &Insn) -> u64
+    ensures value { result ≡ first_of insn.now + 32 * second_of insn.now }
+    ensures small { result < 2 ^ 10 }
+{
+    let (a, b) = match *insn {
+        Insn::Jalr { rs, .. } | Insn::Load { rs, .. } | Insn::OpImm { rs, .. } => (rs.number(), 0),
+        Insn::Store { rs, src, .. } | Insn::Atomic { rs, src, .. } => (rs.number(), src.number()),
+        Insn::Op { a, b, .. } | Insn::Branch { a, b, .. } => (a.number(), b.number()),
+        Insn::Lui { .. }
+        | Insn::Auipc { .. }
+        | Insn::Jal { .. }
+        | Insn::Fence { .. }
+        | Insn::Ecall
+        | Insn::Ebreak
+        | Insn::Unimp { .. } => (0, 0),
+    };
+    u64::from(a) + 32 * u64::from(b)
+}
+
+/// The number of the registers that the first of the items reads.
+fn first_sources(items: &[Item]) -> u64
+    ensures value { result ≡ first_sources items.now }
+    ensures small { result < 2 ^ 10 }
+{
+    if items.is_empty() {
+        return 0;
+    }
+    match items[0] {
+        Item::Op(insn) => insn_sources(&insn),
+        Item::Lo { rs, .. } => u64::from(rs.number()),
+        Item::Hi { .. } | Item::Out { .. } => 0,
+    }
+}
+
+/// The print of items: items that match have one.
+fn print(items: &[Item]) -> u64
+    requires { All ItemFits items.now }
+    ensures { result ≡ print_of_items items.now }
+{
+    let mut print = first_sources(items);
+    for item in items {
+        print = mixed(print, shape_number(item));
+    }
+    print
+}
+
+/// The print of a block: blocks whose bodies match have one.
+fn block_print(graph: &Graph, block: u32) -> u64
+    requires { HasBlock graph.now.graph block }
+    ensures { result ≡ print_of graph.now.graph block }
+{
+    learn(graph);
+    print(graph.items(block))
+}
+
+/// A procedure for each print that a procedure's body has.
+pub(crate) fn procedure_prints(alloc: Global, graph: &Graph) -> Result<HashMap<u64, u32>, Memory>
+    ensures { IfOk result (λ prints. HasPrints graph.now.graph (get nat_eq prints)) }
+{
+    learn(graph);
+    let mut prints = HashMap::new(alloc);
+    for procedure in 0..graph.procedures() {
+        prints.insert(print(graph.body(procedure)), procedure)?;
+    }
+    Ok(prints)
+}
+
+/// Whether there is a procedure for the print of the block.
+pub(crate) fn has_print(graph: &Graph, prints: &HashMap<u64, u32>, block: u32) -> bool
+    requires { HasBlock graph.now.graph block }
+    ensures { result ≡ is_some (get nat_eq prints.now (print_of graph.now.graph block)) }
+{
+    prints.contains_key(&block_print(graph, block))
+}
+
+/// The prints of these blocks.
+fn prints(alloc: Global, graph: &Graph, names: &[u32]) -> Result<Vec<Option<u64>>, Memory>
+    requires { names.now ≡ names_of graph.now.graph }
+    ensures { IfOk result (λ prints. prints.items ≡ map (λ name. Some (print_of graph.now.graph name)) names.now) }
+{
+    learn(graph);
+    let mut prints = Vec::new(alloc);
+    for name in names {
+        prints.push(Some(block_print(graph, *name)))?;
+    }
+    Ok(prints)
+}
+
+/// Names of blocks in groups by their numbers.
+#[derive(Drop)]
+pub(crate) struct Groups {
+    groups: Vec<Vec<u32>>,
+}
+
+impl Model for Groups {
+    ghost use Rattle.std.specs.Prelude.{◌<◌, ◌^◌, ℕ, List, length, map};
+
+    ghost Value = { List (List ℕ) };
+
+    ghost view = { λ g. map (λ group. group.items) g.groups.items };
+
+    ghost invariant = { λ g. length g.groups.items < 2 ^ 32 };
+}
+
+impl Groups {
+    ghost use Rattle.std.specs.Prelude.{◌≡◌, ◌+◌, ◌<◌, ◌≤◌, ◌^◌, Some, length, slice_get, IfOk, OnOk};
+    ghost use Rattle.sq_finger.specs.Groups.{group_count, groups_of, grown, with_member};
+
+    /// How many groups there are.
+    pub(crate) fn len(&self) -> u32
+        ensures { result ≡ length self.now }
+    {
+        self.groups.len() as u32
+    }
+
+    /// The members of a group, in their order.
+    pub(crate) fn members(&self, group: u32) -> &[u32]
+        requires { group < length self.now }
+        ensures { slice_get self.now group ≡ Some result.now }
+    {
+        &self.groups[group as usize]
+    }
+
+    // Makes room for a group.
+    fn grow(&mut self, alloc: Global, group: u32) -> Result<(), Memory>
+        requires { group + 1 < 2 ^ 32 }
+        ensures { OnOk result (self.new ≡ grown group self.old) }
+    {
+        while self.groups.len() <= group as usize {
+            self.groups.push(Vec::new(alloc))?;
+        }
+        Ok(())
+    }
+
+    // Puts a member into a group.
+    fn push(&mut self, alloc: Global, group: u32, member: u32) -> Result<(), Memory>
+        requires { group + 1 < 2 ^ 32 }
+        ensures { OnOk result (self.new ≡ with_member group member self.old) }
+    {
+        self.grow(alloc, group)?;
+        self.groups[group as usize].push(member)?;
+        Ok(())
+    }
+
+    // Groups members by their numbers.
+    fn by_number(alloc: Global, members: &[u32], numbers: &[Option<u32>]) -> Result<Groups, Memory>
+        requires many { length numbers.now ≡ length members.now }
+        requires few { group_count numbers.now < 2 ^ 32 }
+        ensures { IfOk result (λ groups. groups ≡ groups_of numbers.now members.now) }
+    {
+        let mut groups = Groups {
+            groups: Vec::new(alloc),
+        };
+        for (i, number) in numbers.iter().enumerate() {
+            if let Some(number) = *number {
+                groups.push(alloc, number, members[i])?;
+            }
+        }
+        Ok(groups)
+    }
+}
+
+/// The blocks of a graph in groups by their prints, in which each block is once, and two whose bodies match are in one group.
+pub(crate) fn body_groups(alloc: Global, graph: &Graph) -> Result<Groups, Memory>
+    ensures value { IfOk result (λ groups. groups ≡ print_groups graph.now.graph) }
+    ensures classes { IfOk result (λ groups. AreClasses (print_of graph.now.graph) (HasBlock graph.now.graph) groups) }
+{
+    learn(graph);
+    let _room = graph.spare();
+    let names = block_names(alloc, graph)?;
+    let prints = prints(alloc, graph, &names)?;
+    let numbers = number_all(alloc, &prints)?;
+    Groups::by_number(alloc, &names, &numbers)
+}

@@ -1,0 +1,6 @@
+use Rattle.sq_pass.specs.Rewrites.{IsRewritten}
+use Rattle.sq_tail.specs.Candidates.{IsCandidate, described}
+use Rattle.sq_tail.proofs.sweep.ends.join_each.Given as goal
+
+abbrev pub invariant-loop-place : goal.invariant-loop-place
+invariant-loop-place l = IsRewritten IsCandidate described l.fn.savings l.after l.initial.graph.graph l.graph.graph
