@@ -4,7 +4,7 @@ use crate::arenas::Lists;
 use crate::bodies::{body_text, expect_numbers};
 use crate::changes::{change, reserve};
 use crate::drafts::{graph_of, is_part, parts_ahead};
-use crate::passes::{pass_step, settled, settled_with};
+use crate::passes::{moved, pass_step, settled, settled_with};
 use crate::places::{liveness_text, told};
 use crate::terms::{fields, register_of};
 use crate::texts::{graph_text, memory, names_of, parts_text};
@@ -151,6 +151,7 @@ fn graph_step(
             let boxed: Box<dyn Pass> = Box::new(alloc, Jumps)?;
             pass_step(alloc, graph, &boxed, step.words)?;
         }
+        "moves" => expect(step.words, &moved(alloc, graph).map_err(memory)?)?,
         "settle" => expect(step.words, &settled(alloc, graph).map_err(memory)?)?,
         "settle_with" => {
             let (count, wanted) = step.words.split_once(" saves ").context("no savings")?;
