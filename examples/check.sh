@@ -62,7 +62,7 @@ holds out smallest
 check 0 "hex 62" "" hex again text.hex
 check 0 "same" "" hexcheck again text.hex
 check 0 '{"loaded_after":16,"loaded_before":16,"moved":0,"procedures":0,"rows":{"C":0,"J1":0,"J2":0,"J3":0,"O1":0,"O2":0,"O3":0,"O4":0,"T":0,"U":0},"text_after":16,"text_before":16,"unreached":0}' "" size smallest
-check 0 "trial 0 8: text 244 -> 244, again 244" "" trial 0 8
+check 0 "trial 0 8: text 244 -> 232, again 232" "" trial 0 8
 check 0 "exit 7" "" run smallest empty $machine
 check 0 "exit 7" "" watch smallest empty $machine
 check 0 "exit 0" "" run usual-link empty $machine

@@ -1,18 +1,22 @@
 //! The steps of a case.
 
 use crate::arenas::Lists;
+use crate::bodies::{body_text, expect_numbers};
 use crate::changes::{change, reserve};
 use crate::drafts::{graph_of, is_part, parts_ahead};
-use crate::passes::{pass_step, settled, settled_with};
+use crate::passes::{moved, pass_step, settled, settled_with};
 use crate::places::{liveness_text, told};
 use crate::terms::{fields, register_of};
 use crate::texts::{graph_text, memory, names_of, parts_text};
 use anyhow::{Context, Error};
 use sq_cases::{CaseError, Step, Subject, cases_of, decimal, expect};
+use sq_drive::AllRows;
 use sq_graph::{Graph, Room};
 use sq_jumps::Jumps;
 use sq_layout::reaches;
+use sq_outline::Outlines;
 use sq_pass::{Blocks, Pass};
+use sq_tail::Tails;
 use std::alloc::Global;
 use std::mem;
 
@@ -111,8 +115,22 @@ fn change_step(alloc: Global, graph: &mut Graph, step: &Step<'_>) -> Result<(), 
 }
 
 /// Does a step on the graph that isn't about its text, and tells whether it was an expectation.
-fn graph_step(alloc: Global, graph: &mut Graph, step: &Step<'_>) -> Result<bool, Error> {
+fn graph_step(
+    alloc: Global,
+    words: &str,
+    graph: &mut Graph,
+    step: &Step<'_>,
+) -> Result<bool, Error> {
     match step.verb {
+        "fingerprint" | "windows" | "matches" | "matches_body" | "rename" => {
+            let (operands, wanted) = step
+                .words
+                .split_once(" gives ")
+                .context("nothing is wanted")?;
+            let operands = operands_of(alloc, operands)?;
+            let found = body_text(alloc, words, graph, step.verb, &operands);
+            expect(wanted, &found.map_err(memory)?)?;
+        }
         "live" | "dead" => {
             let fields = fields(alloc, step.words)?;
             let &[block, place, r] = fields.as_slice() else {
@@ -126,10 +144,14 @@ fn graph_step(alloc: Global, graph: &mut Graph, step: &Step<'_>) -> Result<bool,
             expect(step.verb, found.map_err(memory)?)?;
         }
         "jumps" => pass_step(alloc, graph, &Jumps, step.words)?,
+        "tails" => pass_step(alloc, graph, &Tails, step.words)?,
+        "outlines" => pass_step(alloc, graph, &Outlines, step.words)?,
+        "rows" => pass_step(alloc, graph, &AllRows, step.words)?,
         "boxed" => {
             let boxed: Box<dyn Pass> = Box::new(alloc, Jumps)?;
             pass_step(alloc, graph, &boxed, step.words)?;
         }
+        "moves" => expect(step.words, &moved(alloc, graph).map_err(memory)?)?,
         "settle" => expect(step.words, &settled(alloc, graph).map_err(memory)?)?,
         "settle_with" => {
             let (count, wanted) = step.words.split_once(" saves ").context("no savings")?;
@@ -177,6 +199,7 @@ impl Bench {
             "reaches" => return expect_reach(step.words, true),
             "too_far" => return expect_reach(step.words, false),
             "names" => return expect_listed(alloc, step.words),
+            "numbers" | "pairs" | "double" => return expect_numbers(alloc, step.verb, step.words),
             _ => {
                 let Some(graph) = &mut scene.graph else {
                     return Err(Error::msg("no graph"));
@@ -184,7 +207,7 @@ impl Bench {
                 if step.verb == "graph" {
                     return expect_graph(alloc, &self.words, graph, parts);
                 }
-                return graph_step(alloc, graph, step);
+                return graph_step(alloc, &self.words, graph, step);
             }
         }
         Ok(false)

@@ -1,5 +1,5 @@
-//! Cases on graphs: how they are changed, which registers are live and which blocks reached, where their words stand, and
-//! what passes find in them and make of them; and on the lists in which their blocks stand.
+//! Cases on graphs: how they are changed, which registers are live and which blocks reached, where their words stand,
+//! which bodies are alike, and what passes find in them and make of them; and on the lists in which their blocks stand.
 //!
 //! A case gives a graph as a text, changes it, and says what must be so then. `data/graphs.txt` has graphs with names,
 //! `data/words.txt` the names of instruction words.
@@ -7,6 +7,7 @@
 
 mod arenas;
 mod bench;
+mod bodies;
 mod changes;
 mod cuts;
 mod drafts;

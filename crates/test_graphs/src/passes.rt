@@ -8,13 +8,14 @@ use crate::cuts::{cut_of, cut_text, savings_text};
 use crate::texts::{memory, names_of};
 use anyhow::{Context, Error};
 use sq_cases::{decimal, expect};
+use sq_chain::move_once;
 use sq_drive::{rewrite_once, settle, settle_by, settle_with};
 use sq_graph::Graph;
 use sq_jumps::Jumps;
 use sq_layout::words_of;
 use sq_live::live;
 use sq_num::{Memory, Savings};
-use sq_pass::{Cut, Pass};
+use sq_pass::{Cut, Pass, Rewrite};
 use std::alloc::Global;
 
 /// The cut that a pass finds.
@@ -78,15 +79,28 @@ fn is_ready(graph: &mut Graph) -> bool
     words_of(graph) <= 1_048_576
 }
 
-/// One rewrite by a pass: its row and what it saved, or `none`.
+/// The row of a rewrite and what it saved, or `none`.
+fn rewrite_text(alloc: Global, done: Option<Rewrite>) -> Result<String, Memory> {
+    Ok(match done {
+        Some(done) => format!(in alloc; "{:?} saving {}", done.row, done.saving)?,
+        None => String::from_str(alloc, "none")?,
+    })
+}
+
+/// One rewrite by a pass.
 fn rewritten<P: Pass>(alloc: Global, graph: &mut Graph, pass: &P) -> Result<String, Memory> {
     if !is_ready(graph) {
         return Ok(String::from_str(alloc, "too many words")?);
     }
-    Ok(match rewrite_once(alloc, graph, pass)? {
-        Some(done) => format!(in alloc; "{:?} saving {}", done.row, done.saving)?,
-        None => String::from_str(alloc, "none")?,
-    })
+    rewrite_text(alloc, rewrite_once(alloc, graph, pass)?)
+}
+
+/// One move of a chain.
+pub fn moved(alloc: Global, graph: &mut Graph) -> Result<String, Memory> {
+    if !is_ready(graph) {
+        return Ok(String::from_str(alloc, "too many words")?);
+    }
+    rewrite_text(alloc, move_once(alloc, graph)?)
 }
 
 /// What a sweep of a pass saves, or with `settled` settling by it.

@@ -2,6 +2,7 @@
 
 ghost use Rattle.sq_live.specs.Liveness.{IsLivenessOf};
 
+use crate::bodies::classes_text;
 use crate::changes::is_block;
 use crate::texts::names_of;
 use sq_graph::Graph;
@@ -77,7 +78,7 @@ fn places_text(alloc: Global, graph: &Graph) -> Result<String, Memory> {
     Ok(text)
 }
 
-/// What a verb tells of a graph: `blocks`, `words`, `spare`, `reached` or `places`.
+/// What a verb tells of a graph: `blocks`, `words`, `spare`, `reached`, `places` or `classes`.
 pub fn told(alloc: Global, graph: &Graph, verb: &str) -> Result<Option<String>, Memory> {
     Ok(Some(match verb {
         "blocks" => format!(in alloc; "{}", graph.links().len())?,
@@ -88,6 +89,7 @@ pub fn told(alloc: Global, graph: &Graph, verb: &str) -> Result<Option<String>, 
         }
         "reached" => reached_text(alloc, graph)?,
         "places" => places_text(alloc, graph)?,
+        "classes" => classes_text(alloc, graph)?,
         _ => return Ok(None),
     }))
 }

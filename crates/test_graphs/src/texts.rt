@@ -33,7 +33,7 @@ pub fn position(names: &[u32], name: u32) -> u32 {
 }
 
 /// An instruction by its text in the table `words`; where that has none, its word in hexadecimal digits.
-fn insn_text(alloc: Global, words: &str, insn: &Insn) -> Result<String, Memory> {
+pub fn insn_text(alloc: Global, words: &str, insn: &Insn) -> Result<String, Memory> {
     if !fits(insn) {
         return Ok(String::from_str(alloc, "unfit")?);
     }
