@@ -54,12 +54,12 @@ holds() {
 many=$(seq 1 3000 | tr '\n' ' ')
 
 # 0
-check 0 "text 820 -> 692, loaded 1044 -> 916" "" pack meter out
-check 0 "text 692 -> 692, loaded 916 -> 916" "" pack out again
+check 0 "text 820 -> 684, loaded 1044 -> 908" "" pack meter out
+check 0 "text 684 -> 684, loaded 908 -> 908" "" pack out again
 holds again out
 check 0 "text 16 -> 16, loaded 16 -> 16" "" pack smallest out
 holds out smallest
-check 0 "hex 62" "" hex again text.hex
+check 0 "hex 61" "" hex again text.hex
 check 0 "same" "" hexcheck again text.hex
 check 0 '{"loaded_after":16,"loaded_before":16,"moved":0,"procedures":0,"rows":{"C":0,"J1":0,"J2":0,"J3":0,"O1":0,"O2":0,"O3":0,"O4":0,"T":0,"U":0},"text_after":16,"text_before":16,"unreached":0}' "" size smallest
 check 0 "trial 0 8: text 244 -> 232, again 232" "" trial 0 8
@@ -114,7 +114,7 @@ check 7 "" "bad start" run smallest empty 10 65536 16
 # 8: a text of another file, and one without its last record
 check 8 "" "no 0" hexcheck smallest text.hex
 sed '$d' text.hex > cut.hex
-check 8 "" "no 62" hexcheck meter cut.hex
+check 8 "" "no 61" hexcheck meter cut.hex
 
 # Printing to a full device
 if [ -e /dev/full ]; then
