@@ -55,13 +55,13 @@ module _ (given output cert : List ℕ) (first : Graph) (fit : AllByRecursion (�
 
 -- a lighter graph can be written, and its file is proved
 pub less_fits : (given : List ℕ) (first last : Graph) → FitsFile given first → IsLess first last → CanBeWritten given last
-less_fits given first last fits less = lighter_fits given first last less.0 fits less.1
+less_fits given first last fits less = lighter_fits given first last less.saved fits less.lighter
 
 pub is_proved : (given output : List ℕ) (first last : Graph) → AllByRecursion (λ b. b < 256) given → IsLiftedFile given first → FitsFile given first → IsLess first last → IsGraph last → output ≡ written given last → IsProved given output
 is_proved given output first last fit lifted fits less rules is =
     subst (IsProved given) (sym is) (record {
-      same = lighter_is_same given first last less.0 fit lifted fits less.1 rules;
-      loads_no_more = loads_less given first last less.0 fit lifted fits less.1 rules;
+      same = lighter_is_same given first last less.saved fit lifted fits less.lighter rules;
+      loads_no_more = loads_less given first last less.saved fit lifted fits less.lighter rules;
     })
 
 -- where reading the first file fails, and where reading the second does
