@@ -24,3 +24,13 @@ module _ {T : Type 0} where
       ∙ ap (λ ys. ys ++ drop (at + n + 1) ((take at xs ++ new) ++ drop at xs)) (take_at (take at xs ++ new) (drop at xs) (at + n) size)
       ∙ ap (λ ys. (take at xs ++ new) ++ ys) (sym (drop-drop 1 (at + n) ((take at xs ++ new) ++ drop at xs)) ∙ ap (drop 1) (drop_at (take at xs ++ new) (drop at xs) (at + n) size) ∙ drop-drop 1 at xs)
       ∙ append_assoc (take at xs) new (drop (at + 1) xs)
+
+  -- items of which the last are gone, and the others overwritten
+  pub overwritten : (xs by : List T) (at n : ℕ) → at + n ≤ length xs → length by ≤ n → take at (take at xs ++ drop (at + (n - length by)) xs) ++ (by ++ drop (at + length by) (take at xs ++ drop (at + (n - length by)) xs)) ≡ take at xs ++ (by ++ drop (at + n) xs)
+  overwritten xs by at n there fewer =
+      let m = length by in
+      let rest = drop (at + (n - length by)) xs in
+      let size : length (take at xs) ≡ at = length-take-le at xs (omega (arith, there)) in
+      let end : at + (n - length by) + length by ≡ at + n = omega (arith, fewer) in
+      ap (λ ys. ys ++ (by ++ drop (at + m) (take at xs ++ rest))) (take_at (take at xs) rest at size)
+      ∙ ap (λ ys. take at xs ++ (by ++ ys)) (sym (drop-drop m at (take at xs ++ rest)) ∙ ap (drop m) (drop_at (take at xs) rest at size) ∙ drop-drop m (at + (n - m)) xs ∙ ap (λ k. drop k xs) end)

@@ -30,9 +30,22 @@ pub(crate) fn cut(items: &mut Vec<Item>, at: u32, count: u32)
     ensures items { items.new.items ≡ take at items.old.items ++ drop (at + count) items.old.items }
     ensures capacity { vec_capacity items.new ≡ vec_capacity items.old }
 {
-    rotate(items, at as usize, count as usize);
-    let left = items.len() - count as usize;
-    items.truncate(left);
+    let at = at as usize;
+    let count = count as usize;
+    let len = items.len();
+    items.copy_within(at + count..len, at);
+    items.truncate(len - count);
+}
+
+// Writes other items over those from this place on.
+fn overwrite(items: &mut Vec<Item>, at: u32, by: &[Item])
+    requires { at + length by.now ≤ vec_len items.old }
+    ensures items { items.new.items ≡ replaced_items items.old.items at (length by.now) by.now }
+    ensures capacity { vec_capacity items.new ≡ vec_capacity items.old }
+{
+    let at = at as usize;
+    let part = &mut items[at..at + by.len()];
+    part.copy_from_slice(by);
 }
 
 // Moves the last items to this place.
@@ -53,11 +66,17 @@ pub(crate) fn replace(items: &mut Vec<Item>, at: u32, count: u32, by: &[Item])
     ensures items { items.new.items ≡ replaced_items items.old.items at count by.now }
     ensures capacity { vec_capacity items.old ≤ vec_capacity items.new }
 {
+    let added = by.len() as u32;
+    if added <= count {
+        cut(items, at, count - added);
+        overwrite(items, at, by);
+        return;
+    }
     cut(items, at, count);
     if items.extend_from_slice(by).is_err() {
         unreachable!();
     }
-    raise(items, at, by.len() as u32);
+    raise(items, at, added);
 }
 
 /// Appends a copy of so many items from this place on.
