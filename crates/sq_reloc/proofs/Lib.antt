@@ -9,3 +9,10 @@ pub mod Found
 pub mod MarkedInsns
 pub mod MarkFacts
 pub mod StalePages
+pub mod TablePasses
+pub mod GatheredMore
+pub mod NotedMore
+pub mod Alike
+pub mod Fresh
+pub mod FreshReads
+pub mod FreshTables

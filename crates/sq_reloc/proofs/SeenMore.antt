@@ -1,8 +1,7 @@
 -- What the entries say of a word, with one entry more.
-use Rattle.std.proofs.Common.{◌≡◌, ℕ, ◌+◌, ◌<◌, Bool, true, false, ◌||◌, cond, if◌then◌else◌, List, [], ◌∷◌, ◌++◌, length, get_or, take, Option, Some, None, refl, sym, ap, ◌∙◌}
+use Rattle.std.proofs.Common.{◌≡◌, ℕ, Bool, true, false, ◌||◌, cond, if◌then◌else◌, List, [], ◌∷◌, ◌++◌, Option, Some, None, refl, sym, ap, ◌∙◌}
 use Rattle.std.specs.Option.{option_map, option_map_or, option_or}
 use Rattle.std.specs.List.{list_any, find, filter}
-use Rattle.std.proofs.lemmas.Grind.{take_at_read}
 use Rattle.std.proofs.lemmas.List.Folds.{find-append, list_any-append}
 use Rattle.sq_elf.specs.Text.{text_of}
 use Rattle.sq_reloc.specs.declared.entry.Entry.{Entry}
@@ -26,14 +25,18 @@ kind_of_one : (test : Bool) (e : Entry) → option_map (λ x. x.kind) (cond test
 kind_of_one true e = refl
 kind_of_one false e = refl
 
+-- the first that passes
+pub found_more : (test : Entry → Bool) (entries : List Entry) (e : Entry) → find test (entries ++ e ∷ []) ≡ option_or (find test entries) (if test e then Some e else None)
+found_more test entries e = find-append test entries (e ∷ [])
+
 fault_more : (test : Entry → Bool) (entries : List Entry) (e : Entry) → option_map (λ x. x.kind) (find test (entries ++ e ∷ [])) ≡ option_or (option_map (λ x. x.kind) (find test entries)) (kind_if (test e) e.kind)
 fault_more test entries e =
     ap (option_map (λ x. x.kind)) (find-append test entries (e ∷ []))
     ∙ kind_or (find test entries) (cond (test e) (Some e) None)
     ∙ ap (option_or (option_map (λ x. x.kind) (find test entries))) (kind_of_one (test e) e)
 
-lone_more : (test : Entry → Bool) (entries : List Entry) (e : Entry) → list_any test (entries ++ e ∷ []) ≡ (list_any test entries || test e)
-lone_more test entries e = list_any-append test entries (e ∷ []) ∙ ap (λ b. list_any test entries || b) (last_false (test e))
+pub any_more : (test : Entry → Bool) (entries : List Entry) (e : Entry) → list_any test (entries ++ e ∷ []) ≡ (list_any test entries || test e)
+any_more test entries e = list_any-append test entries (e ∷ []) ∙ ap (λ b. list_any test entries || b) (last_false (test e))
 
 first_more : (bytes : List ℕ) (address : ℕ) (entries : List Entry) (e : Entry) → first_seen bytes address (entries ++ e ∷ []) ≡ option_or (first_seen bytes address entries) (Some (first_of e (entry_mark bytes address e)))
 first_more bytes address [] e = refl
@@ -41,11 +44,11 @@ first_more bytes address (x ∷ xs) e = refl
 
 differ_more : (bytes : List ℕ) (address : ℕ) (entries : List Entry) (e : Entry) → differ (entries ++ e ∷ []) ≡ (differ entries || is_unlike (first_seen bytes address entries) e)
 differ_more bytes address [] e = refl
-differ_more bytes address (x ∷ xs) e = lone_more (differs x) xs e
+differ_more bytes address (x ∷ xs) e = any_more (differs x) xs e
 
 seen_more : (bytes : List ℕ) (address : ℕ) (entries : List Entry) (e : Entry) → seen_of bytes address (entries ++ e ∷ []) ≡ seen_with (seen_of bytes address entries) e (verdict_of bytes e) (entry_mark bytes address e)
 seen_more bytes address entries e =
-    rw (first_more bytes address entries e, fault_more (is_unsupported (text_of bytes)) entries e, fault_more (is_disagreeing bytes) entries e, differ_more bytes address entries e, lone_more (is_lone_entry bytes) entries e) refl
+    rw (first_more bytes address entries e, fault_more (is_unsupported (text_of bytes)) entries e, fault_more (is_disagreeing bytes) entries e, differ_more bytes address entries e, any_more (is_lone_entry bytes) entries e) refl
 
 -- of those entries that touch a word
 module _ (bytes : List ℕ) (address : ℕ) where
@@ -67,24 +70,18 @@ module _ (bytes : List ℕ) (address : ℕ) where
   none_behind [] = refl
   none_behind (x ∷ xs) = ap (λ list. x ∷ list) (none_behind xs)
 
-  module _ (entries : List Entry) (i : ℕ) (d : Entry) (within : i < length entries) (old new : Seen) (before : old ≡ seen_of bytes address (meeting (take i entries))) where
-    abbrev this : Entry
-    this = get_or entries i d
-
-    met : meeting (take (i + 1) entries) ≡ meeting (take i entries) ++ meeting (this ∷ [])
-    met = ap meeting ((take_at_read entries i d within).1) ∙ meeting_push (take i entries) this
-
-    noted_by : (test : Bool) → touches_word this address ≡ test → new ≡ (if test then seen_with old this (verdict_of bytes this) (mark_at this (verdict_of bytes this) address) else old) → new ≡ seen_of bytes address (meeting (take (i + 1) entries))
+  module _ (entries : List Entry) (this : Entry) (old new : Seen) (before : old ≡ seen_of bytes address (meeting entries)) where
+    noted_by : (test : Bool) → touches_word this address ≡ test → new ≡ (if test then seen_with old this (verdict_of bytes this) (mark_at this (verdict_of bytes this) address) else old) → new ≡ seen_of bytes address (meeting (entries ++ this ∷ []))
     noted_by true is added =
-        let all : meeting (take (i + 1) entries) ≡ meeting (take i entries) ++ this ∷ [] = met ∙ ap (λ list. meeting (take i entries) ++ list) (one_met true this is) in
+        let all : meeting (entries ++ this ∷ []) ≡ meeting entries ++ this ∷ [] = meeting_push entries this ∙ ap (λ list. meeting entries ++ list) (one_met true this is) in
         added ∙ ap (λ seen. seen_with seen this (verdict_of bytes this) (entry_mark bytes address this)) before
-        ∙ sym (seen_more bytes address (meeting (take i entries)) this) ∙ ap (seen_of bytes address) (sym all)
+        ∙ sym (seen_more bytes address (meeting entries) this) ∙ ap (seen_of bytes address) (sym all)
     noted_by false is kept =
-        let all : meeting (take (i + 1) entries) ≡ meeting (take i entries) =
-        met ∙ ap (λ list. meeting (take i entries) ++ list) (one_met false this is) ∙ none_behind (meeting (take i entries)) in
+        let all : meeting (entries ++ this ∷ []) ≡ meeting entries =
+        meeting_push entries this ∙ ap (λ list. meeting entries ++ list) (one_met false this is) ∙ none_behind (meeting entries) in
         kept ∙ before ∙ ap (seen_of bytes address) (sym all)
 
-    pub noted : new ≡ (if touches_word this address then seen_with old this (verdict_of bytes this) (mark_at this (verdict_of bytes this) address) else old) → new ≡ seen_of bytes address (meeting (take (i + 1) entries))
+    pub noted : new ≡ (if touches_word this address then seen_with old this (verdict_of bytes this) (mark_at this (verdict_of bytes this) address) else old) → new ≡ seen_of bytes address (meeting (entries ++ this ∷ []))
     noted is = noted_by (touches_word this address) refl is
 
 -- the mark that is read off

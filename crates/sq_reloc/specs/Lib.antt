@@ -1,11 +1,13 @@
 pub mod CodeWords
 pub mod Entries
+pub mod Gathering
 pub mod Kinds
 pub mod Marks
 pub mod Outside
 pub mod Pages
 pub mod Reading
 pub mod Refusing
+pub mod Repeats
 pub mod Required
 pub mod Seen
 pub mod Tables

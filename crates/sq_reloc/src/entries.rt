@@ -1,15 +1,12 @@
 //! The entries of a file: those of RELA sections for what is in memory.
 
-ghost use Rattle.std.specs.Prelude.{◌≡◌, ◌++◌, ◌/◌, IfOk, OnOk};
+ghost use Rattle.std.specs.Prelude.{◌≡◌, ◌/◌};
 ghost use Rattle.sq_elf.specs.Reading.{section_at};
 ghost use Rattle.sq_elf.specs.declared.section.Section.{Section};
-ghost use Rattle.sq_reloc.specs.Entries.{is_rela, is_rel, is_in_memory, is_for_memory, is_applied, symbol_value, entry_at, table_entries, section_entries, entries_of};
+ghost use Rattle.sq_reloc.specs.Entries.{is_rela, is_rel, is_in_memory, is_for_memory, is_applied, symbol_value, entry_at};
 
 use crate::entry::Entry;
-use crate::kinds::is_ignored;
 use sq_elf::{Elf, Section, u32_field};
-use sq_num::Memory;
-use std::alloc::Global;
 
 /// SHT_RELA
 const RELA: u32 = 4;
@@ -107,46 +104,4 @@ pub fn entry_at(
         value: symbol_value(elf, symbols, symbol),
         addend: u32_field(bytes, at + 8),
     }
-}
-
-/// Appends the entries of a RELA section that are not ignored.
-#[tactic(auto, unfolding(crate::specs::Entries::entries_in))]
-pub fn push_table(
-    entries: &mut Vec<Entry>,
-    elf: &Elf<'_>,
-    index: u32,
-    table: Section,
-) -> Result<(), Memory>
-    ensures { OnOk result (entries.new.items ≡ entries.old.items ++ table_entries elf.now index table) }
-{
-    let symbols = elf.section(table.link);
-    for number in 0..table.size / ENTRY {
-        let entry = entry_at(elf, index, table, symbols, number);
-        if !is_ignored(entry.kind) {
-            entries.push(entry)?;
-        }
-    }
-    Ok(())
-}
-
-/// Appends the entries of a section that are not ignored.
-fn push_section(entries: &mut Vec<Entry>, elf: &Elf<'_>, index: u32) -> Result<(), Memory>
-    ensures { OnOk result (entries.new.items ≡ entries.old.items ++ section_entries elf.now index (section_at elf.now index)) }
-{
-    match elf.section(index) {
-        Some(table) if is_applied(elf, table) => push_table(entries, elf, index, table),
-        _ => Ok(()),
-    }
-}
-
-/// The entries of the file that are not ignored, in order of section and entry.
-#[tactic(auto, unfolding(crate::specs::Entries::entries_before))]
-pub fn entries_of(alloc: Global, elf: &Elf<'_>) -> Result<Vec<Entry>, Memory>
-    ensures { IfOk result (λ entries. entries.items ≡ entries_of elf.now) }
-{
-    let mut entries = Vec::new(alloc);
-    for index in 0..elf.sections() {
-        push_section(&mut entries, elf, index)?;
-    }
-    Ok(entries)
 }

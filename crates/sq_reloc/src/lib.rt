@@ -7,12 +7,14 @@
 
 mod entries;
 mod entry;
+mod gathered;
 mod kinds;
 mod mark;
 mod outside;
 mod outside_text;
 mod refusing;
 mod relocs;
+mod repeats;
 mod required;
 mod seen;
 mod tables;

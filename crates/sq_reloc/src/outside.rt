@@ -1,15 +1,14 @@
 //! Entries outside text: code words, and the bytes that entries make stale.
 
-ghost use Rattle.std.specs.Prelude.{◌≡◌, ℕ, ◌||◌, nat_eq, IfOk, OnOk};
+ghost use Rattle.std.specs.Prelude.{◌≡◌, ℕ, ◌||◌, nat_eq, OnOk};
 ghost use Rattle.std.specs.HashSet as set;
 ghost use Rattle.sq_reloc.specs.Kinds.{touches};
-ghost use Rattle.sq_reloc.specs.Outside.{is_outside, is_code_entry, makes_stale, is_stale_by};
+ghost use Rattle.sq_reloc.specs.Outside.{is_outside, is_code_entry, makes_stale};
 
 use crate::entry::Entry;
 use crate::kinds::{ABSOLUTE_32, is_data_kind, width};
 use sq_elf::{Text, is_in_text, is_text_word};
 use sq_num::Memory;
-use std::alloc::Global;
 use std::collections::HashSet;
 
 /// Whether the entry stands outside text.
@@ -30,7 +29,7 @@ pub fn is_code_entry(text: Text, entry: Entry) -> bool
 }
 
 /// Whether the entry makes the bytes stale that it touches.
-fn makes_stale(text: Text, entry: Entry) -> bool
+pub fn makes_stale(text: Text, entry: Entry) -> bool
     ensures { result ≡ makes_stale text entry }
 {
     is_outside(text, entry)
@@ -40,24 +39,11 @@ fn makes_stale(text: Text, entry: Entry) -> bool
 }
 
 /// Puts the bytes that an entry touches into the set.
-fn insert_touched(stale: &mut HashSet<u64>, entry: Entry) -> Result<(), Memory>
+pub fn insert_touched(stale: &mut HashSet<u64>, entry: Entry) -> Result<(), Memory>
     ensures { OnOk result ((address : ℕ) → set.contains nat_eq stale.new address ≡ (set.contains nat_eq stale.old address || touches entry address)) }
 {
     for place in 0..width(entry.kind) {
         stale.insert(u64::from(entry.offset) + u64::from(place))?;
     }
     Ok(())
-}
-
-/// The bytes that the entries make stale.
-pub fn stale_bytes(alloc: Global, text: Text, entries: &[Entry]) -> Result<HashSet<u64>, Memory>
-    ensures { IfOk result (λ stale. (address : ℕ) → set.contains nat_eq stale address ≡ is_stale_by text entries.now address) }
-{
-    let mut stale = HashSet::new(alloc);
-    for entry in entries {
-        if makes_stale(text, *entry) {
-            insert_touched(&mut stale, *entry)?;
-        }
-    }
-    Ok(stale)
 }

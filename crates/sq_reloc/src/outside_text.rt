@@ -6,15 +6,15 @@ ghost use Rattle.std.specs.Ordering.{nat_cmp};
 ghost use Rattle.std.specs.HashSet as set;
 ghost use Rattle.std.specs.BTreeMap.{IsOrdered};
 ghost use Rattle.sq_reloc.specs.CodeWords.{unbeaten, AreCodeWords};
-ghost use Rattle.sq_reloc.specs.Entries.{entries_of};
+ghost use Rattle.sq_elf.specs.Text.{text_of};
+ghost use Rattle.sq_reloc.specs.Reading.{KeepsOutside};
 ghost use Rattle.sq_reloc.specs.Outside.{is_touched, is_beaten, is_stale, disagrees_outside, is_refused_outside};
 ghost use Rattle.sq_reloc.specs.Pages.{is_touched_in, AreStalePages};
 
 use crate::entry::Entry;
 use crate::kinds::is_data_kind;
 use crate::mark::CodeWord;
-use crate::outside::{is_code_entry, is_outside, stale_bytes};
-use crate::targets::first_targets;
+use crate::outside::{is_code_entry, is_outside};
 use sq_elf::{Elf, Text};
 use sq_num::Memory;
 use std::alloc::Global;
@@ -47,19 +47,16 @@ impl<'a> Model for OutsideText<'a> {
 
 impl<'a> OutsideText<'a> {
     /// What the entries of the file say of what is outside text.
-    pub fn new(alloc: Global, elf: &Elf<'a>, entries: &[Entry]) -> Result<OutsideText<'a>, Memory>
-        requires { entries.now ≡ entries_of elf.now }
-        ensures { IfOk result (λ o. o ≡ elf.now) }
+    pub fn new(elf: &Elf<'a>, stale: HashSet<u64>, targets: BTreeMap<u32, u32>) -> OutsideText<'a>
+        requires { KeepsOutside elf.now (text_of elf.now) stale targets }
+        ensures { result ≡ elf.now }
     {
-        let text = elf.text();
-        let stale = stale_bytes(alloc, text, entries)?;
-        let targets = first_targets(alloc, entries, |entry| is_code_entry(text, entry))?;
-        Ok(OutsideText {
+        OutsideText {
             bytes: elf.bytes(),
-            text,
+            text: elf.text(),
             stale,
             targets,
-        })
+        }
     }
 
     /// Whether an entry makes the byte stale.

@@ -1,17 +1,16 @@
 //! The refusal of a file by its relocations: the first row of the table that fails, at its first place.
 
-ghost use Rattle.std.specs.Prelude.{◌≡◌, Bool};
+ghost use Rattle.std.specs.Prelude.{◌≡◌, ℕ, List};
+ghost use Rattle.std.specs.List.{find};
 ghost use Rattle.sq_num.specs.Refusals.{first_refusal};
-ghost use Rattle.sq_reloc.specs.declared.entry.Entry.{Entry};
 ghost use Rattle.sq_reloc.specs.Entries.{entries_of};
-ghost use Rattle.sq_reloc.specs.Refusing.{first_entry, outside_refusal, table_rows, entry_rows};
+ghost use Rattle.sq_reloc.specs.Refusing.{outside_refusal, table_rows, entry_rows};
 ghost use Rattle.sq_reloc.specs.Tables.{is_bad_symbol};
 ghost use Rattle.sq_reloc.specs.Outside.{is_refused_outside};
 
 use crate::entry::Entry;
 use crate::kinds::is_data_kind;
-use crate::outside_text::OutsideText;
-use crate::tables::{first_bad_table, first_rela, is_bad_symbol};
+use crate::tables::{first_bad_table, first_rela};
 use sq_elf::Elf;
 use sq_num::Refusal;
 
@@ -29,34 +28,6 @@ pub fn table_refusal(elf: &Elf<'_>) -> Option<Refusal>
     }
 }
 
-/// The first of the entries that passes the test.
-fn first_entry<F: Fn(Entry) -> bool>(entries: &[Entry], test: F) -> Option<Entry>
-    requires { F.IsAlwaysCallable test }
-    ensures { (holds : Entry → Bool) → ((e : Entry) (answer : Bool) → F.post test e answer → answer ≡ holds e) → result ≡ first_entry entries.now holds }
-{
-    for entry in entries {
-        if test(*entry) {
-            return Some(*entry);
-        }
-    }
-    None
-}
-
-/// The first of the entries whose symbol table does not have their symbol.
-fn first_bad_symbol(elf: &Elf<'_>, entries: &[Entry]) -> Option<Entry>
-    ensures { result ≡ first_entry entries.now (is_bad_symbol elf.now) }
-{
-    first_entry(entries, |entry| is_bad_symbol(elf, entry))
-}
-
-/// The first of the entries that stands outside text and is refused.
-fn first_refused(elf: &Elf<'_>, outside: &OutsideText<'_>, entries: &[Entry]) -> Option<Entry>
-    requires { elf.now ≡ outside.now }
-    ensures { result ≡ first_entry entries.now (is_refused_outside elf.now) }
-{
-    first_entry(entries, |entry| outside.is_refused(elf, entry))
-}
-
 /// How an entry outside text is refused: by the word in the file, or by its type.
 fn outside_refusal(entry: Entry) -> Refusal
     ensures { result ≡ outside_refusal entry }
@@ -70,19 +41,18 @@ fn outside_refusal(entry: Entry) -> Refusal
     }
 }
 
-/// The refusal by the entries: by their symbols, then by those outside text.
-pub fn entry_refusal(elf: &Elf<'_>, outside: &OutsideText<'_>, entries: &[Entry]) -> Option<Refusal>
-    requires same { elf.now ≡ outside.now }
-    requires all { entries.now ≡ entries_of elf.now }
-    ensures { result ≡ first_refusal (entry_rows elf.now) }
+/// The refusal by the entries: by the first that lacks its symbol, then by the first that is refused
+/// outside text.
+pub fn entry_refusal(lacking: Option<Entry>, refused: Option<Entry>) -> Option<Refusal>
+    ensures { (bytes : List ℕ) → lacking ≡ find (is_bad_symbol bytes) (entries_of bytes) → refused ≡ find (is_refused_outside bytes) (entries_of bytes) → result ≡ first_refusal (entry_rows bytes) }
 {
-    if let Some(entry) = first_bad_symbol(elf, entries) {
+    if let Some(entry) = lacking {
         return Some(Refusal::BadSymbol {
             section: entry.section,
             entry: entry.number,
         });
     }
-    match first_refused(elf, outside, entries) {
+    match refused {
         Some(entry) => Some(outside_refusal(entry)),
         None => None,
     }

@@ -10,12 +10,12 @@ ghost use Rattle.sq_reloc.specs.Pages.{AreStalePages};
 ghost use Rattle.sq_reloc.specs.Required.{insn_at};
 ghost use Rattle.sq_reloc.specs.Refusing.{reloc_refusal_of};
 
-use crate::entries::entries_of;
+use crate::gathered::gathered_of;
 use crate::mark::{CodeWord, Mark};
 use crate::outside_text::OutsideText;
 use crate::refusing::{entry_refusal, table_refusal};
 use crate::seen::Seen;
-use crate::words::words_of;
+use crate::words::noted_of;
 use sq_elf::{Elf, Text};
 use sq_num::{Denied, Memory};
 use std::alloc::Global;
@@ -42,8 +42,8 @@ impl<'a> Model for Relocs<'a> {
     ghost invariant = { λ r. Keeps r.outside r.text r.words.items r.code_words.items };
 }
 
-/// Reads the relocations of the file, or refuses it by the first row of their table that fails. Each
-/// entry is read once, and looked up by its address.
+/// Reads the relocations of the file, or refuses it by the first row of their table that fails. What an
+/// entry says is kept by word of text and by address, and no entry is kept.
 pub fn read_relocs<'a>(alloc: Global, elf: &Elf<'a>) -> Result<Relocs<'a>, Denied>
     ensures read { IfOk result (λ relocs. relocs ≡ elf.now) }
     ensures accepted { OnOk result (reloc_refusal_of elf.now ≡ None) }
@@ -53,17 +53,17 @@ pub fn read_relocs<'a>(alloc: Global, elf: &Elf<'a>) -> Result<Relocs<'a>, Denie
     if let Some(refusal) = table_refusal(elf) {
         return Err(Denied::Refused(refusal));
     }
-    let entries = entries_of(alloc, elf)?;
-    let outside = OutsideText::new(alloc, elf, &entries)?;
-    if let Some(refusal) = entry_refusal(elf, &outside, &entries) {
+    let gathered = gathered_of(alloc, elf)?;
+    let outside = OutsideText::new(elf, gathered.stale, gathered.targets);
+    let noted = noted_of(alloc, elf, &outside, &gathered.uppers)?;
+    if let Some(refusal) = entry_refusal(gathered.lacking, noted.refused) {
         return Err(Denied::Refused(refusal));
     }
-    let words = words_of(alloc, elf, &entries)?;
     let code_words = outside.code_words(alloc)?;
     Ok(Relocs {
         outside,
         text: elf.text(),
-        words,
+        words: noted.words,
         code_words,
     })
 }

@@ -7,11 +7,13 @@ ghost use Rattle.sq_elf.specs.Headers.{shnum_of};
 ghost use Rattle.sq_elf.specs.Ranges.{leaves};
 ghost use Rattle.sq_elf.specs.Reading.{section_at};
 ghost use Rattle.sq_reloc.specs.Entries.{table_entries, symbol_count, symbols_of};
-ghost use Rattle.sq_reloc.specs.Tables.{has_file_byte, is_file_byte, is_stray, is_symbol_table, is_malformed, lacks_symbols, is_bad_table, is_rela_at, is_bad_table_at, is_bad_symbol};
+ghost use Rattle.sq_reloc.specs.Tables.{has_file_byte, is_file_byte, is_stray, is_symbol_table, is_malformed, lacks_symbols, is_rela_at, is_bad_table_at, is_bad_symbol};
+ghost use Rattle.sq_reloc.specs.Repeats.{is_bad_once, is_bad_once_at};
 
 use crate::entries::{ENTRY, SYMBOL, entry_at, is_applied, is_for_memory, is_rel, is_rela};
 use crate::entry::Entry;
 use crate::kinds::{is_ignored, width};
+use crate::repeats::is_repeat;
 use sq_elf::{Elf, Section, Segment, first_where};
 
 /// SHT_SYMTAB
@@ -104,15 +106,16 @@ fn has_stray(elf: &Elf<'_>, index: u32, table: Section) -> bool
     found
 }
 
-/// Whether the section of this index is a bad relocation section.
-fn is_bad_table(elf: &Elf<'_>, index: u32, section: Section) -> bool
-    ensures { result ≡ is_bad_table elf.now index section }
+/// Whether the section of this index is a bad relocation section. The entries of a repeat are not
+/// looked at again.
+fn is_bad_once(elf: &Elf<'_>, index: u32, section: Section) -> bool
+    ensures { result ≡ is_bad_once elf.now index section }
 {
     let of_nothing = is_rela(section) && elf.sections() <= section.info;
     let applied = is_applied(elf, section)
         && (is_malformed(elf, section)
             || lacks_symbols(elf, section)
-            || has_stray(elf, index, section));
+            || !is_repeat(elf, index, section) && has_stray(elf, index, section));
     let without_addends = is_rel(section) && is_for_memory(elf, section);
     of_nothing || applied || without_addends
 }
@@ -126,11 +129,11 @@ fn is_rela_at(elf: &Elf<'_>, index: u32) -> bool
     }
 }
 
-fn is_bad_table_at(elf: &Elf<'_>, index: u32) -> bool
-    ensures { result ≡ is_bad_table_at elf.now index }
+fn is_bad_once_at(elf: &Elf<'_>, index: u32) -> bool
+    ensures { result ≡ is_bad_once_at elf.now index }
 {
     match elf.section(index) {
-        Some(section) => is_bad_table(elf, index, section),
+        Some(section) => is_bad_once(elf, index, section),
         None => false,
     }
 }
@@ -146,7 +149,7 @@ pub fn first_rela(elf: &Elf<'_>) -> Option<u32>
 pub fn first_bad_table(elf: &Elf<'_>) -> Option<u32>
     ensures { result ≡ first_from (is_bad_table_at elf.now) 0 (shnum_of elf.now) }
 {
-    first_where(elf.sections(), |index| is_bad_table_at(elf, index))
+    first_where(elf.sections(), |index| is_bad_once_at(elf, index))
 }
 
 /// How many symbols the entry's symbol table has.

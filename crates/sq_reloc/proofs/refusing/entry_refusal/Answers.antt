@@ -1,34 +1,30 @@
 -- the symbols first, then what is outside text
-use Rattle.std.proofs.Common.{◌≡◌, ℕ, List, [], ◌∷◌, Some, None, subst, ap, ◌∙◌}
+use Rattle.std.proofs.Common.{◌≡◌, ℕ, List, [], ◌∷◌, Some, None, sym, ap, ◌∙◌}
+use Rattle.std.specs.List.{find}
 use Rattle.sq_num.specs.Refusals.{first_refusal}
-use Rattle.sq_reloc.specs.declared.entry.Entry.{Entry}
 use Rattle.sq_reloc.specs.Entries.{entries_of}
 use Rattle.sq_reloc.specs.Tables.{is_bad_symbol}
 use Rattle.sq_reloc.specs.Outside.{is_refused_outside}
-use Rattle.sq_reloc.specs.Refusing.{first_entry, entry_rows, symbol_refusal, outside_refusal, refused_outside}
-use Rattle.sq_reloc.proofs.EntryRows.{entry_here, entry_later}
+use Rattle.sq_reloc.specs.Refusing.{entry_rows, symbol_refusal, outside_refusal, refused_outside}
+use Rattle.sq_reloc.proofs.EntryRows.{entry_here, entry_later, found_first}
 use Rattle.sq_reloc.proofs.refusing.entry_refusal.Goals as goal
 
 pub returns-in-Some : goal.returns-in-Some
-returns-in-Some c =
-    let First : List Entry → Type 0 = λ entries. Some c.in-Some.entry ≡ first_entry entries (is_bad_symbol c.args.elf.now) in
-    entry_here (entries_of c.args.elf.now) (is_bad_symbol c.args.elf.now) symbol_refusal (refused_outside c.args.elf.now ∷ []) c.in-Some.entry (subst First c.requires.all c.in-Some.ensures)
+returns-in-Some c = λ bytes lacking refused.
+    entry_here (entries_of bytes) (is_bad_symbol bytes) symbol_refusal (refused_outside bytes ∷ []) c.in-Some.entry
+    (sym c.in-Some.is ∙ lacking ∙ found_first (is_bad_symbol bytes) (entries_of bytes))
 
-module _ (bytes : List ℕ) (entries : List Entry) (all : entries ≡ entries_of bytes) (none : None ≡ first_entry entries (is_bad_symbol bytes)) where
-  behind_symbols : first_refusal (refused_outside bytes ∷ []) ≡ first_refusal (entry_rows bytes)
-  behind_symbols =
-      let First : List Entry → Type 0 = λ list. None ≡ first_entry list (is_bad_symbol bytes) in
-      entry_later (entries_of bytes) (is_bad_symbol bytes) symbol_refusal (refused_outside bytes ∷ []) (subst First all none)
+behind_symbols : (bytes : List ℕ) → None ≡ find (is_bad_symbol bytes) (entries_of bytes) → first_refusal (refused_outside bytes ∷ []) ≡ first_refusal (entry_rows bytes)
+behind_symbols bytes none =
+    entry_later (entries_of bytes) (is_bad_symbol bytes) symbol_refusal (refused_outside bytes ∷ []) (none ∙ found_first (is_bad_symbol bytes) (entries_of bytes))
 
-pub returns-in-Some-first_refused : goal.returns-in-Some-first_refused
-returns-in-Some-first_refused c =
-    let First : List Entry → Type 0 = λ entries. Some c.in-Some-first_refused.entry ≡ first_entry entries (is_refused_outside c.args.elf.now) in
+pub returns-in-Some-refused : goal.returns-in-Some-refused
+returns-in-Some-refused c = λ bytes lacking refused.
     ap Some c.outside_refusal.ensures
-    ∙ entry_here (entries_of c.args.elf.now) (is_refused_outside c.args.elf.now) outside_refusal [] c.in-Some-first_refused.entry (subst First c.requires.all c.in-Some-first_refused.ensures)
-    ∙ behind_symbols c.args.elf.now c.args.entries.now c.requires.all c.in_default.ensures
+    ∙ entry_here (entries_of bytes) (is_refused_outside bytes) outside_refusal [] c.in-Some-refused.entry (sym c.in-Some-refused.is ∙ refused ∙ found_first (is_refused_outside bytes) (entries_of bytes))
+    ∙ behind_symbols bytes (sym c.in_default.is ∙ lacking)
 
 pub returns-in-None : goal.returns-in-None
-returns-in-None c =
-    let First : List Entry → Type 0 = λ entries. None ≡ first_entry entries (is_refused_outside c.args.elf.now) in
-    entry_later (entries_of c.args.elf.now) (is_refused_outside c.args.elf.now) outside_refusal [] (subst First c.requires.all c.in-None.ensures)
-    ∙ behind_symbols c.args.elf.now c.args.entries.now c.requires.all c.in_default.ensures
+returns-in-None c = λ bytes lacking refused.
+    entry_later (entries_of bytes) (is_refused_outside bytes) outside_refusal [] (sym c.in-None.is ∙ refused ∙ found_first (is_refused_outside bytes) (entries_of bytes))
+    ∙ behind_symbols bytes (sym c.in_default.is ∙ lacking)
