@@ -1,5 +1,5 @@
 -- One flag more.
-use Rattle.std.proofs.Common.{cond, get_or, ◌≡◌, ℕ, zero, suc, ◌+◌, ◌*◌, ◌≤◌, Bool, true, false, not, ◌==◌, List, [], ◌∷◌, length, Option, Some, None, refl, sym, ap, ◌∙◌, arith}
+use Rattle.std.proofs.Common.{cond, get_or, ◌≡◌, ℕ, zero, suc, ◌+◌, ◌*◌, ◌<◌, ◌≤◌, Bool, true, false, not, ◌==◌, List, [], ◌∷◌, length, Option, Some, None, refl, sym, ap, ◌∙◌, arith}
 use Rattle.std.specs.Prelude.{slice_get, slice_set, count_by, replicate}
 use Rattle.std.specs.Option.{option_and_then, unwrap_or, is_some}
 use Rattle.std.proofs.lemmas.Bool.{eqb-false}
@@ -9,7 +9,7 @@ use Rattle.sq_program.specs.Programs.{Text, is_word}
 use Rattle.sq_lift.specs.Places.{place_of}
 use Rattle.sq_lift.specs.Flags.{Flags, flag_at, has_word, is_flagged, is_unflagged, with_flag}
 use Rattle.sq_lift.specs.Search.{unflagged_count}
-use Rattle.sq_lift.proofs.Placed.{place_is, word_by_place, past}
+use Rattle.sq_lift.proofs.Placed.{place_is, word_by_place, past, behind}
 
 -- a flag that is set, where it was not
 set_same : (flags : List Bool) (k : ℕ) → slice_get flags k ≡ Some false → slice_get (slice_set flags k true) k ≡ Some true
@@ -94,6 +94,11 @@ unset_by_place t (Some k) = unset t.words k
 pub none_flagged : (t : Text) (x : ℕ) → is_flagged (no_flags t) x ≡ false
 unfolding flag_at
 none_flagged t x = unset_by_place t (place_of t.lo x)
+
+-- behind a word that isn't the last there is one
+pub flag_behind : (f : Flags) (x : ℕ) → has_word f x ≡ true → x + 4 < f.lo + 4 * length f.flags → has_word f (x + 4) ≡ true
+unfolding flag_at
+flag_behind f x here more = behind f.flags f.lo x (place_of f.lo x) refl here more
 
 -- past the last word there is none
 pub none_past : (f : Flags) (x : ℕ) → f.lo + 4 * length f.flags ≤ x → has_word f x ≡ false

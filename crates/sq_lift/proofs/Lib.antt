@@ -16,3 +16,4 @@ pub mod Numbering
 pub mod Cutting
 pub mod Assembling
 pub mod CutBodies
+pub mod FileStarts

@@ -5,7 +5,7 @@ use Rattle.std.specs.Option.{option_and_then, option_map}
 use Rattle.std.proofs.lemmas.Option.{slice_get_past, slice_get-get_or}
 use Rattle.std.proofs.lemmas.Bool.{cases_Bool, eqb-true, eqb-false, eq-eqb}
 use Rattle.std.proofs.lemmas.Bool.Decides.{nat_tests}
-use Rattle.sq_program.specs.Programs.{Word, Text, word_from, word_at, end_of}
+use Rattle.sq_program.specs.Programs.{Word, Text, word_from, word_at, is_word, end_of}
 use Rattle.sq_lift.specs.Places.{place_of}
 
 le_is : (a b : ℕ) → a ≤ b → nat_le a b ≡ true
@@ -103,6 +103,25 @@ no_word_past t x far = word_by_place t x ∙ by_place (place_of t.lo x) refl
     by_place : (p : Option ℕ) → place_of t.lo x ≡ p → option_and_then (slice_get t.words) p ≡ None
     by_place None is = refl
     by_place (Some k) is = past t.words k (omega (arith, place_is t.lo x k is, far))
+
+there : {A : Type 0} (xs : List A) (k : ℕ) → k < length xs → is_some (slice_get xs k) ≡ true
+there [] k near = absurd (omega arith)
+there (x ∷ xs) zero near = refl
+there (x ∷ xs) (suc k) near = there xs k (omega arith)
+
+-- behind one that isn't the last there is another
+pub behind : {A : Type 0} (xs : List A) (lo x : ℕ) (p : Option ℕ) → place_of lo x ≡ p → is_some (option_and_then (slice_get xs) p) ≡ true → x + 4 < lo + 4 * length xs → is_some (option_and_then (slice_get xs) (place_of lo (x + 4))) ≡ true
+behind xs lo x None is here more = absurd (cc)
+behind xs lo x (Some k) is here more =
+    let at : x ≡ lo + 4 * k = place_is lo x k is in
+    let next : x + 4 ≡ lo + 4 * (k + 1) = omega arith in
+    let near : k + 1 < length xs = omega arith in
+    rw (next, place_at lo (k + 1)) (there xs (k + 1) near)
+
+pub word_behind : (t : Text) (x : ℕ) → is_word t x ≡ true → x + 4 < end_of t → is_word t (x + 4) ≡ true
+word_behind t x here more =
+    ap is_some (word_by_place t (x + 4))
+    ∙ behind t.words t.lo x (place_of t.lo x) refl (ap is_some (sym (word_by_place t x)) ∙ here) more
 
 -- what a read of a list gives
 pub copied_item : {X : Type 0} (xs : List X) (k : ℕ) (r : Option (Bor X)) → is_some r ≡ nat_lt k (length xs) → IfSome r (λ x. x.now ≡ get_or xs k x.now) → option_map (λ x. x.now) r ≡ slice_get xs k

@@ -8,3 +8,4 @@ pub mod Entrances
 pub mod Raised
 pub mod Forms
 pub mod Cuts
+pub mod Starts

@@ -3,7 +3,8 @@
 mod bodies;
 mod cuts;
 mod forms;
+pub mod frame;
 mod leaders;
-mod names;
+pub mod names;
 pub mod parts;
-mod procedures;
+pub mod procedures;

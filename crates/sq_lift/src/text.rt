@@ -47,7 +47,7 @@ impl Model for Text {
 }
 
 impl Text {
-    ghost use Rattle.std.specs.Prelude.{◌≡◌, ◌+◌, ◌*◌, ◌≤◌, ◌^◌, None, length, IfNone, IfSome};
+    ghost use Rattle.std.specs.Prelude.{◌≡◌, ◌+◌, ◌*◌, ◌≤◌, ◌^◌, true, None, length, IfNone, IfSome};
     ghost use Rattle.sq_program.specs.Programs.{word_at, is_word, is_in_text, end_of};
 
     /// The address of the first word.
@@ -84,9 +84,11 @@ impl Text {
         }
     }
 
-    /// The address behind this one, or None where there is no word.
+    /// The address behind this one, or None where there is no word. Behind a word, an address is that of a word.
+    #[tactic(auto, using(crate::proofs::Placed::word_behind))]
     pub fn next(&self, address: u32) -> Option<u32>
         ensures some { IfSome result (λ next. next ≡ address + 4) }
+        ensures word { IfSome result (λ next. is_word self.now address ≡ true → is_word self.now next ≡ true) }
         ensures none { IfNone result (word_at self.now (address + 4) ≡ None) }
         ensures end { IfNone result (end_of self.now ≤ address + 4) }
     {

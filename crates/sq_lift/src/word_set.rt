@@ -25,7 +25,7 @@ impl Model for WordSet {
 }
 
 impl WordSet {
-    ghost use Rattle.std.specs.Prelude.{◌≡◌, ◌+◌, ◌*◌, ◌≤◌, false, length, replicate, IfOk, IfSome, IfNone, if◌then◌else◌};
+    ghost use Rattle.std.specs.Prelude.{◌≡◌, ◌+◌, ◌*◌, ◌≤◌, true, false, length, replicate, IfOk, IfSome, IfNone, if◌then◌else◌};
     ghost use Rattle.sq_lift.specs.Flags.{Flags, has_word, is_flagged, is_unflagged, with_flag};
 
     /// The set of no words.
@@ -65,9 +65,10 @@ impl WordSet {
         }
     }
 
-    /// The address behind this one, or None where there is no word.
+    /// The address behind this one, or None where there is no word. Behind a word, an address is that of a word.
     pub fn next(&self, address: u32) -> Option<u32>
         ensures some { IfSome result (λ next. next ≡ address + 4) }
+        ensures word { IfSome result (λ next. has_word self.now address ≡ true → has_word self.now next ≡ true) }
         ensures none { IfNone result (has_word self.now (address + 4) ≡ false) }
         ensures end { IfNone result (self.now.lo + 4 * length self.now.flags ≤ address + 4) }
     {

@@ -8,6 +8,8 @@ mod functions;
 mod names;
 mod symbol;
 mod table;
+mod track;
 
 pub use functions::function_names;
 pub use names::{Function, Names};
+pub use track::{Track, Tracks};

@@ -73,15 +73,16 @@ impl Model for Positions {
 }
 
 impl Positions {
-    ghost use Rattle.std.specs.Prelude.{◌≡◌, ◌<◌, ◌^◌, ◌++◌, ◌∷◌, [], ℕ, IfOk, OnOk, length};
+    ghost use Rattle.std.specs.Prelude.{◌≡◌, ◌<◌, ◌^◌, ◌++◌, ◌∷◌, [], ℕ, IfOk, OnOk, length, nat_eq};
+    ghost use Rattle.std.specs.Map.{lookup};
     ghost use Rattle.sq_graph.specs.Renames.{retargeted_item, retargeted_term};
-    ghost use Rattle.sq_graph.specs.Slotted.{position_in};
+    ghost use Rattle.sq_graph.specs.Slotted.{number_in};
     ghost use Rattle.sq_lift.specs.Cuts.{position_by};
 
     /// The positions of blocks that begin at these addresses. Of equal ones the first would count.
     pub(crate) fn new(alloc: Global, starts: &[u32]) -> Result<Positions, Memory>
         requires { length starts.now < 2 ^ 32 }
-        ensures { IfOk result (λ positions. (x : ℕ) → position_by positions x ≡ position_in starts.now x) }
+        ensures { IfOk result (λ positions. (x : ℕ) → lookup (nat_eq x) positions ≡ number_in starts.now 0 x) }
     {
         let mut numbers = HashMap::new(alloc);
         for k in (0..starts.len()).rev() {
@@ -90,11 +91,18 @@ impl Positions {
         Ok(Positions { numbers })
     }
 
+    /// The position of the block that begins at an address.
+    pub(crate) fn get(&self, address: u32) -> Option<u32>
+        ensures { result ≡ lookup (nat_eq address) self.now }
+    {
+        self.numbers.get(&address).copied()
+    }
+
     /// The position of the block that begins at an address, and 0 where none does.
     pub(crate) fn of(&self, address: u32) -> u32
         ensures { result ≡ position_by self.now address }
     {
-        self.numbers.get(&address).copied().unwrap_or(0)
+        self.get(address).unwrap_or(0)
     }
 
     /// Appends the item with positions for addresses.

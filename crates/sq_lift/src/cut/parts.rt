@@ -11,8 +11,8 @@ ghost use Rattle.sq_lift.specs.Cuts.{position_by};
 
 use crate::cut::bodies::push_bodies;
 use crate::cut::cuts::cut_words;
-use crate::cut::leaders::{leaders_of, procedure_words};
-use crate::cut::names::{Kinds, Positions, starts_of};
+use crate::cut::frame::frame_of;
+use crate::cut::names::{Kinds, Positions};
 use crate::cut::procedures::procedures_of;
 use crate::{Note, Text, WordSet};
 use sq_graph::{BlockPart, CodeRef, Item, Parts, ProcedurePart};
@@ -84,15 +84,13 @@ pub fn parts_of(
     ensures lengths { IfOk result (λ made. LengthsFit made.blocks.items made.items.items made.procedures.items) }
 {
     let procedures = procedures_of(alloc, reached, notes)?;
-    let inside = procedure_words(alloc, text, &procedures)?;
-    let leaders = leaders_of(alloc, text, reached, &procedures, entry, code_words)?;
+    let frame = frame_of(alloc, text, reached, &procedures, entry, code_words)?;
     let kinds = Kinds {
         reached,
-        inside: &inside,
-        leaders: &leaders,
+        inside: &frame.inside,
+        leaders: &frame.leaders,
     };
-    let starts = starts_of(alloc, text, &kinds)?;
-    let positions = Positions::new(alloc, &starts)?;
+    let positions = Positions::new(alloc, &frame.starts)?;
     let (mut items, blocks) = cut_words(alloc, text, &kinds, &procedures, &positions)?;
     let procedures = push_bodies(alloc, &mut items, text, &procedures, &positions)?;
     Ok(GraphParts {

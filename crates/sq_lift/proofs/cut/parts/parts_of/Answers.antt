@@ -1,5 +1,6 @@
 use Rattle.std.proofs.Common.{◌<◌, List, ap, sym, ◌∙◌, subst}
 use Rattle.std.specs.List.{AllByRecursion}
+use Rattle.std.specs.Option.{unwrap_or}
 use Rattle.sq_graph.specs.Parts.{names_of}
 use Rattle.sq_graph.specs.Renames.{renamed}
 use Rattle.sq_program.specs.Programs.{Note, Program}
@@ -19,11 +20,11 @@ returns-clause-graph c =
     let Small : List Note → Type 0 = λ ns. AllByRecursion (λ n. n.link < 32) ns in
     let links = subst Small (sym used) (used_links is c.args.notes.now c.requires.links) in
     let f = position_by c.in_ok-positions.positions in
-    parts_make is ns p (is_flagged c.in_ok-inside.inside) (is_flagged c.in_ok-leaders.leaders) c.in_ok-inside.ensures c.in_ok-leaders.ensures f c.in_ok-starts.starts.items c.in_ok-items.items.items c.push_bodies.new.items.items c.in_ok-items.blocks.items c.in_ok-procedures-2.procedures.items c.of.result c.in_ok-code_refs.field-0.items c.in_ok-starts.ensures.starts (λ x. c.in_ok-positions.ensures x ∙ ap (λ starts. position_in starts x) c.deref.ensures.value) c.in_ok-items.ensures c.in_ok-procedures-2.ensures.items c.in_ok-procedures-2.ensures.parts links c.of.ensures c.in_ok-code_refs.ensures
+    parts_make is ns p (is_flagged c.in_ok-frame.frame.inside) (is_flagged c.in_ok-frame.frame.leaders) c.in_ok-frame.ensures.inside c.in_ok-frame.ensures.leaders f c.in_ok-frame.frame.starts.items c.in_ok-items.items.items c.push_bodies.new.items.items c.in_ok-items.blocks.items c.in_ok-procedures-2.procedures.items c.of.result c.in_ok-code_refs.field-0.items c.in_ok-frame.ensures.starts (λ x. ap (λ o. unwrap_or o 0) (c.in_ok-positions.ensures x) ∙ ap (λ starts. position_in starts x) c.deref.ensures.value) c.in_ok-items.ensures c.in_ok-procedures-2.ensures.items c.in_ok-procedures-2.ensures.parts links c.of.ensures c.in_ok-code_refs.ensures
     ∙ ap (λ (ns : List Note). renamed (position_in (names_of (lifted_with is ns p))) (lifted_with is ns p)) used
 
 pub returns-clause-lengths : goal.returns-clause-lengths
 returns-clause-lengths c =
     let ns : List Note = c.in_ok-procedures.procedures in
-    let blocks = (cut (kept_by c.args.reached.now c.in_ok-inside.inside) (is_flagged c.in_ok-leaders.leaders) ns c.args.text.now c.args.text.now.lo c.args.text.now.words).blocks in
+    let blocks = (cut (kept_by c.args.reached.now c.in_ok-frame.frame.inside) (is_flagged c.in_ok-frame.frame.leaders) ns c.args.text.now c.args.text.now.lo c.args.text.now.words).blocks in
     lengths_fit (position_by c.in_ok-positions.positions) c.args.text.now blocks ns c.in_ok-items.items.items c.push_bodies.new.items.items c.in_ok-items.blocks.items c.in_ok-procedures-2.procedures.items c.in_ok-items.ensures c.in_ok-procedures-2.ensures.items c.in_ok-procedures-2.ensures.parts
