@@ -1,10 +1,9 @@
 -- The premises of the laws are met: a plain file is an acceptable output.
-use Rattle.std.proofs.Common.{◌≡◌, ℕ, ◌+◌, ◌*◌, List, length, None, refl, ap, arith, append-nil}
+use Rattle.std.proofs.Common.{◌≡◌, ℕ, ◌+◌, ◌*◌, ◌≤◌, List, length, None, refl, ap, arith, append-nil}
 use Rattle.sq_elf.specs.Refusing.{file_refusal_of}
 use Rattle.sq_write.specs.Output.{words, text_piece, loaded_size, output_file}
-use Rattle.sq_write.specs.Plain.{plain_start, plain_output, plain_file, ArePlainWords}
-use Rattle.sq_write.proofs.Reading.{length_plain}
-use Rattle.sq_write.proofs.Splitting.{length_words}
+use Rattle.sq_write.specs.Plain.{plain_start, plain_output, plain_file}
+use Rattle.sq_write.proofs.Splitting.{length_words, length_plain}
 use Rattle.sq_outputs.specs.Accepting.{IsAcceptable}
 use Rattle.sq_outputs.specs.Reading.{copied}
 use Rattle.sq_outputs.proofs.Accepting.{outputs_are_accepted}
@@ -17,7 +16,12 @@ plain_length text = length_plain text
 plain_size : (text : List ℕ) → loaded_size (plain_output text) ≡ length (words text)
 plain_size text = ap length (append-nil (words text))
 
-plain_is_acceptable : (text : List ℕ) → ArePlainWords text → IsAcceptable (plain_output text)
+-- 1 to 262,144 words
+record AreFew (text : List ℕ) : Type 0 where
+  some : 1 ≤ length text
+  few : length text ≤ 262144
+
+plain_is_acceptable : (text : List ℕ) → AreFew text → IsAcceptable (plain_output text)
 plain_is_acceptable text are =
     let sized = length_words text in
     let none : copied (text_piece (plain_output text)) ≡ 0 = copied_here (text_piece (plain_output text)) refl in
@@ -59,5 +63,5 @@ plain_is_acceptable text are =
       high = omega (arith, sized, are.some);
     }
 
-plain_is_accepted : (text : List ℕ) → ArePlainWords text → file_refusal_of (output_file (plain_output text)) ≡ None
+plain_is_accepted : (text : List ℕ) → AreFew text → file_refusal_of (output_file (plain_output text)) ≡ None
 plain_is_accepted text are = outputs_are_accepted (plain_output text) (plain_is_acceptable text are)

@@ -1,5 +1,4 @@
 pub mod Output
-pub mod Parts
 pub mod Plain
 pub mod Points
 pub mod Pieces

@@ -2,7 +2,7 @@
 //!
 //! To the layers above it promises the exact bytes. An output file is a header, piece headers, pieces and seven
 //! sections. `write_elf` makes it of the data of a file and the words of a graph at its places. A plain file has one
-//! piece, text; `write_plain` writes it, and `read_plain` finds the text in a file that is one, word by word.
+//! piece, text; `write_plain` writes it.
 #![tactic(auto)]
 
 mod code_words;
@@ -23,5 +23,5 @@ mod text_bytes;
 mod writing;
 
 pub use laws::{alike_graphs_fit, names_do_not_matter};
-pub use plain::{read_plain, word_at, write_plain};
+pub use plain::write_plain;
 pub use writing::write_elf;
