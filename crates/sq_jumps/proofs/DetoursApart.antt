@@ -1,9 +1,10 @@
--- Detours to blocks that are no lone Jumps don't disturb one another.
-use Rattle.std.proofs.Common.{◌≡◌, ◌≢◌, ◌⊎◌, ℕ, ◌==◌, true, false, if◌then◌else◌, nat_eq, List, [], ◌∷◌, map, length, Option, None, Some, is_some, inl, inr, refl, sym, ap, ◌∙◌, subst}
-use Rattle.std.specs.Prelude.{option_map}
+-- Detours of which none leads to another don't disturb one another.
+use Rattle.std.proofs.Common.{Result, Ok, Err, ◌≡◌, ◌≢◌, ◌⊎◌, ℕ, ◌==◌, Bool, true, false, ◌||◌, if◌then◌else◌, nat_eq, List, [], ◌∷◌, ◌++◌, map, length, Option, None, Some, is_some, inl, inr, refl, sym, ap, ◌∙◌, subst}
+use Rattle.std.specs.Prelude.{option_map, OnOk}
 use Rattle.std.proofs.lemmas.Bool.{cases_Bool, eqb-true, eq-eqb, ne_eqb, or_left, or_right}
 use Rattle.std.proofs.lemmas.List.{length-map}
 use Rattle.sq_arena.specs.Entries.{first_key, next_key}
+use Rattle.sq_num.specs.declared.memory.Memory.{Memory}
 use Rattle.sq_isa.specs.Registers.{is_among}
 use Rattle.sq_isa.specs.declared.instructions.Cond.{Cond}
 use Rattle.sq_graph.specs.declared.item.Item.{Item}
@@ -19,18 +20,20 @@ use Rattle.sq_graph.specs.Terms.{goes_on}
 use Rattle.sq_graph.specs.Uses.{uses}
 use Rattle.sq_patch.specs.LoneJumps.{without_jump}
 use Rattle.sq_layout.specs.Branches.{BranchReaches}
-use Rattle.sq_lookup.specs.Names.{is_listed}
-use Rattle.sq_jumps.specs.Detour.{straightened, IsDetour, IsPlainDetour, IsStillDetour}
+use Rattle.sq_lookup.specs.Names.{is_listed, Adds}
+use Rattle.sq_jumps.specs.UnreachedClear.{AreOnce}
+use Rattle.sq_jumps.specs.Detour.{straightened, IsDetour, GoTogether, GoesToo, AreChosen}
 use Rattle.sq_lookup.specs.Addresses.{address_of}
 use Rattle.sq_jumps.specs.Surveys.{ReachesBy, ReachesWithout}
 use Rattle.sq_layout.proofs.Standing.{block_of-without, block_of-retargeted}
 use Rattle.sq_jumps.proofs.Applying.{passing_is, pass_shrinks, retargeted_before, gone_block}
-use Rattle.sq_lookup.proofs.Targets.{has_term, jump_there}
+use Rattle.sq_lookup.proofs.Targets.{has_term, jump_there, lone, has_lone}
 use Rattle.sq_jumps.proofs.InvertDistances.{passes}
 use Rattle.sq_jumps.proofs.DetourLeaders.{or_cases}
 use Rattle.sq_jumps.proofs.DetourKept.{name_used}
 use Rattle.sq_jumps.proofs.Rewriting.{goes_on-retargeted, next-redirected, redirected_rules_here, passed_rules}
 use Rattle.sq_jumps.proofs.StillSafe.{without_still}
+use Rattle.sq_jumps.proofs.Adding.{is_listed-append}
 
 -- LONE JUMPS AND SLOTS, ONCE A BLOCK GAVE ITS NAME AND WENT
 
@@ -85,21 +88,21 @@ some_before f (Some b) e = refl
 
 -- TWO DETOURS
 
-module _ (g : Graph) (gone : ℕ) (rules : IsGraph g) (d : IsPlainDetour g gone) where
+module _ (g : Graph) (gone : ℕ) (rules : IsGraph g) (d : IsDetour g gone) where
   abbrev to : ℕ
-  to = d.detour.to
+  to = d.to
 
   abbrev f : ℕ → ℕ
-  f = swapped gone d.detour.to
+  f = swapped gone d.to
 
   abbrev h : Graph
-  h = without_jump g gone d.detour.to
+  h = without_jump g gone d.to
 
   left : IsGraph h
-  left = passed_rules g gone to rules d.detour.passable
+  left = passed_rules g gone to rules d.passable
 
   is_gone : block_of h gone ≡ None
-  is_gone = gone_block (map (retargeted_block f) g.blocks) gone (redirected_rules_here g gone to rules d.detour.passable).distinct
+  is_gone = gone_block (map (retargeted_block f) g.blocks) gone (redirected_rules_here g gone to rules d.passable).distinct
 
   block_left : (n : ℕ) → n ≢ gone → block_of h n ≡ option_map (retargeted_block f) (block_of g n)
   block_left n other = block_of-without (map (retargeted_block f) g.blocks) gone n other ∙ block_of-retargeted f g.blocks n
@@ -107,28 +110,15 @@ module _ (g : Graph) (gone : ℕ) (rules : IsGraph g) (d : IsPlainDetour g gone)
   there_still : (n : ℕ) → HasBlock h n → n ≢ gone
   there_still n has same = absurd (let none : is_some (block_of h n) ≡ false = ap (λ k. is_some (block_of h k)) same ∙ ap is_some is_gone in cc)
 
-  there_before : (n : ℕ) → HasBlock h n → HasBlock g n
-  there_before n has = some_before f (block_of g n) (sym (ap is_some (block_left n (there_still n has))) ∙ has)
-
   kept : (n : ℕ) → n ≢ gone → f n ≡ n
   kept n other = ap (λ t. if t then to else n) (ne_eqb n gone other)
 
-  module _ (n : ℕ) (has : HasBlock h n) (p : IsPlainDetour g n) where
+  module _ (n : ℕ) (other : n ≢ gone) (p : IsDetour g n) (target_other : p.to ≢ gone) (not_target : n ≢ d.to) where
     abbrev target : ℕ
-    target = p.detour.to
-
-    other : n ≢ gone
-    other = there_still n has
-
-    -- neither is the other's target
-    target_other : target ≢ gone
-    target_other same = absurd (let none : jump_from g gone ≡ None = subst (λ k. jump_from g k ≡ None) same p.plain in let some = d.detour.passable.jump in cc)
-
-    not_target : n ≢ to
-    not_target same = absurd (let none : jump_from g n ≡ None = subst (λ k. jump_from g k ≡ None) (sym same) d.plain in let some = p.detour.passable.jump in cc)
+    target = p.to
 
     jump : jump_from h n ≡ Some target
-    jump = ap lone_jump (block_left n other) ∙ lone_jump-retargeted f (block_of g n) ∙ ap (option_map f) p.detour.passable.jump ∙ ap Some (kept target target_other)
+    jump = ap lone_jump (block_left n other) ∙ lone_jump-retargeted f (block_of g n) ∙ ap (option_map f) p.passable.jump ∙ ap Some (kept target target_other)
 
     apart : (before : ℕ) (term : Term) → next_of h before ≡ Some n → term_of h before ≡ Some term → goes_on term ≡ false
     apart before term next e =
@@ -137,8 +127,8 @@ module _ (g : Graph) (gone : ℕ) (rules : IsGraph g) (d : IsPlainDetour g gone)
         let same : goes_on term ≡ goes_on was.0 = sym (ap goes_on was.2) ∙ goes_on-retargeted f was.0 in
         same
         ∙ elim (next_before (map (retargeted_block f) g.blocks) gone before n here next) [
-          | inl own ↦ p.detour.passable.apart before was.0 (sym (next-redirected g gone to before) ∙ own) was.1
-          | inr that ↦ d.detour.passable.apart before was.0 (sym (next-redirected g gone to before) ∙ that) was.1
+          | inl own ↦ p.passable.apart before was.0 (sym (next-redirected g gone to before) ∙ own) was.1
+          | inr that ↦ d.passable.apart before was.0 (sym (next-redirected g gone to before) ∙ that) was.1
         ]
 
     near : (from : ℕ) (cond : Cond) (a b : ℕ) → term_of h from ≡ Some (Branch cond a b n) → BranchReaches (without_jump h n target) from target
@@ -147,9 +137,9 @@ module _ (g : Graph) (gone : ℕ) (rules : IsGraph g) (d : IsPlainDetour g gone)
         let away = there_still from here in
         let was = retargeted_before f (block_of g from) cond a b n (sym (ap block_term (block_left from away)) ∙ e) in
         let branch : term_of g from ≡ Some (Branch cond a b n) = subst (λ k. term_of g from ≡ Some (Branch cond a b k)) (named_before was.0 was.2) was.1 in
-        let reach : ReachesWithout g n from target = (passes g n from target cond a b p.detour.passable.jump branch (jump_there g n target rules p.detour.passable.jump) p.detour.passable.other).0 (p.detour.near from cond a b branch) in
+        let reach : ReachesWithout g n from target = (passes g n from target cond a b p.passable.jump branch (jump_there g n target rules p.passable.jump) p.passable.other).0 (p.near from cond a b branch) in
         let same : length (items_of h from) ≡ length (items_of g from) = ap (λ o. length (block_items o)) (block_left from away) ∙ length-retargeted f (block_of g from) in
-        (passes h n from target cond a b jump e (jump_there h n target left jump) p.detour.passable.other).1
+        (passes h n from target cond a b jump e (jump_there h n target left jump) p.passable.other).1
         (without_still g h from n target rules.distinct (pass_shrinks g gone to) left here jump (subst (λ k. ReachesBy (address_of g) k n from target) (sym same) reach))
       where
         named_before : (old : ℕ) → f old ≡ n → old ≡ n
@@ -159,18 +149,62 @@ module _ (g : Graph) (gone : ℕ) (rules : IsGraph g) (d : IsPlainDetour g gone)
               | inr that ↦ sym (ap (λ t. if t then to else old) that) ∙ is
             ]
 
-    pub detour_still : IsPlainDetour h n
-    detour_still = record {
-      detour = record { to = target; passable = record { jump = jump; other = p.detour.passable.other; apart = apart }; near = near };
-      plain = ap lone_jump (block_left target target_other) ∙ lone_jump-retargeted f (block_of g target) ∙ ap (option_map f) p.plain;
-      is_named = name_used g gone to rules d.detour.passable n (ne_eqb n gone other) d.is_named p.is_named;
-    }
+    pub detour_still : IsDetour h n
+    detour_still = record { to = target; passable = record { jump = jump; other = p.passable.other; apart = apart }; near = near }
 
-  pub detours_still : (k : Graph) (n : ℕ) → k ≡ straightened g gone → IsStillDetour g n → IsStillDetour k n
-  detours_still k n is still =
-      subst (λ (m : Graph). IsStillDetour m n) (sym (is ∙ passing_is g gone to d.detour.passable.jump)) (λ has. detour_still n has (still (there_before n has)))
+-- DETOURS THAT GO TOGETHER
 
--- WHICH BLOCKS ARE
+pub here_listed : (n : ℕ) (rest : List ℕ) → is_listed (n ∷ rest) n ≡ true
+here_listed n rest = or_left (nat_eq n n) (is_listed rest n) (eq-eqb n n refl)
+
+none_of_two : (a b : Bool) → (a || b) ≡ false → (a ≡ false) × (b ≡ false)
+none_of_two true b e = absurd (cc)
+none_of_two false b e = (refl, e)
+
+-- once the first went, the others go together still
+module _ (g : Graph) (gone : ℕ) (rest : List ℕ) (rules : IsGraph g) (t : GoTogether g (gone ∷ rest)) where
+  first : IsDetour g gone
+  first = t.detours gone (here_listed gone rest)
+
+  aside : is_listed (gone ∷ rest) first.to ≡ false
+  aside = t.apart gone first.to (here_listed gone rest) first.passable.jump
+
+  module _ (n : ℕ) (listed : is_listed rest n ≡ true) where
+    too : is_listed (gone ∷ rest) n ≡ true
+    too = or_right (nat_eq n gone) (is_listed rest n) listed
+
+    detour : IsDetour g n
+    detour = t.detours n too
+
+    target_aside : is_listed (gone ∷ rest) detour.to ≡ false
+    target_aside = t.apart n detour.to too detour.passable.jump
+
+    not_gone : n ≢ gone
+    not_gone same = absurd (let none : is_listed rest n ≡ false = ap (is_listed rest) same ∙ t.once.0 in cc)
+
+    not_to : detour.to ≢ gone
+    not_to same = absurd (let none : is_listed (gone ∷ rest) gone ≡ false = ap (is_listed (gone ∷ rest)) (sym same) ∙ target_aside in let some = here_listed gone rest in cc)
+
+    no_target : n ≢ first.to
+    no_target same = absurd (let none : is_listed (gone ∷ rest) n ≡ false = ap (is_listed (gone ∷ rest)) same ∙ aside in let some : is_listed (gone ∷ rest) n ≡ true = too in cc)
+
+    still : IsDetour (without_jump g gone first.to) n
+    still = detour_still g gone rules first n not_gone detour not_to no_target
+
+    used_still : is_among (uses (without_jump g gone first.to)) n ≡ true
+    used_still = name_used g gone first.to rules first.passable n (ne_eqb n gone not_gone) (t.are_named gone (here_listed gone rest)) (t.are_named n too)
+
+    apart_still : (to : ℕ) → jump_from (without_jump g gone first.to) n ≡ Some to → is_listed rest to ≡ false
+    apart_still to e =
+        let same : to ≡ detour.to = let f : Some to ≡ Some detour.to = sym e ∙ jump g gone rules first n not_gone detour not_to no_target in cc in
+        ap (is_listed rest) same ∙ (none_of_two (nat_eq detour.to gone) (is_listed rest detour.to) target_aside).1
+
+  pub rest_together : (k : Graph) → k ≡ straightened g gone → GoTogether k rest
+  rest_together k is =
+      subst (λ (m : Graph). GoTogether m rest) (sym (is ∙ passing_is g gone first.to first.passable.jump))
+      (record { detours = still; are_named = used_still; apart = λ n to listed. apart_still n listed to; once = t.once.1 })
+
+-- WHICH BLOCKS ARE CHOSEN
 
 -- a name in a list, by the test of tables
 pub listed_among : (xs : List ℕ) (n : ℕ) → is_listed xs n ≡ true → is_among xs n ≡ true
@@ -181,11 +215,81 @@ listed_among (x ∷ xs) n e =
       | inr later ↦ or_right (x == n) (is_among xs n) (listed_among xs n later)
     ]
 
-pub none_if : (o : Option ℕ) → is_some o ≡ false → o ≡ None
-none_if None e = refl
-none_if (Some n) e = absurd (cc)
+alone_is : (block n : ℕ) → is_listed (block ∷ []) n ≡ true → n ≡ block
+alone_is block n e = elim (or_cases (nat_eq n block) (is_listed [] n) e) [ inl here ↦ eqb-true n block here | inr none ↦ absurd (cc) ]
 
-pub plain_detour : (g : Graph) (block to : ℕ) → IsDetour g block → jump_from g block ≡ Some to → jump_from g to ≡ None → is_listed (uses g) block ≡ true → IsPlainDetour g block
-plain_detour g block to detour jump plain used =
-    let same : to ≡ detour.to = let f : Some to ≡ Some detour.to = sym jump ∙ detour.passable.jump in cc in
-    record { detour = detour; plain = subst (λ k. jump_from g k ≡ None) same plain; is_named = listed_among (uses g) block used }
+alone_not : (block n : ℕ) → n ≢ block → is_listed (block ∷ []) n ≡ false
+alone_not block n other = rw (ne_eqb n block other) refl
+
+once_more : (xs : List ℕ) (n : ℕ) → AreOnce xs → is_listed xs n ≡ false → AreOnce (xs ++ n ∷ [])
+once_more [] n once none = (refl, tt)
+once_more (x ∷ xs) n once none =
+    let parts = none_of_two (nat_eq n x) (is_listed xs n) none in
+    let other : x ≢ n = λ same. absurd (let is : nat_eq n x ≡ true = eq-eqb n x (sym same) in let no = parts.0 in cc) in
+    (is_listed-append xs (n ∷ []) x ∙ rw (once.0, alone_not n x other) refl, once_more xs n once.1 parts.1)
+
+-- what comes of a call that went well
+pub on_ok : {X : Type 0} (r : Result X Memory) (P Q : Type 0) → (P → Q) → OnOk r P → OnOk r Q
+on_ok (Ok x) P Q leads p = leads p
+on_ok (Err memory) P Q leads p = p
+
+pub none_chosen : (g : Graph) (blocks gone aims : List ℕ) → blocks ≡ [] → gone ≡ [] → AreChosen g blocks gone aims
+none_chosen g blocks gone aims no_blocks none =
+    subst (λ bs. AreChosen g bs gone aims) (sym no_blocks)
+    (record {
+      together = record { detours = λ n e. absurd (cc); are_named = λ n e. absurd (cc); apart = λ n to e. absurd (cc); once = tt };
+      listed = λ n. ap (λ ns. is_listed ns n) none;
+      aimed = λ n to e. absurd (let no : is_listed gone n ≡ false = ap (λ ns. is_listed ns n) none in cc);
+    })
+
+module _ (g : Graph) (blocks more gone gone' aims aims' : List ℕ) (block to : ℕ) (c : AreChosen g blocks gone aims) (too : GoesToo g gone aims block to) (pushed : more ≡ blocks ++ block ∷ []) (set : Adds (block ∷ []) gone gone') (led : Adds (to ∷ []) aims aims') where
+  more_is : (n : ℕ) → is_listed more n ≡ (is_listed blocks n || is_listed (block ∷ []) n)
+  more_is n = ap (λ ns. is_listed ns n) pushed ∙ is_listed-append blocks (block ∷ []) n
+
+  same : (n : ℕ) → is_listed gone' n ≡ is_listed more n
+  same n = set.each n ∙ ap (λ t. t || is_listed (block ∷ []) n) (c.listed n) ∙ sym (more_is n)
+
+  either : (n : ℕ) → is_listed more n ≡ true → (is_listed blocks n ≡ true) ⊎ (n ≡ block)
+  either n e =
+      elim (or_cases (is_listed blocks n) (is_listed (block ∷ []) n) (sym (more_is n) ∙ e)) [ inl old ↦ inl old | inr now ↦ inr (alone_is block n now) ]
+
+  one_target : (k : ℕ) → jump_from g block ≡ Some k → k ≡ to
+  one_target k e = let f : Some k ≡ Some to = sym e ∙ too.jump in cc
+
+  not_itself : to ≢ block
+  not_itself e =
+      let target : to ≡ too.detour.to = let f : Some to ≡ Some too.detour.to = sym too.jump ∙ too.detour.passable.jump in cc in
+      too.detour.passable.other (sym target ∙ e)
+
+  apart_too : (n k : ℕ) → is_listed more n ≡ true → jump_from g n ≡ Some k → is_listed more k ≡ false
+  apart_too n k e leads =
+      more_is k
+      ∙ elim (either n e) [
+        | inl old ↦
+            let none : is_listed blocks k ≡ false = c.together.apart n k old leads in
+            let other : k ≢ block = λ s. absurd (let is : is_listed aims block ≡ true = ap (is_listed aims) (sym s) ∙ c.aimed n k (c.listed n ∙ old) leads in let no = too.no_aim in cc) in
+            rw (none, alone_not block k other) refl
+        | inr now ↦
+            let is_to : k ≡ to = one_target k (ap (jump_from g) (sym now) ∙ leads) in
+            let none : is_listed blocks k ≡ false = ap (is_listed blocks) is_to ∙ sym (c.listed to) ∙ too.stays in
+            rw (none, alone_not block k (λ s. not_itself (sym is_to ∙ s))) refl
+      ]
+
+  pub chosen_more : AreChosen g more gone' aims'
+  chosen_more = record {
+    together = record {
+      detours = λ n e. elim (either n e) [ inl old ↦ c.together.detours n old | inr now ↦ subst (IsDetour g) (sym now) too.detour ];
+      are_named = λ n e. elim (either n e) [ inl old ↦ c.together.are_named n old | inr now ↦ subst (λ k. is_among (uses g) k ≡ true) (sym now) too.is_named ];
+      apart = apart_too;
+      once = subst AreOnce (sym pushed) (once_more blocks block c.together.once (sym (c.listed block) ∙ too.is_new));
+    };
+    listed = same;
+    aimed = λ n k e leads.
+        led.each k
+        ∙ elim (either n (sym (same n) ∙ e)) [
+          | inl old ↦ or_left (is_listed aims k) (is_listed (to ∷ []) k) (c.aimed n k (c.listed n ∙ old) leads)
+          | inr now ↦
+              or_right (is_listed aims k) (is_listed (to ∷ []) k)
+              (ap (is_listed (to ∷ [])) (one_target k (ap (jump_from g) (sym now) ∙ leads)) ∙ here_listed to [])
+        ];
+  }

@@ -13,8 +13,8 @@ pub mod InvertKept
 pub mod StillSafe
 pub mod DetourKept
 pub mod DetoursApart
-pub mod FallKept
 pub mod Sweeping
+pub mod FallJoined
 pub mod Cutting
 pub mod UnreachedCleared
 pub mod UnreachedUncalled

@@ -16,7 +16,9 @@ use Rattle.sq_graph.specs.Places.{IsInReach}
 use Rattle.sq_graph.specs.Rules.{IsGraph}
 use Rattle.sq_graph.specs.Soundness.{IsSound}
 use Rattle.sq_graph.specs.Walks.{IsLive}
+use Rattle.sq_graph.specs.Uses.{uses}
 use Rattle.sq_graph.specs.Words.{words_of}
+use Rattle.sq_isa.specs.Registers.{is_among}
 use Rattle.sq_graph.proofs.CanonicalLaws.{canonical_again}
 use Rattle.sq_graph.proofs.CanonicalReach.{canonical_in_reach}
 use Rattle.sq_follow.specs.Follows.{Follows}
@@ -26,18 +28,16 @@ use Rattle.sq_patch.specs.Operations.{hastened as short_jump}
 use Rattle.sq_patch.proofs.Joining.{canonical_follows, canonical_sound}
 use Rattle.sq_patch.proofs.StayingDead.{shorten_dead}
 use Rattle.sq_pass.specs.declared.cut.Row.{Row}
-use Rattle.sq_pass.specs.declared.cut.Row.TheVariants.{J1, J2, J3, C}
+use Rattle.sq_pass.specs.declared.cut.Row.TheVariants.{J2, J3, C}
 use Rattle.sq_pass.specs.Applied.{IsApplied}
 use Rattle.sq_pass.specs.Counted.{counted}
 use Rattle.sq_pass.specs.Rewrites.{IsLighter, IsRewritten}
 use Rattle.sq_pass.proofs.Rewriting.{lighter_itself, rewrite_made, lighter_made, rewritten_once, rewritten_through}
 use Rattle.sq_jumps.specs.Candidates.{HasRow, cut_at, IsCandidate, rewritten, described}
-use Rattle.sq_jumps.specs.Fall.{falling, IsPlainFall}
-use Rattle.sq_jumps.specs.Detour.{straightened, IsPlainDetour}
+use Rattle.sq_jumps.specs.Detour.{straightened, IsDetour}
 use Rattle.sq_jumps.specs.Shorten.{hastened, JumpsByDeadPart, IsStillDead}
 use Rattle.sq_jumps.specs.Invert.{inverted, BranchesOverJump}
-use Rattle.sq_jumps.proofs.Applying.{hastening_is, shorten_applied, inverting_is, invert_applied, passing_is, pass_applied, fall_applied}
-use Rattle.sq_jumps.proofs.FallKept.{falling_canonical}
+use Rattle.sq_jumps.proofs.Applying.{hastening_is, shorten_applied, inverting_is, invert_applied, passing_is, pass_applied}
 use Rattle.sq_jumps.proofs.ShortenKept.{shortened_canonical}
 use Rattle.sq_jumps.proofs.InvertKept.{inverted_canonical}
 use Rattle.sq_jumps.proofs.DetourKept.{detour_canonical}
@@ -138,15 +138,7 @@ inverted_rewritten g h block before after rules canonical o is counts =
 
 -- ROW J2
 
-pub detour_rewritten : (g h : Graph) (block : ℕ) (before after : Savings) → IsGraph g → IsCanonical g → IsPlainDetour g block → h ≡ straightened g block → after ≡ counted before J2 1 → IsRewritten IsCandidate described before after g h
-detour_rewritten g h block before after rules canonical p is counts =
-    let to = p.detour.to in
-    let passable = p.detour.passable in
-    kept_rewritten J2 block before after g h p.detour (pass_applied g block rules p.detour)
-    (subst IsCanonical (sym (passing_is g block to passable.jump)) (detour_canonical g block to rules passable p.is_named canonical)) is counts
-
--- ROW J1
-
-pub fall_rewritten : (g h : Graph) (block : ℕ) (before after : Savings) → IsGraph g → IsCanonical g → IsPlainFall g block → h ≡ falling g block → after ≡ counted before J1 1 → IsRewritten IsCandidate described before after g h
-fall_rewritten g h block before after rules canonical p is counts =
-    kept_rewritten J1 block before after g h p.jumps (fall_applied g block rules p.jumps) (falling_canonical g block p canonical) is counts
+pub detour_rewritten : (g h : Graph) (block : ℕ) (before after : Savings) → IsGraph g → IsCanonical g → IsDetour g block → is_among (uses g) block ≡ true → h ≡ straightened g block → after ≡ counted before J2 1 → IsRewritten IsCandidate described before after g h
+detour_rewritten g h block before after rules canonical d named is counts =
+    kept_rewritten J2 block before after g h d (pass_applied g block rules d)
+    (subst IsCanonical (sym (passing_is g block d.to d.passable.jump)) (detour_canonical g block d.to rules d.passable named canonical)) is counts

@@ -19,7 +19,7 @@ use Rattle.sq_graph.proofs.Eachs.{All-each, All-flat_map}
 use Rattle.sq_graph.proofs.Sizes.{same_room}
 use Rattle.sq_lookup.specs.Names.{is_listed}
 use Rattle.sq_jumps.specs.Unreached.{is_called_in}
-use Rattle.sq_jumps.specs.Clearings.{is_called, without_uncalled}
+use Rattle.sq_jumps.specs.UnreachedClear.{is_called, without_uncalled}
 use Rattle.sq_jumps.proofs.Adding.{is_listed-append}
 
 or_right : (a b : Bool) → b ≡ true → (a || b) ≡ true

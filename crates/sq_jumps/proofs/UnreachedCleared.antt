@@ -18,7 +18,7 @@ use Rattle.sq_graph.proofs.Kept.{absent_behind}
 use Rattle.sq_graph.proofs.RulesByBlock.{ItemStands}
 use Rattle.sq_graph.proofs.OperationRules.{with_term_rules, replaced_rules}
 use Rattle.sq_lookup.specs.Names.{is_listed}
-use Rattle.sq_jumps.specs.Clearings.{cleared, cleared_each}
+use Rattle.sq_jumps.specs.UnreachedClear.{cleared, cleared_each}
 use Rattle.sq_layout.proofs.Standing.{block_of-changed, block_of-changed_here}
 use Rattle.sq_jumps.proofs.Totals.{term_total, emptied_total}
 

@@ -28,7 +28,7 @@ use Rattle.sq_reach.proofs.Blocks.{reached_has}
 use Rattle.sq_pass.specs.Applied.{IsApplied}
 use Rattle.sq_lookup.specs.Names.{is_listed}
 use Rattle.sq_jumps.specs.Unreached.{stays, is_called_in, is_held, without_all, words_gone, AreUnreached}
-use Rattle.sq_jumps.specs.Clearings.{is_called, without_each}
+use Rattle.sq_jumps.specs.UnreachedClear.{is_called, without_each}
 use Rattle.sq_layout.specs.Shrinks.{Shrinks}
 use Rattle.sq_layout.specs.Reach.{LedThere}
 use Rattle.sq_layout.proofs.Shrinking.{shrunk_in_reach, block_with}

@@ -19,7 +19,7 @@ use Rattle.sq_graph.proofs.Eachs.{All-left, All-right}
 use Rattle.sq_graph.proofs.Changes.{with_blocks-at}
 use Rattle.sq_graph.proofs.RulesByBlock.{BlockStands, by_block, all_named}
 use Rattle.sq_lookup.specs.Names.{is_listed}
-use Rattle.sq_jumps.specs.Clearings.{without_each, first_listed, AreApart, MayGo}
+use Rattle.sq_jumps.specs.UnreachedClear.{without_each, first_listed, AreApart, MayGo}
 use Rattle.sq_layout.proofs.Standing.{block_of-without}
 use Rattle.sq_jumps.proofs.Ruled.{ends_without, without_rules}
 

@@ -14,7 +14,7 @@ use Rattle.sq_graph.specs.Uses.{item_calls}
 use Rattle.sq_patch.specs.Restrictions.{procedures_held, number_held}
 use Rattle.sq_lookup.specs.Names.{is_listed}
 use Rattle.sq_jumps.specs.Unreached.{is_called_in}
-use Rattle.sq_jumps.specs.Clearings.{is_called, without_uncalled}
+use Rattle.sq_jumps.specs.UnreachedClear.{is_called, without_uncalled}
 
 -- TESTS THAT AGREE
 

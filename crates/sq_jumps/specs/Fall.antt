@@ -1,14 +1,11 @@
 -- Row J1: a Jump to the next slot becomes Fall.
-use Rattle.std.specs.Prelude.{◌≡◌, ℕ, Some, true, false, List}
+use Rattle.std.specs.Prelude.{◌≡◌, ℕ, Some, false, take}
+use Rattle.std.specs.List.{All}
 use Rattle.sq_graph.specs.declared.item.Term.TheVariants.{Jump, Fall}
 use Rattle.sq_graph.specs.Graph.{Graph}
 use Rattle.sq_graph.specs.Blocks.{next_of, term_of, items_of}
-use Rattle.sq_graph.specs.declared.item.Term.{Term}
 use Rattle.sq_graph.specs.Operations.{with_term}
-use Rattle.sq_isa.specs.Registers.{is_among}
-use Rattle.sq_graph.specs.Leaders.{has_no_items}
-use Rattle.sq_graph.specs.Uses.{term_uses}
-use Rattle.sq_lookup.specs.Names.{is_listed}
+use Rattle.sq_graph.specs.Leaders.{has_no_items, is_bare, is_leader, FallsIntoLeaders}
 
 -- J1: a Jump to the next slot
 pub record JumpsToNext (g : Graph) (block : ℕ) : Type 0 where
@@ -20,19 +17,13 @@ pub record JumpsToNext (g : Graph) (block : ℕ) : Type 0 where
 abbrev pub falling : Graph → ℕ → Graph
 falling g block = with_term g block Fall
 
--- A term that is no Jump to the next slot names the block.
-pub record IsNamedElsewhere (g : Graph) (block : ℕ) : Type 0 where
-  pub from : ℕ
-  pub term : Term
-  pub is : term_of g from ≡ Some term
-  pub names_it : is_among (term_uses term) block ≡ true
-  pub apart : ¬ JumpsToNext g from
-
-abbrev pub AreNamedElsewhere : Graph → List ℕ → Type 0
-AreNamedElsewhere g names = (n : ℕ) → is_listed names n ≡ true → IsNamedElsewhere g n
-
--- A Jump behind an item, to the next slot, which another term names.
+-- A Jump behind an item, to the next slot.
 pub record IsPlainFall (g : Graph) (block : ℕ) : Type 0 where
   pub jumps : JumpsToNext g block
   pub filled : has_no_items (items_of g block) ≡ false
-  pub named_elsewhere : IsNamedElsewhere g jumps.to
+
+-- No block is bare, and of the first so many blocks each that is fallen into is a leader. Behind them may stand blocks that
+-- the canonical form joins.
+pub record IsCanonicalTo (count : ℕ) (g : Graph) : Type 0 where
+  pub no_bare : All (λ b. is_bare b ≡ false) g.blocks
+  pub leaders : FallsIntoLeaders (is_leader g) (take count g.blocks)

@@ -5,25 +5,24 @@
 //!              d: j t             t: ..
 //!              t: ..
 
-ghost use Rattle.std.specs.Prelude.{◌↔◌, IsTrue, ◌≡◌, ◌≤◌, ◌+◌, IfOk, ℕ};
+ghost use Rattle.std.specs.Prelude.{◌↔◌, IsTrue, ◌≡◌, ◌≤◌, ◌+◌, IfOk, IfSome, OnOk};
 ghost use Rattle.sq_graph.specs.Blocks.{HasBlock};
 ghost use Rattle.sq_jumps.specs.Surveys.{IsSurvey};
 ghost use Rattle.sq_lookup.specs.Tables.{number_at};
 ghost use Rattle.sq_graph.specs.Room.{KeepsTotal};
 ghost use Rattle.sq_jumps.specs.Candidates.{IsCandidate, described};
-ghost use Rattle.std.specs.List.{All};
 ghost use Rattle.sq_num.specs.Saved.{words_saved};
 ghost use Rattle.sq_graph.specs.Leaders.{IsCanonical};
 ghost use Rattle.sq_graph.specs.Words.{words_of};
 ghost use Rattle.sq_follow.specs.Follows.{Follows};
 ghost use Rattle.sq_pass.specs.Rewrites.{IsRewritten};
-ghost use Rattle.sq_jumps.specs.Detour.{IsDetour, straightened, IsPlainDetour, IsStillDetour};
+ghost use Rattle.sq_jumps.specs.Detour.{IsDetour, straightened, GoTogether, GoesToo, AreChosen};
 
 use crate::survey::{Survey, survey_of};
 use sq_graph::Graph;
 use sq_layout::learn;
 use sq_live::block_names;
-use sq_lookup::{is_block, jump_from};
+use sq_lookup::{Names, jump_from};
 use sq_num::{Memory, Savings};
 use sq_pass::{Rewrite, Row};
 use std::alloc::Global;
@@ -55,77 +54,90 @@ pub(crate) fn straighten(graph: &mut Graph, block: u32)
     graph.remove(block);
 }
 
-/// Whether the block is a detour to a block that is no lone Jump, and something names it.
-fn is_plain_detour(graph: &Graph, survey: &Survey, block: u32) -> bool
+/// The target of the block, where that is a detour that goes together with these, which lead to those.
+fn goes_too(graph: &Graph, survey: &Survey, gone: &Names, aims: &Names, block: u32) -> Option<u32>
     requires block { HasBlock graph.now.graph block }
     requires survey { IsSurvey graph.now.graph (number_at survey.now.addresses) survey.now.used survey.now.needed }
-    ensures { IsTrue result → IsPlainDetour graph.now.graph block }
+    ensures { IfSome result (GoesToo graph.now.graph gone.now aims.now block) }
 {
     learn(graph);
-    if !survey.used.has(block) {
-        return false;
+    if gone.has(block) || aims.has(block) || !survey.used.has(block) {
+        return None;
     }
     if !is_detour(graph, survey, block) {
-        return false;
+        return None;
     }
-    match jump_from(graph, block) {
-        Some(to) => jump_from(graph, to).is_none(),
-        None => false,
-    }
+    let to = jump_from(graph, block)?;
+    if gone.has(to) { None } else { Some(to) }
 }
 
-/// Such blocks, in layout order.
-fn plain_detours(alloc: Global, graph: &Graph) -> Result<Vec<u32>, Memory>
-    ensures { IfOk result (λ blocks. All (IsPlainDetour graph.now.graph) blocks.items) }
+/// Detours that are chosen to go together: none leads to another.
+#[derive(Drop)]
+struct Chosen {
+    blocks: Vec<u32>,
+    gone: Names,
+    aims: Names,
+}
+
+/// Chooses the block too, where it goes together with those that are chosen.
+fn choose(chosen: &mut Chosen, graph: &Graph, survey: &Survey, block: u32) -> Result<(), Memory>
+    requires block { HasBlock graph.now.graph block }
+    requires survey { IsSurvey graph.now.graph (number_at survey.now.addresses) survey.now.used survey.now.needed }
+    requires chosen { AreChosen graph.now.graph chosen.old.blocks.items chosen.old.gone chosen.old.aims }
+    ensures { OnOk result (AreChosen graph.now.graph chosen.new.blocks.items chosen.new.gone chosen.new.aims) }
+{
+    let Some(to) = goes_too(graph, survey, &chosen.gone, &chosen.aims, block) else {
+        return Ok(());
+    };
+    chosen.blocks.push(block)?;
+    chosen.gone.insert(block)?;
+    chosen.aims.insert(to)
+}
+
+/// Detours that go together. Of each chain of them it chooses a third at least, in layout order.
+fn detours_together(alloc: Global, graph: &Graph) -> Result<Vec<u32>, Memory>
+    ensures { IfOk result (λ blocks. GoTogether graph.now.graph blocks.items) }
 {
     learn(graph);
     let names = block_names(alloc, graph)?;
     let survey = survey_of(alloc, graph, &names)?;
-    let mut blocks = Vec::new(alloc);
+    let mut chosen = Chosen {
+        blocks: Vec::new(alloc),
+        gone: Names::new(alloc),
+        aims: Names::new(alloc),
+    };
     for name in &names {
-        if is_plain_detour(graph, &survey, *name) {
-            blocks.push(*name)?;
-        }
+        choose(&mut chosen, graph, &survey, *name)?;
     }
-    Ok(blocks)
+    Ok(chosen.blocks)
 }
 
-/// Gives the names of such a block to its target, by row J2, where it is there still. Others like it stay so.
-fn straighten_one(graph: &mut Graph, block: u32, savings: Savings) -> Savings
+/// Gives the names of each of these blocks to its target, by row J2. That leaves the graph canonical, and the others go
+/// together still.
+fn straighten_each(graph: &mut Graph, blocks: &[u32], savings: Savings) -> Savings
     requires canonical { IsCanonical graph.old.graph }
-    requires detour { IsStillDetour graph.old.graph block }
+    requires detours { GoTogether graph.old.graph blocks.now }
     requires words { words_of graph.old.graph + words_saved savings ≤ 1048576 }
-    ensures rewritten { IsRewritten IsCandidate described savings result graph.old.graph graph.new.graph }
-    ensures others { (n : ℕ) → IsStillDetour graph.old.graph n → IsStillDetour graph.new.graph n }
+    ensures { IsRewritten IsCandidate described savings result graph.old.graph graph.new.graph }
 {
-    learn(graph);
-    if !is_block(graph, block) {
-        return savings;
-    }
-    straighten(graph, block);
     let done = Rewrite {
         row: Row::J2,
         saving: 1,
     };
-    done.count(savings)
-}
-
-/// The same for each of these blocks. A rewrite of row J2 at such a block leaves the graph canonical.
-fn straighten_each(graph: &mut Graph, blocks: &[u32], savings: Savings) -> Savings
-    requires canonical { IsCanonical graph.old.graph }
-    requires detours { All (IsStillDetour graph.old.graph) blocks.now }
-    requires words { words_of graph.old.graph + words_saved savings ≤ 1048576 }
-    ensures { IsRewritten IsCandidate described savings result graph.old.graph graph.new.graph }
-{
     let mut after = savings;
     for block in blocks {
-        after = straighten_one(graph, *block, after);
+        learn(graph);
+        straighten(graph, *block);
+        after = done.count(after);
     }
     after
 }
 
-/// Rewrites the graph by candidates of row J2, in layout order. It surveys the graph once, and then gives the names of each
-/// detour to its target.
+/// So many rounds leave nothing of a chain of detours, however long: in each a third of them goes.
+const ROUNDS: u32 = 32;
+
+/// Rewrites the graph by candidates of row J2 in rounds. Each surveys the graph once, chooses detours that go together, and
+/// gives the names of each to its target, for which it looks at all uses of names.
 pub(crate) fn sweep_detours(
     alloc: Global,
     graph: &mut Graph,
@@ -136,6 +148,13 @@ pub(crate) fn sweep_detours(
     ensures rewritten { IfOk result (λ after. IsRewritten IsCandidate described savings after graph.old.graph graph.new.graph) }
     ensures follows { Follows graph.old.graph graph.new.graph }
 {
-    let detours = plain_detours(alloc, graph)?;
-    Ok(straighten_each(graph, &detours, savings))
+    let mut after = savings;
+    for _round in 0..ROUNDS {
+        let detours = detours_together(alloc, graph)?;
+        if detours.is_empty() {
+            return Ok(after);
+        }
+        after = straighten_each(graph, &detours, after);
+    }
+    Ok(after)
 }

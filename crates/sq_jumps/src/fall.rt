@@ -4,23 +4,22 @@
 //!                 j b             b: ..
 //!              b: ..
 
-ghost use Rattle.std.specs.Prelude.{◌↔◌, IsTrue, ◌≡◌, ◌≤◌, ◌+◌, IfOk};
+ghost use Rattle.std.specs.Prelude.{◌↔◌, IsTrue, ◌≡◌, ◌≤◌, ◌+◌, ◌<◌, length, IfOk};
 ghost use Rattle.sq_graph.specs.Blocks.{HasBlock};
 ghost use Rattle.sq_graph.specs.Room.{KeepsTotal};
 ghost use Rattle.sq_jumps.specs.Candidates.{IsCandidate, described};
 ghost use Rattle.sq_num.specs.Saved.{words_saved};
+ghost use Rattle.sq_graph.specs.Canonical.{canonical_of};
 ghost use Rattle.sq_graph.specs.Leaders.{IsCanonical};
 ghost use Rattle.sq_graph.specs.Parts.{names_of};
-ghost use Rattle.sq_graph.specs.Rules.{IsGraph};
 ghost use Rattle.sq_graph.specs.Words.{words_of};
 ghost use Rattle.sq_follow.specs.Follows.{Follows};
 ghost use Rattle.sq_pass.specs.Rewrites.{IsRewritten};
-ghost use Rattle.sq_jumps.specs.Fall.{JumpsToNext, falling, AreNamedElsewhere, IsPlainFall};
+ghost use Rattle.sq_jumps.specs.Fall.{JumpsToNext, falling, IsPlainFall, IsCanonicalTo};
 
 use sq_graph::{Graph, Term};
 use sq_layout::learn;
 use sq_live::block_names;
-use sq_lookup::Names;
 use sq_num::{Memory, Savings};
 use sq_pass::{Rewrite, Row};
 use std::alloc::Global;
@@ -46,51 +45,32 @@ pub(crate) fn fall(graph: &mut Graph, block: u32)
     graph.set_term(block, Term::Fall);
 }
 
-/// The names that terms use, but for Jumps to the next slot.
-fn named_elsewhere(alloc: Global, graph: &Graph, names: &[u32]) -> Result<Names, Memory>
-    requires rules { IsGraph graph.now.graph }
-    requires names { names.now ≡ names_of graph.now.graph }
-    ensures { IfOk result (AreNamedElsewhere graph.now.graph) }
-{
-    let mut elsewhere = Names::new(alloc);
-    for name in names {
-        if !jumps_to_next(graph, *name) {
-            elsewhere.insert_some(graph.term(*name).target())?;
-        }
-    }
-    Ok(elsewhere)
-}
-
-/// Whether the block ends in a Jump behind an item, to the next slot, which another term names.
-fn is_plain_fall(graph: &Graph, elsewhere: &Names, block: u32) -> bool
-    requires block { HasBlock graph.now.graph block }
-    requires elsewhere { AreNamedElsewhere graph.now.graph elsewhere.now }
+/// Whether the block ends in a Jump to the next slot, behind an item.
+fn is_plain_fall(graph: &Graph, block: u32) -> bool
+    requires { HasBlock graph.now.graph block }
     ensures { IsTrue result → IsPlainFall graph.now.graph block }
 {
     if graph.items(block).is_empty() {
         return false;
     }
-    if !jumps_to_next(graph, block) {
-        return false;
-    }
-    match graph.next(block) {
-        Some(to) => elsewhere.has(to),
-        None => false,
-    }
+    jumps_to_next(graph, block)
 }
 
-/// Makes the Jump of such a block Fall, by row J1.
-fn fall_one(graph: &mut Graph, elsewhere: &Names, block: u32, savings: Savings) -> Savings
-    requires canonical { IsCanonical graph.old.graph }
-    requires block { HasBlock graph.old.graph block }
-    requires elsewhere { AreNamedElsewhere graph.old.graph elsewhere.now }
+/// Makes the Jump of the block at this place Fall, by row J1, where it is such a one. The canonical form, which may join the
+/// block with those behind it, is left to the caller.
+fn fall_one(graph: &mut Graph, names: &[u32], place: usize, savings: Savings) -> Savings
+    requires names { names.now ≡ names_of graph.old.graph }
+    requires place { place < length names.now }
+    requires canonical { IsCanonicalTo (place + 1) graph.old.graph }
     requires words { words_of graph.old.graph + words_saved savings ≤ 1048576 }
-    ensures rewritten { IsRewritten IsCandidate described savings result graph.old.graph graph.new.graph }
-    ensures elsewhere { AreNamedElsewhere graph.new.graph elsewhere.now }
+    ensures rewritten { IsRewritten IsCandidate described savings result (canonical_of graph.old.graph) (canonical_of graph.new.graph) }
+    ensures canonical { IsCanonicalTo place graph.new.graph }
+    ensures words { words_of graph.new.graph + words_saved result ≡ words_of graph.old.graph + words_saved savings }
     ensures names { names_of graph.new.graph ≡ names_of graph.old.graph }
 {
     learn(graph);
-    if !is_plain_fall(graph, elsewhere, block) {
+    let block = names[place];
+    if !is_plain_fall(graph, block) {
         return savings;
     }
     fall(graph, block);
@@ -101,24 +81,24 @@ fn fall_one(graph: &mut Graph, elsewhere: &Names, block: u32, savings: Savings) 
     done.count(savings)
 }
 
-/// The same for each block. A rewrite of row J1 at such a block leaves the graph canonical, and what other terms name.
-fn fall_each(graph: &mut Graph, elsewhere: &Names, names: &[u32], savings: Savings) -> Savings
+/// The same for each block, from the last one on: so the canonical form of what is left is that of rewrites one after another,
+/// each made canonical.
+fn fall_each(graph: &mut Graph, names: &[u32], savings: Savings) -> Savings
     requires canonical { IsCanonical graph.old.graph }
-    requires elsewhere { AreNamedElsewhere graph.old.graph elsewhere.now }
     requires names { names.now ≡ names_of graph.old.graph }
     requires words { words_of graph.old.graph + words_saved savings ≤ 1048576 }
-    ensures { IsRewritten IsCandidate described savings result graph.old.graph graph.new.graph }
+    ensures { IsRewritten IsCandidate described savings result graph.old.graph (canonical_of graph.new.graph) }
 {
     learn(graph);
     let mut after = savings;
-    for name in names {
-        after = fall_one(graph, elsewhere, *name, after);
+    for place in (0..names.len()).rev() {
+        after = fall_one(graph, names, place, after);
     }
     after
 }
 
-/// Rewrites the graph by candidates of row J1, in layout order, where another term names the next slot too, so that the
-/// graph stays canonical. It looks at the end of each block twice.
+/// Rewrites the graph by candidates of row J1, all but lone Jumps. It looks at the end of each block once, and makes the graph
+/// canonical once.
 pub(crate) fn sweep_falls(
     alloc: Global,
     graph: &mut Graph,
@@ -131,6 +111,7 @@ pub(crate) fn sweep_falls(
 {
     learn(graph);
     let names = block_names(alloc, graph)?;
-    let elsewhere = named_elsewhere(alloc, graph, &names)?;
-    Ok(fall_each(graph, &elsewhere, &names, savings))
+    let after = fall_each(graph, &names, savings);
+    graph.canonical();
+    Ok(after)
 }

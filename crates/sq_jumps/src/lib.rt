@@ -4,12 +4,9 @@
 //! and admits are candidates of these rows, it misses none, and what it makes of a graph is exactly what the row says.
 #![tactic(auto)]
 
-mod admit;
-mod apply;
-mod clear;
+mod cut;
 mod detour;
 mod fall;
-mod find;
 mod invert;
 mod jumps;
 mod shorten;

@@ -11,9 +11,8 @@ ghost use Rattle.sq_follow.specs.Follows.{Follows};
 ghost use Rattle.sq_pass.specs.declared.cut.Row.{Row as RowName};
 ghost use Rattle.sq_pass.specs.Rewrites.{IsRewritten};
 
-use crate::apply::apply_row;
 use crate::fall::jumps_to_next;
-use crate::find::jump_row;
+use crate::jumps::{apply_row, jump_row};
 use crate::survey::survey_of;
 use sq_graph::Graph;
 use sq_layout::learn;

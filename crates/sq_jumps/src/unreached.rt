@@ -7,6 +7,8 @@
 //!
 //! What the cut is and how it is found is here, and `clear` has how it is applied.
 
+mod clear;
+
 ghost use Rattle.std.specs.Prelude.{◌≡◌, IfOk, IfSome, ℕ, ◌<◌, ◌^◌, not, sum_by, None, Ok, OnOk};
 ghost use Rattle.sq_jumps.specs.Candidates.{IsUnreachedCut};
 ghost use Rattle.std.specs.List.{filter, flat_map};
@@ -21,7 +23,8 @@ ghost use Rattle.sq_jumps.specs.Unreached.{is_called_in};
 ghost use Rattle.sq_pass.specs.declared.cut.Row.TheVariants.{U as Unreached};
 ghost use Rattle.sq_pass.specs.Cuts.{IsCompleted};
 
-use crate::find::no_register;
+use crate::cut::no_register;
+pub(crate) use clear::drop_unreached;
 use sq_graph::{Graph, Item};
 use sq_layout::{block_words, learn};
 use sq_live::block_names;

@@ -1,15 +1,28 @@
-use Rattle.std.proofs.Common.{List, ℕ, subst, sym}
-use Rattle.std.specs.List.{All}
-use Rattle.std.proofs.lemmas.List.Elements.{All-weaker}
-use Rattle.sq_follow.proofs.Following.{graph_follows_itself}
-use Rattle.sq_jumps.specs.Detour.{IsPlainDetour, IsStillDetour}
+use Rattle.sq_jumps.specs.Candidates.{IsCandidate, described}
+use Rattle.sq_pass.proofs.Rewriting.{rewritten_itself, rewritten_through}
 use Rattle.sq_jumps.proofs.detour.sweep_detours.Goals as goal
 
-pub returns-in_err-detours-clause-follows : goal.returns-in_err-detours-clause-follows
-returns-in_err-detours-clause-follows c = graph_follows_itself c.args.graph.now.graph
+pub loop-round-init : goal.loop-round-init
+loop-round-init c = rewritten_itself IsCandidate described c.args.savings c.args.graph.now.graph c.requires.canonical
 
-pub straighten_each-requires-clause-detours : goal.straighten_each-requires-clause-detours
-straighten_each-requires-clause-detours c =
-    let g = c.args.graph.now.graph in
-    subst (λ (ns : List ℕ). All (IsStillDetour g) ns) (sym c.deref.ensures.value)
-    (All-weaker (IsPlainDetour g) (IsStillDetour g) (λ n plain has. plain) c.in_ok-detours.detours.items c.in_ok-detours.ensures)
+pub returns-in_err-detours-clause-follows : goal.returns-in_err-detours-clause-follows
+returns-in_err-detours-clause-follows c = c.loop-round.invariant.lighter.follows
+
+pub returns-then-is_empty-clause-rewritten : goal.returns-then-is_empty-clause-rewritten
+returns-then-is_empty-clause-rewritten c = c.loop-round.invariant
+
+pub returns-then-is_empty-clause-follows : goal.returns-then-is_empty-clause-follows
+returns-then-is_empty-clause-follows c = c.loop-round.invariant.lighter.follows
+
+pub straighten_each-after-requires-clause-canonical : goal.straighten_each-after-requires-clause-canonical
+straighten_each-after-requires-clause-canonical c = c.loop-round.invariant.lighter.canonical
+
+pub loop-round-preserved : goal.loop-round-preserved
+loop-round-preserved c =
+    rewritten_through IsCandidate described c.args.savings c.loop-round.after c.straighten_each-after.result c.args.graph.now.graph c.loop-round.graph.graph c.straighten_each-after.new.graph.graph c.loop-round.invariant c.straighten_each-after.ensures
+
+pub returns-clause-rewritten : goal.returns-clause-rewritten
+returns-clause-rewritten c = c.loop-round.invariant
+
+pub returns-clause-follows : goal.returns-clause-follows
+returns-clause-follows c = c.loop-round.invariant.lighter.follows

@@ -3,6 +3,3 @@ use Rattle.sq_jumps.proofs.fall.sweep_falls.Goals as goal
 
 pub returns-in_err-names-clause-follows : goal.returns-in_err-names-clause-follows
 returns-in_err-names-clause-follows c = graph_follows_itself c.args.graph.now.graph
-
-pub returns-in_err-elsewhere-clause-follows : goal.returns-in_err-elsewhere-clause-follows
-returns-in_err-elsewhere-clause-follows c = graph_follows_itself c.args.graph.now.graph
