@@ -1,4 +1,12 @@
 mod Bareness
+pub mod Blocks
 mod Finding
 mod Growing
+mod Histories
+mod Leading
+pub mod Levels
+mod Parting
+mod Places
+pub mod Referred
 mod Refining
+mod Shapes

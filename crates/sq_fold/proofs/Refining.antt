@@ -1,7 +1,8 @@
 -- Rounds of finer and finer classes.
-use Rattle.std.proofs.Common.{◌≡◌, ◌≢◌, ◌↔◌, ◌&&◌, ℕ, zero, suc, ◌-◌, inl, inr, ◌<◌, ◌≤◌, Bool, true, false, true≢false, not, List, [], ◌∷◌, length, Option, Some, None, nat_eq, slice_get, refl, sym, ap, ◌∙◌, subst, arith}
+use Rattle.std.proofs.Common.{◌≡◌, ◌≢◌, ◌↔◌, ◌&&◌, ℕ, zero, suc, ◌-◌, inl, inr, ◌<◌, ◌≤◌, Bool, true, false, true≢false, not, List, [], ◌∷◌, length, Option, Some, None, IsSome, nat_eq, slice_get, refl, sym, ap, ◌∙◌, subst, arith}
 use Rattle.std.proofs.lemmas.Bool.{and_parts, cases_Bool, cases_lt}
 use Rattle.std.proofs.lemmas.List.{length-map}
+use Rattle.std.proofs.lemmas.Option.{slice_get-get_or}
 use Rattle.std.proofs.lemmas.Slice.Eq.{slice_eq-Decides}
 use lib.Pointwise.{pointwise}
 use Rattle.std.specs.Cmp.{IsEquivalence}
@@ -21,19 +22,22 @@ some_same e = cc
 
 -- ---- keys
 
+exact_label : IsExact {K = Option ℕ} (option_eq nat_eq)
+exact_label = exact_option nat_eq exact_number
+
 exact_edge : IsExact {K = Option (Option ℕ)} (option_eq (option_eq nat_eq))
 exact_edge = exact_option (option_eq nat_eq) (exact_option nat_eq exact_number)
 
 exact_key : IsExact {K = Key} is_same_key
 exact_key a b = (
   λ e.
-      let p = and_parts (nat_eq a.0 b.0 && option_eq (option_eq nat_eq) a.1 b.1) (option_eq (option_eq nat_eq) a.2 b.2) e in
-      let q = and_parts (nat_eq a.0 b.0) (option_eq (option_eq nat_eq) a.1 b.1) p.0 in
-      let first : a.0 ≡ b.0 = (exact_number a.0 b.0).0 q.0 in
+      let p = and_parts (option_eq nat_eq a.0 b.0 && option_eq (option_eq nat_eq) a.1 b.1) (option_eq (option_eq nat_eq) a.2 b.2) e in
+      let q = and_parts (option_eq nat_eq a.0 b.0) (option_eq (option_eq nat_eq) a.1 b.1) p.0 in
+      let first : a.0 ≡ b.0 = (exact_label a.0 b.0).0 q.0 in
       let second : a.1 ≡ b.1 = (exact_edge a.1 b.1).0 q.1 in
       let third : a.2 ≡ b.2 = (exact_edge a.2 b.2).0 p.1 in
       rw (first, second, third) refl,
-  λ e. subst (λ k. is_same_key a k ≡ true) e (rw ((exact_number a.0 a.0).1 refl, (exact_edge a.1 a.1).1 refl, (exact_edge a.2 a.2).1 refl) refl),
+  λ e. subst (λ k. is_same_key a k ≡ true) e (rw ((exact_label a.0 a.0).1 refl, (exact_edge a.1 a.1).1 refl, (exact_edge a.2 a.2).1 refl) refl),
 )
 
 key_laws : IsEquivalence is_same_key
@@ -50,7 +54,7 @@ are_numbers nodes classes finer made = subst (AreNumbers is_same_key (keys_by no
 pub finer_many : (nodes : List Node) (classes finer : List (Option ℕ)) → IsFinerBy nodes classes finer → length finer ≡ length nodes
 finer_many nodes classes finer made = (are_numbers nodes classes finer made).many ∙ length-map nodes (λ node. Some (seen_by (member_at classes) node))
 
-same_view : (nodes : List Node) (classes finer : List (Option ℕ)) → IsFinerBy nodes classes finer → (i j : ℕ) → (member_at finer i ≡ member_at finer j) ↔ (view nodes (member_at classes) i ≡ view nodes (member_at classes) j)
+pub same_view : (nodes : List Node) (classes finer : List (Option ℕ)) → IsFinerBy nodes classes finer → (i j : ℕ) → (member_at finer i ≡ member_at finer j) ↔ (view nodes (member_at classes) i ≡ view nodes (member_at classes) j)
 same_view nodes classes finer made i j =
     let are = numbers_of_keys is_same_key exact_key (keys_by nodes classes) finer (are_numbers nodes classes finer made) in
     let same = are.same i j in
@@ -129,6 +133,18 @@ rounds_end nodes classes finer rounds same = record {
   stable = λ i j e. (same_view nodes classes finer rounds.made i j).0 (subst (λ cs. member_at cs i ≡ member_at cs j) (sym same) e);
   coarsest = rounds.above;
 }
+
+-- each node has a class
+pub finer_some : (nodes : List Node) (classes finer : List (Option ℕ)) → IsFinerBy nodes classes finer → (i : ℕ) → i < length nodes → IsSome (member_at finer i)
+finer_some nodes classes finer made i l = go (member_at finer i) refl
+  where
+    go : (o : Option ℕ) → member_at finer i ≡ o → IsSome o
+    go None e =
+        let are = numbers_of_keys is_same_key exact_key (keys_by nodes classes) finer (are_numbers nodes classes finer made) in
+        let none : Node = record { label = None; next = None; target = None } in
+        let key = keys_at nodes classes i ∙ ap (option_map (seen_by (member_at classes))) (slice_get-get_or nodes i none l) in
+        absurd (let h = sym ((are.none i).0 e) ∙ key in cc)
+    go (Some n) e = refl
 
 -- ---- the test whether a round made no class finer
 

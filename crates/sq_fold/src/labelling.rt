@@ -14,7 +14,7 @@ use sq_num::Memory;
 use std::alloc::Global;
 
 // An item but for the name in it.
-fn bare_item(item: Item) -> Item
+pub(crate) fn bare_item(item: Item) -> Item
     ensures { result ≡ bare_item item }
 {
     match item {
@@ -25,7 +25,7 @@ fn bare_item(item: Item) -> Item
 }
 
 // A term but for the name in it. A Fall is a Jump to the next slot.
-fn bare_term(term: Term) -> Term
+pub(crate) fn bare_term(term: Term) -> Term
     ensures { result ≡ bare_term term }
 {
     match term {

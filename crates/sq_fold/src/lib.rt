@@ -1,16 +1,19 @@
 //! The coarsest stable partition, by which equal functions with loops are found.
 //!
-//! To the layers above it promises that `coarsest` gives two nodes one class exactly where the coarsest stable partition does;
-//! that `labels` gives two places of a graph one number exactly where what stands there is equal but for names; that
-//! `index_places` tells where each place stands in their line; and that `references` are those of a block in order.
+//! To the layers above it promises that `partition` is the coarsest stable partition of the blocks of a graph: it is stable,
+//! and its classes contain those of every stable one; that `difference` gives a walk that tells two blocks apart exactly where
+//! they are of different classes; and that `references` are those of a block in order.
 #![tactic(auto)]
 
+mod grouping;
+mod history;
 mod indexing;
 mod labelling;
+mod nodes;
 mod referring;
 mod rounds;
+mod walking;
 
-pub use indexing::index_places;
-pub use labelling::labels;
+pub use grouping::{Grouping, partition};
 pub use referring::references;
-pub use rounds::{Node, coarsest};
+pub use walking::difference;

@@ -1,6 +1,6 @@
 //! The coarsest stable partition of nodes, in rounds.
 
-ghost use Rattle.std.specs.Prelude.{◌≡◌, ◌<◌, ◌^◌, length, IfOk};
+ghost use Rattle.std.specs.Prelude.{◌≡◌, ◌<◌, ◌^◌, ℕ, IsSome, length, IfOk};
 ghost use Rattle.std.specs.Option.{option_map};
 ghost use Rattle.sq_finger.specs.Numbers.{member_at, AreNumbersOf};
 ghost use Rattle.sq_fold.specs.Stable.{seen_by, keys_by, IsFinerBy, IsCoarsest};
@@ -12,7 +12,7 @@ use std::alloc::Global;
 /// A node: what it is, and the places of the nodes that it goes on to.
 #[derive(Clone, Copy, Debug, PartialEq, Eq)]
 pub struct Node {
-    pub label: u32,
+    pub label: Option<u32>,
     pub next: Option<u32>,
     pub target: Option<u32>,
 }
@@ -26,7 +26,7 @@ fn class_at(classes: &[Option<u32>], place: Option<u32>) -> Option<Option<u32>>
 }
 
 // What tells the nodes apart once their classes are known; one round more.
-fn refined(
+pub(crate) fn refined(
     alloc: Global,
     nodes: &[Node],
     classes: &[Option<u32>],
@@ -47,6 +47,7 @@ fn refined(
 pub fn coarsest(alloc: Global, nodes: &[Node]) -> Result<Vec<Option<u32>>, Memory>
     requires { length nodes.now < 2 ^ 32 }
     ensures many { IfOk result (λ classes. length classes.items ≡ length nodes.now) }
+    ensures some { IfOk result (λ classes. (i : ℕ) → i < length nodes.now → IsSome (member_at classes.items i)) }
     ensures coarsest { IfOk result (λ classes. IsCoarsest nodes.now (member_at classes.items)) }
 {
     let mut classes = Vec::new(alloc);

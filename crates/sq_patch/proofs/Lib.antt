@@ -6,21 +6,21 @@ pub mod Deeds
 pub mod LiveTargets
 pub mod LiveSteps
 pub mod Starts
-mod Patch
+pub mod Patch
 mod Shrink
-mod Keeping
-mod Used
-mod Lines
-mod Changing
+pub mod Keeping
+pub mod Used
+pub mod Lines
+pub mod Changing
 mod Parts
-mod Places
+pub mod Places
 mod Dead
-mod Moving
+pub mod Moving
 mod Dying
-mod Carrying
-mod Layouts
+pub mod Carrying
+pub mod Layouts
 pub mod Restricting
-mod Standing
+pub mod Standing
 mod Remaining
 pub mod Passing
 mod Relating
@@ -44,7 +44,7 @@ pub mod Inserting
 pub mod Reordering
 pub mod Saving
 pub mod Shortening
-mod Bypassing
+pub mod Bypassing
 pub mod Joining
 pub mod Renaming
 pub mod StayingDead

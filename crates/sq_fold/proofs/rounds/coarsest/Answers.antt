@@ -1,6 +1,8 @@
 use Rattle.std.proofs.Common.{length, ap, sym, subst, ◌∙◌}
+use Rattle.std.specs.Prelude.{IsSome, ◌<◌}
+use Rattle.sq_finger.specs.Numbers.{member_at}
 use Rattle.sq_fold.specs.Stable.{IsFinerBy}
-use Rattle.sq_fold.proofs.Refining.{rounds_first, rounds_next, rounds_smaller, rounds_end, finer_many, same_numbers}
+use Rattle.sq_fold.proofs.Refining.{rounds_first, rounds_next, rounds_smaller, rounds_end, finer_many, finer_some, same_numbers}
 use Rattle.sq_fold.proofs.rounds.coarsest.Goals as goal
 
 pub loop-alloc-init : goal.loop-alloc-init
@@ -26,3 +28,8 @@ pub returns-clause-coarsest : goal.returns-clause-coarsest
 returns-clause-coarsest c =
     let same = same_numbers c.loop-alloc.finer.items c.loop-alloc.classes.items c.ne.result c.ne.ensures c.loop-alloc-test.false in
     rounds_end c.args.nodes.now c.loop-alloc.classes.items c.loop-alloc.finer.items c.loop-alloc.invariant same
+
+pub returns-clause-some : goal.returns-clause-some
+returns-clause-some c =
+    let same = same_numbers c.loop-alloc.finer.items c.loop-alloc.classes.items c.ne.result c.ne.ensures c.loop-alloc-test.false in
+    λ i l. subst (λ cs. IsSome (member_at cs i)) same (finer_some c.args.nodes.now c.loop-alloc.classes.items c.loop-alloc.finer.items c.loop-alloc.invariant.made i l)
