@@ -32,3 +32,5 @@ pub mod WindowsMaking
 pub mod WindowsThin
 pub mod WindowsFinding
 pub mod WindowsClasses
+pub mod WindowsPast
+pub mod WindowsSweeping

@@ -24,7 +24,7 @@ use Rattle.sq_outline.specs.declared.callers.Body.{Body}
 use Rattle.sq_outline.specs.declared.sites.Site.{Site}
 use Rattle.sq_outline.specs.Sites.{called_each, MatchesAt, MayCallEach}
 use Rattle.sq_outline.specs.Made.{HasBody, IsMade, AreMade, starts_of, ends_of, made}
-use Rattle.sq_outline.specs.Links.{link_order, IsDeadAt, MayLink, IsFirstOf}
+use Rattle.sq_outline.specs.Links.{link_order, IsDeadAt, MayLink, IsLink, IsFirstOf}
 use Rattle.sq_outline.specs.Sets.{Pays}
 use Rattle.sq_outline.specs.Still.{CallsNothing, IsStill, IsStillDead, IsDying, IsCaller, MayCallThrough, IsFree, IsFirstFree}
 use Rattle.sq_outline.proofs.Choosing.{link_made}
@@ -171,6 +171,10 @@ first_weaker [] P Q r weaker own first = absurd first
 first_weaker (x ∷ xs) P Q r weaker own (inl is) = inl (is.0, subst Q is.0 own)
 first_weaker (x ∷ xs) P Q r weaker own (inr later) = inr ((λ holds. later.0 (weaker x holds)), first_weaker xs P Q r weaker own later.1)
 
+-- the register is the first that the items don't mention, and is dead at each of the places
+pub surely_link : (g : Graph) (body : List Item) (places : List Site) (r : ℕ) → MayLink g body places r → IsFirstFree body r → IsLink g body places r
+surely_link g body places r may first = first_weaker link_order (IsFree body) (MayLink g body places) r (λ x holds. holds.free) may first
+
 pub surely_made : (g : Graph) (blocks : List ℕ) (r : ℕ) (items : List Item) → items ≡ items_of g (get_or blocks 0 0) → 0 < length blocks → All (MayCallThrough g (items_of g (get_or blocks 0 0)) r) blocks → IsDistinct nat_eq blocks → Pays (length blocks) (length items) → IsFirstFree items r → AreMade g blocks r
 surely_made g blocks r items is some callers distinct paid first =
     let body = items_of g (get_or blocks 0 0) in
@@ -182,5 +186,5 @@ surely_made g blocks r items is some callers distinct paid first =
       distinct = distinct;
       bodies = λ k d l. let caller = callers k d l in caller.body;
       pays = subst (λ (js : List Item). Pays (length blocks) (length js)) is paid;
-      linked = first_weaker link_order (IsFree body) (MayLink g body (ends_of g blocks)) r (λ x may. may.free) (record { free = first_holds link_order (IsFree body) r free; dead = dead }) free;
+      linked = surely_link g body (ends_of g blocks) r (record { free = first_holds link_order (IsFree body) r free; dead = dead }) free;
     })

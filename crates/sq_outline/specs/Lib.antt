@@ -15,4 +15,5 @@ pub mod WindowsInside
 pub mod WindowsHeads
 pub mod WindowsMade
 pub mod WindowsSearch
+pub mod WindowsPast
 pub mod WindowsCandidates

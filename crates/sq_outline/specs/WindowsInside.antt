@@ -7,6 +7,7 @@ use Rattle.sq_patch.specs.Calls.{IsCallable, called_there}
 use Rattle.sq_pass.specs.declared.cut.Cut.{Cut}
 use Rattle.sq_pass.specs.declared.cut.Row.TheVariants.{V}
 use Rattle.sq_outline.specs.Called.{call_saving}
+use Rattle.sq_outline.specs.WindowsPlaces.{StandAt}
 
 -- V: a place in a block, not its whole body, where n items stand that equal a procedure's body of n items, without LR and
 -- SC, with the procedure's link dead behind them. The call stands for n words: n - 1 are saved, at least one
@@ -17,7 +18,14 @@ pub record IsCalledInside (g : Graph) (block at procedure saving : ℕ) : Type 0
   pub saves : saving + 1 ≡ length (body_of g procedure)
   pub some : 1 ≤ saving
 
--- so with the one saving that there is
+-- but for the link, with the one saving that there is
+pub record StandsInside (g : Graph) (block at procedure : ℕ) : Type 0 where
+  pub stands : StandAt g block at (body_of g procedure)
+  pub plain : HasNoReservations (body_of g procedure)
+  pub part : length (items_of g block) ≢ length (body_of g procedure)
+  pub some : 2 ≤ length (body_of g procedure)
+
+-- V with that saving
 abbrev pub MayCallInside : Graph → ℕ → ℕ → ℕ → Type 0
 MayCallInside g block at procedure = IsCalledInside g block at procedure (call_saving g procedure)
 

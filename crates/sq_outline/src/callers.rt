@@ -128,7 +128,7 @@ fn others_through(
 }
 
 /// Whether the register is the first, in the fixed order, that none of the items mentions.
-fn is_first_free(items: &[Item], r: Reg) -> bool
+pub(crate) fn is_first_free(items: &[Item], r: Reg) -> bool
     ensures { IsTrue result → IsFirstFree items.now r }
 {
     for number in &ORDER {

@@ -5,8 +5,10 @@ mod heads;
 mod inside;
 mod occurrences;
 mod pass;
+mod past;
 mod search;
 mod stands;
+mod sweep;
 mod window;
 
 pub use pass::Windows;

@@ -4,18 +4,21 @@ ghost use Rattle.std.specs.Prelude.{◌≡◌, ◌≤◌, ◌+◌, ℕ, None, Ok
 ghost use Rattle.sq_graph.specs.Blocks.{HasBlock, items_of};
 ghost use Rattle.sq_live.specs.Liveness.{IsLivenessOf};
 ghost use Rattle.sq_outline.specs.WindowsPlaces.{occurrences};
+ghost use Rattle.sq_outline.specs.WindowsPast.{IsPast};
 ghost use Rattle.sq_outline.specs.WindowsMade.{items_at, IsWindowMade};
 ghost use Rattle.sq_outline.specs.WindowsSearch.{standing, thinned, MayBeMade, AreStanding};
 
+use crate::callers::is_first_free;
 use crate::link::find_link;
 use crate::plain::are_plain;
 use crate::sites::Site;
 use crate::windows::occurrences::{are_whole, behind, occurrences_of};
+use crate::windows::past::{Shift, dead_link};
 use sq_finger::WindowAt;
 use sq_graph::{Graph, Item};
 use sq_isa::Reg;
 use sq_layout::learn;
-use sq_live::Liveness;
+use sq_live::{Liveness, live};
 use sq_num::Memory;
 use std::alloc::Global;
 
@@ -52,6 +55,40 @@ fn link_for(
     }
     let ends = behind(alloc, n, sites)?;
     Ok(find_link(graph, live, window, &ends))
+}
+
+/// The same with registers that were dead before these calls came. Where a register that comes before the one found might be
+/// the link, it looks for live registers anew. It may miss one.
+fn link_still(
+    alloc: Global,
+    graph: &Graph,
+    before: &Liveness,
+    shifts: &[Shift],
+    items: &[Item],
+    sites: &[Site],
+) -> Result<Option<Reg>, Memory>
+    requires past { IsPast graph.now.graph before.now shifts.now }
+    requires sites { sites.now ≡ occurrences graph.now.graph items.now }
+    requires few { length items.now ≤ 16 }
+    ensures { IfOk result (λ found. IfSome found (λ link. (block at n : ℕ) → items.now ≡ items_at graph.now.graph block at n → n ≡ length items.now → MayBeMade graph.now.graph block at n link)) }
+{
+    learn(graph);
+    let n = items.len() as u32;
+    if !are_plain(items) {
+        return Ok(None);
+    }
+    if are_whole(graph, n, sites) {
+        return Ok(None);
+    }
+    let places = behind(alloc, n, sites)?;
+    let Some(r) = dead_link(graph, before, shifts, items, &places) else {
+        return Ok(None);
+    };
+    if is_first_free(items, r) {
+        return Ok(Some(r));
+    }
+    let fresh = live(alloc, graph)?;
+    link_for(alloc, graph, &fresh, items, sites)
 }
 
 /// A window that may become a procedure: where it occurs first, its link, and how many words that saves.
@@ -100,4 +137,42 @@ pub(crate) fn found_at(
         link,
         saving,
     }))
+}
+
+/// The same with registers that were dead before these calls came, and where the window occurs. It may miss one.
+pub(crate) fn found_still(
+    alloc: Global,
+    graph: &Graph,
+    before: &Liveness,
+    shifts: &[Shift],
+    n: u32,
+    places: &[WindowAt],
+) -> Result<Option<(Found, Vec<Site>)>, Memory>
+    requires past { IsPast graph.now.graph before.now shifts.now }
+    requires least { 3 ≤ n }
+    requires most { n ≤ 16 }
+    requires places { AreStanding graph.now.graph n places.now }
+    ensures some { IfOk result (λ found. IfSome found (λ made. IsWindowMade graph.now.graph made.0.first.block made.0.first.at n made.0.link made.0.saving)) }
+    ensures sites { IfOk result (λ found. IfSome found (λ made. made.1.items ≡ occurrences graph.now.graph (items_at graph.now.graph made.0.first.block made.0.first.at n))) }
+{
+    learn(graph);
+    let occurrences = occurrences_of(alloc, n, places)?;
+    let sites = occurrences.as_slice();
+    let gone = sites.len() as u64 * u64::from(n - 1);
+    let come = u64::from(n + 1);
+    if gone <= come {
+        return Ok(None);
+    }
+    let first = sites[0];
+    let window = items_at(graph, first.block, first.at, n);
+    let Some(link) = link_still(alloc, graph, before, shifts, window, sites)? else {
+        return Ok(None);
+    };
+    let saving = (gone - come) as u32;
+    let found = Found {
+        first,
+        link,
+        saving,
+    };
+    Ok(Some((found, occurrences)))
 }

@@ -13,9 +13,12 @@ ghost use Rattle.sq_pass.specs.declared.cut.Row.TheVariants.{V as Inside};
 ghost use Rattle.sq_pass.specs.Cuts.{IsCompleted};
 ghost use Rattle.sq_outline.specs.Called.{call_saving};
 ghost use Rattle.sq_outline.specs.WindowsHeads.{HasHeads};
-ghost use Rattle.sq_outline.specs.WindowsInside.{MayCallInside, IsInsideCut};
+ghost use Rattle.sq_outline.specs.WindowsInside.{StandsInside, MayCallInside, IsInsideCut};
+ghost use Rattle.sq_outline.specs.WindowsPast.{IsPast};
 
+use crate::sites::Site;
 use crate::windows::heads::{heads, may_begin};
+use crate::windows::past::{Shift, is_dead_still};
 use crate::windows::stands::stand_at;
 use sq_finger::{WindowAt, all_places};
 use sq_graph::Graph;
@@ -29,14 +32,12 @@ use sq_rename::has_no_reservations;
 use std::alloc::Global;
 use std::collections::HashSet;
 
-/// Whether a call of the procedure may stand for items inside a block, and saves a word.
-fn may_call_inside(graph: &Graph, live: &Liveness, block: u32, at: u32, procedure: u32) -> bool
+/// Whether the items of a procedure's body stand inside a block, and a call of it saves a word. It looks at no registers.
+fn stands_inside(graph: &Graph, block: u32, at: u32, procedure: u32) -> bool
     requires block { HasBlock graph.now.graph block }
     requires procedure { HasProcedure graph.now.graph procedure }
-    requires live { IsLivenessOf graph.now.graph live.now }
-    ensures { IsTrue result ↔ MayCallInside graph.now.graph block at procedure }
+    ensures { IsTrue result ↔ StandsInside graph.now.graph block at procedure }
 {
-    learn(graph);
     let body = graph.body(procedure);
     let count = body.len();
     if count < 2 {
@@ -48,14 +49,59 @@ fn may_call_inside(graph: &Graph, live: &Liveness, block: u32, at: u32, procedur
     if !stand_at(graph, block, at, body) {
         return false;
     }
-    if !has_no_reservations(body) {
+    has_no_reservations(body)
+}
+
+/// Whether a call of the procedure may stand for items inside a block, and saves a word.
+pub(crate) fn may_call_inside(
+    graph: &Graph,
+    live: &Liveness,
+    block: u32,
+    at: u32,
+    procedure: u32,
+) -> bool
+    requires block { HasBlock graph.now.graph block }
+    requires procedure { HasProcedure graph.now.graph procedure }
+    requires live { IsLivenessOf graph.now.graph live.now }
+    ensures { IsTrue result ↔ MayCallInside graph.now.graph block at procedure }
+{
+    learn(graph);
+    if !stands_inside(graph, block, at, procedure) {
         return false;
     }
-    live.dead_at(block, at + count as u32, graph.link(procedure))
+    let count = graph.body(procedure).len() as u32;
+    live.dead_at(block, at + count, graph.link(procedure))
+}
+
+/// Whether a call of the procedure may stand there, by registers that were dead before these calls came. It may miss one.
+pub(crate) fn may_call_still(
+    graph: &Graph,
+    live: &Liveness,
+    shifts: &[Shift],
+    place: WindowAt,
+    procedure: u32,
+) -> bool
+    requires past { IsPast graph.now.graph live.now shifts.now }
+    ensures { IsTrue result → HasProcedure graph.now.graph procedure × MayCallInside graph.now.graph place.block place.at procedure }
+{
+    learn(graph);
+    let WindowAt { block, at } = place;
+    if !is_block(graph, block) || procedure >= graph.procedures() {
+        return false;
+    }
+    if !stands_inside(graph, block, at, procedure) {
+        return false;
+    }
+    let count = graph.body(procedure).len() as u32;
+    let end = Site {
+        block,
+        at: at + count,
+    };
+    is_dead_still(graph, live, shifts, end, graph.link(procedure))
 }
 
 /// The first procedure of which a call may stand for items from a place on.
-fn procedure_inside(
+pub(crate) fn procedure_inside(
     graph: &Graph,
     live: &Liveness,
     heads: &HashSet<u64>,

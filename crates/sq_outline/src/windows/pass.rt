@@ -3,6 +3,7 @@
 use crate::call::call;
 use crate::windows::inside::{admit_inside, find_inside};
 use crate::windows::search::{admit_window, find_window};
+use crate::windows::sweep::sweep;
 use crate::windows::window::make_window;
 use sq_graph::{Graph, Room};
 use sq_layout::learn;
@@ -78,13 +79,8 @@ impl Pass for Windows {
         }
     }
 
-    /// It leaves all to `find`.
-    fn sweep(
-        &self,
-        _alloc: Global,
-        _graph: &mut Graph,
-        savings: Savings,
-    ) -> Result<Savings, Memory> {
-        Ok(savings)
+    /// It looks for candidates of V and of W once, and tests each on the graph as it is then.
+    fn sweep(&self, alloc: Global, graph: &mut Graph, savings: Savings) -> Result<Savings, Memory> {
+        sweep(alloc, graph, savings)
     }
 }

@@ -57,29 +57,24 @@ fn are_few(numbers: &[Option<u32>]) -> bool
     true
 }
 
-/// The same among the places of a graph, where two have one number exactly where the same n items stand.
-fn found_in_line(
+/// The classes of the places of a graph, where two have one number exactly where the same n items stand.
+pub(crate) fn classes_in_line(
     alloc: Global,
     graph: &Graph,
-    live: &Liveness,
     n: u32,
     line: &[WindowAt],
     numbers: &[Option<u32>],
-) -> Result<Option<Found>, Memory>
-    requires live { IsLivenessOf graph.now.graph live.now }
+) -> Result<Groups<WindowAt>, Memory>
     requires least { 3 ≤ n }
-    requires most { n ≤ 16 }
     requires line { line.now ≡ line_of graph.now.graph }
     requires numbers { AreWindowNumbers graph.now.graph n line.now numbers.now }
-    ensures some { IfOk result (λ found. IfSome found (λ made. IsWindowMade graph.now.graph made.first.block made.first.at n made.link made.saving)) }
-    ensures none { result ≡ Ok None → (block at link saving : ℕ) → ¬ IsWindowMade graph.now.graph block at n link saving }
+    ensures { IfOk result (AreWindowClasses graph.now.graph n) }
 {
     learn(graph);
     if !are_few(numbers) {
         return Err(Memory);
     }
-    let classes = Groups::by_number(alloc, line, numbers)?;
-    found_among(alloc, graph, live, n, &classes)
+    Groups::by_number(alloc, line, numbers)
 }
 
 /// The candidate of row W for a window of n items that may become a procedure.
@@ -118,7 +113,8 @@ pub(crate) fn find_window(
     let mut numbers = number_longer_runs(alloc, &items, &items)?;
     for n in 3..17 {
         numbers = number_longer_runs(alloc, &items, &numbers)?;
-        if let Some(found) = found_in_line(alloc, graph, live, n, &line, &numbers)? {
+        let classes = classes_in_line(alloc, graph, n, &line, &numbers)?;
+        if let Some(found) = found_among(alloc, graph, live, n, &classes)? {
             return Ok(Some(window_cut(alloc, graph, n, found)?));
         }
     }
@@ -126,7 +122,7 @@ pub(crate) fn find_window(
 }
 
 /// The places where the n items of a place stand.
-fn standing(
+pub(crate) fn standing(
     alloc: Global,
     graph: &Graph,
     block: u32,

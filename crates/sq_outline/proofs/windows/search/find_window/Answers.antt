@@ -24,8 +24,8 @@ number_longer_runs-requires-in-loop-n c =
     let few = few_numbers c.args.graph.now c.deref.result.now c.in_ok-items.items.items c.learn.ensures.rules c.spare-room.ensures.small (c.deref.ensures.value ∙ c.in_ok-line.ensures) c.in_ok-items.ensures in
     omega (arith, few, ap (λ (ns : List (Option ℕ)). length ns) c.deref-in-loop-n.ensures.value)
 
-pub found_in_line-requires-clause-numbers : goal.found_in_line-requires-clause-numbers
-found_in_line-requires-clause-numbers c =
+pub classes_in_line-requires-clause-numbers : goal.classes_in_line-requires-clause-numbers
+classes_in_line-requires-clause-numbers c =
     let g = c.args.graph.now.graph in
     let n = c.loop-n.n in
     let least : 3 ≤ c.loop-n.n = c.loop-n.auto.n in
@@ -51,7 +51,7 @@ loop-n-preserved c =
       runs = subst (λ k. AreRunNumbers k c.in_ok-items.items.items c.in_ok-numbers-2.numbers.items) same longer;
       none = λ m block at link saving from below.
           elim (cases_eq m c.loop-n.n) [
-            | inl is ↦ subst (λ k. ¬ IsWindowMade c.args.graph.now.graph block at k link saving) (sym is) (c.found_in_line.ensures.none (c.in_ok-found.was ∙ ap Ok c.in_default.is) block at link saving)
+            | inl is ↦ subst (λ k. ¬ IsWindowMade c.args.graph.now.graph block at k link saving) (sym is) (c.found_among.ensures.none (c.in_ok-found.was ∙ ap Ok c.in_default.is) block at link saving)
             | inr other ↦ c.loop-n.invariant.none m block at link saving from (omega (arith, below, other))
           ];
     }

@@ -1,0 +1,10 @@
+use Rattle.sq_follow.proofs.Following.{graph_follows_through}
+use Rattle.sq_outline.proofs.WindowsSweeping.{rewritten_last}
+use Rattle.sq_outline.proofs.windows.sweep.sweep.Goals as goal
+
+pub returns-clause-rewritten : goal.returns-clause-rewritten
+returns-clause-rewritten c =
+    rewritten_last c.args.savings c.in_ok-called.called c.args.graph.now.graph c.sweep_calls.new.graph.graph _ c.sweep_windows.result c.in_ok-called.ensures.rewritten c.sweep_windows.ensures.rewritten
+
+pub returns-clause-follows : goal.returns-clause-follows
+returns-clause-follows c = graph_follows_through c.args.graph.now.graph c.sweep_calls.new.graph.graph _ c.in_ok-called.ensures.follows c.sweep_windows.ensures.follows

@@ -1,0 +1,380 @@
+//! Takes many candidates of rows V and W by one look at each row, every one tested on the graph as it is then.
+
+ghost use Rattle.std.specs.Prelude.{◌≡◌, ◌≤◌, ◌+◌, IfOk, IfSome, OnOk};
+ghost use Rattle.sq_num.specs.Saved.{words_saved};
+ghost use Rattle.sq_graph.specs.Blocks.{HasProcedure};
+ghost use Rattle.sq_graph.specs.Leaders.{IsCanonical};
+ghost use Rattle.sq_graph.specs.Words.{words_of};
+ghost use Rattle.sq_follow.specs.Follows.{Follows};
+ghost use Rattle.sq_live.specs.Liveness.{IsLivenessOf};
+ghost use Rattle.sq_pass.specs.Rewrites.{IsRewritten};
+ghost use Rattle.sq_outline.specs.WindowsCandidates.{IsWindowsCandidate, windows_described};
+ghost use Rattle.sq_outline.specs.WindowsInside.{MayCallInside};
+ghost use Rattle.sq_outline.specs.WindowsMade.{items_at, IsWindowMade};
+ghost use Rattle.sq_outline.specs.WindowsPast.{IsPast, KeepsPast};
+ghost use Rattle.sq_outline.specs.WindowsPlaces.{occurrences};
+ghost use Rattle.sq_outline.specs.WindowsSearch.{AreStanding, AreWindowClasses};
+
+use crate::call::call;
+use crate::sites::Site;
+use crate::windows::found::{Found, found_at, found_still};
+use crate::windows::heads::heads;
+use crate::windows::inside::{may_call_still, procedure_inside};
+use crate::windows::past::{Shift, note_calls};
+use crate::windows::search::{classes_in_line, standing};
+use crate::windows::window::make_window;
+use sq_finger::{Groups, WindowAt, all_places, number_items, number_longer_runs, window_laws};
+use sq_graph::{Graph, Room};
+use sq_layout::learn;
+use sq_live::{Liveness, live};
+use sq_lookup::is_block;
+use sq_num::{Memory, Savings};
+use sq_pass::{Rewrite, Row};
+use std::alloc::Global;
+
+/// A place from which on a call of a procedure may have stood when it was looked for.
+#[derive(Clone, Copy, Debug)]
+struct Call {
+    place: WindowAt,
+    procedure: u32,
+}
+
+/// The calls that may stand for items inside blocks, by one look.
+fn calls_to_try(alloc: Global, graph: &Graph, live: &Liveness) -> Result<Vec<Call>, Memory>
+    requires { IsLivenessOf graph.now.graph live.now }
+{
+    learn(graph);
+    let heads = heads(alloc, graph)?;
+    let line = all_places(alloc, graph)?;
+    let mut calls = Vec::new(alloc);
+    for place in &line {
+        if let Some(procedure) = procedure_inside(graph, live, &heads, *place) {
+            calls.push(Call {
+                place: *place,
+                procedure,
+            })?;
+        }
+    }
+    Ok(calls)
+}
+
+/// Makes items inside a block a call, by row V, which leaves the graph canonical, and notes the call.
+fn rewrite_inside(
+    graph: &mut Graph,
+    shifts: &mut Vec<Shift>,
+    place: WindowAt,
+    procedure: u32,
+    savings: Savings,
+) -> Result<Savings, Memory>
+    requires canonical { IsCanonical graph.old.graph }
+    requires words { words_of graph.old.graph + words_saved savings ≤ 1048576 }
+    requires procedure { HasProcedure graph.old.graph procedure }
+    requires may { MayCallInside graph.old.graph place.block place.at procedure }
+    ensures rewritten { IfOk result (λ after. IsRewritten IsWindowsCandidate windows_described savings after graph.old.graph graph.new.graph) }
+    ensures follows { Follows graph.old.graph graph.new.graph }
+    ensures past { OnOk result (KeepsPast graph.old.graph shifts.old.items graph.new.graph shifts.new.items) }
+{
+    learn(graph);
+    let saving = graph.body(procedure).len() as u32 - 1;
+    shifts.push(Shift {
+        block: place.block,
+        at: place.at,
+        gone: saving,
+    })?;
+    call(graph, place.block, place.at, procedure);
+    let done = Rewrite {
+        row: Row::V,
+        saving,
+    };
+    Ok(done.count(savings))
+}
+
+/// The same where the call may stand there still, by registers that were dead before these calls came.
+#[tactic(auto, using(sq_pass::proofs::Rewriting::rewritten_itself, sq_follow::proofs::Following::graph_follows_itself))]
+fn call_if_may(
+    graph: &mut Graph,
+    before: &Liveness,
+    shifts: &mut Vec<Shift>,
+    tried: Call,
+    savings: Savings,
+) -> Result<Savings, Memory>
+    requires canonical { IsCanonical graph.old.graph }
+    requires words { words_of graph.old.graph + words_saved savings ≤ 1048576 }
+    requires past { IsPast graph.old.graph before.now shifts.old.items }
+    ensures rewritten { IfOk result (λ after. IsRewritten IsWindowsCandidate windows_described savings after graph.old.graph graph.new.graph) }
+    ensures follows { Follows graph.old.graph graph.new.graph }
+    ensures past { OnOk result (KeepsPast graph.old.graph shifts.old.items graph.new.graph shifts.new.items) }
+{
+    let Call { place, procedure } = tried;
+    if !may_call_still(graph, before, shifts, place, procedure) {
+        return Ok(savings);
+    }
+    rewrite_inside(graph, shifts, place, procedure, savings)
+}
+
+/// The same for each of these calls, from the last on: so those further left in a block stand as they stood.
+#[tactic(auto, using(sq_follow::proofs::Following::graph_follows_through))]
+fn call_each(
+    graph: &mut Graph,
+    before: &Liveness,
+    shifts: &mut Vec<Shift>,
+    calls: &[Call],
+    savings: Savings,
+) -> Result<Savings, Memory>
+    requires canonical { IsCanonical graph.old.graph }
+    requires words { words_of graph.old.graph + words_saved savings ≤ 1048576 }
+    requires past { IsPast graph.old.graph before.now shifts.old.items }
+    ensures rewritten { IfOk result (λ after. IsRewritten IsWindowsCandidate windows_described savings after graph.old.graph graph.new.graph) }
+    ensures follows { Follows graph.old.graph graph.new.graph }
+{
+    let mut after = savings;
+    for at in 0..calls.len() {
+        let tried = calls[calls.len() - 1 - at];
+        after = call_if_may(graph, before, shifts, tried, after)?;
+    }
+    Ok(after)
+}
+
+/// Rewrites the graph by row V, with live registers that are looked for once. It tries the calls that one look finds, and
+/// may leave candidates.
+#[tactic(auto, using(sq_follow::proofs::Following::graph_follows_itself))]
+fn sweep_calls(alloc: Global, graph: &mut Graph, savings: Savings) -> Result<Savings, Memory>
+    requires canonical { IsCanonical graph.old.graph }
+    requires words { words_of graph.old.graph + words_saved savings ≤ 1048576 }
+    ensures rewritten { IfOk result (λ after. IsRewritten IsWindowsCandidate windows_described savings after graph.old.graph graph.new.graph) }
+    ensures follows { Follows graph.old.graph graph.new.graph }
+{
+    let before = live(alloc, graph)?;
+    let calls = calls_to_try(alloc, graph, &before)?;
+    let mut shifts = Vec::new(alloc);
+    call_each(graph, &before, &mut shifts, &calls, savings)
+}
+
+/// A window that a look found: where it occurs first, in a block of so many items, and which part of the words that it takes
+/// it saves, in sixteenths.
+#[derive(Clone, Copy, Debug)]
+struct Hint {
+    first: Site,
+    n: u32,
+    items: usize,
+    sixteenths: u64,
+}
+
+/// Which part of the words of its occurrences a window of n items saves, in sixteenths.
+fn sixteenths(n: u32, saving: u32) -> u64
+    requires { 3 ≤ n }
+{
+    let gone = u64::from(saving) + u64::from(n) + 1;
+    let words = gone + gone / u64::from(n - 1);
+    16 * u64::from(saving) / words
+}
+
+/// Puts the windows of n items that may become procedures behind the others.
+fn push_hints(
+    alloc: Global,
+    graph: &Graph,
+    live: &Liveness,
+    n: u32,
+    classes: &Groups<WindowAt>,
+    hints: &mut Vec<Hint>,
+) -> Result<(), Memory>
+    requires live { IsLivenessOf graph.now.graph live.now }
+    requires least { 3 ≤ n }
+    requires most { n ≤ 16 }
+    requires classes { AreWindowClasses graph.now.graph n classes.now }
+{
+    for number in 0..classes.len() {
+        if let Some(found) = found_at(alloc, graph, live, n, classes.members(number))? {
+            hints.push(Hint {
+                first: found.first,
+                n,
+                items: graph.items(found.first.block).len(),
+                sixteenths: sixteenths(n, found.saving),
+            })?;
+        }
+    }
+    Ok(())
+}
+
+/// The windows that may become procedures, by one look, which numbers the windows of each length.
+fn windows_to_try(alloc: Global, graph: &Graph, live: &Liveness) -> Result<Vec<Hint>, Memory>
+    requires { IsLivenessOf graph.now.graph live.now }
+{
+    learn(graph);
+    let _room = graph.spare();
+    window_laws();
+    let line = all_places(alloc, graph)?;
+    let items = number_items(alloc, graph, &line)?;
+    let mut numbers = number_longer_runs(alloc, &items, &items)?;
+    let mut hints = Vec::new(alloc);
+    for n in 3..17 {
+        numbers = number_longer_runs(alloc, &items, &numbers)?;
+        let classes = classes_in_line(alloc, graph, n, &line, &numbers)?;
+        push_hints(alloc, graph, live, n, &classes, &mut hints)?;
+    }
+    Ok(hints)
+}
+
+/// The places where the window of a hint stands, where the block of the first has as many items as it had, and the window may
+/// pay.
+fn places_of(alloc: Global, graph: &Graph, hint: Hint) -> Result<Option<Vec<WindowAt>>, Memory>
+    ensures least { IfOk result (λ found. IfSome found (λ places. 3 ≤ hint.n)) }
+    ensures most { IfOk result (λ found. IfSome found (λ places. hint.n ≤ 16)) }
+    ensures places { IfOk result (λ found. IfSome found (λ places. AreStanding graph.now.graph hint.n places.items)) }
+{
+    learn(graph);
+    let Site { block, at } = hint.first;
+    let n = hint.n;
+    if n < 3 || n > 16 || !is_block(graph, block) {
+        return Ok(None);
+    }
+    let count = graph.items(block).len();
+    if count != hint.items || count < at as usize + n as usize {
+        return Ok(None);
+    }
+    let places = standing(alloc, graph, block, at, n)?;
+    if places.len() as u64 * u64::from(n - 1) <= u64::from(n + 1) {
+        return Ok(None);
+    }
+    Ok(Some(places))
+}
+
+/// Makes a window a procedure, by row W, which leaves the graph canonical, and notes the calls.
+fn rewrite_window(
+    graph: &mut Graph,
+    shifts: &mut Vec<Shift>,
+    n: u32,
+    found: Found,
+    sites: &[Site],
+    savings: Savings,
+) -> Result<Savings, Memory>
+    requires canonical { IsCanonical graph.old.graph }
+    requires words { words_of graph.old.graph + words_saved savings ≤ 1048576 }
+    requires made { IsWindowMade graph.old.graph found.first.block found.first.at n found.link found.saving }
+    requires sites { sites.now ≡ occurrences graph.old.graph (items_at graph.old.graph found.first.block found.first.at n) }
+    ensures rewritten { IfOk result (λ after. IsRewritten IsWindowsCandidate windows_described savings after graph.old.graph graph.new.graph) }
+    ensures follows { Follows graph.old.graph graph.new.graph }
+    ensures past { OnOk result (KeepsPast graph.old.graph shifts.old.items graph.new.graph shifts.new.items) }
+{
+    learn(graph);
+    let _room = graph.spare();
+    note_calls(shifts, n, sites)?;
+    graph.reserve(Room {
+        blocks: 0,
+        items: n,
+        procedures: 1,
+    })?;
+    make_window(graph, found.first.block, found.first.at, n, found.link);
+    let done = Rewrite {
+        row: Row::W,
+        saving: found.saving,
+    };
+    Ok(done.count(savings))
+}
+
+/// The same where the window of a hint saves so many sixteenths and may become one still, by registers that were dead before
+/// these calls came. It looks at each place.
+#[tactic(auto, using(sq_pass::proofs::Rewriting::rewritten_itself, sq_follow::proofs::Following::graph_follows_itself))]
+fn make_if_may(
+    alloc: Global,
+    graph: &mut Graph,
+    before: &Liveness,
+    shifts: &mut Vec<Shift>,
+    hint: Hint,
+    sixteenths: u64,
+    savings: Savings,
+) -> Result<Savings, Memory>
+    requires canonical { IsCanonical graph.old.graph }
+    requires words { words_of graph.old.graph + words_saved savings ≤ 1048576 }
+    requires past { IsPast graph.old.graph before.now shifts.old.items }
+    ensures rewritten { IfOk result (λ after. IsRewritten IsWindowsCandidate windows_described savings after graph.old.graph graph.new.graph) }
+    ensures follows { Follows graph.old.graph graph.new.graph }
+    ensures past { OnOk result (KeepsPast graph.old.graph shifts.old.items graph.new.graph shifts.new.items) }
+{
+    if hint.sixteenths != sixteenths {
+        return Ok(savings);
+    }
+    let Some(places) = places_of(alloc, graph, hint)? else {
+        return Ok(savings);
+    };
+    let Some((found, sites)) = found_still(alloc, graph, before, shifts, hint.n, &places)? else {
+        return Ok(savings);
+    };
+    rewrite_window(graph, shifts, hint.n, found, &sites, savings)
+}
+
+/// The same for each of these that saves so many sixteenths, the longest first.
+#[tactic(auto, using(sq_follow::proofs::Following::graph_follows_through))]
+fn make_each(
+    alloc: Global,
+    graph: &mut Graph,
+    before: &Liveness,
+    shifts: &mut Vec<Shift>,
+    hints: &[Hint],
+    sixteenths: u64,
+    savings: Savings,
+) -> Result<Savings, Memory>
+    requires canonical { IsCanonical graph.old.graph }
+    requires words { words_of graph.old.graph + words_saved savings ≤ 1048576 }
+    requires past { IsPast graph.old.graph before.now shifts.old.items }
+    ensures rewritten { IfOk result (λ after. IsRewritten IsWindowsCandidate windows_described savings after graph.old.graph graph.new.graph) }
+    ensures follows { Follows graph.old.graph graph.new.graph }
+    ensures past { OnOk result (KeepsPast graph.old.graph shifts.old.items graph.new.graph shifts.new.items) }
+{
+    let mut after = savings;
+    for at in 0..hints.len() {
+        let hint = hints[hints.len() - 1 - at];
+        after = make_if_may(alloc, graph, before, shifts, hint, sixteenths, after)?;
+    }
+    Ok(after)
+}
+
+/// The same for all of these, those that save the most first.
+#[tactic(auto, using(sq_follow::proofs::Following::graph_follows_through))]
+fn make_all(
+    alloc: Global,
+    graph: &mut Graph,
+    before: &Liveness,
+    shifts: &mut Vec<Shift>,
+    hints: &[Hint],
+    savings: Savings,
+) -> Result<Savings, Memory>
+    requires canonical { IsCanonical graph.old.graph }
+    requires words { words_of graph.old.graph + words_saved savings ≤ 1048576 }
+    requires past { IsPast graph.old.graph before.now shifts.old.items }
+    ensures rewritten { IfOk result (λ after. IsRewritten IsWindowsCandidate windows_described savings after graph.old.graph graph.new.graph) }
+    ensures follows { Follows graph.old.graph graph.new.graph }
+{
+    let mut after = savings;
+    for step in 0..16 {
+        after = make_each(alloc, graph, before, shifts, hints, 15 - step, after)?;
+    }
+    Ok(after)
+}
+
+/// Rewrites the graph by row W, with live registers that are looked for once, and again where a procedure's link isn't sure
+/// without them. It tries the windows that one look finds, and may leave candidates.
+#[tactic(auto, using(sq_follow::proofs::Following::graph_follows_itself))]
+fn sweep_windows(alloc: Global, graph: &mut Graph, savings: Savings) -> Result<Savings, Memory>
+    requires canonical { IsCanonical graph.old.graph }
+    requires words { words_of graph.old.graph + words_saved savings ≤ 1048576 }
+    ensures rewritten { IfOk result (λ after. IsRewritten IsWindowsCandidate windows_described savings after graph.old.graph graph.new.graph) }
+    ensures follows { Follows graph.old.graph graph.new.graph }
+{
+    let before = live(alloc, graph)?;
+    let hints = windows_to_try(alloc, graph, &before)?;
+    let mut shifts = Vec::new(alloc);
+    make_all(alloc, graph, &before, &mut shifts, &hints, savings)
+}
+
+/// Rewrites the graph by rows V and W. It looks for the candidates and the live registers of each once. It may leave
+/// candidates.
+pub(crate) fn sweep(alloc: Global, graph: &mut Graph, savings: Savings) -> Result<Savings, Memory>
+    requires canonical { IsCanonical graph.old.graph }
+    requires words { words_of graph.old.graph + words_saved savings ≤ 1048576 }
+    ensures rewritten { IfOk result (λ after. IsRewritten IsWindowsCandidate windows_described savings after graph.old.graph graph.new.graph) }
+    ensures follows { Follows graph.old.graph graph.new.graph }
+{
+    let called = sweep_calls(alloc, graph, savings)?;
+    sweep_windows(alloc, graph, called)
+}
