@@ -1,5 +1,5 @@
 -- Words have a form exactly where they are those of a command.
-use Rattle.std.proofs.Common.{◌≡◌, ◌↔◌, ℕ, ◌^◌, ◌<◌, ◌≤◌, Bool, true, false, nat_le, ◌&&◌, List, [], ◌∷◌, drop, Option, Some, None, if◌then◌else◌, codes, refl, sym, ap, ◌∙◌, arith}
+use Rattle.std.proofs.Common.{◌≡◌, ◌≢◌, ◌↔◌, ℕ, ◌^◌, ◌<◌, ◌≤◌, Bool, true, false, nat_le, ◌&&◌, List, [], ◌∷◌, drop, Option, Some, None, if◌then◌else◌, codes, refl, sym, ap, ◌∙◌, arith}
 use Rattle.std.proofs.lemmas.Bool.Decides.{nat_tests}
 use Rattle.std.proofs.lemmas.Slice.Eq.{bytes_eq-Decides}
 use Rattle.std.specs.Fmt.{decimal}
@@ -8,7 +8,7 @@ use Rattle.std.specs.Option.{option_map}
 use Rattle.std.specs.Str.{bytes_eq}
 use Rattle.sq_system.specs.Starts.{StartFits}
 use Rattle.sq_command.specs.Numbers.{number_of}
-use Rattle.sq_command.specs.Commands.{RunRequest, Form, PackForm, RunForm, WatchForm, HexForm, HexcheckForm, SizeForm, TrialForm, most_steps, most_blocks, start_fits, run_of, pair_form, single_form, trial_of, trial_form, run_request, form_of, AsksRun, IsPack, IsRun, IsWatch, IsHex, IsHexcheck, IsSize, IsTrial}
+use Rattle.sq_command.specs.Commands.{RunRequest, Form, PackForm, RunForm, WatchForm, HexForm, HexcheckForm, SizeForm, TrialForm, CheckForm, ProveForm, most_steps, most_blocks, start_fits, run_of, pair_form, single_form, triple_form, prove_form, trial_of, trial_form, run_request, form_of, AsksRun, IsPack, IsRun, IsWatch, IsHex, IsHexcheck, IsSize, IsTrial, IsCheck, IsProve}
 use Rattle.sq_command.proofs.NumberTexts.{number_is, number_back}
 use Rattle.sq_command.proofs.Words.{dropped}
 
@@ -60,9 +60,17 @@ pub at_trial : (words : List (List ℕ)) (verb : List ℕ) → slice_get words 0
 unfolding form_of
 at_trial words verb there one two three four five six is = ap form_of (dropped words 0 verb there) ∙ rw (one, two, three, four, five, six, is) refl
 
-pub at_other : (words : List (List ℕ)) (verb : List ℕ) → slice_get words 0 ≡ Some verb → bytes_eq verb (codes "pack") ≡ false → bytes_eq verb (codes "run") ≡ false → bytes_eq verb (codes "watch") ≡ false → bytes_eq verb (codes "hex") ≡ false → bytes_eq verb (codes "hexcheck") ≡ false → bytes_eq verb (codes "size") ≡ false → bytes_eq verb (codes "trial") ≡ false → form_of words ≡ None
+pub at_check : (words : List (List ℕ)) (verb : List ℕ) → slice_get words 0 ≡ Some verb → bytes_eq verb (codes "pack") ≡ false → bytes_eq verb (codes "run") ≡ false → bytes_eq verb (codes "watch") ≡ false → bytes_eq verb (codes "hex") ≡ false → bytes_eq verb (codes "hexcheck") ≡ false → bytes_eq verb (codes "size") ≡ false → bytes_eq verb (codes "trial") ≡ false → bytes_eq verb (codes "check") ≡ true → form_of words ≡ triple_form CheckForm (drop 1 words)
 unfolding form_of
-at_other words verb there one two three four five six seven = ap form_of (dropped words 0 verb there) ∙ rw (one, two, three, four, five, six, seven) refl
+at_check words verb there one two three four five six seven is = ap form_of (dropped words 0 verb there) ∙ rw (one, two, three, four, five, six, seven, is) refl
+
+pub at_prove : (words : List (List ℕ)) (verb : List ℕ) → slice_get words 0 ≡ Some verb → bytes_eq verb (codes "pack") ≡ false → bytes_eq verb (codes "run") ≡ false → bytes_eq verb (codes "watch") ≡ false → bytes_eq verb (codes "hex") ≡ false → bytes_eq verb (codes "hexcheck") ≡ false → bytes_eq verb (codes "size") ≡ false → bytes_eq verb (codes "trial") ≡ false → bytes_eq verb (codes "check") ≡ false → bytes_eq verb (codes "prove") ≡ true → form_of words ≡ prove_form (drop 1 words)
+unfolding form_of
+at_prove words verb there one two three four five six seven eight is = ap form_of (dropped words 0 verb there) ∙ rw (one, two, three, four, five, six, seven, eight, is) refl
+
+pub at_other : (words : List (List ℕ)) (verb : List ℕ) → slice_get words 0 ≡ Some verb → bytes_eq verb (codes "pack") ≡ false → bytes_eq verb (codes "run") ≡ false → bytes_eq verb (codes "watch") ≡ false → bytes_eq verb (codes "hex") ≡ false → bytes_eq verb (codes "hexcheck") ≡ false → bytes_eq verb (codes "size") ≡ false → bytes_eq verb (codes "trial") ≡ false → bytes_eq verb (codes "check") ≡ false → bytes_eq verb (codes "prove") ≡ false → form_of words ≡ None
+unfolding form_of
+at_other words verb there one two three four five six seven eight nine = ap form_of (dropped words 0 verb there) ∙ rw (one, two, three, four, five, six, seven, eight, nine) refl
 
 pub at_none : (words : List (List ℕ)) → slice_get words 0 ≡ None → form_of words ≡ None
 unfolding form_of
@@ -135,6 +143,8 @@ Spells (HexForm input output) words = IsHex words input output
 Spells (HexcheckForm input text) words = IsHexcheck words input text
 Spells (SizeForm input) words = IsSize words input
 Spells (TrialForm first blocks) words = IsTrial words first blocks
+Spells (CheckForm input output cert) words = IsCheck words input output cert
+Spells (ProveForm input output cert) words = IsProve words input output cert
 
 -- by its verb, and the words behind it
 module _ (verb : List ℕ) where
@@ -148,6 +158,13 @@ module _ (verb : List ℕ) where
   by_single make spelt (only ∷ []) f e = let same : make only ≡ f = cc e in rw (← same) (spelt only)
   by_single make spelt (only ∷ word ∷ words) f e = absurd (cc e)
   by_single make spelt [] f e = absurd (cc e)
+
+  by_triple : (make : List ℕ → List ℕ → List ℕ → Form) → ((first second third : List ℕ) → Spells (make first second third) (verb ∷ first ∷ second ∷ third ∷ [])) → (words : List (List ℕ)) (f : Form) → triple_form make words ≡ Some f → Spells f (verb ∷ words)
+  by_triple make spelt (first ∷ second ∷ third ∷ []) f e = let same : make first second third ≡ f = cc e in rw (← same) (spelt first second third)
+  by_triple make spelt (first ∷ second ∷ third ∷ word ∷ words) f e = absurd (cc e)
+  by_triple make spelt (first ∷ second ∷ []) f e = absurd (cc e)
+  by_triple make spelt (first ∷ []) f e = absurd (cc e)
+  by_triple make spelt [] f e = absurd (cc e)
 
   asks_run : (words : List (List ℕ)) (request : RunRequest) → run_request words ≡ Some request → AsksRun verb (verb ∷ words) request
   asks_run words request e =
@@ -183,28 +200,44 @@ by_trial (one ∷ two ∷ word ∷ words) f e = absurd (cc e)
 by_trial (one ∷ []) f e = absurd (cc e)
 by_trial [] f e = absurd (cc e)
 
+-- the names behind `prove`
+by_names : (input output cert : List ℕ) (same : Bool) → bytes_eq output cert ≡ same → (f : Form) → (if same then None else Some (ProveForm input output cert)) ≡ Some f → Spells f (codes "prove" ∷ input ∷ output ∷ cert ∷ [])
+by_names input output cert true is f e = absurd (cc e)
+by_names input output cert false is f e =
+    let same : ProveForm input output cert ≡ f = cc e in
+    rw (← same) (record { words_are = refl; apart = λ equal. absurd (cc (is, (bytes_eq-Decides output cert).1 equal)) })
+
+by_prove : (words : List (List ℕ)) (f : Form) → prove_form words ≡ Some f → Spells f (codes "prove" ∷ words)
+by_prove (input ∷ output ∷ cert ∷ []) f e = by_names input output cert (bytes_eq output cert) refl f e
+by_prove (input ∷ output ∷ cert ∷ word ∷ words) f e = absurd (cc e)
+by_prove (input ∷ output ∷ []) f e = absurd (cc e)
+by_prove (input ∷ []) f e = absurd (cc e)
+by_prove [] f e = absurd (cc e)
+
 -- a verb that is tested to be this one
 by_verb : (verb is : List ℕ) (words : List (List ℕ)) (f : Form) → bytes_eq verb is ≡ true → Spells f (is ∷ words) → Spells f (verb ∷ words)
 by_verb verb is words f same spelt = rw ((bytes_eq-Decides verb is).0 same) spelt
 
-by_tests : (verb : List ℕ) (words : List (List ℕ)) (f : Form) (p r w h c s t : Bool) → bytes_eq verb (codes "pack") ≡ p → bytes_eq verb (codes "run") ≡ r → bytes_eq verb (codes "watch") ≡ w → bytes_eq verb (codes "hex") ≡ h → bytes_eq verb (codes "hexcheck") ≡ c → bytes_eq verb (codes "size") ≡ s → bytes_eq verb (codes "trial") ≡ t →
-    (if p then pair_form PackForm words else if r then option_map RunForm (run_request words) else if w then option_map WatchForm (run_request words) else if h then pair_form HexForm words else if c then pair_form HexcheckForm words else if s then single_form SizeForm words else if t then trial_form words else None) ≡ Some f →
+by_tests : (verb : List ℕ) (words : List (List ℕ)) (f : Form) (p r w h c s t k v : Bool) → bytes_eq verb (codes "pack") ≡ p → bytes_eq verb (codes "run") ≡ r → bytes_eq verb (codes "watch") ≡ w → bytes_eq verb (codes "hex") ≡ h → bytes_eq verb (codes "hexcheck") ≡ c → bytes_eq verb (codes "size") ≡ s → bytes_eq verb (codes "trial") ≡ t → bytes_eq verb (codes "check") ≡ k → bytes_eq verb (codes "prove") ≡ v →
+    (if p then pair_form PackForm words else if r then option_map RunForm (run_request words) else if w then option_map WatchForm (run_request words) else if h then pair_form HexForm words else if c then pair_form HexcheckForm words else if s then single_form SizeForm words else if t then trial_form words else if k then triple_form CheckForm words else if v then prove_form words else None) ≡ Some f →
     Spells f (verb ∷ words)
-by_tests verb words f true r w h c s t one two three four five six seven e = by_verb verb (codes "pack") words f one (by_pair (codes "pack") PackForm (λ first second. refl) words f e)
-by_tests verb words f false true w h c s t one two three four five six seven e = by_verb verb (codes "run") words f two (by_request (codes "run") RunForm words (λ request asks. asks) (run_request words) refl f e)
-by_tests verb words f false false true h c s t one two three four five six seven e = by_verb verb (codes "watch") words f three (by_request (codes "watch") WatchForm words (λ request asks. asks) (run_request words) refl f e)
-by_tests verb words f false false false true c s t one two three four five six seven e = by_verb verb (codes "hex") words f four (by_pair (codes "hex") HexForm (λ first second. refl) words f e)
-by_tests verb words f false false false false true s t one two three four five six seven e = by_verb verb (codes "hexcheck") words f five (by_pair (codes "hexcheck") HexcheckForm (λ first second. refl) words f e)
-by_tests verb words f false false false false false true t one two three four five six seven e = by_verb verb (codes "size") words f six (by_single (codes "size") SizeForm (λ only. refl) words f e)
-by_tests verb words f false false false false false false true one two three four five six seven e = by_verb verb (codes "trial") words f seven (by_trial words f e)
-by_tests verb words f false false false false false false false one two three four five six seven e = absurd (cc e)
+by_tests verb words f true r w h c s t k v one two three four five six seven eight nine e = by_verb verb (codes "pack") words f one (by_pair (codes "pack") PackForm (λ first second. refl) words f e)
+by_tests verb words f false true w h c s t k v one two three four five six seven eight nine e = by_verb verb (codes "run") words f two (by_request (codes "run") RunForm words (λ request asks. asks) (run_request words) refl f e)
+by_tests verb words f false false true h c s t k v one two three four five six seven eight nine e = by_verb verb (codes "watch") words f three (by_request (codes "watch") WatchForm words (λ request asks. asks) (run_request words) refl f e)
+by_tests verb words f false false false true c s t k v one two three four five six seven eight nine e = by_verb verb (codes "hex") words f four (by_pair (codes "hex") HexForm (λ first second. refl) words f e)
+by_tests verb words f false false false false true s t k v one two three four five six seven eight nine e = by_verb verb (codes "hexcheck") words f five (by_pair (codes "hexcheck") HexcheckForm (λ first second. refl) words f e)
+by_tests verb words f false false false false false true t k v one two three four five six seven eight nine e = by_verb verb (codes "size") words f six (by_single (codes "size") SizeForm (λ only. refl) words f e)
+by_tests verb words f false false false false false false true k v one two three four five six seven eight nine e = by_verb verb (codes "trial") words f seven (by_trial words f e)
+by_tests verb words f false false false false false false false true v one two three four five six seven eight nine e = by_verb verb (codes "check") words f eight (by_triple (codes "check") CheckForm (λ first second third. refl) words f e)
+by_tests verb words f false false false false false false false false true one two three four five six seven eight nine e = by_verb verb (codes "prove") words f nine (by_prove words f e)
+by_tests verb words f false false false false false false false false false one two three four five six seven eight nine e = absurd (cc e)
 
 -- words of this form are those of its command
 spelt : (words : List (List ℕ)) (f : Form) → form_of words ≡ Some f → Spells f words
 unfolding form_of
 spelt [] f e = absurd (cc e)
 spelt (verb ∷ words) f e =
-    by_tests verb words f (bytes_eq verb (codes "pack")) (bytes_eq verb (codes "run")) (bytes_eq verb (codes "watch")) (bytes_eq verb (codes "hex")) (bytes_eq verb (codes "hexcheck")) (bytes_eq verb (codes "size")) (bytes_eq verb (codes "trial")) refl refl refl refl refl refl refl e
+    by_tests verb words f (bytes_eq verb (codes "pack")) (bytes_eq verb (codes "run")) (bytes_eq verb (codes "watch")) (bytes_eq verb (codes "hex")) (bytes_eq verb (codes "hexcheck")) (bytes_eq verb (codes "size")) (bytes_eq verb (codes "trial")) (bytes_eq verb (codes "check")) (bytes_eq verb (codes "prove")) refl refl refl refl refl refl refl refl refl e
 
 pack_to : (words : List (List ℕ)) (input output : List ℕ) → IsPack words input output → form_of words ≡ Some (PackForm input output)
 unfolding form_of
@@ -221,6 +254,19 @@ hexcheck_to words input text e = ap form_of e
 size_to : (words : List (List ℕ)) (input : List ℕ) → IsSize words input → form_of words ≡ Some (SizeForm input)
 unfolding form_of
 size_to words input e = ap form_of e
+
+check_to : (words : List (List ℕ)) (input output cert : List ℕ) → IsCheck words input output cert → form_of words ≡ Some (CheckForm input output cert)
+unfolding form_of
+check_to words input output cert e = ap form_of e
+
+-- names that are different
+not_same : (output cert : List ℕ) (same : Bool) → bytes_eq output cert ≡ same → output ≢ cert → bytes_eq output cert ≡ false
+not_same output cert true is apart = absurd (apart ((bytes_eq-Decides output cert).0 is))
+not_same output cert false is apart = is
+
+prove_to : (words : List (List ℕ)) (input output cert : List ℕ) → IsProve words input output cert → form_of words ≡ Some (ProveForm input output cert)
+unfolding form_of
+prove_to words input output cert is = ap form_of is.words_are ∙ rw (not_same output cert (bytes_eq output cert) refl is.apart) refl
 
 trial_to : (words : List (List ℕ)) (first blocks : ℕ) → IsTrial words first blocks → form_of words ≡ Some (TrialForm first blocks)
 unfolding form_of
@@ -242,6 +288,12 @@ hexcheck_is words input text = (spelt words (HexcheckForm input text), hexcheck_
 
 pub size_is : (words : List (List ℕ)) (input : List ℕ) → (form_of words ≡ Some (SizeForm input)) ↔ IsSize words input
 size_is words input = (spelt words (SizeForm input), size_to words input)
+
+pub check_is : (words : List (List ℕ)) (input output cert : List ℕ) → (form_of words ≡ Some (CheckForm input output cert)) ↔ IsCheck words input output cert
+check_is words input output cert = (spelt words (CheckForm input output cert), check_to words input output cert)
+
+pub prove_is : (words : List (List ℕ)) (input output cert : List ℕ) → (form_of words ≡ Some (ProveForm input output cert)) ↔ IsProve words input output cert
+prove_is words input output cert = (spelt words (ProveForm input output cert), prove_to words input output cert)
 
 pub trial_is : (words : List (List ℕ)) (first blocks : ℕ) → (form_of words ≡ Some (TrialForm first blocks)) ↔ IsTrial words first blocks
 trial_is words first blocks = (spelt words (TrialForm first blocks), trial_to words first blocks)

@@ -1,11 +1,11 @@
 -- The forms of a command line.
-use Rattle.std.specs.Prelude.{◌≡◌, ℕ, ◌+◌, ◌%◌, ◌^◌, ◌<◌, ◌≤◌, Bool, ◌==◌, ◌&&◌, nat_le, List, [], ◌∷◌, drop, Option, Some, None, if◌then◌else◌, codes, decimal}
+use Rattle.std.specs.Prelude.{◌≡◌, ℕ, ◌+◌, ◌%◌, ◌^◌, ◌<◌, ◌≤◌, ◌≢◌, Bool, ◌==◌, ◌&&◌, nat_le, List, [], ◌∷◌, drop, Option, Some, None, if◌then◌else◌, codes, decimal}
 use Rattle.std.specs.Option.{option_map}
 use Rattle.std.specs.Str.{bytes_eq}
 use Rattle.sq_system.specs.Starts.{StartFits}
 use Rattle.sq_command.specs.Numbers.{number_of}
 use Rattle.sq_command.specs.declared.command.Command.{Command}
-use Rattle.sq_command.specs.declared.command.Command.TheVariants.{Pack, Run, Watch, Hex, Hexcheck, Size, Trial}
+use Rattle.sq_command.specs.declared.command.Command.TheVariants.{Pack, Run, Watch, Hex, Hexcheck, Size, Trial, Check, Prove}
 use Rattle.sq_command.specs.declared.run_words.RunWords.{RunWords}
 use Rattle.sq_command.specs.declared.trial_words.TrialWords.{TrialWords}
 
@@ -34,6 +34,10 @@ pub data Form : Type 0 where
   SizeForm : List ℕ → Form
   -- trial FIRST BLOCKS
   TrialForm : ℕ → ℕ → Form
+  -- check IN OUT CERT
+  CheckForm : List ℕ → List ℕ → List ℕ → Form
+  -- prove IN OUT CERT
+  ProveForm : List ℕ → List ℕ → List ℕ → Form
 
 -- at most so many steps
 abbrev pub most_steps : ℕ
@@ -66,6 +70,16 @@ abbrev pub single_form : (List ℕ → Form) → List (List ℕ) → Option Form
 single_form make (only ∷ []) = Some (make only)
 single_form make words = None
 
+-- the words behind `check`: three names
+abbrev pub triple_form : (List ℕ → List ℕ → List ℕ → Form) → List (List ℕ) → Option Form
+triple_form make (first ∷ second ∷ third ∷ []) = Some (make first second third)
+triple_form make words = None
+
+-- the words behind `prove`: three names, and those of OUT and CERT are different
+abbrev pub prove_form : List (List ℕ) → Option Form
+prove_form (input ∷ output ∷ cert ∷ []) = if bytes_eq output cert then None else Some (ProveForm input output cert)
+prove_form words = None
+
 -- the trial of these numbers, where the words have them and the second is in its range
 abbrev pub trial_of : Option ℕ → Option ℕ → Option Form
 trial_of (Some first) (Some blocks) =
@@ -94,6 +108,8 @@ form_of (verb ∷ words) =
     else if bytes_eq verb (codes "hexcheck") then pair_form HexcheckForm words
     else if bytes_eq verb (codes "size") then single_form SizeForm words
     else if bytes_eq verb (codes "trial") then trial_form words
+    else if bytes_eq verb (codes "check") then triple_form CheckForm words
+    else if bytes_eq verb (codes "prove") then prove_form words
     else None
 
 -- the words are `VERB FILE INPUT LIMIT BASE SIZE ARG*`: numbers in decimal, each in its range
@@ -126,6 +142,15 @@ IsHexcheck words input text = words ≡ codes "hexcheck" ∷ input ∷ text ∷ 
 abbrev pub IsSize : List (List ℕ) → List ℕ → Type 0
 IsSize words input = words ≡ codes "size" ∷ input ∷ []
 
+-- the words are `check IN OUT CERT`
+abbrev pub IsCheck : List (List ℕ) → List ℕ → List ℕ → List ℕ → Type 0
+IsCheck words input output cert = words ≡ codes "check" ∷ input ∷ output ∷ cert ∷ []
+
+-- the words are `prove IN OUT CERT`: OUT and CERT are different names
+pub record IsProve (words : List (List ℕ)) (input output cert : List ℕ) : Type 0 where
+  pub words_are : words ≡ codes "prove" ∷ input ∷ output ∷ cert ∷ []
+  pub apart : output ≢ cert
+
 -- the words are `trial FIRST BLOCKS`: numbers in decimal, each in its range
 pub record IsTrial (words : List (List ℕ)) (first blocks : ℕ) : Type 0 where
   pub words_are : words ≡ codes "trial" ∷ decimal first ∷ decimal blocks ∷ []
@@ -151,3 +176,5 @@ form words (Hex input output) = HexForm input.now output.now
 form words (Hexcheck input text) = HexcheckForm input.now text.now
 form words (Size input) = SizeForm input.now
 form words (Trial trial) = trial_asked trial
+form words (Check input output cert) = CheckForm input.now output.now cert.now
+form words (Prove input output cert) = ProveForm input.now output.now cert.now

@@ -2,7 +2,7 @@
 
 ghost use Rattle.std.specs.Prelude.{◌≡◌, ◌↔◌, ℕ, List, drop};
 ghost use Rattle.std.specs.Option.{option_map};
-ghost use Rattle.sq_command.specs.Commands.{Form, PackForm, RunForm, WatchForm, HexForm, HexcheckForm, SizeForm, TrialForm, RunRequest, form, form_of, pair_form, single_form, trial_of, trial_form, trial_asked, run_request, run_of, request_of, IsPack, IsRun, IsWatch, IsHex, IsHexcheck, IsSize, IsTrial};
+ghost use Rattle.sq_command.specs.Commands.{Form, PackForm, RunForm, WatchForm, HexForm, HexcheckForm, SizeForm, TrialForm, CheckForm, ProveForm, RunRequest, form, form_of, pair_form, single_form, triple_form, prove_form, trial_of, trial_form, trial_asked, run_request, run_of, request_of, IsPack, IsRun, IsWatch, IsHex, IsHexcheck, IsSize, IsTrial, IsCheck, IsProve};
 
 use crate::number::number_of;
 use crate::run_words::RunWords;
@@ -14,19 +14,42 @@ use sq_system::start_fits;
 #[derive(Clone, Copy, Debug)]
 pub enum Command<'w> {
     /// `pack IN OUT`
-    Pack { input: &'w str, output: &'w str },
+    Pack {
+        input: &'w str,
+        output: &'w str,
+    },
     /// `run FILE INPUT LIMIT BASE SIZE ARG*`
     Run(RunWords<'w>),
     /// `watch FILE INPUT LIMIT BASE SIZE ARG*`
     Watch(RunWords<'w>),
     /// `hex IN OUT`
-    Hex { input: &'w str, output: &'w str },
+    Hex {
+        input: &'w str,
+        output: &'w str,
+    },
     /// `hexcheck IN HEX`
-    Hexcheck { input: &'w str, text: &'w str },
+    Hexcheck {
+        input: &'w str,
+        text: &'w str,
+    },
     /// `size IN`
-    Size { input: &'w str },
+    Size {
+        input: &'w str,
+    },
     /// `trial FIRST BLOCKS`
     Trial(TrialWords),
+    /// `check IN OUT CERT`
+    Check {
+        input: &'w str,
+        output: &'w str,
+        cert: &'w str,
+    },
+    /// `prove IN OUT CERT`
+    Prove {
+        input: &'w str,
+        output: &'w str,
+        cert: &'w str,
+    },
 }
 
 /// The most steps that a run is allowed.
@@ -107,6 +130,43 @@ fn trial_words(words: &WordList) -> Option<Command<'_>>
     Some(Command::Trial(trial_of(number_of(first), number_of(blocks))?))
 }
 
+/// `check` with the words behind it.
+fn check_words(words: &WordList) -> Option<Command<'_>>
+    ensures { option_map (form words.now) result ≡ triple_form CheckForm (drop 1 words.now) }
+{
+    if words.len() != 4 {
+        return None;
+    }
+    let input = words.get(1)?;
+    let output = words.get(2)?;
+    let cert = words.get(3)?;
+    Some(Command::Check {
+        input,
+        output,
+        cert,
+    })
+}
+
+/// `prove` with the words behind it. OUT and CERT are different names.
+fn prove_words(words: &WordList) -> Option<Command<'_>>
+    ensures { option_map (form words.now) result ≡ prove_form (drop 1 words.now) }
+{
+    if words.len() != 4 {
+        return None;
+    }
+    let input = words.get(1)?;
+    let output = words.get(2)?;
+    let cert = words.get(3)?;
+    if output == cert {
+        return None;
+    }
+    Some(Command::Prove {
+        input,
+        output,
+        cert,
+    })
+}
+
 /// A run with these numbers, where the words have them and they are in their ranges.
 fn run_of<'w>(
     file: &'w str,
@@ -184,6 +244,10 @@ fn named_command(words: &WordList) -> Option<Command<'_>>
         size_words(words)
     } else if verb == "trial" {
         trial_words(words)
+    } else if verb == "check" {
+        check_words(words)
+    } else if verb == "prove" {
+        prove_words(words)
     } else {
         None
     }
@@ -199,6 +263,8 @@ pub fn command_of(words: &WordList) -> Option<Command<'_>>
     ensures hexcheck { (input text : List ℕ) → (form_of words.now ≡ Some (HexcheckForm input text)) ↔ IsHexcheck words.now input text }
     ensures size { (input : List ℕ) → (form_of words.now ≡ Some (SizeForm input)) ↔ IsSize words.now input }
     ensures trial { (first blocks : ℕ) → (form_of words.now ≡ Some (TrialForm first blocks)) ↔ IsTrial words.now first blocks }
+    ensures check { (input output cert : List ℕ) → (form_of words.now ≡ Some (CheckForm input output cert)) ↔ IsCheck words.now input output cert }
+    ensures prove { (input output cert : List ℕ) → (form_of words.now ≡ Some (ProveForm input output cert)) ↔ IsProve words.now input output cert }
 {
     named_command(words)
 }

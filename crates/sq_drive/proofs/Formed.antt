@@ -14,6 +14,7 @@ use Rattle.sq_cert.specs.declared.step.Step.TheVariants.{O1}
 use Rattle.sq_cert.specs.Steps.{is_set, IsSetOf}
 use Rattle.sq_jumps.specs.Candidates.{HasRow}
 use Rattle.sq_outline.specs.Candidates.{IsCutOf}
+use Rattle.sq_outline.specs.WindowsCandidates.{IsWindowsCutOf}
 use Rattle.sq_outline.specs.Made.{IsMade}
 use Rattle.sq_drive.specs.Replay.{MayStep}
 use Rattle.sq_drive.specs.Rows.{IsCandidate}
@@ -40,7 +41,8 @@ row_set g cut (inl (inl (inl unreached))) is = let no : row_is.U ≡ row_is.O1 =
 row_set g cut (inl (inl (inr jump))) is = absurd (subst (λ row. HasRow row g jump.block) is jump.has_row)
 row_set g cut (inl (inr (inl (inl tail)))) is = let no : row_is.T ≡ row_is.O1 = sym (ap (λ (c : Cut). c.row) tail.is) ∙ is in absurd (cc no)
 row_set g cut (inl (inr (inl (inr body)))) is = let no : row_is.T ≡ row_is.O1 = sym (ap (λ (c : Cut). c.row) body.is) ∙ is in absurd (cc no)
-row_set g cut (inl (inr (inr outline))) is = outline_set cut.row g cut is outline
+row_set g cut (inl (inr (inr (inl outline)))) is = outline_set cut.row g cut is outline
+row_set g cut (inl (inr (inr (inr window)))) is = absurd (subst (λ row. IsWindowsCutOf row g cut) is window)
 row_set g cut (inr move) is = let no : row_is.L ≡ row_is.O1 = sym (ap (λ (c : Cut). c.row) move.is) ∙ is in absurd (cc no)
 
 -- the blocks of O1 are a set

@@ -1,10 +1,13 @@
 pub mod Checked
 pub mod Formed
 pub mod Moves
-pub mod Noted
+pub mod NotedSteps
 pub mod OneReplay
 pub mod Replays
 pub mod Rewrites
 pub mod RowPasses
 pub mod Slots
 pub mod Steps
+pub mod Carrying
+pub mod Landed
+pub mod Tracked

@@ -14,7 +14,7 @@ use Rattle.sq_pass.proofs.Rewriting.{stepped_wider}
 use Rattle.sq_jumps.specs.Candidates.{HasRow}
 use Rattle.sq_chain.specs.Candidates.{cut_of, IsCandidate as IsMove, described as move_described}
 use Rattle.sq_chain.specs.Moves.{moved, IsStill}
-use Rattle.sq_drive.specs.declared.rows.RowPass.TheVariants.{Jumps, Tails, Outlines}
+use Rattle.sq_drive.specs.declared.rows.RowPass.TheVariants.{Jumps, Tails, Outlines, Windows}
 use Rattle.sq_drive.specs.Rows.{pass_of, IsRowCandidate, row_described, IsCandidate, described_by, described, IsLeftoverFree}
 use Rattle.sq_drive.proofs.RowPasses.{its_row}
 
@@ -24,7 +24,8 @@ pub not_moved : (g : Graph) (cut : Cut) → IsRowCandidate g cut → cut.row ≢
 not_moved g cut (inl (inl unreached)) is = let same : U ≡ L = sym unreached.row ∙ is in cc
 not_moved g cut (inl (inr jump)) is = subst (λ row. HasRow row g jump.block) is jump.has_row
 not_moved g cut (inr (inl tail)) is = let same : Jumps ≡ Tails = sym (ap pass_of is) ∙ its_row Tails g cut tail in cc
-not_moved g cut (inr (inr outline)) is = let same : Jumps ≡ Outlines = sym (ap pass_of is) ∙ its_row Outlines g cut outline in cc
+not_moved g cut (inr (inr (inl outline))) is = let same : Jumps ≡ Outlines = sym (ap pass_of is) ∙ its_row Outlines g cut outline in cc
+not_moved g cut (inr (inr (inr window))) is = let same : Jumps ≡ Windows = sym (ap pass_of is) ∙ its_row Windows g cut window in cc
 
 pub row_made : (row : Row) (g : Graph) (cut : Cut) → row ≢ L → described_by row g cut ≡ row_described g cut
 row_made U g cut other = refl
@@ -46,7 +47,7 @@ move_made g cut move = ap (λ row. described_by row g cut) (ap (λ (c : Cut). c.
 
 -- REWRITES
 
-row_rewrite : (done : Rewrite) (old new : Graph) → IsRewrite IsRowCandidate row_described done old new → IsRewrite IsCandidate described done old new
+pub row_rewrite : (done : Rewrite) (old new : Graph) → IsRewrite IsRowCandidate row_described done old new → IsRewrite IsCandidate described done old new
 row_rewrite done old new rewrite = record {
   cut = rewrite.cut;
   candidate = inl rewrite.candidate;

@@ -12,14 +12,17 @@ use Rattle.sq_finger.proofs.Layouts.{name_there}
 use Rattle.sq_lookup.specs.Names.{is_listed}
 use Rattle.sq_pass.specs.declared.cut.Cut.{Cut}
 use Rattle.sq_pass.specs.declared.cut.Row.{Row}
-use Rattle.sq_pass.specs.declared.cut.Row.TheVariants.{U, T, O1, O2, O3, O4, L}
+use Rattle.sq_pass.specs.declared.cut.Row.TheVariants.{U, T, O1, O2, O3, O4, W, V, L}
 use Rattle.sq_pass.specs.Cuts.{IsCompleted}
 use Rattle.sq_cert.specs.declared.step.Step.{Step}
 use Rattle.sq_jumps.specs.Candidates.{HasRow}
 use Rattle.sq_jumps.specs.Unreached.{AreUnreached}
 use Rattle.sq_outline.specs.Candidates.{IsCutOf}
+use Rattle.sq_outline.specs.WindowsCandidates.{IsWindowsCutOf}
 use Rattle.sq_outline.specs.Links.{link_order, MayLink, IsFirstOf, IsLink}
 use Rattle.sq_outline.specs.Made.{first_block, ends_of, IsMadeCut}
+use Rattle.sq_outline.specs.WindowsMade.{items_at, behind, IsWindowCut}
+use Rattle.sq_outline.specs.WindowsPlaces.{occurrences}
 use Rattle.sq_drive.specs.Replay.{cut_of, MayStep, IsStep, IsReplay, FailsAt}
 use Rattle.sq_drive.specs.Rows.{IsCandidate, described}
 
@@ -55,7 +58,8 @@ unreached_of g cut (inl (inl (inl unreached))) is = unreached.unreached
 unreached_of g cut (inl (inl (inr jump))) is = absurd (subst (λ row. HasRow row g jump.block) is jump.has_row)
 unreached_of g cut (inl (inr (inl (inl tail)))) is = let no : T ≡ U = sym (ap (λ (c : Cut). c.row) tail.is) ∙ is in absurd (cc no)
 unreached_of g cut (inl (inr (inl (inr body)))) is = let no : T ≡ U = sym (ap (λ (c : Cut). c.row) body.is) ∙ is in absurd (cc no)
-unreached_of g cut (inl (inr (inr outline))) is = absurd (subst (λ row. IsCutOf row g cut) is outline)
+unreached_of g cut (inl (inr (inr (inl outline)))) is = absurd (subst (λ row. IsCutOf row g cut) is outline)
+unreached_of g cut (inl (inr (inr (inr window)))) is = absurd (subst (λ row. IsWindowsCutOf row g cut) is window)
 unreached_of g cut (inr move) is = let no : L ≡ U = sym (ap (λ (c : Cut). c.row) move.is) ∙ is in absurd (cc no)
 
 -- THE LINK OF ROW O1
@@ -79,10 +83,30 @@ link_of g cut (inl (inl (inl unreached))) is = let no : U ≡ O1 = sym unreached
 link_of g cut (inl (inl (inr jump))) is = absurd (subst (λ row. HasRow row g jump.block) is jump.has_row)
 link_of g cut (inl (inr (inl (inl tail)))) is = let no : T ≡ O1 = sym (ap (λ (c : Cut). c.row) tail.is) ∙ is in absurd (cc no)
 link_of g cut (inl (inr (inl (inr body)))) is = let no : T ≡ O1 = sym (ap (λ (c : Cut). c.row) body.is) ∙ is in absurd (cc no)
-link_of g cut (inl (inr (inr outline))) is = made_link g cut (subst (λ row. IsCutOf row g cut) is outline)
+link_of g cut (inl (inr (inr (inl outline)))) is = made_link g cut (subst (λ row. IsCutOf row g cut) is outline)
+link_of g cut (inl (inr (inr (inr window)))) is = absurd (subst (λ row. IsWindowsCutOf row g cut) is window)
 link_of g cut (inr move) is = let no : L ≡ O1 = sym (ap (λ (c : Cut). c.row) move.is) ∙ is in absurd (cc no)
 
--- no other row has one
+-- THE LINK OF ROW W
+
+-- the link by the window at a place
+abbrev IsLinkAt : Graph → List ℕ → ℕ → ℕ → ℕ → Type 0
+IsLinkAt g blocks at n link = IsLink g (items_at g (first_block blocks) at n) (behind n (occurrences g (items_at g (first_block blocks) at n))) link
+
+window_made_link : (g : Graph) (cut : Cut) → IsWindowCut g cut → IsLinkAt g cut.blocks cut.other cut.length cut.link
+window_made_link g cut window = subst (λ blocks. IsLinkAt g blocks cut.other cut.length cut.link) (sym (ap (λ (c : Cut). c.blocks) window.is)) window.made.linked
+
+window_link_of : (g : Graph) (cut : Cut) → IsCandidate g cut → cut.row ≡ W → IsLinkAt g cut.blocks cut.other cut.length cut.link
+window_link_of g cut (inl (inl (inl unreached))) is = let no : U ≡ W = sym unreached.row ∙ is in absurd (cc no)
+window_link_of g cut (inl (inl (inr jump))) is = absurd (subst (λ row. HasRow row g jump.block) is jump.has_row)
+window_link_of g cut (inl (inr (inl (inl tail)))) is = let no : T ≡ W = sym (ap (λ (c : Cut). c.row) tail.is) ∙ is in absurd (cc no)
+window_link_of g cut (inl (inr (inl (inr body)))) is = let no : T ≡ W = sym (ap (λ (c : Cut). c.row) body.is) ∙ is in absurd (cc no)
+window_link_of g cut (inl (inr (inr (inl outline)))) is = absurd (subst (λ row. IsCutOf row g cut) is outline)
+window_link_of g cut (inl (inr (inr (inr window)))) is = window_made_link g cut (subst (λ row. IsWindowsCutOf row g cut) is window)
+window_link_of g cut (inr move) is = let no : L ≡ W = sym (ap (λ (c : Cut). c.row) move.is) ∙ is in absurd (cc no)
+
+-- NO OTHER ROW HAS ONE
+
 outline_link : (row : Row) (g : Graph) (cut : Cut) → row ≢ O1 → IsCutOf row g cut → cut.link ≡ 0
 outline_link O1 g cut other outline = absurd (other refl)
 outline_link O2 g cut other outline = ap (λ (c : Cut). c.link) outline.is
@@ -90,13 +114,19 @@ outline_link O3 g cut other outline = ap (λ (c : Cut). c.link) outline.is
 outline_link O4 g cut other outline = ap (λ (c : Cut). c.link) outline.is
 outline_link row g cut other none = absurd none
 
-no_link : (g : Graph) (cut : Cut) → IsCandidate g cut → cut.row ≢ O1 → cut.link ≡ 0
-no_link g cut (inl (inl (inl unreached))) other = unreached.link
-no_link g cut (inl (inl (inr jump))) other = ap (λ (c : Cut). c.link) jump.is
-no_link g cut (inl (inr (inl (inl tail)))) other = ap (λ (c : Cut). c.link) tail.is
-no_link g cut (inl (inr (inl (inr body)))) other = ap (λ (c : Cut). c.link) body.is
-no_link g cut (inl (inr (inr outline))) other = outline_link cut.row g cut other outline
-no_link g cut (inr move) other = ap (λ (c : Cut). c.link) move.is
+window_link : (row : Row) (g : Graph) (cut : Cut) → row ≢ W → IsWindowsCutOf row g cut → cut.link ≡ 0
+window_link W g cut other window = absurd (other refl)
+window_link V g cut other inside = ap (λ (c : Cut). c.link) inside.is
+window_link row g cut other none = absurd none
+
+no_link : (g : Graph) (cut : Cut) → IsCandidate g cut → cut.row ≢ O1 → cut.row ≢ W → cut.link ≡ 0
+no_link g cut (inl (inl (inl unreached))) other window = unreached.link
+no_link g cut (inl (inl (inr jump))) other window = ap (λ (c : Cut). c.link) jump.is
+no_link g cut (inl (inr (inl (inl tail)))) other window = ap (λ (c : Cut). c.link) tail.is
+no_link g cut (inl (inr (inl (inr body)))) other window = ap (λ (c : Cut). c.link) body.is
+no_link g cut (inl (inr (inr (inl outline)))) other window = outline_link cut.row g cut other outline
+no_link g cut (inl (inr (inr (inr made)))) other window = window_link cut.row g cut window made
+no_link g cut (inr move) other window = ap (λ (c : Cut). c.link) move.is
 
 -- WHAT A ROW MAKES
 
@@ -140,8 +170,18 @@ module _ (g : Graph) (told a b : Cut) (one : IsCompleted told a) (two : IsComple
       by_row : (row : Row) → told.row ≡ row → a.link ≡ b.link
       by_row O1 is =
           one_first link_order (MayLink g (items_of g (first_block b.blocks)) (ends_of g b.blocks)) a.link b.link (subst (λ blocks. IsLinkOf g blocks a.link) same_blocks (link_of g a first (one.row ∙ is))) (link_of g b second (two.row ∙ is))
+      by_row W is =
+          let same_other = one.other ∙ sym two.other in
+          let same_length = one.length ∙ sym two.length in
+          let own = window_link_of g a first (one.row ∙ is) in
+          let at_blocks = subst (λ blocks. IsLinkAt g blocks a.other a.length a.link) same_blocks own in
+          let at_place = subst (λ at. IsLinkAt g b.blocks at a.length a.link) same_other at_blocks in
+          let at_length = subst (λ n. IsLinkAt g b.blocks b.other n a.link) same_length at_place in
+          let window = items_at g (first_block b.blocks) b.other b.length in
+          one_first link_order (MayLink g window (behind b.length (occurrences g window))) a.link b.link at_length (window_link_of g b second (two.row ∙ is))
       by_row row is =
-          no_link g a first (λ same. let no : row ≡ O1 = sym is ∙ sym one.row ∙ same in cc no) ∙ sym (no_link g b second (λ same. let no : row ≡ O1 = sym is ∙ sym two.row ∙ same in cc no))
+          no_link g a first (λ same. let no : row ≡ O1 = sym is ∙ sym one.row ∙ same in cc no) (λ same. let no : row ≡ W = sym is ∙ sym one.row ∙ same in cc no)
+          ∙ sym (no_link g b second (λ same. let no : row ≡ O1 = sym is ∙ sym two.row ∙ same in cc no) (λ same. let no : row ≡ W = sym is ∙ sym two.row ∙ same in cc no))
 
   pub one_described : described g a ≡ described g b
   one_described =

@@ -77,7 +77,7 @@ none_given told g other none given = by_candidate given.candidate
 pub move_completed : (from to saving : ℕ) → IsCompleted (move_cut from to) (chain_cut from to saving)
 move_completed from to saving = record { row = refl; blocks = λ other. refl; procedure = refl; other = refl; length = refl }
 
-move_candidate : (from to : ℕ) (old mid : Graph) (m : IsMoved from to old mid) → IsMove old (chain_cut from to m.saving)
+pub move_candidate : (from to : ℕ) (old mid : Graph) (m : IsMoved from to old mid) → IsMove old (chain_cut from to m.saving)
 move_candidate from to old mid m = record {
   from = from;
   to = to;

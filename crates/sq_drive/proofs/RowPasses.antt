@@ -9,13 +9,14 @@ use Rattle.sq_graph.specs.Graph.{Graph}
 use Rattle.sq_pass.specs.Rewrites.{IsRewrite, IsRewritten}
 use Rattle.sq_pass.specs.declared.cut.Cut.{Cut}
 use Rattle.sq_pass.specs.declared.cut.Row.{Row}
-use Rattle.sq_pass.specs.declared.cut.Row.TheVariants.{T, O1, O2, O3, O4}
+use Rattle.sq_pass.specs.declared.cut.Row.TheVariants.{T, O1, O2, O3, O4, W, V}
 use Rattle.sq_pass.specs.declared.rewrite.Rewrite.{Rewrite}
 use Rattle.sq_pass.proofs.Rewriting.{stepped_wider, rewritten_through}
 use Rattle.sq_jumps.specs.Candidates.{HasRow}
 use Rattle.sq_outline.specs.Candidates.{IsCutOf}
+use Rattle.sq_outline.specs.WindowsCandidates.{IsWindowsCutOf}
 use Rattle.sq_drive.specs.declared.rows.RowPass.{RowPass}
-use Rattle.sq_drive.specs.declared.rows.RowPass.TheVariants.{Jumps, Tails, Outlines}
+use Rattle.sq_drive.specs.declared.rows.RowPass.TheVariants.{Jumps, Tails, Outlines, Windows}
 use Rattle.sq_drive.specs.Rows.{pass_of, IsCandidateOf, described_of, IsRowCandidate, row_described}
 
 -- WHAT EACH PASS SAYS
@@ -26,6 +27,8 @@ jump_row O1 g block none = absurd none
 jump_row O2 g block none = absurd none
 jump_row O3 g block none = absurd none
 jump_row O4 g block none = absurd none
+jump_row W g block none = absurd none
+jump_row V g block none = absurd none
 jump_row row g block has = refl
 
 outline_row : (row : Row) (g : Graph) (cut : Cut) → IsCutOf row g cut → pass_of row ≡ Outlines
@@ -35,6 +38,11 @@ outline_row O3 g cut candidate = refl
 outline_row O4 g cut candidate = refl
 outline_row row g cut none = absurd none
 
+window_row : (row : Row) (g : Graph) (cut : Cut) → IsWindowsCutOf row g cut → pass_of row ≡ Windows
+window_row W g cut candidate = refl
+window_row V g cut candidate = refl
+window_row row g cut none = absurd none
+
 -- a candidate of a pass has one of its rows
 pub its_row : (pass : RowPass) (g : Graph) (cut : Cut) → IsCandidateOf pass g cut → pass_of cut.row ≡ pass
 its_row Jumps g cut (inl unreached) = ap pass_of unreached.row
@@ -42,18 +50,21 @@ its_row Jumps g cut (inr jump) = jump_row cut.row g jump.block jump.has_row
 its_row Tails g cut (inl tail) = ap (λ (c : Cut). pass_of c.row) tail.is
 its_row Tails g cut (inr body) = ap (λ (c : Cut). pass_of c.row) body.is
 its_row Outlines g cut candidate = outline_row cut.row g cut candidate
+its_row Windows g cut candidate = window_row cut.row g cut candidate
 
 -- it is one of all rows
 pub of_all : (pass : RowPass) (g : Graph) (cut : Cut) → IsCandidateOf pass g cut → IsRowCandidate g cut
 of_all Jumps g cut candidate = inl candidate
 of_all Tails g cut candidate = inr (inl candidate)
-of_all Outlines g cut candidate = inr (inr candidate)
+of_all Outlines g cut candidate = inr (inr (inl candidate))
+of_all Windows g cut candidate = inr (inr (inr candidate))
 
 -- a candidate of all rows is one of a pass
 pub of_some : (g : Graph) (cut : Cut) → IsRowCandidate g cut → (pass : RowPass) × IsCandidateOf pass g cut
 of_some g cut (inl candidate) = (Jumps, candidate)
 of_some g cut (inr (inl candidate)) = (Tails, candidate)
-of_some g cut (inr (inr candidate)) = (Outlines, candidate)
+of_some g cut (inr (inr (inl candidate))) = (Outlines, candidate)
+of_some g cut (inr (inr (inr candidate))) = (Windows, candidate)
 
 -- WHAT FOLLOWS
 

@@ -4,21 +4,25 @@
 //! where that was, and has no candidate of any pass; that the words that it lost are those that the rows saved; of `settle`
 //! and `settle_slotted`, that no move of a chain saves a word; and of `settle_slotted`, that its blocks are named by their
 //! positions. Of certificates it promises that `replay` and `check_graph` tell exactly whether each step is a candidate of the
-//! graph that the steps before it left, and that the steps which `settle_noting` notes replay.
+//! graph that the steps before it left, that the steps which `settle_noting` notes replay, and that `track_graph` tells what
+//! becomes of blocks by the steps.
 #![tactic(auto)]
 
 mod checking;
+mod finding;
 mod listed;
 mod noting;
 mod once;
 mod replaying;
 mod rows;
 mod settling;
+mod tracking;
 
 pub use checking::check_graph;
 pub use listed::settle_with;
-pub use noting::settle_noting;
+pub use noting::{Noted, settle_noting};
 pub use once::rewrite_once;
 pub use replaying::{replay, take_step};
 pub use rows::AllRows;
 pub use settling::{settle, settle_by, settle_slotted};
+pub use tracking::replays::track_graph;

@@ -8,25 +8,34 @@ ghost use Rattle.sq_graph.specs.Slotted.{IsSlotted};
 ghost use Rattle.sq_graph.specs.Words.{words_of};
 ghost use Rattle.sq_follow.specs.Follows.{Follows};
 ghost use Rattle.sq_pass.specs.declared.cut.Cut.{Cut as Told};
+ghost use Rattle.sq_pass.specs.Rewrites.{IsRewrite, IsRewritten, IsLighter};
 ghost use Rattle.sq_cert.specs.Steps.{numbers_of, HasForm};
 ghost use Rattle.sq_chain.specs.Candidates.{IsMoved, IsStillAt};
 ghost use Rattle.sq_chain.specs.Moves.{IsStill};
 ghost use Rattle.sq_drive.specs.Noting.{step_of};
 ghost use Rattle.sq_drive.specs.Replay.{IsStep, IsReplay};
 ghost use Rattle.sq_drive.specs.Replaying.{IsLess};
-ghost use Rattle.sq_drive.specs.Rows.{IsRowCandidate, IsLeftoverFree};
+ghost use Rattle.sq_drive.specs.Rows.{IsRowCandidate, IsLeftoverFree, IsCandidate, described};
 
+use crate::finding::find_from;
 use crate::replaying::tidy;
-use crate::rows::AllRows;
+use crate::rows::{AllRows, RowPass};
 use sq_cert::{Cert, Step};
 use sq_chain::{movable, try_move};
 use sq_graph::{Graph, Term};
-use sq_layout::learn;
-use sq_live::{block_names, live};
+use sq_layout::{learn, words_of};
+use sq_live::block_names;
 use sq_lookup::is_block;
-use sq_num::Memory;
-use sq_pass::{Blocks, Cut, Pass, Row};
+use sq_num::{Memory, Savings};
+use sq_pass::{Blocks, Cut, Pass, Rewrite, Row};
 use std::alloc::Global;
+
+/// What settling noted: its steps, and what each row saved.
+#[derive(Debug, Drop)]
+pub struct Noted {
+    pub cert: Cert,
+    pub savings: Savings,
+}
 
 /// The block at this place of a list, or 0.
 fn block_at(blocks: &Blocks, at: usize) -> u32
@@ -76,25 +85,50 @@ fn step_of(cut: Cut) -> Step
     }
 }
 
-/// Rewrites the graph by a candidate of a row that passes have, and tidies it: the step, or None where there is none.
-fn note_row(alloc: Global, graph: &mut Graph) -> Result<Option<Step>, Memory>
+/// Rewrites the graph by this candidate, and tidies it: the step and what it saved.
+fn note_cut(alloc: Global, graph: &mut Graph, cut: Cut) -> Result<(Step, Rewrite), Memory>
     requires canonical { IsCanonical graph.old.graph }
     requires words { words_of graph.old.graph ≤ 1048576 }
-    ensures step { IfOk result (λ noted. IfSome noted (λ step. IsStep step graph.old.graph graph.new.graph)) }
-    ensures less { IfOk result (λ noted. IfSome noted (λ step. IsLess graph.old.graph graph.new.graph)) }
-    ensures fewer { IfOk result (λ noted. IfSome noted (λ step. words_of graph.new.graph < words_of graph.old.graph)) }
+    requires candidate { IsRowCandidate graph.old.graph cut }
+    ensures step { IfOk result (λ taken. IsStep taken.0 graph.old.graph graph.new.graph) }
+    ensures rewrite { IfOk result (λ taken. IsRewrite IsCandidate described taken.1 graph.old.graph graph.new.graph) }
+    ensures lighter { IfOk result (λ taken. IsLighter taken.1.saving graph.old.graph graph.new.graph) }
+    ensures less { OnOk result (IsLess graph.old.graph graph.new.graph) }
+    ensures fewer { OnOk result (words_of graph.new.graph < words_of graph.old.graph) }
+    ensures follows { Follows graph.old.graph graph.new.graph }
+{
+    graph.reserve(AllRows.room(graph, &cut))?;
+    AllRows.apply(graph, &cut);
+    tidy(alloc, graph)?;
+    let done = Rewrite {
+        row: cut.row,
+        saving: cut.saving,
+    };
+    Ok((step_of(cut), done))
+}
+
+/// Rewrites the graph by a candidate of a row that passes have, first by one of this pass, and tidies it: the step and what
+/// it saved, or None where there is none.
+fn note_row(
+    alloc: Global,
+    graph: &mut Graph,
+    pass: RowPass,
+) -> Result<Option<(Step, Rewrite)>, Memory>
+    requires canonical { IsCanonical graph.old.graph }
+    requires words { words_of graph.old.graph ≤ 1048576 }
+    ensures step { IfOk result (λ noted. IfSome noted (λ taken. IsStep taken.0 graph.old.graph graph.new.graph)) }
+    ensures rewrite { IfOk result (λ noted. IfSome noted (λ taken. IsRewrite IsCandidate described taken.1 graph.old.graph graph.new.graph)) }
+    ensures lighter { IfOk result (λ noted. IfSome noted (λ taken. IsLighter taken.1.saving graph.old.graph graph.new.graph)) }
+    ensures less { IfOk result (λ noted. IfSome noted (λ taken. IsLess graph.old.graph graph.new.graph)) }
+    ensures fewer { IfOk result (λ noted. IfSome noted (λ taken. words_of graph.new.graph < words_of graph.old.graph)) }
     ensures none { result ≡ Ok None → (cut : Told) → ¬ IsRowCandidate graph.old.graph cut }
     ensures same { result ≡ Ok None → graph.new.graph ≡ graph.old.graph }
     ensures follows { Follows graph.old.graph graph.new.graph }
 {
-    let live = live(alloc, graph)?;
-    let Some(cut) = AllRows.find(alloc, graph, &live)? else {
-        return Ok(None);
-    };
-    graph.reserve(AllRows.room(graph, &cut))?;
-    AllRows.apply(graph, &cut);
-    tidy(alloc, graph)?;
-    Ok(Some(step_of(cut)))
+    match find_from(alloc, graph, pass)? {
+        Some(cut) => Ok(Some(note_cut(alloc, graph, cut)?)),
+        None => Ok(None),
+    }
 }
 
 /// Moves the chain of the block to which this one jumps behind it, where that saves words: that block.
@@ -138,40 +172,53 @@ fn move_first(alloc: Global, graph: &mut Graph, names: &[u32]) -> Result<Option<
     Ok(None)
 }
 
-/// Moves a chain where that saves words, and tidies the graph: the step, or None where there is none.
-fn note_move(alloc: Global, graph: &mut Graph) -> Result<Option<Step>, Memory>
+/// Moves a chain where that saves words, and tidies the graph: the step and what it saved, or None where there is none.
+fn note_move(alloc: Global, graph: &mut Graph) -> Result<Option<(Step, Rewrite)>, Memory>
     requires canonical { IsCanonical graph.old.graph }
     requires words { words_of graph.old.graph ≤ 1048576 }
-    ensures step { IfOk result (λ noted. IfSome noted (λ step. IsStep step graph.old.graph graph.new.graph)) }
-    ensures less { IfOk result (λ noted. IfSome noted (λ step. IsLess graph.old.graph graph.new.graph)) }
-    ensures fewer { IfOk result (λ noted. IfSome noted (λ step. words_of graph.new.graph < words_of graph.old.graph)) }
+    ensures step { IfOk result (λ noted. IfSome noted (λ taken. IsStep taken.0 graph.old.graph graph.new.graph)) }
+    ensures rewrite { IfOk result (λ noted. IfSome noted (λ taken. IsRewrite IsCandidate described taken.1 graph.old.graph graph.new.graph)) }
+    ensures lighter { IfOk result (λ noted. IfSome noted (λ taken. IsLighter taken.1.saving graph.old.graph graph.new.graph)) }
+    ensures less { IfOk result (λ noted. IfSome noted (λ taken. IsLess graph.old.graph graph.new.graph)) }
+    ensures fewer { IfOk result (λ noted. IfSome noted (λ taken. words_of graph.new.graph < words_of graph.old.graph)) }
     ensures still { result ≡ Ok None → IsStill graph.old.graph }
     ensures same { result ≡ Ok None → graph.new.graph ≡ graph.old.graph }
     ensures follows { Follows graph.old.graph graph.new.graph }
 {
     learn(graph);
+    let before = words_of(graph);
     let names = block_names(alloc, graph)?;
     let Some((from, to)) = move_first(alloc, graph, &names)? else {
         return Ok(None);
     };
     tidy(alloc, graph)?;
-    Ok(Some(Step::L { from, to }))
+    let done = Rewrite {
+        row: Row::L,
+        saving: before - words_of(graph),
+    };
+    Ok(Some((Step::L { from, to }, done)))
 }
 
-/// Rewrites the graph by a candidate of any row: the step, or None where there is none. A chain moves only where no other
-/// row has a candidate.
-fn note_step(alloc: Global, graph: &mut Graph) -> Result<Option<Step>, Memory>
+/// Rewrites the graph by a candidate of any row, first by one of this pass: the step and what it saved, or None where there
+/// is none. A chain moves only where no other row has a candidate.
+fn note_step(
+    alloc: Global,
+    graph: &mut Graph,
+    pass: RowPass,
+) -> Result<Option<(Step, Rewrite)>, Memory>
     requires canonical { IsCanonical graph.old.graph }
     requires words { words_of graph.old.graph ≤ 1048576 }
-    ensures step { IfOk result (λ noted. IfSome noted (λ step. IsStep step graph.old.graph graph.new.graph)) }
-    ensures less { IfOk result (λ noted. IfSome noted (λ step. IsLess graph.old.graph graph.new.graph)) }
-    ensures fewer { IfOk result (λ noted. IfSome noted (λ step. words_of graph.new.graph < words_of graph.old.graph)) }
+    ensures step { IfOk result (λ noted. IfSome noted (λ taken. IsStep taken.0 graph.old.graph graph.new.graph)) }
+    ensures rewrite { IfOk result (λ noted. IfSome noted (λ taken. IsRewrite IsCandidate described taken.1 graph.old.graph graph.new.graph)) }
+    ensures lighter { IfOk result (λ noted. IfSome noted (λ taken. IsLighter taken.1.saving graph.old.graph graph.new.graph)) }
+    ensures less { IfOk result (λ noted. IfSome noted (λ taken. IsLess graph.old.graph graph.new.graph)) }
+    ensures fewer { IfOk result (λ noted. IfSome noted (λ taken. words_of graph.new.graph < words_of graph.old.graph)) }
     ensures left { result ≡ Ok None → IsLeftoverFree graph.old.graph }
     ensures same { result ≡ Ok None → graph.new.graph ≡ graph.old.graph }
     ensures follows { Follows graph.old.graph graph.new.graph }
 {
-    match note_row(alloc, graph)? {
-        Some(step) => Ok(Some(step)),
+    match note_row(alloc, graph, pass)? {
+        Some(taken) => Ok(Some(taken)),
         None => note_move(alloc, graph),
     }
 }
@@ -209,14 +256,16 @@ fn learn_step(step: &Step)
     }
 }
 
-/// Rewrites the graph by all rows until none has a candidate, and answers the certificate of the steps. It sweeps nothing:
-/// each step looks at the whole graph. After want of memory the graph is as the steps left it so far.
-pub fn settle_noting(alloc: Global, graph: &mut Graph) -> Result<Cert, Memory>
+/// Rewrites the graph by all rows until none has a candidate, and answers the certificate of the steps and what each row
+/// saved. It sweeps nothing: each step looks at the whole graph, for a candidate of the pass that had the one before, and
+/// where that has none, of all. After want of memory the graph is as the steps left it so far.
+pub fn settle_noting(alloc: Global, graph: &mut Graph) -> Result<Noted, Memory>
     requires canonical { IsCanonical graph.old.graph }
     requires slotted { IsSlotted graph.old.graph }
     requires words { words_of graph.old.graph ≤ 1048576 }
-    ensures replay { IfOk result (λ cert. IsReplay cert graph.old.graph graph.new.graph) }
-    ensures form { IfOk result (λ cert. All HasForm cert) }
+    ensures replay { IfOk result (λ noted. IsReplay noted.cert graph.old.graph graph.new.graph) }
+    ensures form { IfOk result (λ noted. All HasForm noted.cert) }
+    ensures rewritten { IfOk result (λ noted. IsRewritten IsCandidate described Savings.NONE noted.savings graph.old.graph graph.new.graph) }
     ensures left { OnOk result (IsLeftoverFree graph.new.graph) }
     ensures still { OnOk result (IsStill graph.new.graph) }
     ensures lighter { OnOk result (IsLess graph.old.graph graph.new.graph) }
@@ -224,9 +273,13 @@ pub fn settle_noting(alloc: Global, graph: &mut Graph) -> Result<Cert, Memory>
     ensures follows { Follows graph.old.graph graph.new.graph }
 {
     let mut cert = Cert::new(alloc);
-    while let Some(step) = note_step(alloc, graph)? {
+    let mut savings = Savings::NONE;
+    let mut pass = RowPass::Jumps;
+    while let Some((step, done)) = note_step(alloc, graph, pass)? {
         learn_step(&step);
         cert.push(step)?;
+        savings = done.count(savings);
+        pass = RowPass::of(done.row);
     }
-    Ok(cert)
+    Ok(Noted { cert, savings })
 }

@@ -123,7 +123,7 @@ fn length_of(graph: &Graph, step: &Step) -> u32
 }
 
 /// The cut of a step, but for what its row determines.
-fn cut_of(alloc: Global, graph: &Graph, step: &Step) -> Result<Cut, Memory>
+pub(crate) fn cut_of(alloc: Global, graph: &Graph, step: &Step) -> Result<Cut, Memory>
     ensures { IfOk result (λ cut. cut ≡ cut_of graph.now.graph step.now) }
 {
     let blocks = blocks_of(alloc, step)?;

@@ -1,13 +1,16 @@
 //! The pass of all rows that passes have.
 
-ghost use Rattle.std.specs.Prelude.{◌≡◌};
-ghost use Rattle.sq_drive.specs.Rows.{pass_of};
+ghost use Rattle.std.specs.Prelude.{◌≡◌, None, Ok, IfOk, IfSome};
+ghost use Rattle.sq_live.specs.Liveness.{IsLivenessOf};
+ghost use Rattle.sq_pass.specs.declared.cut.Cut.{Cut as Told};
+ghost use Rattle.sq_drive.specs.Rows.{pass_of, IsEarlierCandidate, IsRowCandidate};
 
 use sq_graph::{Graph, Room};
 use sq_jumps::Jumps;
-use sq_live::Liveness;
+use sq_layout::words_of;
+use sq_live::{Liveness, live};
 use sq_num::{Memory, Savings};
-use sq_outline::Outlines;
+use sq_outline::{Outlines, Windows};
 use sq_pass::{Cut, Pass, Row};
 use sq_tail::Tails;
 use std::alloc::Global;
@@ -15,26 +18,44 @@ use std::alloc::Global;
 /// The passes, in the order of the cost rule. A pass to come takes its place here, and the checks ask for its place in each
 /// of the calls below.
 #[derive(Clone, Copy)]
-enum RowPass {
+pub(crate) enum RowPass {
     /// Rows U, J1, J2, J3 and C.
     Jumps,
     /// Row T.
     Tails,
     /// Rows O1, O2, O3 and O4.
     Outlines,
+    /// Rows W and V.
+    Windows,
 }
 
 impl RowPass {
     /// The pass that has the row. A row that none has counts with the first one, which has no candidate of it.
-    fn of(row: Row) -> RowPass
+    pub(crate) fn of(row: Row) -> RowPass
         ensures { result ≡ pass_of row }
     {
         match row {
             Row::T => RowPass::Tails,
             Row::O1 | Row::O2 | Row::O3 | Row::O4 => RowPass::Outlines,
+            Row::W | Row::V => RowPass::Windows,
             _ => RowPass::Jumps,
         }
     }
+}
+
+/// A candidate of the passes that come before windows, or `None` where there is none.
+fn find_earlier(alloc: Global, graph: &Graph, live: &Liveness) -> Result<Option<Cut>, Memory>
+    requires { IsLivenessOf graph.now.graph live.now }
+    ensures some { IfOk result (λ found. IfSome found (λ cut. IsRowCandidate graph.now.graph cut)) }
+    ensures none { result ≡ Ok None → (cut : Told) → ¬ IsEarlierCandidate graph.now.graph cut }
+{
+    if let Some(cut) = Jumps.find(alloc, graph, live)? {
+        return Ok(Some(cut));
+    }
+    if let Some(cut) = Tails.find(alloc, graph, live)? {
+        return Ok(Some(cut));
+    }
+    Outlines.find(alloc, graph, live)
 }
 
 /// All rows of the cost rule that passes have, as one pass: all but row L, which moves chains. It asks the passes in the
@@ -64,17 +85,15 @@ impl Pass for AllRows {
             RowPass::Jumps => Jumps.admit(alloc, graph, live, cut),
             RowPass::Tails => Tails.admit(alloc, graph, live, cut),
             RowPass::Outlines => Outlines.admit(alloc, graph, live, cut),
+            RowPass::Windows => Windows.admit(alloc, graph, live, cut),
         }
     }
 
     fn find(&self, alloc: Global, graph: &Graph, live: &Liveness) -> Result<Option<Cut>, Memory> {
-        if let Some(cut) = Jumps.find(alloc, graph, live)? {
+        if let Some(cut) = find_earlier(alloc, graph, live)? {
             return Ok(Some(cut));
         }
-        if let Some(cut) = Tails.find(alloc, graph, live)? {
-            return Ok(Some(cut));
-        }
-        Outlines.find(alloc, graph, live)
+        Windows.find(alloc, graph, live)
     }
 
     fn room(&self, graph: &Graph, cut: &Cut) -> Room {
@@ -82,6 +101,7 @@ impl Pass for AllRows {
             RowPass::Jumps => Jumps.room(graph, cut),
             RowPass::Tails => Tails.room(graph, cut),
             RowPass::Outlines => Outlines.room(graph, cut),
+            RowPass::Windows => Windows.room(graph, cut),
         }
     }
 
@@ -90,12 +110,23 @@ impl Pass for AllRows {
             RowPass::Jumps => Jumps.apply(graph, cut),
             RowPass::Tails => Tails.apply(graph, cut),
             RowPass::Outlines => Outlines.apply(graph, cut),
+            RowPass::Windows => Windows.apply(graph, cut),
         }
     }
 
+    /// Windows are swept only where no other row has a candidate.
     fn sweep(&self, alloc: Global, graph: &mut Graph, savings: Savings) -> Result<Savings, Memory> {
+        let before = words_of(graph);
         let after_jumps = Jumps.sweep(alloc, graph, savings)?;
         let after_tails = Tails.sweep(alloc, graph, after_jumps)?;
-        Outlines.sweep(alloc, graph, after_tails)
+        let after_outlines = Outlines.sweep(alloc, graph, after_tails)?;
+        if words_of(graph) < before {
+            return Ok(after_outlines);
+        }
+        let live = live(alloc, graph)?;
+        if find_earlier(alloc, graph, &live)?.is_some() {
+            return Ok(after_outlines);
+        }
+        Windows.sweep(alloc, graph, after_outlines)
     }
 }

@@ -1,5 +1,5 @@
 -- the words of each form
-use Rattle.sq_command.proofs.Forms.{pack_is, run_is, watch_is, hex_is, hexcheck_is, size_is, trial_is}
+use Rattle.sq_command.proofs.Forms.{pack_is, run_is, watch_is, hex_is, hexcheck_is, size_is, trial_is, check_is, prove_is}
 use Rattle.sq_command.proofs.command.command_of.Goals as goal
 
 pub returns-clause-pack : goal.returns-clause-pack
@@ -22,3 +22,9 @@ returns-clause-size c = size_is c.args.words.now
 
 pub returns-clause-trial : goal.returns-clause-trial
 returns-clause-trial c = trial_is c.args.words.now
+
+pub returns-clause-check : goal.returns-clause-check
+returns-clause-check c = check_is c.args.words.now
+
+pub returns-clause-prove : goal.returns-clause-prove
+returns-clause-prove c = prove_is c.args.words.now

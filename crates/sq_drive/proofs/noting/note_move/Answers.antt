@@ -1,9 +1,13 @@
-use Rattle.std.proofs.Common.{Ok, ap, arith}
+use Rattle.std.proofs.Common.{◌≡◌, ℕ, ◌-◌, Ok, ap, subst, arith}
 use Rattle.sq_graph.specs.Room.{GraphAndRoom}
 use Rattle.sq_follow.proofs.Following.{graph_follows_itself, graph_follows_through}
 use Rattle.sq_chain.proofs.Moved.{canonical_few}
 use Rattle.sq_chain.specs.Moves.{moved}
-use Rattle.sq_drive.proofs.Noted.{move_stepped, fewer_by}
+use Rattle.sq_pass.specs.Rewrites.{IsRewrite, IsLighter}
+use Rattle.sq_pass.proofs.Rewriting.{lighter_made}
+use Rattle.sq_pass.specs.declared.cut.Row.TheVariants.{L}
+use Rattle.sq_drive.specs.Rows.{IsCandidate, described}
+use Rattle.sq_drive.proofs.NotedSteps.{move_stepped, move_rewritten, fewer_by}
 use Rattle.sq_drive.proofs.Replays.{follows_same, less_by}
 use Rattle.sq_drive.proofs.noting.note_move.Goals as goal
 
@@ -33,6 +37,24 @@ pub returns-clause-step : goal.returns-clause-step
 returns-clause-step c =
     let m = rw c.in-Some.is at c.in_ok-from.ensures.moved in
     move_stepped c.in-Some.from c.in-Some.to c.args.graph.now.graph c.move_first.new.graph.graph c.tidy.new.graph.graph m c.in_ok-tidy.ensures.graph
+
+pub returns-clause-lighter : goal.returns-clause-lighter
+returns-clause-lighter c =
+    let g = c.args.graph.now.graph in
+    let new = c.tidy.new.graph.graph in
+    let m = rw c.in-Some.is at c.in_ok-from.ensures.moved in
+    let lighter = lighter_made m.saving (moved g c.in-Some.from c.in-Some.to) g c.move_first.new.graph.graph new m.applied c.in_ok-tidy.ensures.lighter in
+    let same : m.saving ≡ c.words_of-before.result - c.words_of.result = omega (arith, lighter.words, c.words_of-before.ensures, c.words_of.ensures) in
+    subst (λ (n : ℕ). IsLighter n g new) same lighter
+
+pub returns-clause-rewrite : goal.returns-clause-rewrite
+returns-clause-rewrite c =
+    let g = c.args.graph.now.graph in
+    let new = c.tidy.new.graph.graph in
+    let m = rw c.in-Some.is at c.in_ok-from.ensures.moved in
+    let lighter = lighter_made m.saving (moved g c.in-Some.from c.in-Some.to) g c.move_first.new.graph.graph new m.applied c.in_ok-tidy.ensures.lighter in
+    let same : m.saving ≡ c.words_of-before.result - c.words_of.result = omega (arith, lighter.words, c.words_of-before.ensures, c.words_of.ensures) in
+    subst (λ (n : ℕ). IsRewrite IsCandidate described (record { row = L; saving = n }) g new) same (move_rewritten c.in-Some.from c.in-Some.to g c.move_first.new.graph.graph new m c.in_ok-tidy.ensures.graph)
 
 pub returns-clause-less : goal.returns-clause-less
 returns-clause-less c =

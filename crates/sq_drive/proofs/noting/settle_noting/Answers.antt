@@ -5,8 +5,10 @@ use Rattle.sq_cert.specs.Steps.{HasForm}
 use Rattle.sq_graph.specs.Graph.{Graph}
 use Rattle.sq_graph.specs.Slotted.{IsSlotted}
 use Rattle.sq_follow.proofs.Following.{graph_follows_through}
+use Rattle.sq_num.specs.declared.packed.TheConstants.Savings.{NONE}
+use Rattle.sq_pass.proofs.Rewriting.{rewritten_itself, rewritten_on}
 use Rattle.sq_drive.specs.Replay.{IsReplay}
-use Rattle.sq_drive.specs.Rows.{IsLeftoverFree}
+use Rattle.sq_drive.specs.Rows.{IsCandidate, described, IsLeftoverFree}
 use Rattle.sq_drive.proofs.Formed.{set_stepped}
 use Rattle.sq_drive.proofs.Moves.{leftover_free_is_still}
 use Rattle.sq_drive.proofs.Replays.{replay_on, less_itself, less_through}
@@ -19,6 +21,7 @@ loop-cert-init c =
       replayed = subst (λ steps. IsReplay steps g g) (sym c.new-cert.ensures) refl;
       form = subst (All HasForm) (sym c.new-cert.ensures) (All-nil HasForm);
       less = less_itself g c.requires.canonical;
+      rewritten = rewritten_itself IsCandidate described NONE g c.requires.canonical;
       canonical = c.requires.canonical;
       words = c.requires.words;
     }
@@ -40,13 +43,22 @@ loop-cert-preserved c =
     let new = c.note_step.new.graph.graph in
     let taken = rw c.in-Some.is at c.in_ok-step.ensures.step in
     let less = rw c.in-Some.is at c.in_ok-step.ensures.less in
+    let rewrite = rw c.in-Some.is at c.in_ok-step.ensures.rewrite in
+    let lighter = rw c.in-Some.is at c.in_ok-step.ensures.lighter in
     record {
       replayed = subst (λ steps. IsReplay steps old new) (sym c.in_ok-push.ensures.ok) (replay_on l.cert c.in-Some.step old l.graph.graph new l.invariant.replayed taken);
       form = subst (All HasForm) (sym c.in_ok-push.ensures.ok) (All-push HasForm l.cert c.in-Some.step l.invariant.form (record { small = c.learn_step.ensures; set = set_stepped l.graph.graph c.in-Some.step taken.given }));
       less = less_through old l.graph.graph new l.invariant.less less;
+      rewritten = rewritten_on IsCandidate described NONE l.savings c.count-savings.result c.in-Some.done old l.graph.graph new l.invariant.rewritten rewrite lighter c.count-savings.ensures.value;
       canonical = less.lighter.canonical;
       words = omega (arith, less.lighter.words, l.invariant.words);
     }
+
+pub count-savings-requires : goal.count-savings-requires
+count-savings-requires c =
+    let l = c.loop-cert in
+    let lighter = rw c.in-Some.is at c.in_ok-step.ensures.lighter in
+    omega (arith, lighter.words, l.invariant.rewritten.total, l.invariant.rewritten.lighter.words, c.requires.words)
 
 pub returns-clause-left : goal.returns-clause-left
 returns-clause-left c =

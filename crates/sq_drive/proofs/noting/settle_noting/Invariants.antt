@@ -4,7 +4,10 @@ use Rattle.sq_cert.specs.Steps.{HasForm}
 use Rattle.sq_graph.specs.Leaders.{IsCanonical}
 use Rattle.sq_graph.specs.Words.{words_of}
 use Rattle.sq_drive.specs.Replay.{IsReplay}
+use Rattle.sq_num.specs.declared.packed.TheConstants.Savings.{NONE}
+use Rattle.sq_pass.specs.Rewrites.{IsRewritten}
 use Rattle.sq_drive.specs.Replaying.{IsLess}
+use Rattle.sq_drive.specs.Rows.{IsCandidate, described}
 use Rattle.sq_drive.proofs.noting.settle_noting.Given as goal
 
 abbrev pub invariant-loop-cert : goal.invariant-loop-cert
@@ -12,6 +15,7 @@ invariant-loop-cert l = record {
   replayed : IsReplay l.cert l.fn.graph.graph l.graph.graph;
   form : All HasForm l.cert;
   less : IsLess l.fn.graph.graph l.graph.graph;
+  rewritten : IsRewritten IsCandidate described NONE l.savings l.fn.graph.graph l.graph.graph;
   canonical : IsCanonical l.graph.graph;
   words : words_of l.graph.graph ≤ 1048576;
 }
