@@ -32,8 +32,7 @@ use Rattle.sq_program.specs.FilePrograms.IsRefusalOf.{by_file, by_relocs, by_lif
 use Rattle.sq_program.specs.NoteSections.{notes_of}
 use Rattle.sq_write.specs.Output.{words, text_piece, loaded_size, output_file}
 use Rattle.sq_write.specs.Plain.{plain_start, plain_output, plain_file}
-use Rattle.sq_write.proofs.Reading.{length_plain}
-use Rattle.sq_write.proofs.Splitting.{length_words}
+use Rattle.sq_write.proofs.Splitting.{length_words, length_plain}
 use Rattle.sq_outputs.specs.Accepting.{IsAcceptable}
 use Rattle.sq_outputs.specs.Reading.{copied}
 use Rattle.sq_outputs.proofs.Accepting.{outputs_are_accepted}

@@ -6,7 +6,7 @@ use Rattle.sq_desk.specs.Outside.{Outside, Place, Rose, NoneFall, Complaining, K
 use Rattle.sq_top.specs.declared.ending.Ending.{Ending}
 use Rattle.sq_top.specs.declared.ending.Ending.TheVariants.{Done, Words, Desk, Refused, Memory, Break, Limit, BadStart, Differs}
 use Rattle.sq_top.specs.declared.ending.DeskCall.TheVariants.{Load, Store, Print}
-use Rattle.sq_command.specs.Commands.{RunRequest, Form, PackForm, RunForm, WatchForm, HexForm, HexcheckForm, SizeForm, TrialForm, form_of}
+use Rattle.sq_command.specs.Commands.{RunRequest, Form, PackForm, RunForm, WatchForm, HexForm, HexcheckForm, SizeForm, TrialForm, CheckForm, ProveForm, form_of}
 use Rattle.sq_top.specs.Statuses.{complaint_of}
 use Rattle.sq_top.specs.Endings.{StoresPacked, LeavesPack, SizeLeft, Leaves, ComplainsLine}
 use Rattle.sq_top.specs.RunEndings.{FailsToLoad, IsReadable, RunLeft}
@@ -17,6 +17,10 @@ use Rattle.sq_top.specs.Promises.{Ends}
 use Rattle.sq_top.proofs.SizeCases.{size_by_case}
 use Rattle.sq_top.specs.Trials.{TrialLeft}
 use Rattle.sq_top.proofs.TrialCases.{trial_by_case}
+use Rattle.sq_top.specs.CertEndings.{FailsToCertify, CertLeft}
+use Rattle.sq_top.proofs.CertCases.{cert_by_case}
+use Rattle.sq_top.specs.ProveEndings.{SetsBoth, FailsToStore, LeavesProve}
+use Rattle.sq_top.proofs.ProveCases.{prove_by_case}
 
 -- a complaint: files and what is printed stay, and no faults fall
 pub record OnlyComplains (before after : Outside) : Type 0 where
@@ -140,6 +144,44 @@ module _ (before middle after : Outside) (first : NoneFall before middle) (quiet
     memory = λ left. quiet.printed ∙ left;
   })
 
+  cert_fails_on : (input output cert : List ℕ) → FailsToCertify input output cert before middle → FailsToCertify input output cert before after
+  cert_fails_on input output cert (inl given) = inl (rose_on _ before middle after first quiet.faults given)
+  cert_fails_on input output cert (inr (inl packed)) = inr (inl (packed.0, rose_on _ before middle after first quiet.faults packed.1))
+  cert_fails_on input output cert (inr (inr text)) = inr (inr (text.0, rose_on _ before middle after first quiet.faults text.1))
+
+  cert_on : (input output cert : List ℕ) (ending : Ending) → CertLeft input output cert ending before middle → CertLeft input output cert ending before after
+  cert_on input output cert = cert_by_case input output cert before middle (λ e. CertLeft input output cert e before after) (record {
+    done = λ left. (left.0, left.1, quiet.printed ∙ left.2);
+    load = λ left. (quiet.printed ∙ left.0, cert_fails_on input output cert left.1);
+    print = λ left. (rose_on _ before middle after first quiet.faults left.0, left.1, left.2, (left.3.0, quiet.printed ∙ left.3.1));
+    refused = λ refusal left. (quiet.printed ∙ left.0, left.1);
+    memory = λ left. quiet.printed ∙ left;
+    differs = λ line left. (quiet.printed ∙ left.0, left.1);
+  })
+
+  both_on : (output bytes cert : List ℕ) (content : Option (List ℕ)) → SetsBoth output bytes cert content before middle → SetsBoth output bytes cert content before after
+  both_on output bytes cert content set = quiet.files ∙ set
+
+  store_fails_on : (output bytes cert : List ℕ) → FailsToStore output bytes cert before middle → FailsToStore output bytes cert before after
+  store_fails_on output bytes cert (inl one) = inl (rose_on _ before middle after first quiet.faults one.0, (one.1.0, quiet.files ∙ one.1.1))
+  store_fails_on output bytes cert (inr two) = inr (rose_on _ before middle after first quiet.faults two.0, two.1, both_on output bytes cert two.1 two.2)
+
+  prove_on : (input output cert : List ℕ) (ending : Ending) → LeavesProve input output cert ending before middle → LeavesProve input output cert ending before after
+  prove_on input output cert = prove_by_case input output cert before middle (λ e. LeavesProve input output cert e before after) (record {
+    done = λ left. (left.0, left.1, left.2, both_on output left.0.bytes cert (Some left.1) left.3, quiet.printed ∙ left.4);
+    load = λ left. (rose_on _ before middle after first quiet.faults left.0, quiet.files ∙ left.1, quiet.printed ∙ left.2);
+    store = λ left. (quiet.printed ∙ left.0, left.1, left.2, left.3, store_fails_on output left.1.bytes cert left.4);
+    print = λ left. (rose_on _ before middle after first quiet.faults left.0, left.1, left.2, left.3, both_on output left.1.bytes cert (Some left.2) left.4, (left.5.0, quiet.printed ∙ left.5.1));
+    refused = λ refusal left. (left.0, quiet.files ∙ left.1, quiet.printed ∙ left.2);
+    memory = λ left. (
+      quiet.printed ∙ left.0,
+      elim left.1 [
+        | inl kept ↦ inl (quiet.files ∙ kept)
+        | inr proved ↦ inr (proved.0, proved.1, proved.2, elim proved.3 [ inl one ↦ inl (quiet.files ∙ one) | inr two ↦ inr (both_on output proved.0.bytes cert (Some proved.1) two) ])
+      ],
+    );
+  })
+
   leaves_on : (form : Option Form) (ending : Ending) → Leaves form ending before middle → Leaves form ending before after
   leaves_on None ending left = (left.0, quiet.files ∙ left.1, quiet.printed ∙ left.2)
   leaves_on (Some (PackForm input output)) ending left = pack_on input output ending left
@@ -149,6 +191,8 @@ module _ (before middle after : Outside) (first : NoneFall before middle) (quiet
   leaves_on (Some (HexcheckForm input text)) ending left = (quiet.files ∙ left.0, check_on input text ending left.1)
   leaves_on (Some (SizeForm input)) ending left = (quiet.files ∙ left.0, size_on input ending left.1)
   leaves_on (Some (TrialForm number blocks)) ending left = (quiet.files ∙ left.0, trial_on number blocks ending left.1)
+  leaves_on (Some (CheckForm input output cert)) ending left = (quiet.files ∙ left.0, cert_on input output cert ending left.1)
+  leaves_on (Some (ProveForm input output cert)) ending left = prove_on input output cert ending left
 
   complains_on : (line : Option (List ℕ)) → KeepsComplained before middle → ComplainsLine line middle after → ComplainsLine line before after
   complains_on None silent said = said ∙ silent

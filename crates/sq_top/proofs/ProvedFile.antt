@@ -1,5 +1,5 @@
 -- What the replay of a certificate shows of two files.
-use Rattle.std.proofs.Common.{◌≡◌, ◌≢◌, ◌⊎◌, ℕ, ◌<◌, List, inl, inr, refl, sym, ap, ◌∙◌, subst}
+use Rattle.std.proofs.Common.{◌≡◌, ◌≢◌, ◌⊎◌, ℕ, ◌<◌, List, length, inl, inr, refl, sym, ap, ◌∙◌, subst}
 use Rattle.std.specs.List.{AllByRecursion}
 use Rattle.sq_num.specs.declared.refusal.Refusal.{Refusal}
 use Rattle.sq_num.specs.declared.refusal.Denied.{Denied}
@@ -13,14 +13,19 @@ use Rattle.sq_lifted.specs.LiftedFiles.{IsLiftedFile, FitsFile}
 use Rattle.sq_lifted.proofs.Accepting.{not_refused}
 use Rattle.sq_lifted.proofs.OneReading.{lifted_one}
 use Rattle.sq_cert.specs.declared.read.Reading.{Reading}
+use Rattle.sq_cert.specs.declared.step.Step.{Step}
+use Rattle.sq_cert.specs.Steps.{HasForm}
+use Rattle.sq_cert.specs.Texts.{text_of}
+use Rattle.sq_num.specs.declared.packed.Packed.{Packed}
+use Rattle.std.specs.List.{All}
 use Rattle.sq_cert.specs.Readings.{reading_of}
 use Rattle.sq_cert.proofs.RoundTrip.{text_found}
 use Rattle.sq_drive.specs.Checking.{Leads, IsFirstFault}
 use Rattle.sq_drive.specs.Replay.{IsReplay}
 use Rattle.sq_drive.specs.Replaying.{IsLess}
 use Rattle.sq_drive.proofs.OneReplay.{one_replay}
-use Rattle.sq_top.specs.Packing.{CanBeWritten}
-use Rattle.sq_top.specs.Proving.{Proves, FailsToProve, IsProved, IsRefusalOfEither}
+use Rattle.sq_top.specs.Packing.{CanBeWritten, Packs}
+use Rattle.sq_top.specs.Proving.{Proves, FailsToProve, IsProved, IsRefusalOfEither, PacksProved}
 use Rattle.sq_top.proofs.LighterFile.{lighter_fits, lighter_is_same, loads_less}
 
 -- a text leads to one graph
@@ -73,3 +78,18 @@ first_exact given output Memory told exact r (inr other) = inr refl
 pub second_exact : (given output : List ℕ) (d : Denied) → IsAcceptedFile given → ((r : Refusal) → IsRefusalOf output r → (d ≡ Refused r) ⊎ (d ≡ Memory)) → (r : Refusal) → IsRefusalOfEither given output r → (d ≡ Refused r) ⊎ (d ≡ Memory)
 second_exact given output d accepted exact r (inl refused) = absurd (not_refused given accepted r refused)
 second_exact given output d accepted exact r (inr other) = exact r other.1
+
+-- steps that were noted prove what is written of the graph to which they lead
+pub packs_proved : (given : List ℕ) (packed : Packed) (text : List ℕ) (first last : Graph) (steps : List Step) → IsLiftedFile given first → IsSlotted first → All HasForm steps → IsReplay steps first last → text ≡ text_of steps → packed.bytes ≡ written given last → Packs given packed → PacksProved given packed text
+packs_proved given packed text first last steps lifted slotted form replay is output packs = record {
+  packs = packs;
+  count = length steps;
+  proves = record {
+    first = first;
+    lifted = lifted;
+    slotted = slotted;
+    last = last;
+    leads = record { steps = steps; form = form; text_is = is; replay = replay; count_is = refl };
+    output_is = output;
+  };
+}

@@ -2,7 +2,7 @@
 use Rattle.std.proofs.Common.{◌≡◌, ◌≢◌, ◌↔◌, ℕ, ◌≤◌, ◌⊎◌, inl, inr, List, Option, Some, None, refl, ap, arith}
 use Rattle.std.specs.Prelude.{⊤}
 use Rattle.sq_num.specs.declared.packed.Packed.{Packed}
-use Rattle.sq_command.specs.Commands.{RunRequest, Form, PackForm, RunForm, WatchForm, HexForm, HexcheckForm, SizeForm, TrialForm, form_of}
+use Rattle.sq_command.specs.Commands.{RunRequest, Form, PackForm, RunForm, WatchForm, HexForm, HexcheckForm, SizeForm, TrialForm, CheckForm, ProveForm, form_of}
 use Rattle.sq_desk.specs.Outside.{Outside, Place, ForFiles, content_of, Loading, Storing, Printing, Rose}
 use Rattle.sq_top.specs.declared.ending.Ending.{Ending}
 use Rattle.sq_top.specs.declared.ending.Ending.TheVariants.{Done, Words, Desk, Refused, Memory, Break, Limit, BadStart, Differs}
@@ -21,6 +21,10 @@ use Rattle.sq_top.specs.Promises.{Ends, ForPack, HasFault, RefusesExactly, Print
 use Rattle.sq_top.proofs.SizeCases.{size_by_case}
 use Rattle.sq_top.specs.Trials.{TrialLeft}
 use Rattle.sq_top.proofs.TrialCases.{trial_by_case}
+use Rattle.sq_top.specs.CertEndings.{FailsToCertify, CertLeft}
+use Rattle.sq_top.proofs.CertCases.{cert_by_case}
+use Rattle.sq_top.specs.ProveEndings.{FailsToStore, LeavesProve}
+use Rattle.sq_top.proofs.ProveCases.{prove_by_case}
 
 -- where no faults are counted none rose
 none_rose : (place : Place) (before after : Outside) → after.faults place ≡ 0 → Rose place before after → ⊥
@@ -106,6 +110,26 @@ module _ (words : List (List ℕ)) (ending : Ending) (before after : Outside) (e
         memory = λ gone one. absurd (cc one);
       })
 
+      cert_else : (input output cert : List ℕ) (e : Ending) → CertLeft input output cert e before after → status_of e ≡ 1 → ⊥
+      cert_else input output cert = cert_by_case input output cert before after (λ e. status_of e ≡ 1 → ⊥) (record {
+        done = λ gone one. absurd (cc one);
+        load = λ gone one. absurd (cc one);
+        print = λ gone one. absurd (cc one);
+        refused = λ refusal gone one. absurd (cc one);
+        memory = λ gone one. absurd (cc one);
+        differs = λ line gone one. absurd (cc one);
+      })
+
+      prove_else : (input output cert : List ℕ) (e : Ending) → LeavesProve input output cert e before after → status_of e ≡ 1 → ⊥
+      prove_else input output cert = prove_by_case input output cert before after (λ e. status_of e ≡ 1 → ⊥) (record {
+        done = λ gone one. absurd (cc one);
+        load = λ gone one. absurd (cc one);
+        store = λ gone one. absurd (cc one);
+        print = λ gone one. absurd (cc one);
+        refused = λ refusal gone one. absurd (cc one);
+        memory = λ gone one. absurd (cc one);
+      })
+
       only : (form : Option Form) → form_of words ≡ form → Leaves form ending before after → status_of ending ≡ 1 → form_of words ≡ None
       only None is gone one = is
       only (Some (PackForm input output)) is gone one = absurd (pack_else input output ending gone one)
@@ -115,6 +139,8 @@ module _ (words : List (List ℕ)) (ending : Ending) (before after : Outside) (e
       only (Some (HexcheckForm input text)) is gone one = absurd (check_else input text ending gone.1 one)
       only (Some (SizeForm input)) is gone one = absurd (size_else input ending gone.1 one)
       only (Some (TrialForm first blocks)) is gone one = absurd (trial_else first blocks ending gone.1 one)
+      only (Some (CheckForm input output cert)) is gone one = absurd (cert_else input output cert ending gone.1 one)
+      only (Some (ProveForm input output cert)) is gone one = absurd (prove_else input output cert ending gone one)
 
   -- each form has its statuses
   pub statuses_promised : IsStatusOf (form_of words) (status_of ending)
@@ -191,6 +217,26 @@ module _ (words : List (List ℕ)) (ending : Ending) (before after : Outside) (e
         memory = λ gone. inr (inr refl);
       })
 
+      cert_status : (input output cert : List ℕ) (e : Ending) → CertLeft input output cert e before after → (status_of e ≤ 4) ⊎ (status_of e ≡ 8)
+      cert_status input output cert = cert_by_case input output cert before after (λ e. (status_of e ≤ 4) ⊎ (status_of e ≡ 8)) (record {
+        done = λ gone. inl (omega arith);
+        load = λ gone. inl (omega arith);
+        print = λ gone. inl (omega arith);
+        refused = λ refusal gone. inl (omega arith);
+        memory = λ gone. inl (omega arith);
+        differs = λ line gone. inr refl;
+      })
+
+      prove_status : (input output cert : List ℕ) (e : Ending) → LeavesProve input output cert e before after → status_of e ≤ 4
+      prove_status input output cert = prove_by_case input output cert before after (λ e. status_of e ≤ 4) (record {
+        done = λ gone. omega arith;
+        load = λ gone. omega arith;
+        store = λ gone. omega arith;
+        print = λ gone. omega arith;
+        refused = λ refusal gone. omega arith;
+        memory = λ gone. omega arith;
+      })
+
       by_form : (form : Option Form) → Leaves form ending before after → IsStatusOf form (status_of ending)
       by_form None gone = ap status_of gone.0
       by_form (Some (PackForm input output)) gone = pack_status input output ending gone
@@ -200,6 +246,8 @@ module _ (words : List (List ℕ)) (ending : Ending) (before after : Outside) (e
       by_form (Some (HexcheckForm input text)) gone = check_status input text ending gone.1
       by_form (Some (SizeForm input)) gone = size_status input ending gone.1
       by_form (Some (TrialForm first blocks)) gone = trial_status first blocks ending gone.1
+      by_form (Some (CheckForm input output cert)) gone = cert_status input output cert ending gone.1
+      by_form (Some (ProveForm input output cert)) gone = prove_status input output cert ending gone
 
   -- without faults the status is not 2
   pub sound_promised : ((place : Place) → after.faults place ≡ 0) → status_of ending ≢ 2
@@ -289,6 +337,35 @@ module _ (words : List (List ℕ)) (ending : Ending) (before after : Outside) (e
         memory = λ gone is. absurd (cc is);
       })
 
+      cert_loads : (input output cert : List ℕ) → FailsToCertify input output cert before after → ⊥
+      cert_loads input output cert (inl given) = none_rose (Loading input) before after (none (Loading input)) given
+      cert_loads input output cert (inr (inl packed)) = none_rose (Loading output) before after (none (Loading output)) packed.1
+      cert_loads input output cert (inr (inr text)) = none_rose (Loading cert) before after (none (Loading cert)) text.1
+
+      cert_sound : (input output cert : List ℕ) (e : Ending) → CertLeft input output cert e before after → status_of e ≡ 2 → ⊥
+      cert_sound input output cert = cert_by_case input output cert before after (λ e. status_of e ≡ 2 → ⊥) (record {
+        done = λ gone is. absurd (cc is);
+        load = λ gone is. cert_loads input output cert gone.1;
+        print = λ gone is. none_rose Printing before after (none Printing) gone.0;
+        refused = λ refusal gone is. absurd (cc is);
+        memory = λ gone is. absurd (cc is);
+        differs = λ line gone is. absurd (cc is);
+      })
+
+      prove_stores : (output bytes cert : List ℕ) → FailsToStore output bytes cert before after → ⊥
+      prove_stores output bytes cert (inl one) = none_rose (Storing output) before after (none (Storing output)) one.0
+      prove_stores output bytes cert (inr two) = none_rose (Storing cert) before after (none (Storing cert)) two.0
+
+      prove_sound : (input output cert : List ℕ) (e : Ending) → LeavesProve input output cert e before after → status_of e ≡ 2 → ⊥
+      prove_sound input output cert = prove_by_case input output cert before after (λ e. status_of e ≡ 2 → ⊥) (record {
+        done = λ gone is. absurd (cc is);
+        load = λ gone is. none_rose (Loading input) before after (none (Loading input)) gone.0;
+        store = λ gone is. prove_stores output gone.1.bytes cert gone.4;
+        print = λ gone is. none_rose Printing before after (none Printing) gone.0;
+        refused = λ refusal gone is. absurd (cc is);
+        memory = λ gone is. absurd (cc is);
+      })
+
       by_form : (form : Option Form) → Leaves form ending before after → ⊥
       by_form None gone = absurd (cc (gone.0, two))
       by_form (Some (PackForm input output)) gone = pack_sound input output ending gone two
@@ -298,6 +375,8 @@ module _ (words : List (List ℕ)) (ending : Ending) (before after : Outside) (e
       by_form (Some (HexcheckForm input text)) gone = check_sound input text ending gone.1 two
       by_form (Some (SizeForm input)) gone = size_sound input ending gone.1 two
       by_form (Some (TrialForm first blocks)) gone = trial_sound first blocks ending gone.1 two
+      by_form (Some (CheckForm input output cert)) gone = cert_sound input output cert ending gone.1 two
+      by_form (Some (ProveForm input output cert)) gone = prove_sound input output cert ending gone two
 
   left : (input output : List ℕ) → form_of words ≡ Some (PackForm input output) → LeavesPack input output ending before after
   left input output form = rw form at ends.leaves
@@ -420,9 +499,29 @@ module _ (words : List (List ℕ)) (ending : Ending) (before after : Outside) (e
 
       trial_printed : (first blocks : ℕ) → form_of words ≡ Some (TrialForm first blocks) → (e : Ending) → TrialLeft first blocks e before after → PrintsAsSaid words (status_of e) before after
       trial_printed first blocks form = trial_by_case first blocks before after (λ e. PrintsAsSaid words (status_of e) before after) (record {
-        done = λ gone. inr (inr (inr (inr (inr (inr (inr (first, blocks, form, gone.0, gone.1, inl (refl, gone.2))))))));
-        print = λ gone. inr (inr (inr (inr (inr (inr (inr (first, blocks, form, gone.1, gone.2, inr (refl, gone.0, gone.3))))))));
+        done = λ gone. inr (inr (inr (inr (inr (inr (inr (inl (first, blocks, form, gone.0, gone.1, inl (refl, gone.2)))))))));
+        print = λ gone. inr (inr (inr (inr (inr (inr (inr (inl (first, blocks, form, gone.1, gone.2, inr (refl, gone.0, gone.3)))))))));
         memory = λ gone. inl ((λ is. cc is), (λ is. cc is), (λ is. cc is), gone);
+      })
+
+      cert_printed : (input output cert : List ℕ) → form_of words ≡ Some (CheckForm input output cert) → (e : Ending) → CertLeft input output cert e before after → PrintsAsSaid words (status_of e) before after
+      cert_printed input output cert form = cert_by_case input output cert before after (λ e. PrintsAsSaid words (status_of e) before after) (record {
+        done = λ gone. inr (inr (inr (inr (inr (inr (inr (inr (inl (input, output, cert, form, gone.0, gone.1, inl (refl, gone.2))))))))));
+        load = λ gone. inl ((λ is. cc is), (λ is. cc is), (λ is. cc is), gone.0);
+        print = λ gone. inr (inr (inr (inr (inr (inr (inr (inr (inl (input, output, cert, form, gone.1, gone.2, inr (refl, gone.0, gone.3))))))))));
+        refused = λ refusal gone. inl ((λ is. cc is), (λ is. cc is), (λ is. cc is), gone.0);
+        memory = λ gone. inl ((λ is. cc is), (λ is. cc is), (λ is. cc is), gone);
+        differs = λ line gone. inl ((λ is. cc is), (λ is. cc is), (λ is. cc is), gone.0);
+      })
+
+      prove_printed : (input output cert : List ℕ) → form_of words ≡ Some (ProveForm input output cert) → (e : Ending) → LeavesProve input output cert e before after → PrintsAsSaid words (status_of e) before after
+      prove_printed input output cert form = prove_by_case input output cert before after (λ e. PrintsAsSaid words (status_of e) before after) (record {
+        done = λ gone. inr (inr (inr (inr (inr (inr (inr (inr (inr (input, output, cert, form, gone.0, gone.1, gone.2, inl (refl, gone.4))))))))));
+        load = λ gone. inl ((λ is. cc is), (λ is. cc is), (λ is. cc is), gone.2);
+        store = λ gone. inl ((λ is. cc is), (λ is. cc is), (λ is. cc is), gone.0);
+        print = λ gone. inr (inr (inr (inr (inr (inr (inr (inr (inr (input, output, cert, form, gone.1, gone.2, gone.3, inr (refl, gone.0, gone.5))))))))));
+        refused = λ refusal gone. inl ((λ is. cc is), (λ is. cc is), (λ is. cc is), gone.2);
+        memory = λ gone. inl ((λ is. cc is), (λ is. cc is), (λ is. cc is), gone.0);
       })
 
       by_form : (form : Option Form) → form_of words ≡ form → Leaves form ending before after → PrintsAsSaid words (status_of ending) before after
@@ -434,3 +533,5 @@ module _ (words : List (List ℕ)) (ending : Ending) (before after : Outside) (e
       by_form (Some (HexcheckForm input text)) is gone = check_printed input text is ending gone.1
       by_form (Some (SizeForm input)) is gone = size_printed input is ending gone.1
       by_form (Some (TrialForm first blocks)) is gone = trial_printed first blocks is ending gone.1
+      by_form (Some (CheckForm input output cert)) is gone = cert_printed input output cert is ending gone.1
+      by_form (Some (ProveForm input output cert)) is gone = prove_printed input output cert is ending gone

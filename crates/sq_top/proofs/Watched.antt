@@ -1,5 +1,5 @@
 -- What is seen of a watch by what is told of it.
-use Rattle.std.proofs.Common.{◌≡◌, ℕ, ◌<◌, ◌≤◌, Bool, List, length, take, Option, Some, None, refl, sym, subst, ap, ◌∙◌}
+use Rattle.std.proofs.Common.{◌≡◌, ℕ, ◌<◌, ◌≤◌, List, length, take, Option, Some, None, refl, sym, subst, ap, ◌∙◌}
 use Rattle.std.specs.Prelude.{⊤}
 use Rattle.std.specs.List.{AllByRecursion}
 use Rattle.sq_runs.specs.Runs.{Trace, Status, Running, Halted, Broken, IsNotBroken, IsHalted, HasHalted, trace, first_break, state_after}
@@ -10,12 +10,10 @@ use Rattle.sq_system.specs.declared.event.Halt.{Halt}
 use Rattle.sq_follow.specs.declared.kind.Kind.{Kind}
 use Rattle.sq_follow.specs.Worlds.{extents}
 use Rattle.sq_program.specs.Programs.{Program}
-use Rattle.sq_program.specs.FilePrograms.{IsProgramOf, IsAccepted, IsAcceptedFile}
+use Rattle.sq_program.specs.FilePrograms.{IsProgramOf, IsAcceptedFile}
 use Rattle.sq_program.specs.Monitored.{Watched, Watches, monitored_step}
-use Rattle.sq_program.specs.FileRuns.{world_of, watched_start, watched_layout, monitored_trace, IsUnbrokenRun}
-use Rattle.sq_run.specs.FileRuns.{file_trace, IsBadFileStart}
-use Rattle.sq_lifted.proofs.FileWorlds.{files_keep_runs}
-use Rattle.sq_lifted.proofs.PlainStarts.{show_plain}
+use Rattle.sq_program.specs.FileRuns.{world_of, watched_start, watched_layout, monitored_trace}
+use Rattle.sq_run.specs.FileRuns.{IsBadFileStart}
 use Rattle.sq_lifted.proofs.FilePieces.{file_extents}
 use Rattle.sq_monitor.specs.Steps.{outcome_of, outcome_at}
 use Rattle.sq_monitor.specs.Transcripts.{file_outcome, transcript_text}
@@ -31,9 +29,10 @@ use Rattle.sq_top.specs.declared.ending.Ending.TheVariants.{Done, Words, Desk, R
 use Rattle.sq_top.specs.declared.ending.DeskCall.TheVariants.{Load, Store, Print}
 use Rattle.sq_top.specs.Denials.{watch_fault_ending}
 use Rattle.sq_top.specs.Running.{file_of, input_of, start_at, start_in, longest_input, IsAtLimit}
-use Rattle.sq_top.specs.Watching.{HasBroken, HasBadWatch, HasWatched}
+use Rattle.sq_top.specs.Watching.{lines_in, HasBroken, HasBadWatch, HasWatched}
 use Rattle.sq_top.specs.WatchEndings.{IsToldAs, IsWatchTranscript, watch_ending, LeavesTold, LeavesUnwatched, WatchLeft, LeavesWatch}
 use Rattle.sq_top.proofs.Later.{rose_then}
+use Rattle.sq_top.proofs.ToldPlainly.{seen_plainly, told_plainly}
 
 broken_is : (status : Status Halt) → (IsNotBroken status → ⊥) → status ≡ Broken
 broken_is Running never = absurd (never tt)
@@ -63,10 +62,6 @@ bad_here : (bytes : List ℕ) (p : Program) (start : Start) → IsBadFileStart b
 unfolding IsBadFileStart
 bad_here bytes p start bad = subst (λ es. IsBadStart es start) (file_extents bytes p) bad
 
--- with no break the monitored run is the plain one
-erased : (bytes : List ℕ) (is : ℕ → Bool) (p : Program) → AllByRecursion (λ b. b < 256) bytes → IsAccepted bytes is p → (start : Start) (n : ℕ) → IsUnbrokenRun bytes p start n → monitored_trace bytes p start n ≡ file_trace bytes start n
-erased bytes is p fit accepted start n unbroken = sym (files_keep_runs bytes is p fit accepted start n unbroken).1 ∙ (show_plain bytes is p fit accepted start n unbroken).1
-
 -- what was loaded is what the files held
 module _ (request : RunRequest) (bytes input : List ℕ) (n : ℕ) (files : Files) (b : bytes ≡ file_of request files) (i : input ≡ input_of request files) (limit : n ≡ request.limit) (fit : AllByRecursion (λ b. b < 256) bytes) (accepted : IsAcceptedFile bytes) (short : length input ≤ longest_input) where
   moved : (P : List ℕ → List ℕ → ℕ → Type 0) → P bytes input n → P (file_of request files) (input_of request files) request.limit
@@ -88,17 +83,23 @@ module _ (request : RunRequest) (bytes input : List ℕ) (n : ℕ) (files : File
       ((p : Program) → IsProgramOf bytes p → ¬ IsBadStart (extents (world_of bytes p)) (start_at request input)) →
       ((p : Program) → IsProgramOf bytes p → outcome ≡ file_outcome bytes p (start_at request input) n) →
       ((p : Program) → IsProgramOf bytes p → text ≡ transcript_text bytes p (start_at request input) n) → HasWatched request (IsToldAs outcome) files text
-  has_watched outcome text valid told lines = record {
-    can = record {
-      accepted = record { file = held; input = within };
-      valid = moved (λ x y m. ¬ IsBadFileStart x (start_at request y)) (λ bad. valid accepted.program accepted.accepted.read.program (bad_here bytes accepted.program (start_at request input) bad));
-    };
-    seen =
-        seen_as (file_of request files) held.program (start_in request files) request.limit outcome
-        (moved (λ x y m. (p : Program) → IsProgramOf x p → outcome ≡ file_outcome x p (start_at request y) m) told held.program held.accepted.read.program);
-    text_is = moved (λ x y m. (p : Program) → IsProgramOf x p → text ≡ transcript_text x p (start_at request y) m) lines held.program held.accepted.read.program;
-    plain = erased (file_of request files) held.reached held.program (subst (AllByRecursion (λ b. b < 256)) b fit) held.accepted (start_in request files) request.limit;
-  }
+  has_watched outcome text valid told lines =
+      let fits = subst (AllByRecursion (λ b. b < 256)) b fit in
+      let lines_are : text ≡ lines_in request files held.program = moved (λ x y m. (p : Program) → IsProgramOf x p → text ≡ transcript_text x p (start_at request y) m) lines held.program held.accepted.read.program in
+      record {
+        can = record {
+          accepted = record { file = held; input = within };
+          valid = moved (λ x y m. ¬ IsBadFileStart x (start_at request y)) (λ bad. valid accepted.program accepted.accepted.read.program (bad_here bytes accepted.program (start_at request input) bad));
+        };
+        seen =
+            seen_as (file_of request files) held.program (start_in request files) request.limit outcome
+            (moved (λ x y m. (p : Program) → IsProgramOf x p → outcome ≡ file_outcome x p (start_at request y) m) told held.program held.accepted.read.program);
+        text_is = lines_are;
+        plain = λ unbroken. (
+          seen_plainly (file_of request files) held.reached held.program fits held.accepted (start_in request files) request.limit unbroken,
+          lines_are ∙ told_plainly (file_of request files) held.reached held.program fits held.accepted (start_in request files) request.limit unbroken,
+        );
+      }
 
 -- where there is no watch
 pub unstarted : (request : RunRequest) (fault : WatchFault) (before after : Outside) → (fault ≡ NoWatch → ForFiles before (HasBadWatch request)) → LeavesUnwatched request (watch_fault_ending fault) before after

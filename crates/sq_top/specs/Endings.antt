@@ -5,7 +5,7 @@ use Rattle.sq_desk.specs.Outside.{Outside, content_of, Rose, Loading, Storing, P
 use Rattle.sq_top.specs.declared.ending.Ending.{Ending}
 use Rattle.sq_top.specs.declared.ending.Ending.TheVariants.{Done, Words, Desk, Refused, Memory, Break, Limit, BadStart, Differs}
 use Rattle.sq_top.specs.declared.ending.DeskCall.TheVariants.{Load, Store, Print}
-use Rattle.sq_command.specs.Commands.{Form, PackForm, RunForm, WatchForm, HexForm, HexcheckForm, SizeForm, TrialForm}
+use Rattle.sq_command.specs.Commands.{Form, PackForm, RunForm, WatchForm, HexForm, HexcheckForm, SizeForm, TrialForm, CheckForm, ProveForm}
 use Rattle.sq_top.specs.Packing.{Packs, packed_text}
 use Rattle.sq_program.specs.FilePrograms.{IsRefusalOf}
 use Rattle.sq_report.specs.Report.{report_text}
@@ -13,6 +13,8 @@ use Rattle.sq_top.specs.RunEndings.{LeavesRun}
 use Rattle.sq_top.specs.WatchEndings.{LeavesWatch}
 use Rattle.sq_top.specs.HexEndings.{LeavesHex, LeavesCheck}
 use Rattle.sq_top.specs.Trials.{LeavesTrial}
+use Rattle.sq_top.specs.CertEndings.{LeavesCert}
+use Rattle.sq_top.specs.ProveEndings.{LeavesProve}
 
 -- what the named file holds was packed so
 abbrev pub PacksFile : List ℕ → Packed → Outside → Type 0
@@ -100,6 +102,8 @@ Leaves (Some (HexForm input output)) ending before after = LeavesHex input outpu
 Leaves (Some (HexcheckForm input text)) ending before after = LeavesCheck input text ending before after
 Leaves (Some (SizeForm input)) ending before after = LeavesSize input ending before after
 Leaves (Some (TrialForm first blocks)) ending before after = LeavesTrial first blocks ending before after
+Leaves (Some (CheckForm input output cert)) ending before after = LeavesCert input output cert ending before after
+Leaves (Some (ProveForm input output cert)) ending before after = LeavesProve input output cert ending before after
 
 -- the line was complained, or a prefix of it where complaining failed, or nothing for want of memory
 abbrev pub ComplainsLine : Option (List ℕ) → Outside → Outside → Type 0

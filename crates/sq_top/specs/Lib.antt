@@ -1,3 +1,6 @@
+pub mod Accepting
+pub mod CertEndings
+pub mod CertPromises
 pub mod Denials
 pub mod Endings
 pub mod HexEndings
@@ -5,6 +8,8 @@ pub mod HexPromises
 pub mod Hexing
 pub mod Packing
 pub mod Promises
+pub mod ProveEndings
+pub mod ProvePromises
 pub mod Proving
 pub mod RunEndings
 pub mod RunPromises

@@ -1,5 +1,5 @@
 -- The promises of the top call, over what is outside before it and after it.
-use Rattle.std.specs.Prelude.{◌≡◌, ℕ, ◌⊎◌, ⊤, List, ◌++◌, codes, Some, ◌≢◌}
+use Rattle.std.specs.Prelude.{◌≡◌, ℕ, ◌⊎◌, ⊤, List, ◌++◌, codes, Option, Some, ◌≢◌}
 use Rattle.sq_num.specs.RefusalTexts.{refusal_text}
 use Rattle.sq_num.specs.declared.refusal.Refusal.{Refusal}
 use Rattle.sq_num.specs.declared.packed.Packed.{Packed}
@@ -7,7 +7,7 @@ use Rattle.sq_desk.specs.Outside.{Outside, Place, Loading, Storing, Printing, co
 use Rattle.sq_top.specs.declared.ending.Ending.{Ending}
 use Rattle.sq_top.specs.declared.ending.DeskCall.{DeskCall}
 use Rattle.sq_top.specs.declared.ending.DeskCall.TheVariants.{Load, Store, Print}
-use Rattle.sq_command.specs.Commands.{RunRequest, PackForm, RunForm, WatchForm, HexForm, HexcheckForm, SizeForm, TrialForm, form_of}
+use Rattle.sq_command.specs.Commands.{RunRequest, PackForm, RunForm, WatchForm, HexForm, HexcheckForm, SizeForm, TrialForm, CheckForm, ProveForm, form_of}
 use Rattle.sq_top.specs.Packing.{GoodOutput, Headline, packed_text}
 use Rattle.sq_program.specs.FilePrograms.{IsRefusalOf}
 use Rattle.sq_top.specs.Statuses.{call_text, complaint_of}
@@ -15,6 +15,9 @@ use Rattle.sq_top.specs.Endings.{PacksFile, report_line, Leaves, ComplainsLine}
 use Rattle.sq_top.specs.Running.{HasRun}
 use Rattle.sq_top.specs.Watching.{HasWatched}
 use Rattle.sq_top.specs.Trials.{TellsTrial}
+use Rattle.sq_top.specs.CertEndings.{proved_line, Certifies}
+use Rattle.sq_top.specs.Proving.{Proves}
+use Rattle.sq_top.specs.ProveEndings.{ProvesFile}
 use Rattle.sq_top.specs.Hexing.{HasHexText, hex_line, same_line, IsSame}
 
 -- the call ended so: with what the form leaves, and with the ending's complaint
@@ -49,8 +52,29 @@ abbrev pub HoldsText : List ℕ → List ℕ → Outside → Outside → Type 0
 HoldsText input output before after =
     ForFiles before (λ files. (text : List ℕ) × HasHexText (content_of files input) text × (after.files ≡ Some (with_file output (Some text) files)))
 
+-- the output's file holds a good output of the input's, then the certificate's holds this content, and every other file is
+-- as before
+abbrev pub HoldsBoth : List ℕ → List ℕ → List ℕ → (List ℕ → List ℕ → Option (List ℕ) → Type 0) → Outside → Outside → Type 0
+HoldsBoth input output cert Is before after =
+    ForFiles before (λ files.
+    (packed : List ℕ) × (content : Option (List ℕ)) × GoodOutput (content_of files input) packed × Is (content_of files input) packed content
+    × (after.files ≡ Some (with_file cert content (with_file output (Some packed) files))))
+
+-- a text that proves the output of the given file
+abbrev pub IsProof : List ℕ → List ℕ → Option (List ℕ) → Type 0
+IsProof given packed content = (text : List ℕ) × (count : ℕ) × Proves given packed text count × (content ≡ Some text)
+
+-- what `prove` leaves of files where it came to its stores: OUT holds a good output, and CERT a text that proves it; or with
+-- status 4 OUT alone does; or with status 2 the file whose storing failed is not known, and OUT was stored before CERT
+abbrev pub HoldProof : List ℕ → List ℕ → List ℕ → ℕ → Outside → Outside → Type 0
+HoldProof input output cert status before after =
+    HoldsBoth input output cert IsProof before after
+    ⊎ ((status ≡ 4) × HoldsOutput input output before after)
+    ⊎ ((status ≡ 2) × Rose (Storing output) before after × LosesFile output before after)
+    ⊎ ((status ≡ 2) × Rose (Storing cert) before after × HoldsBoth input output cert (λ given packed content. ⊤) before after)
+
 -- files stay; or with status 0, 2 or 4 the output's holds a good output or the text of the input's; or with
--- status 2 it is not known, where its storing failed
+-- status 2 it is not known, where its storing failed; or of `prove` what its stores leave
 abbrev pub StayOrHold : List (List ℕ) → ℕ → Outside → Outside → Type 0
 StayOrHold words status before after =
     KeepsFiles before after
@@ -58,6 +82,8 @@ StayOrHold words status before after =
     × (HoldsOutput input output before after ⊎ ((status ≡ 2) × Rose (Storing output) before after × LosesFile output before after)))
     ⊎ ((status ≢ 1) × (status ≢ 3) × (input : List ℕ) × (output : List ℕ) × (form_of words ≡ Some (HexForm input output))
     × (HoldsText input output before after ⊎ ((status ≡ 2) × Rose (Storing output) before after × LosesFile output before after)))
+    ⊎ ((status ≢ 1) × (status ≢ 3) × (input : List ℕ) × (output : List ℕ) × (cert : List ℕ) × (form_of words ≡ Some (ProveForm input output cert))
+    × HoldProof input output cert status before after)
 
 -- what was printed of a packing: the line with status 0, or a prefix of it where printing failed
 abbrev pub PrintsSizes : List (List ℕ) → ℕ → Outside → Outside → Type 0
@@ -83,7 +109,7 @@ PrintsRecords words status before after =
     (input : List ℕ) × (output : List ℕ) × (form_of words ≡ Some (HexForm input output)) × (text : List ℕ) × ForFiles before (λ files. HasHexText (content_of files input) text)
     × (((status ≡ 0) × Prints (hex_line text) before after) ⊎ ((status ≡ 2) × Rose Printing before after × PrintsPrefix (hex_line text) before after))
 
--- what was printed of a check: `same` with status 0, or a prefix of it where printing failed
+-- what was printed of a comparison: `same` with status 0, or a prefix of it where printing failed
 abbrev pub PrintsSame : List (List ℕ) → ℕ → Outside → Outside → Type 0
 PrintsSame words status before after =
     (input : List ℕ) × (text : List ℕ) × (form_of words ≡ Some (HexcheckForm input text)) × ForFiles before (IsSame input text)
@@ -101,7 +127,20 @@ PrintsTrial words status before after =
     (first : ℕ) × (blocks : ℕ) × (form_of words ≡ Some (TrialForm first blocks)) × (line : List ℕ) × TellsTrial first blocks line
     × (((status ≡ 0) × Prints line before after) ⊎ ((status ≡ 2) × Rose Printing before after × PrintsPrefix line before after))
 
--- nothing was printed, but with status 0, 5 or 6; or what a packing, a run, a watch, a text, a check, a report or a trial prints
+-- what was printed of a proof: `proved N` with status 0, or a prefix of it where printing failed
+abbrev pub PrintsProof : List (List ℕ) → ℕ → Outside → Outside → Type 0
+PrintsProof words status before after =
+    (input : List ℕ) × (output : List ℕ) × (cert : List ℕ) × (form_of words ≡ Some (CheckForm input output cert)) × (count : ℕ) × Certifies input output cert count before
+    × (((status ≡ 0) × Prints (proved_line count) before after) ⊎ ((status ≡ 2) × Rose Printing before after × PrintsPrefix (proved_line count) before after))
+
+-- what was printed of a packing that `prove` made, as of one that `pack` made
+abbrev pub PrintsProvedSizes : List (List ℕ) → ℕ → Outside → Outside → Type 0
+PrintsProvedSizes words status before after =
+    (input : List ℕ) × (output : List ℕ) × (cert : List ℕ) × (form_of words ≡ Some (ProveForm input output cert)) × (packed : Packed) × (text : List ℕ) × ProvesFile input packed text before
+    × (((status ≡ 0) × Prints (packed_text packed) before after) ⊎ ((status ≡ 2) × Rose Printing before after × PrintsPrefix (packed_text packed) before after))
+
+-- nothing was printed, but with status 0, 5 or 6; or what a packing, a run, a watch, a text, a comparison, a report, a trial, a
+-- proof or a proved packing prints
 abbrev pub PrintsAsSaid : List (List ℕ) → ℕ → Outside → Outside → Type 0
 PrintsAsSaid words status before after =
     ((status ≢ 0) × (status ≢ 5) × (status ≢ 6) × KeepsPrinted before after)
@@ -112,6 +151,8 @@ PrintsAsSaid words status before after =
     ⊎ PrintsSame words status before after
     ⊎ PrintsReport words status before after
     ⊎ PrintsTrial words status before after
+    ⊎ PrintsProof words status before after
+    ⊎ PrintsProvedSizes words status before after
 
 -- status 2 has its cause, and its line names it
 abbrev pub HasFault : List ℕ → List ℕ → Outside → Outside → Type 0

@@ -1,5 +1,6 @@
 -- What a certificate proves of two files.
 use Rattle.std.specs.Prelude.{◌≡◌, ◌≢◌, ℕ, ◌≤◌, ◌⊎◌, List}
+use Rattle.sq_num.specs.declared.packed.Packed.{Packed}
 use Rattle.sq_num.specs.declared.refusal.Refusal.{Refusal}
 use Rattle.sq_elf.specs.Sizes.{loaded_of}
 use Rattle.sq_graph.specs.Graph.{Graph}
@@ -9,6 +10,7 @@ use Rattle.sq_write.specs.Written.{written}
 use Rattle.sq_lifted.specs.LiftedFiles.{IsLiftedFile}
 use Rattle.sq_lifted.specs.Same.{Same}
 use Rattle.sq_drive.specs.Checking.{Leads, IsFirstFault}
+use Rattle.sq_top.specs.Packing.{Packs}
 
 -- THE CERTIFICATE PROVES the output of the given file by so many steps: they replay from the given file's graph, whose
 -- blocks are named by their places, and the graph to which they lead is written as the output
@@ -43,3 +45,9 @@ pub record IsProved (given output : List ℕ) : Type 0 where
 -- THE refusal of two files: that of the first, or else that of the second
 abbrev pub IsRefusalOfEither : List ℕ → List ℕ → Refusal → Type 0
 IsRefusalOfEither given output refusal = IsRefusalOf given refusal ⊎ (IsAcceptedFile given × IsRefusalOf output refusal)
+
+-- the packing of a given file, and a text that proves its output of the file
+pub record PacksProved (given : List ℕ) (packed : Packed) (text : List ℕ) : Type 0 where
+  pub packs : Packs given packed
+  pub count : ℕ
+  pub proves : Proves given packed.bytes text count

@@ -9,6 +9,7 @@ use Rattle.sq_program.specs.Programs.{Program}
 use Rattle.sq_program.specs.FilePrograms.{IsRefusalOf, IsAcceptedFile}
 use Rattle.sq_program.specs.FileRuns.{monitored_trace}
 use Rattle.sq_run.specs.FileRuns.{IsBadFileStart}
+use Rattle.sq_run.specs.Transcripts.{trace_text}
 use Rattle.sq_monitor.specs.Transcripts.{transcript_text}
 use Rattle.sq_command.specs.Commands.{RunRequest}
 use Rattle.sq_desk.specs.Outside.{Files}
@@ -48,9 +49,9 @@ pub record CanWatch (request : RunRequest) (files : Files) : Type 0 where
   pub valid : ¬ IsBadFileStart (file_of request files) (start_in request files)
 
 -- it is watched, P holds of what is seen, and these are the lines that tell it; with no break the plain run of FILE
--- shows the same
+-- shows the same, and they are the lines that tell that run
 pub record HasWatched (request : RunRequest) (P : Trace Event Halt → Type 0) (files : Files) (text : List ℕ) : Type 0 where
   pub can : CanWatch request files
   pub seen : P (watched_in request files can.accepted.file.program)
   pub text_is : text ≡ lines_in request files can.accepted.file.program
-  pub plain : IsUnbroken (watched_in request files can.accepted.file.program) → watched_in request files can.accepted.file.program ≡ trace_in request files
+  pub plain : IsUnbroken (watched_in request files can.accepted.file.program) → (watched_in request files can.accepted.file.program ≡ trace_in request files) × (text ≡ trace_text (trace_in request files))

@@ -7,6 +7,8 @@
 //! and in every case files stay, or hold a good output.
 #![tactic(auto)]
 
+mod certifying;
+mod check_command;
 mod complaint;
 mod delivery;
 mod ending;
@@ -17,6 +19,7 @@ mod lines;
 mod loading;
 mod pack_command;
 mod packing;
+mod prove_command;
 mod proving;
 mod reading;
 mod run_command;
@@ -25,7 +28,8 @@ mod top;
 mod trial_command;
 mod watch_command;
 
-pub use laws::written_files_read_back;
+pub use certifying::{ProvedPacking, prove_bytes};
+pub use laws::{not_refused_is_accepted, written_files_read_back};
 pub use packing::pack_bytes;
 pub use proving::check_files;
 pub use top::squeeze;

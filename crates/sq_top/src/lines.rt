@@ -3,6 +3,7 @@
 ghost use Rattle.std.specs.Prelude.{◌≡◌, ◌+◌, ◌≤◌, ◌++◌, length, decimal};
 ghost use Rattle.sq_top.specs.Packing.{packed_text, sizes_text};
 ghost use Rattle.sq_top.specs.Hexing.{hex_line};
+ghost use Rattle.sq_top.specs.CertEndings.{proved_line};
 
 use sq_hex::line_count;
 use sq_num::{Line, Packed};
@@ -41,6 +42,16 @@ pub fn hex_line(text: &[u8]) -> Line
     let mut line = Line::new();
     line.push_text("hex ");
     line.push_number(line_count(text) as u64);
+    line.push_text("\n");
+    line
+}
+
+/// `proved N`, N the steps of a certificate, and a newline: at most 18 bytes.
+pub fn proved_line(steps: u32) -> Line
+    ensures { result ≡ proved_line steps }
+{
+    let mut line = Line::new();
+    push_labelled(&mut line, "proved ", steps);
     line.push_text("\n");
     line
 }

@@ -74,7 +74,13 @@ pub(crate) fn write_graph(
 
 /// The file of a graph, with the bytes of text and the bytes that are loaded before and after. `reached` is how many words
 /// of text are reached.
-fn packed_of(elf: &Elf<'_>, graph: &Graph, reached: u32, savings: Savings, file: Vec<u8>) -> Packed
+pub(crate) fn packed_of(
+    elf: &Elf<'_>,
+    graph: &Graph,
+    reached: u32,
+    savings: Savings,
+    file: Vec<u8>,
+) -> Packed
     requires words { (text_of elf.now).lo + 4 * reached ≤ (text_of elf.now).hi }
     requires saved { words_of graph.now.graph + words_saved savings ≡ reached }
     requires short { (text_of elf.now).hi ≤ (text_of elf.now).lo + 1048576 }

@@ -15,14 +15,16 @@ ghost use Rattle.sq_top.specs.WatchPromises.{ForWatch, HasWatchRefusal, IsBadWat
 ghost use Rattle.sq_top.specs.HexPromises.{ForHex, ForHexcheck, IsHexDone, HasHexRefusal, HexRefusesExactly, IsHexComplete, IsCheckDone, HasDifference, HasCheckFault, HasCheckRefusal, ChecksExactly, IsCheckComplete};
 ghost use Rattle.sq_top.specs.SizePromises.{ForSize, IsSizeDone, HasSizeFault, IsSizeComplete};
 ghost use Rattle.sq_top.specs.TrialPromises.{ForTrial, IsTrialDone, HasTrialFault, IsTrialComplete};
+ghost use Rattle.sq_top.specs.CertPromises.{ForCheck, IsCertDone, HasNoProof, HasCertFault, HasCertRefusal, CertifiesExactly, IsCertComplete};
+ghost use Rattle.sq_top.specs.ProvePromises.{ForProve, IsProveDone, HasProveFault, IsProveComplete};
 ghost use Rattle.sq_top.specs.RunEndings.{PrintsRun};
 ghost use Rattle.sq_top.specs.RunPromises.{ForRun, HasRunFault, HasRunRefusal, IsBadRun, RunsExactly, IsRunComplete};
 
 use crate::complaint::complain;
 use crate::ending::Ending;
 use crate::{
-    hex_command, hexcheck_command, pack_command, run_command, size_command, trial_command,
-    watch_command,
+    check_command, hex_command, hexcheck_command, pack_command, prove_command, run_command,
+    size_command, trial_command, watch_command,
 };
 use sq_command::{Command, command_of};
 use sq_desk::Desk;
@@ -31,13 +33,15 @@ use std::alloc::Global;
 
 /// Does what the words of a command line ask for, over a desk, and answers the status: 0 done, 1
 /// words without a form, 2 a fault of the desk, 3 refused, 4 out of memory, 5 a break of what is watched,
-/// 6 a run at its limit, 7 a bad start, 8 a text that differs. The words are those behind the program's name: `pack IN OUT` loads IN, packs it, stores
+/// 6 a run at its limit, 7 a bad start, 8 a text that differs or a certificate that fails. The words are those behind the program's name: `pack IN OUT` loads IN, packs it, stores
 /// OUT, and prints the sizes; `run FILE INPUT LIMIT BASE SIZE ARG*` loads FILE and INPUT, runs FILE
 /// for at most LIMIT steps, and prints the events and the end; `watch` with the same words does so under the
 /// monitor, which refuses all that `pack` refuses and ends at the first break too; `hex IN OUT` loads IN, stores its
 /// text of Intel HEX, and prints the number of records; `hexcheck IN HEX` prints `same` where HEX means what IN has in flash;
 /// `size IN` loads IN, packs it, stores nothing, and prints the report; `trial FIRST BLOCKS` generates a file, packs it,
-/// packs the result, stores nothing, and prints how many bytes of text each has.
+/// packs the result, stores nothing, and prints how many bytes of text each has;
+/// `check IN OUT CERT` prints `proved N` where the N steps of CERT lead from IN to OUT; `prove IN OUT CERT` loads IN, packs
+/// it, stores OUT, stores CERT, which proves OUT of IN, and prints the sizes.
 pub fn squeeze<D: Desk>(alloc: Global, desk: &mut D, words: &WordList) -> u8
     // Status 0: the headline.
     ensures done { ForPack words.now (λ input output. result ≡ 0 → IsDone input output (D.outside desk.old) (D.outside desk.new)) }
@@ -99,6 +103,22 @@ pub fn squeeze<D: Desk>(alloc: Global, desk: &mut D, words: &WordList) -> u8
     ensures trial_complete { ForTrial words.now (λ _ _. IsTrialComplete result (D.outside desk.old) (D.outside desk.new)) }
     ensures trial_files { ForTrial words.now (λ _ _. KeepsFiles (D.outside desk.old) (D.outside desk.new)) }
 
+    // `check`: 0 where CERT proves OUT of IN, 8 where it does not.
+    ensures cert_done { ForCheck words.now (λ input output cert. result ≡ 0 → IsCertDone input output cert (D.outside desk.old) (D.outside desk.new)) }
+    ensures cert_differs { ForCheck words.now (λ input output cert. result ≡ 8 → HasNoProof input output cert (D.outside desk.old) (D.outside desk.new)) }
+    ensures cert_fault { ForCheck words.now (λ input output cert. result ≡ 2 → HasCertFault input output cert (D.outside desk.old) (D.outside desk.new)) }
+    ensures cert_refused { ForCheck words.now (λ input output cert. result ≡ 3 → HasCertRefusal input output cert (D.outside desk.old) (D.outside desk.new)) }
+    ensures cert_exact { ForCheck words.now (λ input output cert. CertifiesExactly input output cert result (D.outside desk.old) (D.outside desk.new)) }
+    ensures cert_complete { ForCheck words.now (λ input output cert. IsCertComplete input output cert result (D.outside desk.old) (D.outside desk.new)) }
+    ensures cert_files { ForCheck words.now (λ _ _ _. KeepsFiles (D.outside desk.old) (D.outside desk.new)) }
+
+    // `prove`: with 0 the headline, and CERT proves OUT of IN; each other status has its cause.
+    ensures prove_done { ForProve words.now (λ input output cert. result ≡ 0 → IsProveDone input output cert (D.outside desk.old) (D.outside desk.new)) }
+    ensures prove_fault { ForProve words.now (λ input output cert. result ≡ 2 → HasProveFault input output cert (D.outside desk.old) (D.outside desk.new)) }
+    ensures prove_refused { ForProve words.now (λ input _ _. result ≡ 3 → HasRefusal input (D.outside desk.old) (D.outside desk.new)) }
+    ensures prove_exact { ForProve words.now (λ input _ _. RefusesExactly input result (D.outside desk.old) (D.outside desk.new)) }
+    ensures prove_complete { ForProve words.now (λ input output cert. IsProveComplete input output cert result (D.outside desk.old) (D.outside desk.new)) }
+
     // Words without a form, and statuses.
     ensures words { (result ≡ 1) ↔ (form_of words.now ≡ None) }
     ensures sound { ((place : Place) → (D.outside desk.new).faults place ≡ 0) → result ≢ 2 }
@@ -140,5 +160,19 @@ fn run<D: Desk>(alloc: Global, desk: &mut D, words: &WordList) -> Ending
         }
         Some(Command::Size { input }) => size_command::size(alloc, desk, input),
         Some(Command::Trial(asked)) => trial_command::trial(alloc, desk, asked),
+        Some(
+            Command::Check {
+                input,
+                output,
+                cert,
+            },
+        ) => check_command::check(alloc, desk, input, output, cert),
+        Some(
+            Command::Prove {
+                input,
+                output,
+                cert,
+            },
+        ) => prove_command::prove(alloc, desk, input, output, cert),
     }
 }

@@ -23,6 +23,8 @@ fn files_are_stored_and_loaded_again(rt: HostRuntime) -> Result<(), Fail> {
         )
     );
     desk.print(alloc, b"one line\n")?;
+    desk.complain(alloc, b"one complaint\n")?;
+    assert!(rt; desk.faults == 1);
     fs::remove_dir_all(&rt, folder.as_str())?;
     Ok(())
 }

@@ -16,6 +16,10 @@ use Rattle.sq_top.specs.SizePromises.{ForSize, IsSizeComplete}
 use Rattle.sq_top.proofs.SizePromised.{size_done_promised, size_fault_promised, size_refused_promised, size_exact_promised, size_complete_promised, size_files_promised}
 use Rattle.sq_top.specs.TrialPromises.{IsTrialComplete, ForTrial}
 use Rattle.sq_top.proofs.TrialPromised.{trial_done_promised, trial_fault_promised, trial_complete_promised, trial_files_promised}
+use Rattle.sq_top.specs.CertPromises.{ForCheck, CertifiesExactly, IsCertComplete}
+use Rattle.sq_top.proofs.CertPromised.{cert_done_promised, cert_differs_promised, cert_fault_promised, cert_refused_promised, cert_exact_promised, cert_complete_promised, cert_files_promised}
+use Rattle.sq_top.specs.ProvePromises.{ForProve, IsProveComplete}
+use Rattle.sq_top.proofs.ProvePromised.{prove_done_promised, prove_fault_promised, prove_refused_promised, prove_exact_promised, prove_complete_promised}
 use Rattle.sq_top.proofs.top.squeeze.Goals as goal
 
 pub returns-clause-done : goal.returns-clause-done
@@ -227,6 +231,65 @@ returns-clause-trial_complete g c =
 
 pub returns-clause-trial_files : goal.returns-clause-trial_files
 returns-clause-trial_files g c = trial_files_promised c.args.words.now c.run_and_complain-ending.result _ _ c.run_and_complain-ending.ensures
+
+pub returns-clause-cert_done : goal.returns-clause-cert_done
+returns-clause-cert_done g c = λ input output cert form status.
+    cert_done_promised c.args.words.now c.run_and_complain-ending.result _ _ c.run_and_complain-ending.ensures input output cert form (sym c.status.ensures ∙ status)
+
+pub returns-clause-cert_differs : goal.returns-clause-cert_differs
+returns-clause-cert_differs g c = λ input output cert form status.
+    cert_differs_promised c.args.words.now c.run_and_complain-ending.result _ _ c.run_and_complain-ending.ensures input output cert form (sym c.status.ensures ∙ status)
+
+pub returns-clause-cert_fault : goal.returns-clause-cert_fault
+returns-clause-cert_fault g c = λ input output cert form status.
+    cert_fault_promised c.args.words.now c.run_and_complain-ending.result _ _ c.run_and_complain-ending.ensures input output cert form (sym c.status.ensures ∙ status)
+
+pub returns-clause-cert_refused : goal.returns-clause-cert_refused
+returns-clause-cert_refused g c = λ input output cert form status.
+    cert_refused_promised c.args.words.now c.run_and_complain-ending.result _ _ c.run_and_complain-ending.ensures input output cert form (sym c.status.ensures ∙ status)
+
+pub returns-clause-cert_exact : goal.returns-clause-cert_exact
+returns-clause-cert_exact g c =
+    let before : Outside = g.D.Desk.outside c.args.desk.now in
+    let after : Outside = g.D.Desk.outside c.run_and_complain-ending.new.desk in
+    let P : ℕ → Type 0 = λ status. ForCheck c.args.words.now (λ input output cert. CertifiesExactly input output cert status before after) in
+    subst P (sym c.status.ensures) (cert_exact_promised c.args.words.now c.run_and_complain-ending.result before after c.run_and_complain-ending.ensures)
+
+pub returns-clause-cert_complete : goal.returns-clause-cert_complete
+returns-clause-cert_complete g c =
+    let before : Outside = g.D.Desk.outside c.args.desk.now in
+    let after : Outside = g.D.Desk.outside c.run_and_complain-ending.new.desk in
+    let P : ℕ → Type 0 = λ status. ForCheck c.args.words.now (λ input output cert. IsCertComplete input output cert status before after) in
+    subst P (sym c.status.ensures) (cert_complete_promised c.args.words.now c.run_and_complain-ending.result before after c.run_and_complain-ending.ensures)
+
+pub returns-clause-cert_files : goal.returns-clause-cert_files
+returns-clause-cert_files g c = cert_files_promised c.args.words.now c.run_and_complain-ending.result _ _ c.run_and_complain-ending.ensures
+
+pub returns-clause-prove_done : goal.returns-clause-prove_done
+returns-clause-prove_done g c = λ input output cert form status.
+    prove_done_promised c.args.words.now c.run_and_complain-ending.result _ _ c.run_and_complain-ending.ensures input output cert form (sym c.status.ensures ∙ status)
+
+pub returns-clause-prove_fault : goal.returns-clause-prove_fault
+returns-clause-prove_fault g c = λ input output cert form status.
+    prove_fault_promised c.args.words.now c.run_and_complain-ending.result _ _ c.run_and_complain-ending.ensures input output cert form (sym c.status.ensures ∙ status)
+
+pub returns-clause-prove_refused : goal.returns-clause-prove_refused
+returns-clause-prove_refused g c = λ input output cert form status.
+    prove_refused_promised c.args.words.now c.run_and_complain-ending.result _ _ c.run_and_complain-ending.ensures input output cert form (sym c.status.ensures ∙ status)
+
+pub returns-clause-prove_exact : goal.returns-clause-prove_exact
+returns-clause-prove_exact g c =
+    let before : Outside = g.D.Desk.outside c.args.desk.now in
+    let after : Outside = g.D.Desk.outside c.run_and_complain-ending.new.desk in
+    let P : ℕ → Type 0 = λ status. ForProve c.args.words.now (λ input output cert. RefusesExactly input status before after) in
+    subst P (sym c.status.ensures) (prove_exact_promised c.args.words.now c.run_and_complain-ending.result before after c.run_and_complain-ending.ensures)
+
+pub returns-clause-prove_complete : goal.returns-clause-prove_complete
+returns-clause-prove_complete g c =
+    let before : Outside = g.D.Desk.outside c.args.desk.now in
+    let after : Outside = g.D.Desk.outside c.run_and_complain-ending.new.desk in
+    let P : ℕ → Type 0 = λ status. ForProve c.args.words.now (λ input output cert. IsProveComplete input output cert status before after) in
+    subst P (sym c.status.ensures) (prove_complete_promised c.args.words.now c.run_and_complain-ending.result before after c.run_and_complain-ending.ensures)
 
 pub returns-clause-words : goal.returns-clause-words
 returns-clause-words g c =
