@@ -5,7 +5,7 @@ use crate::texts::{text_of, words_of};
 use anyhow::{Context, Error, bail, ensure};
 use sq_cases::{
     CaseError, Step, Subject, decimal, decimals_of, expect, expect_shown, file_of, file_of_form,
-    hexadecimal, put_word,
+    numbers_of, put_word,
 };
 use sq_desk::{MemoryDesk, SoundDesk};
 use std::alloc::Global;
@@ -51,15 +51,22 @@ impl<'t> Bench<'t> {
         Ok(())
     }
 
-    /// The file that is given by its name or its form, or by `lines LINE; LINE ..` of a text.
+    /// The file that is given by its name or its form, by `lines LINE; LINE ..` of a text, or by `changed NAME OFFSET WORD
+    /// ..`: the file of the name with these words put into it.
     pub fn described(&self, alloc: Global, file: &str) -> Result<Vec<u8>, CaseError> {
-        if let Some(lines) = file.strip_prefix("lines ") {
-            let text = text_of(alloc, lines)?;
-            Ok(Vec::from_slice(alloc, text.as_bytes())?)
-        } else if file.contains(" ") {
-            file_of_form(alloc, file)
-        } else {
-            file_of(alloc, self.files, file)
+        match file.split_once(" ") {
+            None => file_of(alloc, self.files, file),
+            Some(("lines", lines)) => {
+                let text = text_of(alloc, lines)?;
+                Ok(Vec::from_slice(alloc, text.as_bytes())?)
+            }
+            Some(("changed", words)) => {
+                let (name, changes) = words.split_once(" ").ok_or(CaseError::Columns)?;
+                let mut bytes = file_of(alloc, self.files, name)?;
+                put_words(alloc, &mut bytes, changes)?;
+                Ok(bytes)
+            }
+            Some(_) => file_of_form(alloc, file),
         }
     }
 
@@ -90,7 +97,7 @@ impl<'t> Bench<'t> {
     }
 
     /// A copy of a file of the desk.
-    fn copied(&self, alloc: Global, name: &str) -> Result<Vec<u8>, CaseError> {
+    pub fn copied(&self, alloc: Global, name: &str) -> Result<Vec<u8>, CaseError> {
         let file = self.desk.file(name).ok_or(CaseError::NoFile)?;
         Ok(Vec::from_slice(alloc, file)?)
     }
@@ -103,12 +110,11 @@ impl<'t> Bench<'t> {
         self.put(name, &bytes)
     }
 
-    /// `set NAME OFFSET WORD`: puts a word into a file. The offset is in hexadecimal digits too.
+    /// `set NAME OFFSET WORD ..`: puts words into a file.
     fn set(&mut self, alloc: Global, words: &str) -> Result<(), CaseError> {
-        let (name, change) = words.split_once(" ").ok_or(CaseError::Columns)?;
-        let (offset, word) = change.split_once(" ").ok_or(CaseError::Columns)?;
+        let (name, changes) = words.split_once(" ").ok_or(CaseError::Columns)?;
         let mut bytes = self.copied(alloc, name)?;
-        put_word(&mut bytes, hexadecimal(offset)?, hexadecimal(word)?)?;
+        put_words(alloc, &mut bytes, changes)?;
         self.put(name, &bytes)
     }
 
@@ -191,6 +197,18 @@ impl<'t> Bench<'t> {
         told(alloc, printed, self.desk.printed(), self.printed)?;
         self.expect_status(alloc, status)
     }
+}
+
+/// Puts words into a file: `OFFSET WORD ..`, all in hexadecimal digits.
+fn put_words(alloc: Global, bytes: &mut Vec<u8>, changes: &str) -> Result<(), CaseError> {
+    let numbers = numbers_of(alloc, changes)?;
+    for change in numbers.chunks(2) {
+        let &[offset, word] = change else {
+            return Err(CaseError::Columns);
+        };
+        put_word(bytes, offset, word)?;
+    }
+    Ok(())
 }
 
 /// Tests that the bytes from this place on are the text of these lines.

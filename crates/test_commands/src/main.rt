@@ -11,6 +11,7 @@
 mod bench;
 mod marked;
 mod monitored;
+mod proofs;
 mod rows;
 mod test_desk;
 mod texts;

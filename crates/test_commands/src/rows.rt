@@ -1,8 +1,9 @@
 //! The rows of tables about commands.
 
 use crate::bench::{Bench, told};
+use crate::texts::text_of;
 use anyhow::{Context, Error, bail, ensure};
-use sq_cases::{CaseError, Step, columns, expect_shown};
+use sq_cases::{CaseError, Step, columns, decimal, expect_shown};
 use sq_command::number_of;
 use sq_num::Denied;
 use std::alloc::Global;
@@ -14,6 +15,9 @@ impl Bench<'_> {
             "tells" => self.line_tells(alloc, step.words),
             "runs" => self.runs(alloc, step.words),
             "packs" => self.packs(alloc, step.words),
+            "proves" => self.proves(alloc, step.words),
+            "cuts" => self.cuts(alloc, step.words),
+            "leads" => self.leads(alloc, step.words),
             "watches" => self.watches(alloc, step.words),
             "watches linked" => self.watches_linked(alloc, step.words, 0x0001_0000),
             "watches linked at 0" => self.watches_linked(alloc, step.words, 0),
@@ -77,13 +81,12 @@ impl Bench<'_> {
     /// `FILE | STATUS | LINES | OUTPUT`: `pack`. Its output is packed to itself; `-` stands for none.
     fn packs(&mut self, alloc: Global, row: &str) -> Result<(), Error> {
         let columns = columns(alloc, row)?;
-        let &[name, status, lines, output] = columns.as_slice() else {
+        let &[file, status, lines, output] = columns.as_slice() else {
             bail!("four columns are wanted");
         };
-        let file = self.described(alloc, name)?;
-        self.put(name, &file)?;
-        let line = format!(in alloc; "pack {name} out")?;
-        self.tells(alloc, &line, status, lines)?;
+        let file = self.described(alloc, file)?;
+        self.put("in", &file)?;
+        self.tells(alloc, "pack in out", status, lines)?;
         if output == "-" {
             self.expect_file("out", None)?;
             return refuses_bytes(alloc, &file, lines);
@@ -93,6 +96,41 @@ impl Bench<'_> {
         self.command(alloc, "pack out again")?;
         self.expect_file("again", Some(&wanted))?;
         packs_bytes(alloc, &file, &wanted)
+    }
+
+    /// `FILE | FIRST LAST | LINE`: `pack` refuses the file that is cut to any length from the first to the last one. LENGTH
+    /// in the line stands for that length.
+    fn cuts(&mut self, alloc: Global, row: &str) -> Result<(), Error> {
+        let columns = columns(alloc, row)?;
+        let &[file, lengths, line] = columns.as_slice() else {
+            bail!("three columns are wanted");
+        };
+        let (first, last) = lengths.split_once(" ").context("two lengths are wanted")?;
+        let file = self.described(alloc, file)?;
+        for length in decimal(first)?..=decimal(last)? {
+            let cut = file.get(..length as usize).context("a shorter file")?;
+            let length = format!(in alloc; "{length:#010x}")?;
+            let line = line.replace(alloc, "LENGTH", &length)?;
+            self.put("in", cut)?;
+            self.tells(alloc, "pack in out", "3", &line)?;
+            self.expect_file("out", None)?;
+        }
+        Ok(())
+    }
+
+    /// `IN | OUT | LINES | STATUS | LINES`: `check` of two files, and of the certificate of these lines.
+    fn leads(&mut self, alloc: Global, row: &str) -> Result<(), Error> {
+        let columns = columns(alloc, row)?;
+        let &[input, output, certificate, status, lines] = columns.as_slice() else {
+            bail!("five columns are wanted");
+        };
+        let input = self.described(alloc, input)?;
+        self.put("in", &input)?;
+        let output = self.described(alloc, output)?;
+        self.put("out", &output)?;
+        let certificate = text_of(alloc, certificate)?;
+        self.put("cert", certificate.as_bytes())?;
+        self.tells(alloc, "check in out cert", status, lines)
     }
 }
 

@@ -2,23 +2,25 @@
 
 use crate::arenas::Lists;
 use crate::bodies::{body_text, expect_numbers};
+use crate::certificates::{checked, lines_of, noted};
+use crate::chains::{chain_text, tried};
 use crate::changes::{change, reserve};
 use crate::drafts::{graph_of, is_part, parts_ahead};
-use crate::passes::{moved, pass_step, settled, settled_with};
+use crate::passes::{pass_step, settled, settled_with};
 use crate::places::{liveness_text, told};
 use crate::terms::{fields, register_of};
-use crate::texts::{graph_text, memory, names_of, parts_text};
+use crate::texts::{graph_text, memory, names_of};
 use anyhow::{Context, Error};
 use sq_cases::{CaseError, Step, Subject, cases_of, decimal, expect};
 use sq_drive::AllRows;
 use sq_graph::{Graph, Room};
 use sq_jumps::Jumps;
 use sq_layout::reaches;
-use sq_outline::Outlines;
+use sq_outline::{Outlines, Windows};
 use sq_pass::{Blocks, Pass};
 use sq_tail::Tails;
 use std::alloc::Global;
-use std::mem;
+use std::{mem, str};
 
 /// The cases of this program, over the texts of the instruction words and of the graphs with names.
 #[derive(Drop)]
@@ -83,7 +85,19 @@ fn expect_graph(
     graph: &Graph,
     parts: &[Step<'_>],
 ) -> Result<bool, Error> {
-    let wanted = parts_text(alloc, parts).map_err(memory)?;
+    let wanted = graph_of(alloc, words, parts)?;
+    let wanted = graph_text(alloc, words, &wanted).map_err(memory)?;
+    let found = graph_text(alloc, words, graph).map_err(memory)?;
+    expect(&wanted, &found)?;
+    Ok(true)
+}
+
+/// Whether the graph is the kept one, with the same names of its blocks.
+fn expect_kept(alloc: Global, words: &str, graph: &Graph, kept: &Graph) -> Result<bool, Error> {
+    if names_of(alloc, graph).map_err(memory)? != names_of(alloc, kept).map_err(memory)? {
+        return Err(Error::msg("the blocks have other names"));
+    }
+    let wanted = graph_text(alloc, words, kept).map_err(memory)?;
     let found = graph_text(alloc, words, graph).map_err(memory)?;
     expect(&wanted, &found)?;
     Ok(true)
@@ -114,6 +128,50 @@ fn change_step(alloc: Global, graph: &mut Graph, step: &Step<'_>) -> Result<(), 
     change(graph, &names, step.verb, &operands).context("this can't be done")
 }
 
+/// Whether a register is `live` or `dead` at a place of a block, as the verb has it: `BLOCK PLACE REGISTER`.
+fn expect_liveness(alloc: Global, graph: &Graph, step: &Step<'_>) -> Result<(), Error> {
+    let fields = fields(alloc, step.words)?;
+    let &[block, place, r] = fields.as_slice() else {
+        return Err(Error::msg("a block, a place and a register are wanted"));
+    };
+    let names = names_of(alloc, graph).map_err(memory)?;
+    let block = names.get(decimal(block)? as usize).copied();
+    let block = block.context("no block")?;
+    let r = register_of(r)?.number();
+    let found = liveness_text(alloc, graph, block, decimal(place)?, r);
+    expect(step.verb, found.map_err(memory)?)
+}
+
+/// Whether a verb gives what is wanted: `OPERANDS gives ANSWER`.
+fn expect_given(
+    alloc: Global,
+    words: &str,
+    graph: &mut Graph,
+    step: &Step<'_>,
+) -> Result<(), Error> {
+    let (given, wanted) = step
+        .words
+        .split_once(" gives ")
+        .context("nothing is wanted")?;
+    if step.verb == "check" {
+        let found = checked(alloc, graph, &lines_of(alloc, given).map_err(memory)?);
+        return expect(wanted, &found.map_err(memory)?);
+    }
+    let operands = operands_of(alloc, given)?;
+    if let ("try_move", &[from, to]) = (step.verb, operands.as_slice()) {
+        return expect(wanted, tried(alloc, graph, from, to).map_err(memory)?);
+    }
+    let found = body_text(alloc, words, graph, step.verb, &operands);
+    expect(wanted, &found.map_err(memory)?)
+}
+
+/// Whether settling notes the certificate of these lines.
+fn expect_noted(alloc: Global, graph: &mut Graph, lines: &str) -> Result<(), Error> {
+    let found = noted(alloc, graph).map_err(memory)?;
+    let found = str::from_utf8(&found).context("no text was noted")?;
+    expect(&lines_of(alloc, lines).map_err(memory)?, found)
+}
+
 /// Does a step on the graph that isn't about its text, and tells whether it was an expectation.
 fn graph_step(
     alloc: Global,
@@ -122,41 +180,33 @@ fn graph_step(
     step: &Step<'_>,
 ) -> Result<bool, Error> {
     match step.verb {
-        "fingerprint" | "windows" | "matches" | "matches_body" | "rename" => {
-            let (operands, wanted) = step
-                .words
-                .split_once(" gives ")
-                .context("nothing is wanted")?;
-            let operands = operands_of(alloc, operands)?;
-            let found = body_text(alloc, words, graph, step.verb, &operands);
-            expect(wanted, &found.map_err(memory)?)?;
-        }
-        "live" | "dead" => {
-            let fields = fields(alloc, step.words)?;
-            let &[block, place, r] = fields.as_slice() else {
-                return Err(Error::msg("a block, a place and a register are wanted"));
-            };
-            let names = names_of(alloc, graph).map_err(memory)?;
-            let block = names.get(decimal(block)? as usize).copied();
-            let block = block.context("no block")?;
-            let r = register_of(r)?.number();
-            let found = liveness_text(alloc, graph, block, decimal(place)?, r);
-            expect(step.verb, found.map_err(memory)?)?;
-        }
+        "fingerprint"
+        | "window_classes"
+        | "matches"
+        | "matches_body"
+        | "rename"
+        | "try_move"
+        | "check" => expect_given(alloc, words, graph, step)?,
+        "live" | "dead" => expect_liveness(alloc, graph, step)?,
         "jumps" => pass_step(alloc, graph, &Jumps, step.words)?,
         "tails" => pass_step(alloc, graph, &Tails, step.words)?,
         "outlines" => pass_step(alloc, graph, &Outlines, step.words)?,
+        "windows" => pass_step(alloc, graph, &Windows, step.words)?,
         "rows" => pass_step(alloc, graph, &AllRows, step.words)?,
         "boxed" => {
             let boxed: Box<dyn Pass> = Box::new(alloc, Jumps)?;
             pass_step(alloc, graph, &boxed, step.words)?;
         }
-        "moves" => expect(step.words, &moved(alloc, graph).map_err(memory)?)?,
+        "widen" | "moves" | "sweep_moves" => {
+            let found = chain_text(alloc, graph, step.verb).map_err(memory)?;
+            expect(step.words, &found)?;
+        }
         "settle" => expect(step.words, &settled(alloc, graph).map_err(memory)?)?,
         "settle_with" => {
             let (count, wanted) = step.words.split_once(" saves ").context("no savings")?;
             expect(wanted, &settled_with(alloc, graph, count)?)?;
         }
+        "note" => expect_noted(alloc, graph, step.words)?,
         verb => match told(alloc, graph, verb).map_err(memory)? {
             Some(found) => expect(step.words, &found)?,
             None => {
@@ -204,10 +254,11 @@ impl Bench {
                 let Some(graph) = &mut scene.graph else {
                     return Err(Error::msg("no graph"));
                 };
-                if step.verb == "graph" {
-                    return expect_graph(alloc, &self.words, graph, parts);
+                match (step.verb, &scene.kept) {
+                    ("graph", _) => return expect_graph(alloc, &self.words, graph, parts),
+                    ("as_kept", Some(kept)) => return expect_kept(alloc, &self.words, graph, kept),
+                    _ => return graph_step(alloc, &self.words, graph, step),
                 }
-                return graph_step(alloc, &self.words, graph, step);
             }
         }
         Ok(false)

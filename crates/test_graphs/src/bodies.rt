@@ -164,8 +164,8 @@ fn renamed_text(
     Ok(text)
 }
 
-/// What a verb tells of blocks, which are called by their positions: `fingerprint BLOCK`, `windows N`, `matches BLOCK
-/// BLOCK`, `matches_body BLOCK PROCEDURE` or `rename BLOCK BLOCK`.
+/// What a verb tells of blocks, which are called by their positions: `fingerprint BLOCK`, `window_classes N`,
+/// `matches BLOCK BLOCK`, `matches_body BLOCK PROCEDURE` or `rename BLOCK BLOCK`.
 pub fn body_text(
     alloc: Global,
     words: &str,
@@ -178,7 +178,7 @@ pub fn body_text(
         &[first, second] => (first, second),
         _ => return Ok(String::from_str(alloc, "other operands are wanted")?),
     };
-    if verb == "windows" {
+    if verb == "window_classes" {
         return windows_text(alloc, graph, first);
     }
     let names = names_of(alloc, graph)?;

@@ -8,6 +8,8 @@
 mod arenas;
 mod bench;
 mod bodies;
+mod certificates;
+mod chains;
 mod changes;
 mod cuts;
 mod drafts;

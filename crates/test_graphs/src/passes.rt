@@ -8,7 +8,6 @@ use crate::cuts::{cut_of, cut_text, savings_text};
 use crate::texts::{memory, names_of};
 use anyhow::{Context, Error};
 use sq_cases::{decimal, expect};
-use sq_chain::move_once;
 use sq_drive::{rewrite_once, settle, settle_by, settle_with};
 use sq_graph::Graph;
 use sq_jumps::Jumps;
@@ -71,7 +70,7 @@ fn applied<P: Pass>(alloc: Global, graph: &mut Graph, pass: &P) -> Result<String
 }
 
 /// Makes the graph canonical, and tells whether it has few enough words to be settled.
-fn is_ready(graph: &mut Graph) -> bool
+pub fn is_ready(graph: &mut Graph) -> bool
     ensures canonical { IsCanonical graph.new.graph }
     ensures words { IsTrue result → words_of graph.new.graph ≤ 1048576 }
 {
@@ -80,7 +79,7 @@ fn is_ready(graph: &mut Graph) -> bool
 }
 
 /// The row of a rewrite and what it saved, or `none`.
-fn rewrite_text(alloc: Global, done: Option<Rewrite>) -> Result<String, Memory> {
+pub fn rewrite_text(alloc: Global, done: Option<Rewrite>) -> Result<String, Memory> {
     Ok(match done {
         Some(done) => format!(in alloc; "{:?} saving {}", done.row, done.saving)?,
         None => String::from_str(alloc, "none")?,
@@ -93,14 +92,6 @@ fn rewritten<P: Pass>(alloc: Global, graph: &mut Graph, pass: &P) -> Result<Stri
         return Ok(String::from_str(alloc, "too many words")?);
     }
     rewrite_text(alloc, rewrite_once(alloc, graph, pass)?)
-}
-
-/// One move of a chain.
-pub fn moved(alloc: Global, graph: &mut Graph) -> Result<String, Memory> {
-    if !is_ready(graph) {
-        return Ok(String::from_str(alloc, "too many words")?);
-    }
-    rewrite_text(alloc, move_once(alloc, graph)?)
 }
 
 /// What a sweep of a pass saves, or with `settled` settling by it.

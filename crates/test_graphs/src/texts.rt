@@ -3,7 +3,7 @@
 use crate::changes::is_block;
 use crate::terms::{cond_name, register_name};
 use anyhow::Error;
-use sq_cases::{CaseError, Step};
+use sq_cases::CaseError;
 use sq_encode::encode;
 use sq_graph::{Graph, Item, Term};
 use sq_isa::{Insn, fits};
@@ -134,15 +134,6 @@ pub fn graph_text(alloc: Global, words: &str, graph: &Graph) -> Result<String, M
         let gap = if items.is_empty() { "" } else { " ; " };
         let link = register_name(graph.link(number));
         text.push_str(&format!(in alloc; "procedure {link}{gap}{items}\n")?)?;
-    }
-    Ok(text)
-}
-
-/// The text of the parts of a graph.
-pub fn parts_text(alloc: Global, parts: &[Step<'_>]) -> Result<String, Memory> {
-    let mut text = String::new(alloc);
-    for part in parts {
-        text.push_str(&format!(in alloc; "{} {}\n", part.verb, part.words)?)?;
     }
     Ok(text)
 }

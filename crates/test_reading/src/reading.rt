@@ -8,6 +8,7 @@ use sq_cases::hexadecimal;
 use sq_elf::{Elf, is_text_word, read_elf};
 use sq_lift::{Note, Text, notes_of, reached_words, read_text};
 use sq_lifted::lift;
+use sq_names::function_names;
 use sq_num::{Denied, u32_at};
 use sq_reloc::{Relocs, read_relocs};
 use std::alloc::Global;
@@ -36,6 +37,7 @@ pub fn told(alloc: Global, file: &[u8], verb: &str, words: &str) -> Result<Strin
         "pieces" => pieces(alloc, &elf),
         "section" => section(alloc, &elf, hexadecimal(words)?),
         "word" => shown(alloc, elf.word(hexadecimal(words)?)),
+        "functions" => functions(alloc, &elf),
         _ => relocs_told(alloc, &elf, verb, words),
     }
 }
@@ -69,6 +71,22 @@ fn pieces(alloc: Global, elf: &Elf<'_>) -> Result<String> {
         let size = piece.bytes.len();
         text.push_str(&format!(in alloc; "{gap}{address:x} {size:x} {length:x} {flags:x}")?)?;
     }
+    Ok(text)
+}
+
+/// Of each function its address and the bytes of its name, or `-` for none.
+fn functions(alloc: Global, elf: &Elf<'_>) -> Result<String> {
+    let names = sure(function_names(alloc, elf))?;
+    let mut text = String::new(alloc);
+    for index in 0..names.len() {
+        let function = names.get(index).ok_or(anyhow!("no function {index}"))?;
+        let gap = if index == 0 { "" } else { ", " };
+        text.push_str(&format!(in alloc; "{gap}{:x}", function.value)?)?;
+        for byte in function.name {
+            text.push_str(&format!(in alloc; " {byte:x}")?)?;
+        }
+    }
+    text.push_str(if text.is_empty() { "-" } else { "" })?;
     Ok(text)
 }
 
