@@ -54,15 +54,20 @@ holds() {
 many=$(seq 1 3000 | tr '\n' ' ')
 
 # 0
-check 0 "text 820 -> 684, loaded 1044 -> 908" "" pack meter out
-check 0 "text 684 -> 684, loaded 908 -> 908" "" pack out again
+check 0 "text 820 -> 668, loaded 1044 -> 892" "" pack meter out
+check 0 "text 668 -> 668, loaded 892 -> 892" "" pack out again
 holds again out
 check 0 "text 16 -> 16, loaded 16 -> 16" "" pack smallest out
 holds out smallest
-check 0 "hex 61" "" hex again text.hex
+check 0 "hex 60" "" hex again text.hex
 check 0 "same" "" hexcheck again text.hex
 check 0 '{"loaded_after":16,"loaded_before":16,"moved":0,"procedures":0,"rows":{"C":0,"J1":0,"J2":0,"J3":0,"O1":0,"O2":0,"O3":0,"O4":0,"T":0,"U":0},"text_after":16,"text_before":16,"unreached":0}' "" size smallest
 check 0 "trial 0 8: text 244 -> 232, again 232" "" trial 0 8
+printf 'squeeze certificate 1\nend\n' > cert
+check 0 "proved 0" "" check smallest smallest cert
+check 0 "text 820 -> 668, loaded 1044 -> 892" "" prove meter proved proof
+check 0 "proved 14" "" check meter proved proof
+check 8 "" "no 0" check meter meter proof
 check 0 "exit 7" "" run smallest empty $machine
 check 0 "exit 7" "" watch smallest empty $machine
 check 0 "exit 0" "" run usual-link empty $machine
@@ -73,8 +78,10 @@ check 0 "exit 7" "" run smallest empty $machine $many
 check 1 "" "words"
 check 1 "" "words" pack smallest
 check 1 "" "words" pack smallest out more
+check 1 "" "words" prove smallest out out
 check 1 "" "words" size smallest out
 check 1 "" "words" trial 0 4001
+check 1 "" "words" check smallest smallest
 # shellcheck disable=SC2086
 check 1 "" "words" pack $many
 check 1 "" "words" run smallest empty 010 1048576 65536
@@ -84,6 +91,7 @@ check 1 "" "words" pack "$(printf 'a\377')" out
 check 2 "" "desk load" pack missing out
 check 2 "" "desk load" pack . out
 check 2 "" "desk load" size missing
+check 2 "" "desk load" check smallest smallest missing
 check 2 "" "desk load" pack "$(printf 'n%.0s' $(seq 1 5000))" out
 check 2 "" "desk store" pack smallest missing/out
 check 2 "" "desk store" pack smallest .
@@ -92,6 +100,7 @@ check 2 "" "desk load" run smallest missing $machine
 # 3
 check 3 "" "refused 2 0x00000000" pack empty out
 check 3 "" "refused 2 0x00000000" size empty
+check 3 "" "refused 2 0x00000000" check smallest empty missing
 check 3 "" "refused 2 0x00000000" run empty missing $machine
 holds out smallest
 
@@ -114,7 +123,11 @@ check 7 "" "bad start" run smallest empty 10 65536 16
 # 8: a text of another file, and one without its last record
 check 8 "" "no 0" hexcheck smallest text.hex
 sed '$d' text.hex > cut.hex
-check 8 "" "no 61" hexcheck meter cut.hex
+check 8 "" "no 60" hexcheck meter cut.hex
+
+# and a certificate that leads to another file, and an empty one
+check 8 "" "no 0" check meter again cert
+check 8 "" "no 1" check meter again empty
 
 # Printing to a full device
 if [ -e /dev/full ]; then

@@ -2,6 +2,10 @@
 """Packs a collection of linked programs, runs each before and after, watches it, and prints docs/FIGURES.md's table.
 
     examples/figures.py SQUEEZE COLLECTION
+    examples/figures.py SQUEEZE hostile [KIND ..]
+
+The second form packs the files of examples/hostile.py, of three sizes each, and prints processor time, peak memory, and
+the power of the size by which time grew last.
 
 SQUEEZE is the built program. COLLECTION is a folder with manifest.json: a record with base, size, limit and a list of
 executables. Each has file, verdict, text, loaded and runs, and each run has argv, stdin, stdout_sha256, plain_end and
@@ -9,7 +13,10 @@ watch_end. Any folder of this form serves. The script ends with status 1 where a
 """
 
 import hashlib
+import hostile
 import json
+import math
+import os
 import pathlib
 import re
 import subprocess
@@ -93,7 +100,54 @@ class Collection:
         )
 
 
+LIMIT = 120  # seconds, of each file
+WORDS = 262_000
+
+
+def measured(squeeze, *words):
+    """The last line that was printed, processor time in seconds, and peak memory in MB; None where it takes too long."""
+    with tempfile.TemporaryFile() as lines:
+        start = time.perf_counter()
+        child = subprocess.Popen([squeeze, *map(str, words)], stdout=lines, stderr=lines)
+        while True:
+            ended, _, used = os.wait4(child.pid, os.WNOHANG)
+            if ended:
+                lines.seek(0)
+                last = lines.read().decode().splitlines()[-1:]
+                return (last or ["nothing printed"])[0], used.ru_utime + used.ru_stime, used.ru_maxrss / 1024
+            if time.perf_counter() - start > LIMIT:
+                child.kill()
+                child.wait()
+                return None
+            time.sleep(0.01)
+
+
+def measure_hostile(squeeze, kinds):
+    print("| Kind | Count | Prints | time | memory | grows by |")
+    print("|---|---|---|---|---|---|")
+    with tempfile.TemporaryDirectory() as folder:
+        file, packed = pathlib.Path(folder) / "hostile.elf", pathlib.Path(folder) / "packed.elf"
+        for kind in kinds:
+            before = None
+            for share in (16, 4, 1):
+                count = (100_000 if kind == "tables" else WORDS // hostile.KINDS[kind][1] - 1_100) // share
+                # by a process of its own, since a child's peak memory begins with that of this one
+                with file.open("wb") as out:
+                    subprocess.run([sys.executable, hostile.__file__, kind, str(count)], stdout=out, check=True)
+                found = measured(squeeze, "pack", file, packed)
+                if found is None:
+                    print(f"| {kind} | {count:,} | | over {LIMIT} s | | |", flush=True)
+                    break
+                line, seconds, memory = found
+                power = f"n^{math.log(seconds / before, 4):.1f}" if before and before > 0.05 else ""
+                print(f"| {kind} | {count:,} | {line} | {seconds:.2f} s | {memory:.0f} MB | {power} |", flush=True)
+                before = seconds
+
+
 def main():
+    if sys.argv[2:3] == ["hostile"]:
+        measure_hostile(sys.argv[1], sys.argv[3:] or hostile.KINDS)
+        return 0
     collection = Collection(sys.argv[1], pathlib.Path(sys.argv[2]))
     print("| Program | Text before | after | less | Loaded | pack | runs kept | runs that break |")
     print("|---|---|---|---|---|---|---|---|")

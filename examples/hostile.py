@@ -1,0 +1,277 @@
+#!/usr/bin/env python3
+"""Writes a linked program that is small but dear to read or to settle, of a size that a number gives.
+
+    examples/hostile.py KIND COUNT > hostile.elf
+
+KIND is one of:
+    chain      COUNT lone jumps, each to the next in shuffled order: row J2 gives all their names to the last one's target
+    table      COUNT lone jumps to one block, each named by a word of data alone
+    detours    COUNT blocks with a Branch to a lone jump of their own
+    falls      COUNT jumps to the next slot, which nothing else names, each behind an item
+    steps      COUNT calls, each before a lone jump to the next slot
+    inverts    COUNT branches over a lone jump
+    calls      COUNT calls by an upper half
+    unreached  COUNT blocks that nothing reaches
+    repeat     one item COUNT times
+    equal      COUNT equal blocks of one item and a call
+    renamed    COUNT blocks of three items and a call that match one another by renaming
+    near       COUNT branches that just reach, with nothing to spare
+    tables     1,000 relocation sections over one table of COUNT entries
+
+The text has at most 262,144 words, or Squeeze refuses it. Each kind ends with an exit, which every way through it reaches.
+"""
+
+import random
+import struct
+import sys
+
+BASE, DATA = 0x10000, 0x200000
+WORD, BRANCH, JAL, CALL = 1, 16, 17, 19  # types of relocations
+A0, A1, A2, A7, RA = 10, 11, 12, 17, 1
+
+
+def addi(rd, rs, number):
+    return number << 20 | rs << 15 | rd << 7 | 0x13
+
+
+def jump_bits(distance):
+    d = distance & 0x1FFFFF
+    return (d >> 20 & 1) << 31 | (d >> 1 & 0x3FF) << 21 | (d >> 11 & 1) << 20 | (d >> 12 & 0xFF) << 12
+
+
+def branch_bits(distance):
+    d = distance & 0x1FFF
+    return (d >> 12 & 1) << 31 | (d >> 5 & 0x3F) << 25 | (d >> 1 & 0xF) << 8 | (d >> 11 & 1) << 7
+
+
+class Program:
+    """Words of text and of data, and which of them name a place of the text."""
+
+    def __init__(self):
+        self.text, self.data, self.places, self.jumps, self.words = [], [], {}, [], []
+
+    def mark(self, name):
+        self.places[name] = len(self.text)
+
+    def items(self, *words):
+        self.text += words
+
+    def jump(self, name, link=0):
+        self.jumps.append((len(self.text), JAL, name))
+        self.text.append(link << 7 | 0x6F)
+
+    def branch(self, name):
+        """beq a0, a1, NAME"""
+        self.jumps.append((len(self.text), BRANCH, name))
+        self.text.append(A1 << 20 | A0 << 15 | 0x63)
+
+    def far_call(self, name):
+        """auipc ra and jalr ra, ra"""
+        self.jumps.append((len(self.text), CALL, name))
+        self.text += [RA << 7 | 0x17, RA << 15 | RA << 7 | 0x67]
+
+    def word(self, name):
+        self.words.append((len(self.data), name))
+        self.data.append(0)
+
+    def exit(self):
+        self.items(addi(A7, 0, 93), addi(A0, 0, 0), 0x73)
+        self.mark("stop")
+        self.jump("stop")
+
+    def resolve(self):
+        """Puts the distances and addresses in, and returns the relocations of text and of data."""
+        text = []
+        for at, kind, name in self.jumps:
+            distance = 4 * (self.places[name] - at)
+            if kind == CALL:
+                high = (distance + 0x800) & 0xFFFFF000
+                self.text[at] |= high
+                self.text[at + 1] |= (distance - high & 0xFFF) << 20
+            else:
+                self.text[at] |= jump_bits(distance) if kind == JAL else branch_bits(distance)
+            text.append((BASE + 4 * at, kind, 4 * self.places[name]))
+        for at, name in self.words:
+            self.data[at] = BASE + 4 * self.places[name]
+        return text, [(DATA + 4 * at, WORD, 4 * self.places[name]) for at, name in self.words]
+
+
+def packed(words):
+    return struct.pack(f"<{len(words)}I", *words)
+
+
+def relocations(entries):
+    """Each names the section symbol of the text, and adds the place in it."""
+    return b"".join(struct.pack("<3I", at, 1 << 8 | kind, place) for at, kind, place in entries)
+
+
+def elf(program, copies):
+    """The file, in which so many sections have the relocations of the text."""
+    of_text, of_data = map(relocations, program.resolve())
+    text, data = packed(program.text), packed(program.data)
+    symbols = bytes(16) + struct.pack("<3I2BH", 0, BASE, 0, 3, 0, 1)
+    names = b"\0"
+    bodies = [text, data, of_text, of_data, symbols, names]
+    starts, end = [], 52 + 2 * 32
+    for body in bodies:
+        starts.append(end)
+        end += len(body) + -len(body) % 4
+    # name, type, flags, address, offset, size, link, info, align, entry size
+    head = [
+        (0,) * 10,
+        (0, 1, 6, BASE, starts[0], len(text), 0, 0, 4, 0),
+        (0, 1, 3, DATA, starts[1], len(data), 0, 0, 4, 0),
+        (0, 2, 0, 0, starts[4], len(symbols), 5 + copies, 2, 4, 16),
+        (0, 4, 0, 0, starts[3], len(of_data), 3, 2, 4, 12),
+        *[(0, 4, 0, 0, starts[2], len(of_text), 3, 1, 4, 12)] * copies,
+        (0, 3, 0, 0, starts[5], len(names), 0, 0, 1, 0),
+    ]
+    ident = b"\x7fELF\1\1\1" + bytes(9)
+    header = ident + struct.pack("<2H5I6H", 2, 243, 1, BASE, 52, end, 0, 52, 32, 2, 40, len(head), len(head) - 1)
+    segments = struct.pack("<8I", 1, starts[0], BASE, BASE, len(text), len(text), 5, 4)
+    segments += struct.pack("<8I", 1, starts[1], DATA, DATA, len(data), len(data), 6, 4)
+    padded = b"".join(body + bytes(-len(body) % 4) for body in bodies)
+    return header + segments + padded + b"".join(struct.pack("<10I", *line) for line in head)
+
+
+def chain(p, count):
+    order = list(range(count))
+    random.Random(1).shuffle(order)
+    behind = dict(zip(order, order[1:]))
+    p.jump(order[0])
+    for number in range(count):
+        p.mark(number)
+        p.jump(behind.get(number, "exit"))
+
+
+def table(p, count):
+    p.items(addi(A0, 0, 1))
+    p.jump("exit")
+    for number in range(count):
+        p.mark(number)
+        p.jump("exit")
+        p.word(number)
+
+
+def detours(p, count):
+    for number in range(count):
+        p.branch(number)
+        p.items(addi(A2, A2, 1))
+        p.jump(("next", number))
+        p.mark(number)
+        p.jump("exit")
+        p.mark(("next", number))
+
+
+def falls(p, count):
+    for number in range(count):
+        p.items(addi(A2, A2, 1))
+        p.jump(number)
+        p.mark(number)
+
+
+def function(p):
+    p.jump("exit")
+    p.mark("function")
+    p.items(addi(A2, A2, 1), RA << 15 | 0x67)
+
+
+def steps(p, count):
+    for number in range(count):
+        p.jump("function", RA)
+        p.jump(number)
+        p.mark(number)
+    function(p)
+
+
+def inverts(p, count):
+    for number in range(count):
+        p.branch(("over", number))
+        p.jump(("next", number))
+        p.mark(("over", number))
+        p.items(addi(A2, A2, 1))
+        p.mark(("next", number))
+
+
+def calls(p, count):
+    for _ in range(count):
+        p.far_call("function")
+    function(p)
+
+
+def unreached(p, count):
+    p.jump("exit")
+    for number in range(count):
+        p.mark(number)
+        p.items(addi(A2, A2, number % 2048))
+        p.jump("exit")
+
+
+def repeat(p, count):
+    p.items(*[addi(A2, A2, 1)] * count)
+
+
+def equal(p, count):
+    for _ in range(count):
+        p.items(addi(A2, A2, 1))
+        p.jump("function", RA)
+    function(p)
+
+
+def renamed(p, count):
+    registers = [5, 6, 7, 13, 14, 15, 16, 28, 29, 30, 31]
+    pairs = [(a, b) for a in registers for b in registers if a != b]
+    for number in range(count):
+        first, second = pairs[number % len(pairs)]
+        p.items(addi(first, 0, 1), addi(second, first, 2), addi(A0, second, 3))
+        p.jump("function", RA)
+    function(p)
+
+
+def near(p, count):
+    """Each Branch leads 4,092 bytes ahead, as far as one can."""
+    for number in range(count + 1023):
+        p.mark(number)
+        if number < count:
+            p.branch(number + 1023)
+        else:
+            p.items(addi(A2, A2, 1))
+
+
+def tables(p, count):
+    for number in range(count):
+        p.mark(number)
+        p.jump(number + 1 if number + 1 < count else "exit")
+
+
+# what makes each kind, and how many words of text one of COUNT has
+KINDS = {
+    "chain": (chain, 1),
+    "table": (table, 1),
+    "detours": (detours, 4),
+    "falls": (falls, 2),
+    "steps": (steps, 2),
+    "inverts": (inverts, 3),
+    "calls": (calls, 2),
+    "unreached": (unreached, 2),
+    "repeat": (repeat, 1),
+    "equal": (equal, 2),
+    "renamed": (renamed, 4),
+    "near": (near, 1),
+    "tables": (tables, 1),
+}
+
+
+def made(kind, count):
+    """The bytes of the file."""
+    program = Program()
+    KINDS[kind][0](program, count)
+    program.mark("exit")
+    program.exit()
+    return elf(program, 1000 if kind == "tables" else 1)
+
+
+if __name__ == "__main__":
+    if len(sys.argv) != 3 or sys.argv[1] not in KINDS:
+        sys.exit(__doc__)
+    sys.stdout.buffer.write(made(sys.argv[1], int(sys.argv[2])))
