@@ -1,9 +1,9 @@
--- One more register in a set.
-use Rattle.std.proofs.Common.{◌≡◌, ℕ, ◌*◌, ◌%◌, ◌^◌, ◌<◌, ◌==◌, ◌||◌, ◌&&◌, not, bit_or, inl, inr, arith, sym, ◌∙◌, w32}
+-- Sets of registers by their bits.
+use Rattle.std.proofs.Common.{◌≡◌, ℕ, ◌*◌, ◌%◌, ◌^◌, ◌<◌, ◌==◌, ◌||◌, ◌&&◌, not, bit_or, bit_and, bit_xor, true, inl, inr, arith, sym, ap, ◌∙◌, w32}
 use Rattle.std.specs.Int.{bit_at}
 use Rattle.std.proofs.lemmas.Bool.{cases_eq}
 use Rattle.std.proofs.lemmas.Bool.Decides.{nat_tests}
-use Rattle.std.proofs.lemmas.Nat.Bits.{bit_at_set_same, bit_at_set_other, bit_at_lowest, bit_at_or, bit_at-lt}
+use Rattle.std.proofs.lemmas.Nat.Bits.{bit_at_set_same, bit_at_set_other, bit_at_lowest, bit_at_or, bit_at_and, bit_at_xor, bit_at_mask_inside, bit_at-lt}
 use Rattle.sq_isa.specs.Registers.{is_member}
 
 -- the set with r in it
@@ -35,3 +35,33 @@ even_union m n e f =
     let right = bit_at_lowest n in
     let both = bit_at_lowest (bit_or m n) in
     omega arith
+
+-- the registers of one set that aren't in another
+pub member_without : (m n q : ℕ) → is_member (bit_xor m (bit_and m n)) q ≡ (is_member m q && not (is_member n q))
+member_without m n q =
+    let left_out = bit_at_xor m (bit_and m n) q in
+    let both = bit_at_and m n q in
+    let left = bit_at-lt m q in
+    let right = bit_at-lt n q in
+    grind (arith, nat_tests)
+
+-- x0 isn't in it
+pub even_without : (m n : ℕ) → m % 2 ≡ 0 → bit_xor m (bit_and m n) % 2 ≡ 0
+even_without m n e =
+    let left_out = bit_at_xor m (bit_and m n) 0 in
+    let both = bit_at_and m n 0 in
+    let left = bit_at_lowest m in
+    let all = bit_at_lowest (bit_xor m (bit_and m n)) in
+    omega arith
+
+-- every register but x0
+pub member_all : (q : ℕ) → 0 < q → q < 32 → is_member 0xfffffffe q ≡ true
+member_all q above below =
+    let inside = bit_at_mask_inside 1 32 q (omega arith) below in
+    grind (arith, nat_tests)
+
+-- a set that stays with another is all of it
+pub of_both : (m n q : ℕ) → bit_or m n ≡ m → is_member n q ≡ true → is_member m q ≡ true
+of_both m n q same member =
+    let joined : is_member m q ≡ (is_member m q || is_member n q) = sym (ap (λ k. is_member k q) same) ∙ member_union m n q in
+    grind (arith, joined, member)

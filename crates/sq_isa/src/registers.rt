@@ -1,6 +1,6 @@
 // Registers, and sets of registers.
 
-ghost use Rattle.std.specs.Prelude.{◌≡◌, ℕ, ◌%◌, ◌<◌, ◌≤◌, ◌↔◌, ◌||◌, ◌&&◌, ◌==◌, not, false, IsNone, IfSome};
+ghost use Rattle.std.specs.Prelude.{◌≡◌, ℕ, ◌%◌, ◌^◌, ◌<◌, ◌≤◌, ◌↔◌, ◌||◌, ◌&&◌, ◌==◌, not, false, true, IsNone, IfSome};
 ghost use Rattle.sq_isa.specs.Registers.{is_member};
 
 use std::marker::Model;
@@ -110,6 +110,38 @@ impl RegSet {
     {
         RegSet {
             members: self.members | other.members,
+        }
+    }
+
+    /// The registers of this set that aren't in the other.
+    pub fn without(self, other: RegSet) -> RegSet
+        ensures { (q : ℕ) → is_member result q ≡ (is_member self q && not (is_member other q)) }
+    {
+        RegSet {
+            members: self.members ^ (self.members & other.members),
+        }
+    }
+
+    /// The registers of both sets, or None where this one has all of the other.
+    pub fn grown_by(self, other: RegSet) -> Option<RegSet>
+        ensures some { IfSome result (λ set. (q : ℕ) → is_member set q ≡ (is_member self q || is_member other q)) }
+        ensures more { IfSome result (λ set. self < set) }
+        ensures small { IfSome result (λ set. set < 2 ^ 32) }
+        ensures none { IsNone result → (q : ℕ) → is_member other q ≡ true → is_member self q ≡ true }
+    {
+        let members = self.members | other.members;
+        if members == self.members {
+            return None;
+        }
+        Some(RegSet { members })
+    }
+
+    /// Every register but x0.
+    pub fn all() -> RegSet
+        ensures { (r : ℕ) → 0 < r → r < 32 → is_member result r ≡ true }
+    {
+        RegSet {
+            members: 0xffff_fffe,
         }
     }
 

@@ -1,18 +1,19 @@
 -- The steps of a search backwards, and of the lists that it goes by.
-use Rattle.std.proofs.Common.{◌≡◌, ◌≢◌, ℕ, zero, suc, ◌+◌, ◌<◌, ◌≤◌, ◌↔◌, ◌==◌, ◌||◌, ◌&&◌, not, Bool, true, false, List, [], ◌∷◌, ◌++◌, ◌⊎◌, inl, inr, ⊎_elim, Vec, take, length, get_or, refl, sym, ap, ◌∙◌, subst, arith, length-append, get_or-set_same, get_or-set_other, if◌then◌else◌, Some, slice_get, unwrap_or, drop, add-one, drop-cons}
+use Rattle.std.proofs.Common.{◌≡◌, ◌≢◌, ℕ, zero, suc, ◌+◌, ◌-◌, ◌^◌, ◌<◌, ◌≤◌, ◌↔◌, ◌||◌, ◌&&◌, not, Bool, true, false, List, [], ◌∷◌, ◌++◌, ◌⊎◌, inl, inr, ⊎_elim, Vec, map, take, length, get_or, refl, sym, ap, ◌∙◌, subst, arith, length-append, get_or-set_same, get_or-set_other, if◌then◌else◌, Some, slice_get, unwrap_or, drop, add-one, drop-cons}
 use Rattle.std.proofs.Math.ListN.{set}
 use Rattle.std.specs.List.{Contains}
 use Rattle.std.proofs.lemmas.Bool.{cases_eq, cases_Bool, eqb-true, eq-eqb}
 use Rattle.std.proofs.lemmas.Bool.Decides.{nat_tests}
-use Rattle.std.proofs.lemmas.List.{get_or-map, get_or_default, length-set, length-take-le}
+use Rattle.std.proofs.lemmas.List.{get_or-map, get_or_default, length-set, length-map}
 use Rattle.std.proofs.lemmas.Option.{unwrap_or-slice_get}
+use Rattle.std.proofs.lemmas.Nat.Bits.{bit_at-zero}
 use Rattle.std.proofs.lemmas.List.Sums.{sum_by-set}
 use Rattle.std.proofs.lemmas.List.Elements.{Contains-append_left, Contains-push, Contains-push_cases, Contains-get_or}
 use Rattle.sq_live.specs.declared.effect.Effect.{Effect}
 use Rattle.sq_live.specs.Effects.{effect_reads, effect_writes}
 use Rattle.sq_isa.specs.Registers.{is_member}
 use Rattle.sq_live.proofs.Layouts.{item_at, pushed}
-use Rattle.sq_live.specs.Search.{list_at, lists, Leads, read_in, leads_on, IsReached, begins, comes, IsVisiting, Waits, work_of}
+use Rattle.sq_live.specs.Search.{list_at, lists, Leads, read_in, leads_on, IsReached, begins, comes, IsSearching, IsVisiting, Has, work_of}
 
 pub contains_head : {X : Type 0} (x : X) (xs : List X) → Contains (x ∷ xs) x
 contains_head x xs = (0, omega arith, refl)
@@ -82,155 +83,202 @@ module _ (old new : List (List ℕ)) (from : ℕ) (nodes : List ℕ) (i : ℕ) (
       ))
       (cases_eq to i)
 
--- Marks
+-- The sets
 
-pub marked_within : (marks : List Bool) (k : ℕ) → get_or marks k false ≡ true → k < length marks
-marked_within [] k e = absurd (cc)
-marked_within (m ∷ marks) zero e = omega arith
-marked_within (m ∷ marks) (suc k) e = let h = marked_within marks k e in omega arith
+-- what is added to a source: what it reads, and what is live at the node and it doesn't write
+pub record Adds (effects : List Effect) (sets : List ℕ) (source node live : ℕ) : Type 0 where
+  pub members : (q : ℕ) → q < 32 → is_member live q ≡ (effect_reads (slice_get effects source) q || (not (effect_writes (slice_get effects source) q) && is_member (get_or sets node 0) q))
 
--- the mark at an index once one more is pushed
-pub get_or_pushed : (marks : List Bool) (mark : Bool) (k : ℕ) → ((k ≢ length marks) × (get_or (marks ++ mark ∷ []) k false ≡ get_or marks k false)) ⊎ ((k ≡ length marks) × ((get_or (marks ++ mark ∷ []) k false ≡ mark) × (get_or marks k false ≡ false)))
-get_or_pushed [] mark zero = inr (refl, (refl, refl))
-get_or_pushed [] mark (suc k) = inl (omega arith, refl)
-get_or_pushed (m ∷ marks) mark zero = inl (omega arith, refl)
-get_or_pushed (m ∷ marks) mark (suc k) =
-    ⊎_elim
-    (λ (a : (k ≢ length marks) × (get_or (marks ++ mark ∷ []) k false ≡ get_or marks k false)). inl (let ne = a.0 in omega arith, a.1))
-    (λ (a : (k ≡ length marks) × ((get_or (marks ++ mark ∷ []) k false ≡ mark) × (get_or marks k false ≡ false))). inr (ap suc a.0, a.1))
-    (get_or_pushed marks mark k)
+pub no_member : (r : ℕ) → is_member 0 r ≡ false
+no_member r = rw (bit_at-zero r) refl
 
-pub waits_marked : (marks : List Bool) (waiting : List ℕ) → Waits marks waiting → Waits (marks ++ true ∷ []) (waiting ++ length marks ∷ [])
-waits_marked marks waiting h k =
-    ⊎_elim
-    (λ (a : (k ≢ length marks) × (get_or (marks ++ true ∷ []) k false ≡ get_or marks k false)). (
-      λ (c : Contains (waiting ++ length marks ∷ []) k).
-          ⊎_elim (λ (b : Contains waiting k). a.1 ∙ (h k).0 b) (λ (b : length marks ≡ k). absurd (a.0 (sym b))) (Contains-push_cases waiting (length marks) k c),
-      λ (e : get_or (marks ++ true ∷ []) k false ≡ true). Contains-append_left waiting (length marks ∷ []) k ((h k).1 (sym a.1 ∙ e)),
-    ))
-    (λ (a : (k ≡ length marks) × ((get_or (marks ++ true ∷ []) k false ≡ true) × (get_or marks k false ≡ false))). (
-      λ (c : Contains (waiting ++ length marks ∷ []) k). a.1.0,
-      λ (e : get_or (marks ++ true ∷ []) k false ≡ true). subst (Contains (waiting ++ length marks ∷ [])) (sym a.0) (Contains-push waiting (length marks)),
-    ))
-    (get_or_pushed marks true k)
-
-pub waits_unmarked : (marks : List Bool) (waiting : List ℕ) → Waits marks waiting → Waits (marks ++ false ∷ []) waiting
-waits_unmarked marks waiting h k =
-    ⊎_elim
-    (λ (a : (k ≢ length marks) × (get_or (marks ++ false ∷ []) k false ≡ get_or marks k false)).
-    (λ (c : Contains waiting k). a.1 ∙ (h k).0 c, λ (e : get_or (marks ++ false ∷ []) k false ≡ true). (h k).1 (sym a.1 ∙ e)))
-    (λ (a : (k ≡ length marks) × ((get_or (marks ++ false ∷ []) k false ≡ false) × (get_or marks k false ≡ false))). (
-      λ (c : Contains waiting k). absurd (let e = sym ((h k).0 c) ∙ a.1.1 in cc),
-      λ (e : get_or (marks ++ false ∷ []) k false ≡ true). absurd (let f = sym e ∙ a.1.0 in cc),
-    ))
-    (get_or_pushed marks false k)
+pub has_within : (sets : List ℕ) (r k : ℕ) → Has sets r k → k < length sets
+has_within [] r k e = absurd (let none = no_member r in let f = sym none ∙ e in cc)
+has_within (s ∷ sets) r zero e = omega arith
+has_within (s ∷ sets) r (suc k) e = let h = has_within sets r k e in omega arith
 
 -- The search
 
-module _ (effects : List Effect) (sources : List (List ℕ)) (r : ℕ) where
-  -- at its start the nodes that read r are marked and wait
-  pub search_starts : (marks : List Bool) (waiting : List ℕ) → length marks ≡ length effects → ((k : ℕ) → get_or marks k false ≡ effect_reads (slice_get effects k) r) → Waits marks waiting → IsVisiting effects sources r 0 [] marks waiting
-  search_starts marks waiting count reads waits = record {
-    count = count;
-    begun = λ k e. reads k ∙ e;
-    visited = λ from to c w e. inr (inl ((waits to).1 e));
-    sound = λ k e. begins (sym (reads k) ∙ e);
-    marked = λ k c. (waits k).0 c;
-  }
-
-  -- at a node with none left, another may be named
-  pub at_any : {node : ℕ} {marks : List Bool} {waiting : List ℕ} (other : ℕ) → IsVisiting effects sources r node [] marks waiting → IsVisiting effects sources r other [] marks waiting
-  at_any {node} {marks} {waiting} other s = record {
-    count = s.count;
-    begun = s.begun;
+-- at its start each node has what it reads, and all nodes wait
+pub search_starts : (effects : List Effect) (sources : List (List ℕ)) (sets waiting : List ℕ) → sets ≡ map (λ effect. effect.reads) effects → ((k : ℕ) → Contains waiting k ↔ (k < length effects)) → IsVisiting effects sources 0 [] sets waiting
+search_starts effects sources sets waiting is all = record {
+  count = ap length is ∙ length-map effects (λ effect. effect.reads);
+  there = λ k c. (all k).0 c;
+  each = λ r above below. record {
+    begun = λ k e. same r k ∙ e;
     visited = λ from to c w e.
-        ⊎_elim (λ (a : get_or marks from false ≡ true). inl a)
-        (λ (a : Contains waiting to ⊎ ((to ≡ node) × Contains [] from)).
-        inr (⊎_elim (λ (b : Contains waiting to). inl b) (λ (b : (to ≡ node) × Contains [] from). absurd (contains_none from b.1)) a))
-        (s.visited from to c w e);
-    sound = s.sound;
-    marked = s.marked;
+        let within = has_within sets r to e in
+        inr (inl ((all to).1 (omega (arith, within, ap length is, length-map effects (λ effect. effect.reads)))));
+    sound = λ k e. begins (sym (same r k) ∙ e);
+  };
+}
+  where
+    reads_at : (es : List Effect) (r k : ℕ) → is_member (get_or (map (λ effect. effect.reads) es) k 0) r ≡ effect_reads (slice_get es k) r
+    reads_at [] r k = no_member r
+    reads_at (e ∷ es) r zero = refl
+    reads_at (e ∷ es) r (suc k) = reads_at es r k
+
+    same : (r k : ℕ) → is_member (get_or sets k 0) r ≡ effect_reads (slice_get effects k) r
+    same r k = ap (λ ss. is_member (get_or ss k 0) r) is ∙ reads_at effects r k
+
+module _ (effects : List Effect) (sources : List (List ℕ)) where
+  -- at a node with none left, another may be named
+  pub at_any : {node : ℕ} {sets waiting : List ℕ} (other : ℕ) → IsVisiting effects sources node [] sets waiting → IsVisiting effects sources other [] sets waiting
+  at_any {node} {sets} {waiting} other v = record {
+    count = v.count;
+    there = v.there;
+    each = λ r above below.
+        let s = v.each r above below in
+        record {
+          begun = s.begun;
+          visited = λ from to c w e.
+              ⊎_elim (λ (a : Has sets r from). inl a)
+              (λ (a : Contains waiting to ⊎ ((to ≡ node) × Contains [] from)).
+              inr (⊎_elim (λ (b : Contains waiting to). inl b) (λ (b : (to ≡ node) × Contains [] from). absurd (contains_none from b.1)) a))
+              (s.visited from to c w e);
+          sound = s.sound;
+        };
   }
 
   -- a node that waited is visited
-  pub takes : {other : ℕ} {marks : List Bool} {waiting : List ℕ} (node : ℕ) → IsVisiting effects sources r other [] marks (waiting ++ node ∷ []) → IsVisiting effects sources r node (list_at sources node) marks waiting
-  takes {other} {marks} {waiting} node s = record {
-    count = s.count;
-    begun = s.begun;
-    visited = λ from to c w e.
-        ⊎_elim (λ (a : get_or marks from false ≡ true). inl a)
-        (λ (a : Contains (waiting ++ node ∷ []) to ⊎ ((to ≡ other) × Contains [] from)).
-        inr
-        (⊎_elim
-        (λ (b : Contains (waiting ++ node ∷ []) to).
-        ⊎_elim (λ (d : Contains waiting to). inl d) (λ (d : node ≡ to). inr (sym d, subst (λ k. Contains (list_at sources k) from) (sym d) c)) (Contains-push_cases waiting node to b))
-        (λ (b : (to ≡ other) × Contains [] from). absurd (contains_none from b.1)) a))
-        (s.visited from to c w e);
-    sound = s.sound;
-    marked = λ k c. s.marked k (Contains-append_left waiting (node ∷ []) k c);
+  pub takes : {other : ℕ} {sets waiting : List ℕ} (node : ℕ) → IsVisiting effects sources other [] sets (waiting ++ node ∷ []) → IsVisiting effects sources node (list_at sources node) sets waiting
+  takes {other} {sets} {waiting} node v = record {
+    count = v.count;
+    there = λ k c. v.there k (Contains-append_left waiting (node ∷ []) k c);
+    each = λ r above below.
+        let s = v.each r above below in
+        record {
+          begun = s.begun;
+          visited = λ from to c w e.
+              ⊎_elim (λ (a : Has sets r from). inl a)
+              (λ (a : Contains (waiting ++ node ∷ []) to ⊎ ((to ≡ other) × Contains [] from)).
+              inr
+              (⊎_elim
+              (λ (b : Contains (waiting ++ node ∷ []) to).
+              ⊎_elim (λ (d : Contains waiting to). inl d) (λ (d : node ≡ to). inr (sym d, subst (λ k. Contains (list_at sources k) from) (sym d) c)) (Contains-push_cases waiting node to b))
+              (λ (b : (to ≡ other) × Contains [] from). absurd (contains_none from b.1)) a))
+              (s.visited from to c w e);
+          sound = s.sound;
+        };
   }
 
-  -- a source that is marked already, or that writes r
-  pub skips : {node : ℕ} {left : List ℕ} {marks : List Bool} {waiting : List ℕ} (source : ℕ) → (get_or marks source false ≡ true) ⊎ (effect_writes (slice_get effects source) r ≡ true) → IsVisiting effects sources r node (source ∷ left) marks waiting → IsVisiting effects sources r node left marks waiting
-  skips {node} {left} {marks} {waiting} source why s = record {
-    count = s.count;
-    begun = s.begun;
-    visited = λ from to c w e.
-        ⊎_elim (λ (a : get_or marks from false ≡ true). inl a)
-        (λ (a : Contains waiting to ⊎ ((to ≡ node) × Contains (source ∷ left) from)).
-        ⊎_elim (λ (b : Contains waiting to). inr (inl b))
-        (λ (b : (to ≡ node) × Contains (source ∷ left) from).
+  -- a source that has all already
+  pub skips : {node : ℕ} {left sets waiting : List ℕ} (source live : ℕ) → Adds effects sets source node live → ((q : ℕ) → is_member live q ≡ true → Has sets q source) → IsVisiting effects sources node (source ∷ left) sets waiting → IsVisiting effects sources node left sets waiting
+  skips {node} {left} {sets} {waiting} source live adds has v = record {
+    count = v.count;
+    there = v.there;
+    each = λ r above below.
+        let s = v.each r above below in
+        record {
+          begun = s.begun;
+          visited = λ from to c w e.
+              ⊎_elim (λ (a : Has sets r from). inl a)
+              (λ (a : Contains waiting to ⊎ ((to ≡ node) × Contains (source ∷ left) from)).
+              ⊎_elim (λ (b : Contains waiting to). inr (inl b))
+              (λ (b : (to ≡ node) × Contains (source ∷ left) from).
+              ⊎_elim
+              (λ (d : source ≡ from).
+              let here : is_member (get_or sets node 0) r ≡ true = subst (λ k. Has sets r k) b.0 e in
+              let free : effect_writes (slice_get effects source) r ≡ false = subst (λ k. effect_writes (slice_get effects k) r ≡ false) (sym d) w in
+              inl (subst (λ k. Has sets r k) d (has r (adds.members r below ∙ rw (free, here) (or_true (effect_reads (slice_get effects source) r))))))
+              (λ (d : Contains left from). inr (inr (b.0, d)))
+              (contains_cases source left from b.1)) a)
+              (s.visited from to c w e);
+          sound = s.sound;
+        };
+  }
+    where
+      or_true : (a : Bool) → (a || (not false && true)) ≡ true
+      or_true true = refl
+      or_true false = refl
+
+  -- a source that gains a register now, and waits
+  module _ (sets waiting : List ℕ) (source node live grown : ℕ) (within : source < length sets) (adds : Adds effects sets source node live)
+      (members : (q : ℕ) → is_member grown q ≡ (is_member (get_or sets source 0) q || is_member live q)) where
+    abbrev pub new : List ℕ
+    new = set sets source grown
+
+    there : (r : ℕ) → is_member (get_or new source 0) r ≡ is_member grown r
+    there r = ap (λ s. is_member s r) (get_or-set_same sets source grown 0 within)
+
+    elsewhere : (r k : ℕ) → k ≢ source → is_member (get_or new k 0) r ≡ is_member (get_or sets k 0) r
+    elsewhere r k apart = ap (λ s. is_member s r) (get_or-set_other sets source k grown 0 apart)
+
+    stays : (r k : ℕ) → Has sets r k → Has new r k
+    stays r k e =
         ⊎_elim
-        (λ (d : source ≡ from).
-        ⊎_elim (λ (f : get_or marks source false ≡ true). inl (subst (λ k. get_or marks k false ≡ true) d f))
-        (λ (f : effect_writes (slice_get effects source) r ≡ true). absurd (let g = subst (λ k. effect_writes (slice_get effects k) r ≡ true) d f in let h = sym g ∙ w in cc)) why)
-        (λ (d : Contains left from). inr (inr (b.0, d)))
-        (contains_cases source left from b.1)) a)
-        (s.visited from to c w e);
-    sound = s.sound;
-    marked = s.marked;
-  }
+        (λ (a : k ≡ source).
+        let had : is_member (get_or sets source 0) r ≡ true = subst (λ j. Has sets r j) a e in
+        subst (λ j. Has new r j) (sym a) (there r ∙ members r ∙ rw had refl))
+        (λ (a : k ≢ source). elsewhere r k a ∙ e) (cases_eq k source)
 
-  -- a source that is marked now, and waits
-  module _ (marks : List Bool) (waiting : List ℕ) (source : ℕ) (within : source < length marks) where
-    there : get_or (set marks source true) source false ≡ true
-    there = get_or-set_same marks source true false within
+    gains : (r : ℕ) → r < 32 → effect_writes (slice_get effects source) r ≡ false → Has sets r node → Has new r source
+    gains r below free e =
+        let live_in : is_member live r ≡ true = adds.members r below ∙ rw (free, e) (or_true (effect_reads (slice_get effects source) r)) in
+        there r ∙ members r ∙ rw live_in (or_right (is_member (get_or sets source 0) r))
+      where
+        or_true : (a : Bool) → (a || (not false && true)) ≡ true
+        or_true true = refl
+        or_true false = refl
 
-    pub stays : (k : ℕ) → get_or marks k false ≡ true → get_or (set marks source true) k false ≡ true
-    stays k e =
-        ⊎_elim (λ (a : k ≡ source). ap (λ j. get_or (set marks source true) j false) a ∙ there)
-        (λ (a : k ≢ source). get_or-set_other marks source k true false a ∙ e) (cases_eq k source)
+        or_right : (a : Bool) → (a || true) ≡ true
+        or_right true = refl
+        or_right false = refl
 
-    pub marks_one : {node : ℕ} {left : List ℕ} → Contains (list_at sources node) source → get_or marks node false ≡ true → effect_writes (slice_get effects source) r ≡ false → IsVisiting effects sources r node (source ∷ left) marks waiting → IsVisiting effects sources r node left (set marks source true) (waiting ++ source ∷ [])
-    marks_one {node} {left} edge at free s = record {
-      count = length-set marks source true ∙ s.count;
-      begun = λ k e. stays k (s.begun k e);
-      visited = λ from to c w e.
-          ⊎_elim (λ (a : to ≡ source). inr (inl (subst (Contains (waiting ++ source ∷ [])) (sym a) (Contains-push waiting source))))
-          (λ (a : to ≢ source).
-          ⊎_elim (λ (b : get_or marks from false ≡ true). inl (stays from b))
-          (λ (b : Contains waiting to ⊎ ((to ≡ node) × Contains (source ∷ left) from)).
-          ⊎_elim (λ (d : Contains waiting to). inr (inl (Contains-append_left waiting (source ∷ []) to d)))
-          (λ (d : (to ≡ node) × Contains (source ∷ left) from).
-          ⊎_elim (λ (f : source ≡ from). inl (subst (λ k. get_or (set marks source true) k false ≡ true) f there))
-          (λ (f : Contains left from). inr (inr (d.0, f)))
-          (contains_cases source left from d.1)) b)
-          (s.visited from to c w (sym (get_or-set_other marks source to true false a) ∙ e)))
-          (cases_eq to source);
-      sound = λ k e.
-          ⊎_elim (λ (a : k ≡ source). subst (IsReached effects sources r) (sym a) (comes free edge (s.sound node at)))
-          (λ (a : k ≢ source). s.sound k (sym (get_or-set_other marks source k true false a) ∙ e)) (cases_eq k source);
-      marked = λ k c.
-          ⊎_elim (λ (a : Contains waiting k). stays k (s.marked k a))
-          (λ (a : source ≡ k). subst (λ j. get_or (set marks source true) j false ≡ true) a there) (Contains-push_cases waiting source k c);
+    -- what it has now it had, or it reads it, or the node has it
+    gained_from : (r : ℕ) → r < 32 → Has new r source → Has sets r source ⊎ ((effect_reads (slice_get effects source) r ≡ true) ⊎ ((effect_writes (slice_get effects source) r ≡ false) × Has sets r node))
+    gained_from r below e =
+        let now : (is_member (get_or sets source 0) r || (effect_reads (slice_get effects source) r || (not (effect_writes (slice_get effects source) r) && is_member (get_or sets node 0) r))) ≡ true = ap (λ b. is_member (get_or sets source 0) r || b) (sym (adds.members r below)) ∙ sym (members r) ∙ sym (there r) ∙ e in
+        one_of (is_member (get_or sets source 0) r) (effect_reads (slice_get effects source) r) (effect_writes (slice_get effects source) r) (is_member (get_or sets node 0) r) now
+      where
+        one_of : (a b w d : Bool) → (a || (b || (not w && d))) ≡ true → (a ≡ true) ⊎ ((b ≡ true) ⊎ ((w ≡ false) × (d ≡ true)))
+        one_of true b w d e = inl refl
+        one_of false true w d e = inr (inl refl)
+        one_of false false true d e = absurd (cc)
+        one_of false false false d e = inr (inr (refl, e))
+
+    pub grows : {left : List ℕ} → Contains (list_at sources node) source → IsVisiting effects sources node (source ∷ left) sets waiting → IsVisiting effects sources node left new (waiting ++ source ∷ [])
+    grows {left} edge v = record {
+      count = length-set sets source grown ∙ v.count;
+      there = λ k c.
+          ⊎_elim (λ (a : Contains waiting k). v.there k a) (λ (a : source ≡ k). omega (arith, within, v.count, a)) (Contains-push_cases waiting source k c);
+      each = λ r above below.
+          let s = v.each r above below in
+          record {
+            begun = λ k e. stays r k (s.begun k e);
+            visited = λ from to c w e.
+                ⊎_elim (λ (a : to ≡ source). inr (inl (subst (Contains (waiting ++ source ∷ [])) (sym a) (Contains-push waiting source))))
+                (λ (a : to ≢ source).
+                let before : Has sets r to = sym (elsewhere r to a) ∙ e in
+                ⊎_elim (λ (b : Has sets r from). inl (stays r from b))
+                (λ (b : Contains waiting to ⊎ ((to ≡ node) × Contains (source ∷ left) from)).
+                ⊎_elim (λ (d : Contains waiting to). inr (inl (Contains-append_left waiting (source ∷ []) to d)))
+                (λ (d : (to ≡ node) × Contains (source ∷ left) from).
+                ⊎_elim
+                (λ (f : source ≡ from).
+                let free : effect_writes (slice_get effects source) r ≡ false = subst (λ k. effect_writes (slice_get effects k) r ≡ false) (sym f) w in
+                inl (subst (λ k. Has new r k) f (gains r below free (subst (λ k. Has sets r k) d.0 before))))
+                (λ (f : Contains left from). inr (inr (d.0, f)))
+                (contains_cases source left from d.1)) b)
+                (s.visited from to c w before))
+                (cases_eq to source);
+            sound = λ k e.
+                ⊎_elim
+                (λ (a : k ≡ source).
+                subst (IsReached effects sources r) (sym a)
+                (elim (gained_from r below (subst (λ j. Has new r j) a e)) [
+                  | inl had ↦ s.sound source had
+                  | inr (inl reads) ↦ begins reads
+                  | inr (inr through) ↦ comes through.0 edge (s.sound node through.1)
+                ]))
+                (λ (a : k ≢ source). s.sound k (sym (elsewhere r k a) ∙ e)) (cases_eq k source);
+          };
     }
 
-    pub work_stays : get_or marks source false ≡ false → work_of (set marks source true) (waiting ++ source ∷ []) ≡ work_of marks waiting
-    work_stays e =
-        let f : Bool → ℕ = λ mark. if mark then 0 else 1 in
-        let h = sum_by-set (λ mark. if mark then 0 else 1) marks source true false within in
-        let one : f (get_or marks source false) ≡ 1 = ap f e in
-        omega (arith, h, one, length-append waiting (source ∷ []))
+    pub work_falls : get_or sets source 0 < grown → grown < 2 ^ 32 → work_of new (waiting ++ source ∷ []) ≤ work_of sets waiting
+    work_falls more small =
+        let h = sum_by-set (λ s. 2 ^ 32 - s) sets source grown 0 within in
+        omega (arith, h, length-append waiting (source ∷ []))
 
 -- The lists of sources
 
@@ -286,32 +334,39 @@ read_writes effects k d r within =
     let same : at.item ≡ get_or effects k d = sym at.here ∙ get_or_default effects k at.item d within in
     ap (λ o. effect_writes o r) at.at ∙ ap (λ e. is_member e.writes r) same
 
-pub read_mark : (marks : List Bool) (k : ℕ) (mark : Bool) → k < length marks → mark ≡ get_or marks k mark → get_or marks k false ≡ mark
-read_mark marks k mark within here = get_or_default marks k false mark within ∙ sym here
+-- once none waits, exactly the nodes that lead to a read have the register
+module _ (effects : List Effect) (sources : List (List ℕ)) (sets : List ℕ) (v : IsVisiting effects sources 0 [] sets []) (r : ℕ) (above : 0 < r) (below : r < 32) where
+  s : IsSearching effects sources r 0 [] sets []
+  s = v.each r above below
 
--- one more node that was tested
-pub mark_pushed : (effects : List Effect) (r k : ℕ) (effect : Effect) (marks : List Bool) (mark : Bool) → k < length effects → mark ≡ is_member (get_or effects k effect).reads r → length marks ≡ k → ((j : ℕ) → get_or marks j false ≡ effect_reads (slice_get (take k effects) j) r) → (j : ℕ) → get_or (marks ++ mark ∷ []) j false ≡ effect_reads (slice_get (take (k + 1) effects) j) r
-mark_pushed effects r k effect marks mark within is count each j =
-    let at = item_at effects k within in
-    let same : at.item ≡ get_or effects k effect = sym at.here ∙ get_or_default effects k at.item effect within in
-    let size : length marks ≡ length (take k effects) = count ∙ sym (length-take-le k effects (omega arith)) in
-    let read = λ (ms : List Bool) (i : ℕ). unwrap_or-slice_get ms i false in
-    let last : unwrap_or (Some mark) false ≡ effect_reads (Some at.item) r = is ∙ sym (ap (λ e. is_member e.reads r) same) in
-    sym (read (marks ++ mark ∷ []) j)
-    ∙ rw at.more (pushed (λ m e. unwrap_or m false ≡ effect_reads e r) marks (take k effects) mark at.item size (λ i. read marks i ∙ each i) last j)
-
--- once none waits, exactly the nodes that lead to a read are marked
-module _ (effects : List Effect) (sources : List (List ℕ)) (r : ℕ) (marks : List Bool) (s : IsVisiting effects sources r 0 [] marks []) where
-  all_marked : {k : ℕ} → IsReached effects sources r k → get_or marks k false ≡ true
-  all_marked (begins {k = k} e) = s.begun k e
-  all_marked (comes {k = k} {to = to} w c h) =
-      ⊎_elim (λ (a : get_or marks k false ≡ true). a)
+  all_have : {k : ℕ} → IsReached effects sources r k → Has sets r k
+  all_have (begins {k = k} e) = s.begun k e
+  all_have (comes {k = k} {to = to} w c h) =
+      ⊎_elim (λ (a : Has sets r k). a)
       (λ (a : Contains [] to ⊎ ((to ≡ 0) × Contains [] k)).
       absurd (⊎_elim (λ (b : Contains [] to). contains_none to b) (λ (b : (to ≡ 0) × Contains [] k). contains_none k b.1) a))
-      (s.visited k to c w (all_marked h))
+      (s.visited k to c w (all_have h))
 
-  pub search_ends : (k : ℕ) → (get_or marks k false ≡ true) ↔ IsReached effects sources r k
-  search_ends k = (s.sound k, λ h. all_marked h)
+  pub search_ends : (k : ℕ) → Has sets r k ↔ IsReached effects sources r k
+  search_ends k = (s.sound k, λ h. all_have h)
+
+pub read_reads : (effects : List Effect) (k : ℕ) (d : Effect) (r : ℕ) → k < length effects → effect_reads (slice_get effects k) r ≡ is_member (get_or effects k d).reads r
+read_reads effects k d r within =
+    let at = item_at effects k within in
+    let same : at.item ≡ get_or effects k d = sym at.here ∙ get_or_default effects k at.item d within in
+    ap (λ o. effect_reads o r) at.at ∙ ap (λ e. is_member e.reads r) same
+
+-- what the effect of a source has before a node's set is what the source gets
+pub adds_before : (effects : List Effect) (sets : List ℕ) (source node live behind : ℕ) (effect : Effect) → source < length effects → effect ≡ get_or effects source effect → behind ≡ get_or sets node 0 → ((q : ℕ) → q < 32 → is_member live q ≡ (is_member effect.reads q || (not (is_member effect.writes q) && is_member behind q))) → Adds effects sets source node live
+adds_before effects sets source node live behind effect within here is before = record {
+  members = λ q below.
+      let reads : effect_reads (slice_get effects source) q ≡ is_member effect.reads q = read_reads effects source effect q within ∙ ap (λ e. is_member e.reads q) (sym here) in
+      let writes : effect_writes (slice_get effects source) q ≡ is_member effect.writes q = read_writes effects source effect q within ∙ ap (λ e. is_member e.writes q) (sym here) in
+      before q below ∙ rw (reads, writes, ← is) refl;
+}
+
+pub read_set : (sets : List ℕ) (k set : ℕ) → k < length sets → set ≡ get_or sets k set → set ≡ get_or sets k 0
+read_set sets k set within here = here ∙ sym (get_or_default sets k 0 set within)
 
 pub none_waits : (waiting : List ℕ) → length waiting ≡ 0 → waiting ≡ []
 none_waits [] e = refl
@@ -330,51 +385,19 @@ module _ (effects : List Effect) (exits sources : List (List ℕ)) (r : ℕ) (tu
   pub same_nodes : (k : ℕ) → IsReached effects sources r k ↔ Leads effects exits r k
   same_nodes k = (λ h. to_leads h, λ h. to_reached h)
 
--- A set with one more register, where the node is marked
+-- one more effect whose reads are known, and one more node
+read_suc : (effects : List Effect) (k : ℕ) (effect : Effect) → k < length effects → effect ≡ get_or effects k effect → map (λ (e : Effect). e.reads) (take k effects) ++ effect.reads ∷ [] ≡ map (λ (e : Effect). e.reads) (take (suc k) effects)
+read_suc [] k effect within here = absurd (omega arith)
+read_suc (e ∷ effects) zero effect within here = ap (λ (x : Effect). x.reads ∷ []) here
+read_suc (e ∷ effects) (suc k) effect within here = ap (λ rs. e.reads ∷ rs) (read_suc effects k effect (omega arith) here)
 
-other_register : (old new mark : Bool) (q number : ℕ) → new ≡ (old || ((not (q == 0) && number == q) && mark)) → (q ≡ number → ⊥) → new ≡ old
-other_register old new mark q number e apart =
-    elim (cases_Bool (number == q)) [
-      | inl same ↦ absurd (apart (sym (eqb-true number q same)))
-      | inr different ↦ e ∙ rw different (drops old (not (q == 0)) mark)
-    ]
-  where
-    drops : (a b c : Bool) → (a || ((b && false) && c)) ≡ a
-    drops true b c = refl
-    drops false true c = refl
-    drops false false c = refl
+pub read_more : (effects : List Effect) (k : ℕ) (effect : Effect) → k < length effects → effect ≡ get_or effects k effect → map (λ (e : Effect). e.reads) (take k effects) ++ effect.reads ∷ [] ≡ map (λ (e : Effect). e.reads) (take (k + 1) effects)
+read_more effects k effect within here = rw add-one (read_suc effects k effect within here)
 
-this_register : (old new mark : Bool) (q number : ℕ) → new ≡ (old || ((not (q == 0) && number == q) && mark)) → q ≡ number → 0 < q → old ≡ false → new ≡ mark
-this_register old new mark q number e same above empty =
-    let here : (number == q) ≡ true = eq-eqb number q (sym same) in
-    let nonzero : (q == 0) ≡ false = grind (arith, nat_tests) in
-    e ∙ rw (empty, here, nonzero) refl
-
--- the sets once the registers up to a number are done
-abbrev pub AreDone : List Effect → List (List ℕ) → List ℕ → ℕ → Type 0
-AreDone effects exits sets number = (k r : ℕ) → k < length effects → 0 < r → r < number → (is_member (get_or sets k 0) r ≡ true) ↔ Leads effects exits r k
-
-abbrev pub AreEmptyFrom : List Effect → List ℕ → ℕ → Type 0
-AreEmptyFrom effects sets number = (k r : ℕ) → k < length effects → number ≤ r → is_member (get_or sets k 0) r ≡ false
-
-abbrev pub AddsRegister : List ℕ → List ℕ → List Bool → ℕ → ℕ → Type 0
-AddsRegister old new marks number count = (k q : ℕ) → k < count → is_member (get_or new k 0) q ≡ (is_member (get_or old k 0) q || ((not (q == 0) && number == q) && get_or marks k false))
-
-pub register_done : (effects : List Effect) (exits : List (List ℕ)) (old new : List ℕ) (marks : List Bool) (number : ℕ) → AddsRegister old new marks number (length effects) → ((k : ℕ) → (get_or marks k false ≡ true) ↔ Leads effects exits number k) → AreDone effects exits old number → AreEmptyFrom effects old number → AreDone effects exits new (number + 1)
-register_done effects exits old new marks number adds found done ahead k r within above below =
-    ⊎_elim
-    (λ (same : r ≡ number).
-    let is : is_member (get_or new k 0) r ≡ get_or marks k false = this_register (is_member (get_or old k 0) r) (is_member (get_or new k 0) r) (get_or marks k false) r number (adds k r within) same above (ahead k r within (omega arith)) in (
-      λ (e : is_member (get_or new k 0) r ≡ true). subst (λ q. Leads effects exits q k) (sym same) ((found k).0 (sym is ∙ e)),
-      λ (l : Leads effects exits r k). is ∙ (found k).1 (subst (λ q. Leads effects exits q k) same l),
-    ))
-    (λ (apart : r ≡ number → ⊥).
-    let is : is_member (get_or new k 0) r ≡ is_member (get_or old k 0) r = other_register (is_member (get_or old k 0) r) (is_member (get_or new k 0) r) (get_or marks k false) r number (adds k r within) apart in
-    let before = done k r within above (omega arith) in
-    (λ (e : is_member (get_or new k 0) r ≡ true). before.0 (sym is ∙ e), λ (l : Leads effects exits r k). is ∙ before.1 l))
-    (cases_eq r number)
-
-pub register_ahead : (effects : List Effect) (old new : List ℕ) (marks : List Bool) (number : ℕ) → AddsRegister old new marks number (length effects) → AreEmptyFrom effects old number → AreEmptyFrom effects new (number + 1)
-register_ahead effects old new marks number adds ahead k r within past =
-    other_register (is_member (get_or old k 0) r) (is_member (get_or new k 0) r) (get_or marks k false) r number (adds k r within) (λ e. omega arith)
-    ∙ ahead k r within (omega arith)
+pub below_more : (nodes : List ℕ) (bound : ℕ) → ((k : ℕ) → Contains nodes k ↔ (k < bound)) → (k : ℕ) → Contains (nodes ++ bound ∷ []) k ↔ (k < bound + 1)
+below_more nodes bound all k = (
+  λ c. ⊎_elim (λ (a : Contains nodes k). let h = (all k).0 a in omega arith) (λ (a : bound ≡ k). omega arith) (Contains-push_cases nodes bound k c),
+  λ (h : k < bound + 1).
+      ⊎_elim (λ (a : k ≡ bound). subst (Contains (nodes ++ bound ∷ [])) (sym a) (Contains-push nodes bound))
+      (λ (a : k ≢ bound). Contains-append_left nodes (bound ∷ []) k ((all k).1 (omega (arith, h, a)))) (cases_eq k bound),
+)

@@ -1,6 +1,7 @@
 -- The nodes from which a read is led to, and the search for them. No public clause cites this module.
-use Rattle.std.specs.Prelude.{◌≡◌, ℕ, ◌+◌, Bool, true, false, List, [], ◌⊎◌, ◌↔◌, map, length, slice_get, slice_index_or, sum_by, Vec, if◌then◌else◌}
+use Rattle.std.specs.Prelude.{◌≡◌, ℕ, ◌+◌, ◌-◌, ◌^◌, ◌<◌, true, false, List, [], ◌⊎◌, map, length, slice_get, slice_index_or, sum_by, Vec}
 use Rattle.std.specs.List.{Contains}
+use Rattle.sq_isa.specs.Registers.{is_member}
 use Rattle.sq_live.specs.declared.effect.Effect.{Effect}
 use Rattle.sq_live.specs.Effects.{effect_reads, effect_writes}
 
@@ -20,19 +21,23 @@ pub data IsReached (effects : List Effect) (sources : List (List ℕ)) (r : ℕ)
   begins : {k : ℕ} → effect_reads (slice_get effects k) r ≡ true → IsReached effects sources r k
   comes : {k to : ℕ} → effect_writes (slice_get effects k) r ≡ false → Contains (list_at sources to) k → IsReached effects sources r to → IsReached effects sources r k
 
--- A search backwards from the nodes that read r: those that are marked lead to a read, and where a marked node was
--- not yet visited it waits. At `node` these sources are still to be looked at.
-pub record IsVisiting (effects : List Effect) (sources : List (List ℕ)) (r node : ℕ) (left : List ℕ) (marks : List Bool) (waiting : List ℕ) : Type 0 where
-  pub count : length marks ≡ length effects
-  pub begun : (k : ℕ) → effect_reads (slice_get effects k) r ≡ true → slice_index_or marks k false ≡ true
-  pub visited : (from to : ℕ) → Contains (list_at sources to) from → effect_writes (slice_get effects from) r ≡ false → slice_index_or marks to false ≡ true → (slice_index_or marks from false ≡ true) ⊎ (Contains waiting to ⊎ ((to ≡ node) × Contains left from))
-  pub sound : (k : ℕ) → slice_index_or marks k false ≡ true → IsReached effects sources r k
-  pub marked : (k : ℕ) → Contains waiting k → slice_index_or marks k false ≡ true
+-- A set has the register at a node.
+abbrev pub Has : List ℕ → ℕ → ℕ → Type 0
+Has sets r k = is_member (slice_index_or sets k 0) r ≡ true
 
--- exactly the marked nodes wait
-abbrev pub Waits : List Bool → List ℕ → Type 0
-Waits marks waiting = (k : ℕ) → Contains waiting k ↔ (slice_index_or marks k false ≡ true)
+-- A search backwards from the nodes that read a register: where a set has the register, its node leads to a read, and the
+-- nodes that lead on to it have the register too, but where it waits. At `node` these sources are still to be looked at.
+pub record IsSearching (effects : List Effect) (sources : List (List ℕ)) (r node : ℕ) (left : List ℕ) (sets waiting : List ℕ) : Type 0 where
+  pub begun : (k : ℕ) → effect_reads (slice_get effects k) r ≡ true → Has sets r k
+  pub visited : (from to : ℕ) → Contains (list_at sources to) from → effect_writes (slice_get effects from) r ≡ false → Has sets r to → Has sets r from ⊎ (Contains waiting to ⊎ ((to ≡ node) × Contains left from))
+  pub sound : (k : ℕ) → Has sets r k → IsReached effects sources r k
 
--- how many nodes are not marked or wait
-abbrev pub work_of : List Bool → List ℕ → ℕ
-work_of marks waiting = sum_by (λ mark. if mark then 0 else 1) marks + length waiting
+-- the same of all registers but x0 at once
+pub record IsVisiting (effects : List Effect) (sources : List (List ℕ)) (node : ℕ) (left : List ℕ) (sets waiting : List ℕ) : Type 0 where
+  pub count : length sets ≡ length effects
+  pub there : (k : ℕ) → Contains waiting k → k < length effects
+  pub each : (r : ℕ) → 0 < r → r < 32 → IsSearching effects sources r node left sets waiting
+
+-- how much the sets may grow, and how many nodes wait
+abbrev pub work_of : List ℕ → List ℕ → ℕ
+work_of sets waiting = sum_by (λ set. 2 ^ 32 - set) sets + length waiting

@@ -7,7 +7,7 @@ ghost use Rattle.sq_graph.specs.Walks.{term_sources, term_link, is_register};
 ghost use Rattle.sq_live.specs.Effects.{item_reads, item_writes, before_items, items_write};
 
 use sq_graph::{Item, Term};
-use sq_isa::{ImmOp, Insn, Reg, RegSet, reads, writes};
+use sq_isa::{ImmOp, Insn, RegSet, reads, writes};
 
 /// Which registers a piece of code reads before it writes them, and which it writes.
 #[derive(Clone, Copy, Debug)]
@@ -41,7 +41,7 @@ impl Effect {
     pub(crate) fn before(&self, behind: RegSet) -> RegSet
         ensures { (q : ℕ) → q < 32 → is_member result q ≡ (is_member self.now.reads q || (not (is_member self.now.writes q) && is_member behind q)) }
     {
-        self.reads.union(without(behind, self.writes))
+        self.reads.union(behind.without(self.writes))
     }
 
     /// The effect of the code with more code behind it.
@@ -54,20 +54,6 @@ impl Effect {
             writes: self.writes.union(next.writes),
         }
     }
-}
-
-// The registers of the first set that aren't in the other.
-fn without(set: RegSet, other: RegSet) -> RegSet
-    ensures { (q : ℕ) → q < 32 → is_member result q ≡ (not (is_member other q) && is_member set q) }
-{
-    let mut left = RegSet::new();
-    for number in 0..32 {
-        let r = Reg::from_low_bits(number);
-        if !other.has(r) && set.has(r) {
-            left = left.with(r);
-        }
-    }
-    left
 }
 
 /// The effect of an item, where the calls of procedures have these effects. A Hi does what `lui` does, and a Lo

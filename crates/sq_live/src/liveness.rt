@@ -45,11 +45,16 @@ impl Liveness {
         ensures value { result ≡ (r == 0 || not (is_member (slice_index (places_of self.now block) place) r)) }
         ensures dead { (g : GraphParts) → IsLivenessOf g self.now → HasBlock g block → place ≤ length (items_of g block) → (IsTrue result ↔ ¬ IsLive g r (place_lines g block place)) }
     {
+        r.number() == 0 || !self.live_at(block, place).has(r)
+    }
+
+    /// The registers that are live at a place of a block, by one look-up.
+    pub fn live_at(&self, block: u32, place: u32) -> RegSet
+        requires { place < length (places_of self.now block) }
+        ensures { result ≡ slice_index (places_of self.now block) place }
+    {
         match self.positions.get(&block) {
-            Some(position) => {
-                let set = self.places[*position][place as usize];
-                r.number() == 0 || !set.has(r)
-            }
+            Some(position) => self.places[*position][place as usize],
             None => unreachable!(),
         }
     }

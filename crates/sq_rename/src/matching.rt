@@ -12,7 +12,7 @@ ghost use Rattle.sq_rename.specs.Bodies.{IsBodyMatch, IsMatchBy, MayLive, IsLive
 use crate::pairs::pairs_of;
 use crate::renaming::Renaming;
 use sq_graph::{Graph, Item};
-use sq_isa::{Reg, RegSet};
+use sq_isa::RegSet;
 use sq_live::Liveness;
 
 /// The registers that are dead at a place of a block, without x0.
@@ -21,14 +21,7 @@ pub fn dead_registers(live: &Liveness, block: u32, place: u32) -> RegSet
     ensures value { (r : ℕ) → 0 < r → r < 32 → is_member result r ≡ not (is_member (slice_index (places_of live.now block) place) r) }
     ensures dead { (g : GraphParts) → IsLivenessOf g live.now → HasBlock g block → place ≤ length (items_of g block) → (r : ℕ) → 0 < r → r < 32 → (is_member result r ≡ true) ↔ ¬ IsLive g r (place_lines g block place) }
 {
-    let mut dead = RegSet::new();
-    for number in 0..32 {
-        let r = Reg::from_low_bits(number);
-        if live.dead_at(block, place, r) {
-            dead = dead.with(r);
-        }
-    }
-    dead
+    RegSet::all().without(live.live_at(block, place))
 }
 
 /// The renaming by which items match others, where these registers are dead behind them; None exactly where they don't
