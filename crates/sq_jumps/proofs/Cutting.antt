@@ -15,8 +15,8 @@ use Rattle.sq_pass.specs.Cuts.{IsCompleted}
 use Rattle.sq_num.specs.declared.memory.Memory.{Memory}
 use Rattle.sq_jumps.specs.Candidates.{HasRow, IsJumpCut, IsUnreachedCut, IsCandidate, rewritten, described}
 use Rattle.sq_jumps.specs.Unreached.{words_gone, without_all}
-use Rattle.sq_jumps.proofs.UnreachedLeft.{unreached_applied}
 use Rattle.sq_lookup.proofs.Targets.{name_listed, has_term, lone, has_lone}
+use Rattle.sq_jumps.proofs.UnreachedLeft.{unreached_applied}
 
 -- a row that is known is applied at its block
 pub row_applied : (row known : Row) (g new : Graph) (block : ℕ) → row ≡ known → HasRow row g block → (HasRow known g block → IsApplied 1 (rewritten known g (block ∷ [])) g (rewritten known g (block ∷ []))) → new ≡ rewritten known g (block ∷ []) → IsApplied 1 (rewritten row g (block ∷ [])) g new
@@ -39,8 +39,8 @@ pub unreached_of : (g : Graph) (cut : Cut) → IsCandidate g cut → cut.row ≡
 unreached_of g cut (inl unreached) row = unreached
 unreached_of g cut (inr jump) row = absurd (subst (λ r. HasRow r g jump.block) row jump.has_row)
 
-pub gone_applied : (g new : Graph) (cut : Cut) → IsGraph g → IsUnreachedCut g cut → IsGraph new → new ≡ without_all g cut.blocks → IsApplied cut.saving (described g cut) g new
-gone_applied g new cut rules u rules' is =
+pub unreached_gone : (g new : Graph) (cut : Cut) → IsGraph g → IsUnreachedCut g cut → IsGraph new → new ≡ without_all g cut.blocks → IsApplied cut.saving (described g cut) g new
+unreached_gone g new cut rules u rules' is =
     let applied = unreached_applied g cut.blocks rules u.unreached (subst IsGraph is rules') in
     subst (λ n. IsApplied n (described g cut) g new) (sym u.saving)
     (subst (λ r. IsApplied (words_gone g cut.blocks) (rewritten r g cut.blocks) g new) (sym u.row) (subst (λ h. IsApplied (words_gone g cut.blocks) (without_all g cut.blocks) g h) (sym is) applied))
@@ -49,7 +49,7 @@ gone_applied g new cut rules u rules' is =
 row_there : (row : Row) (g : Graph) (block : ℕ) → HasRow row g block → HasBlock g block
 row_there U g block has = absurd has
 row_there J1 g block has = has_term g block (Jump has.to) has.jump
-row_there J2 g block has = has_lone g block has.to (lone g block has.to has.passable.jump)
+row_there J2 g block has = has_lone g block has.to (lone g block has.to has.leads.jump)
 row_there J3 g block has = has_term g block (Branch has.cond has.a has.b has.behind) has.jumped.branch
 row_there C g block has = has_term g block (PartJump has.link has.part has.to) has.shortable.jump
 row_there T g block has = absurd has

@@ -1,35 +1,43 @@
 -- Row J2 keeps a canonical graph canonical, where something names the detour.
-use Rattle.std.proofs.Common.{◌≡◌, ◌⊎◌, ℕ, ◌==◌, Bool, true, false, ◌&&◌, ◌||◌, not, if◌then◌else◌, List, [], ◌∷◌, ◌++◌, map, Some, None, inl, inr, refl, sym, ap, ◌∙◌, subst}
+use Rattle.std.proofs.Common.{◌≡◌, ◌⊎◌, ℕ, Bool, true, false, not, ◌||◌, List, [], ◌∷◌, None, Some, inl, inr, refl, sym, ap, ◌∙◌, subst, ◌==◌, map, if◌then◌else◌, ◌++◌, ◌&&◌}
 use Rattle.std.specs.List.{All}
 use Rattle.std.proofs.lemmas.Bool.{cases_Bool, eqb-true, eq-eqb, ne_eqb, or_left, or_right}
-use Rattle.std.proofs.lemmas.List.Elements.{All-tail, All-append, All-map, All-weaker}
-use Rattle.sq_arena.specs.Entries.{HasDistinctKeys, value_of}
-use Rattle.sq_arena.proofs.EntriesLaws.{distinct_back}
-use Rattle.sq_isa.specs.Registers.{is_among}
 use Rattle.sq_graph.specs.declared.item.Item.{Item}
 use Rattle.sq_graph.specs.declared.item.Term.{Term}
-use Rattle.sq_graph.specs.declared.item.Term.TheVariants.{Fall, Jump, Branch, Call, PartJump, Indirect, Stop}
-use Rattle.sq_graph.specs.Graph.{Block, Graph}
+use Rattle.sq_graph.specs.declared.item.Term.TheVariants.{Branch, PartJump, Fall, Jump, Call, Indirect, Stop}
+use Rattle.sq_graph.specs.Graph.{Graph, Block}
 use Rattle.sq_graph.specs.Blocks.{named, items_of_blocks, items_of_bodies}
-use Rattle.sq_graph.specs.Leaders.{is_fall, is_bare, follows_a_term, is_leader, FallsIntoLeaders, IsCanonical}
-use Rattle.sq_graph.specs.Operations.{with_blocks, redirected}
-use Rattle.sq_graph.specs.Renames.{retargeted, retargeted_term, retargeted_block, swapped}
+use Rattle.sq_graph.specs.Operations.{redirected, with_blocks}
 use Rattle.sq_graph.specs.Rules.{IsGraph, last_goes_on}
 use Rattle.sq_graph.specs.Terms.{goes_on}
-use Rattle.sq_graph.specs.Uses.{term_uses, items_uses, terms_uses, code_word_uses, uses}
-use Rattle.sq_graph.proofs.Bypassing.{is_fall-other, is_bare-other}
-use Rattle.sq_graph.proofs.Changes.{with_blocks-at}
-use Rattle.sq_graph.proofs.Eachs.{All-left, All-right}
-use Rattle.sq_graph.proofs.Kept.{absent_behind}
-use Rattle.sq_graph.proofs.Located.{IsAt, located, named-append}
-use Rattle.sq_graph.proofs.Marks.{is_among-append}
-use Rattle.sq_graph.proofs.RetargetRules.{uses-other}
+use Rattle.sq_graph.specs.Uses.{uses, term_uses, items_uses, terms_uses, code_word_uses}
+use Rattle.sq_patch.specs.LoneJumps.{IsDetourTo, without_jump}
+use Rattle.sq_jumps.specs.Detour.{IsDetour, without_detour}
+use Rattle.sq_lookup.proofs.Targets.{lone, IsLone, has_lone}
+use Rattle.std.proofs.lemmas.List.Elements.{All-append, All-tail, All-map, All-weaker}
+use Rattle.sq_arena.specs.Entries.{value_of, HasDistinctKeys}
+use Rattle.sq_graph.specs.Renames.{retargeted_term, retargeted_block, swapped, retargeted}
+use Rattle.sq_graph.proofs.Located.{located, IsAt, named-append}
 use Rattle.sq_graph.proofs.SlotReads.{block_at}
-use Rattle.sq_patch.specs.LoneJumps.{IsPassable, without_jump}
-use Rattle.sq_lookup.proofs.Targets.{IsLone, lone, has_lone}
-use Rattle.sq_jumps.proofs.ShortenKept.{three_uses}
-use Rattle.sq_jumps.proofs.DetourLeaders.{or_cases, other_way, and_false, one_of_four, absent_tail, falls_on}
-use Rattle.sq_jumps.proofs.Rewriting.{goes_on-retargeted}
+use Rattle.sq_arena.proofs.EntriesLaws.{distinct_back}
+use Rattle.sq_graph.proofs.Kept.{absent_behind}
+use Rattle.sq_num.specs.declared.packed.Savings.{Savings}
+use Rattle.sq_graph.specs.Leaders.{IsCanonical, FallsIntoLeaders, is_fall, is_bare, follows_a_term, is_leader}
+use Rattle.sq_isa.specs.Registers.{is_among}
+use Rattle.sq_pass.specs.declared.cut.Row.TheVariants.{J2}
+use Rattle.sq_pass.specs.Counted.{counted}
+use Rattle.sq_pass.specs.Rewrites.{IsRewritten}
+use Rattle.sq_jumps.specs.Candidates.{IsCandidate, described}
+use Rattle.sq_graph.proofs.Changes.{with_blocks-at}
+use Rattle.sq_graph.proofs.Marks.{is_among-append}
+use Rattle.sq_graph.proofs.Eachs.{All-left, All-right}
+use Rattle.sq_graph.proofs.Bypassing.{is_fall-other, is_bare-other}
+use Rattle.sq_graph.proofs.RetargetRules.{uses-other}
+use Rattle.sq_jumps.proofs.Booleans.{or_cases, other_way, and_false, one_of_four}
+use Rattle.sq_jumps.proofs.Leaders.{absent_tail, falls_on, three_uses}
+use Rattle.sq_jumps.proofs.Blocks.{goes_on-retargeted}
+use Rattle.sq_jumps.proofs.DetourApplied.{detour_made, detour_applied}
+use Rattle.sq_jumps.proofs.Rewritten.{kept_rewritten}
 use Rattle.sq_jumps.proofs.Ruled.{front_ends}
 
 -- OTHER NAMES
@@ -195,8 +203,8 @@ module _ (name to : ℕ) (back : List Block) where
           | inr follows_it ↦ or_right used follows (follows-other f (front ++ back) n ∙ follows_still front n (other_way n name apart) follows_it)
         ]
 
-    pub passed_canonical : (to == name) ≡ false → is_among (uses before) name ≡ true → value_of (named front) name ≡ None → value_of (named back) name ≡ None → last_goes_on front ≡ false → IsCanonical before → IsCanonical (retargeted f after)
-    passed_canonical other named_it front_apart back_apart ends canonical = record {
+    pub detour_kept : (to == name) ≡ false → is_among (uses before) name ≡ true → value_of (named front) name ≡ None → value_of (named back) name ≡ None → last_goes_on front ≡ false → IsCanonical before → IsCanonical (retargeted f after)
+    detour_kept other named_it front_apart back_apart ends canonical = record {
       no_bare = solid-other f (front ++ back) (solid_still front canonical.no_bare);
       leaders =
           falls-other f (is_leader (retargeted f after)) (front ++ back)
@@ -205,9 +213,9 @@ module _ (name to : ℕ) (back : List Block) where
 
 -- WHERE IT STANDS
 
-module _ (g : Graph) (block to : ℕ) (rules : IsGraph g) (passable : IsPassable g block to) where
+module _ (g : Graph) (block to : ℕ) (rules : IsGraph g) (leads : IsDetourTo g block to) where
   alone : IsLone g block to
-  alone = lone g block to passable.jump
+  alone = lone g block to leads.jump
 
   spot : IsAt g.blocks block
   spot = located g.blocks block (has_lone g block to alone)
@@ -225,7 +233,7 @@ module _ (g : Graph) (block to : ℕ) (rules : IsGraph g) (passable : IsPassable
   gone = with_blocks-at (λ b. []) g.blocks block spot
 
   other : (to == block) ≡ false
-  other = ne_eqb to block passable.other
+  other = ne_eqb to block leads.other
 
   behind : value_of (named spot.back) block ≡ None
   behind =
@@ -234,7 +242,7 @@ module _ (g : Graph) (block to : ℕ) (rules : IsGraph g) (passable : IsPassable
       (subst (λ (es : List (ℕ × Block)). HasDistinctKeys es) (ap named whole ∙ named-append spot.front (jumping block to spot.back ∷ spot.back)) rules.distinct))
 
   ends : last_goes_on spot.front ≡ false
-  ends = front_ends g (jumping block to spot.back) spot.back rules passable.apart [] spot.front (sym whole)
+  ends = front_ends g (jumping block to spot.back) spot.back rules leads.apart [] spot.front (sym whole)
 
   moved : without_jump g block to ≡ retargeted (swapped block to) (record g { blocks = spot.front ++ spot.back })
   moved =
@@ -251,5 +259,12 @@ module _ (g : Graph) (block to : ℕ) (rules : IsGraph g) (passable : IsPassable
   pub detour_canonical : is_among (uses g) block ≡ true → IsCanonical g → IsCanonical (without_jump g block to)
   detour_canonical named_it canonical =
       subst IsCanonical (sym moved)
-      (passed_canonical block to spot.back g spot.front other (subst (λ bs. is_among (uses (record g { blocks = bs })) block ≡ true) whole named_it) spot.ahead behind ends
+      (detour_kept block to spot.back g spot.front other (subst (λ bs. is_among (uses (record g { blocks = bs })) block ≡ true) whole named_it) spot.ahead behind ends
       (subst (λ bs. IsCanonical (record g { blocks = bs })) whole canonical))
+
+-- IN A SWEEP
+
+pub detour_rewritten : (g h : Graph) (block : ℕ) (before after : Savings) → IsGraph g → IsCanonical g → IsDetour g block → is_among (uses g) block ≡ true → h ≡ without_detour g block → after ≡ counted before J2 1 → IsRewritten IsCandidate described before after g h
+detour_rewritten g h block before after rules canonical d named is counts =
+    kept_rewritten J2 block before after g h d (detour_applied g block rules d)
+    (subst IsCanonical (sym (detour_made g block d.to d.leads.jump)) (detour_canonical g block d.to rules d.leads named canonical)) is counts

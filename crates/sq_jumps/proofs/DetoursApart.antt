@@ -22,17 +22,17 @@ use Rattle.sq_patch.specs.LoneJumps.{without_jump}
 use Rattle.sq_layout.specs.Branches.{BranchReaches}
 use Rattle.sq_lookup.specs.Names.{is_listed, Adds}
 use Rattle.sq_jumps.specs.UnreachedClear.{AreOnce}
-use Rattle.sq_jumps.specs.Detour.{straightened, IsDetour, GoTogether, GoesToo, AreChosen}
+use Rattle.sq_jumps.specs.Detour.{without_detour, IsDetour, GoTogether, GoesToo, AreChosen}
 use Rattle.sq_lookup.specs.Addresses.{address_of}
 use Rattle.sq_jumps.specs.Surveys.{ReachesBy, ReachesWithout}
 use Rattle.sq_layout.proofs.Standing.{block_of-without, block_of-retargeted}
-use Rattle.sq_jumps.proofs.Applying.{passing_is, pass_shrinks, retargeted_before, gone_block}
-use Rattle.sq_lookup.proofs.Targets.{has_term, jump_there, lone, has_lone}
-use Rattle.sq_jumps.proofs.InvertDistances.{passes}
-use Rattle.sq_jumps.proofs.DetourLeaders.{or_cases}
+use Rattle.sq_lookup.proofs.Targets.{has_term, jump_there}
+use Rattle.sq_jumps.proofs.DetourApplied.{detour_made, detour_shrinks, detour_redirected, detour_rules}
+use Rattle.sq_jumps.proofs.Blocks.{retargeted_before, gone_block, goes_on-retargeted, next-redirected}
+use Rattle.sq_jumps.proofs.Distances.{detour_near}
+use Rattle.sq_jumps.proofs.Booleans.{or_cases}
 use Rattle.sq_jumps.proofs.DetourKept.{name_used}
-use Rattle.sq_jumps.proofs.Rewriting.{goes_on-retargeted, next-redirected, redirected_rules_here, passed_rules}
-use Rattle.sq_jumps.proofs.StillSafe.{without_still}
+use Rattle.sq_jumps.proofs.OldSurveys.{without_still}
 use Rattle.sq_jumps.proofs.Adding.{is_listed-append}
 
 -- LONE JUMPS AND SLOTS, ONCE A BLOCK GAVE ITS NAME AND WENT
@@ -99,10 +99,10 @@ module _ (g : Graph) (gone : ℕ) (rules : IsGraph g) (d : IsDetour g gone) wher
   h = without_jump g gone d.to
 
   left : IsGraph h
-  left = passed_rules g gone to rules d.passable
+  left = detour_rules g gone to rules d.leads
 
   is_gone : block_of h gone ≡ None
-  is_gone = gone_block (map (retargeted_block f) g.blocks) gone (redirected_rules_here g gone to rules d.passable).distinct
+  is_gone = gone_block (map (retargeted_block f) g.blocks) gone (detour_redirected g gone to rules d.leads).distinct
 
   block_left : (n : ℕ) → n ≢ gone → block_of h n ≡ option_map (retargeted_block f) (block_of g n)
   block_left n other = block_of-without (map (retargeted_block f) g.blocks) gone n other ∙ block_of-retargeted f g.blocks n
@@ -118,7 +118,7 @@ module _ (g : Graph) (gone : ℕ) (rules : IsGraph g) (d : IsDetour g gone) wher
     target = p.to
 
     jump : jump_from h n ≡ Some target
-    jump = ap lone_jump (block_left n other) ∙ lone_jump-retargeted f (block_of g n) ∙ ap (option_map f) p.passable.jump ∙ ap Some (kept target target_other)
+    jump = ap lone_jump (block_left n other) ∙ lone_jump-retargeted f (block_of g n) ∙ ap (option_map f) p.leads.jump ∙ ap Some (kept target target_other)
 
     apart : (before : ℕ) (term : Term) → next_of h before ≡ Some n → term_of h before ≡ Some term → goes_on term ≡ false
     apart before term next e =
@@ -127,8 +127,8 @@ module _ (g : Graph) (gone : ℕ) (rules : IsGraph g) (d : IsDetour g gone) wher
         let same : goes_on term ≡ goes_on was.0 = sym (ap goes_on was.2) ∙ goes_on-retargeted f was.0 in
         same
         ∙ elim (next_before (map (retargeted_block f) g.blocks) gone before n here next) [
-          | inl own ↦ p.passable.apart before was.0 (sym (next-redirected g gone to before) ∙ own) was.1
-          | inr that ↦ d.passable.apart before was.0 (sym (next-redirected g gone to before) ∙ that) was.1
+          | inl own ↦ p.leads.apart before was.0 (sym (next-redirected g gone to before) ∙ own) was.1
+          | inr that ↦ d.leads.apart before was.0 (sym (next-redirected g gone to before) ∙ that) was.1
         ]
 
     near : (from : ℕ) (cond : Cond) (a b : ℕ) → term_of h from ≡ Some (Branch cond a b n) → BranchReaches (without_jump h n target) from target
@@ -137,10 +137,10 @@ module _ (g : Graph) (gone : ℕ) (rules : IsGraph g) (d : IsDetour g gone) wher
         let away = there_still from here in
         let was = retargeted_before f (block_of g from) cond a b n (sym (ap block_term (block_left from away)) ∙ e) in
         let branch : term_of g from ≡ Some (Branch cond a b n) = subst (λ k. term_of g from ≡ Some (Branch cond a b k)) (named_before was.0 was.2) was.1 in
-        let reach : ReachesWithout g n from target = (passes g n from target cond a b p.passable.jump branch (jump_there g n target rules p.passable.jump) p.passable.other).0 (p.near from cond a b branch) in
+        let reach : ReachesWithout g n from target = (detour_near g n from target cond a b p.leads.jump branch (jump_there g n target rules p.leads.jump) p.leads.other).0 (p.near from cond a b branch) in
         let same : length (items_of h from) ≡ length (items_of g from) = ap (λ o. length (block_items o)) (block_left from away) ∙ length-retargeted f (block_of g from) in
-        (passes h n from target cond a b jump e (jump_there h n target left jump) p.passable.other).1
-        (without_still g h from n target rules.distinct (pass_shrinks g gone to) left here jump (subst (λ k. ReachesBy (address_of g) k n from target) (sym same) reach))
+        (detour_near h n from target cond a b jump e (jump_there h n target left jump) p.leads.other).1
+        (without_still g h from n target rules.distinct (detour_shrinks g gone to) left here jump (subst (λ k. ReachesBy (address_of g) k n from target) (sym same) reach))
       where
         named_before : (old : ℕ) → f old ≡ n → old ≡ n
         named_before old is =
@@ -150,7 +150,7 @@ module _ (g : Graph) (gone : ℕ) (rules : IsGraph g) (d : IsDetour g gone) wher
             ]
 
     pub detour_still : IsDetour h n
-    detour_still = record { to = target; passable = record { jump = jump; other = p.passable.other; apart = apart }; near = near }
+    detour_still = record { to = target; leads = record { jump = jump; other = p.leads.other; apart = apart }; near = near }
 
 -- DETOURS THAT GO TOGETHER
 
@@ -167,7 +167,7 @@ module _ (g : Graph) (gone : ℕ) (rest : List ℕ) (rules : IsGraph g) (t : GoT
   first = t.detours gone (here_listed gone rest)
 
   aside : is_listed (gone ∷ rest) first.to ≡ false
-  aside = t.apart gone first.to (here_listed gone rest) first.passable.jump
+  aside = t.apart gone first.to (here_listed gone rest) first.leads.jump
 
   module _ (n : ℕ) (listed : is_listed rest n ≡ true) where
     too : is_listed (gone ∷ rest) n ≡ true
@@ -177,7 +177,7 @@ module _ (g : Graph) (gone : ℕ) (rest : List ℕ) (rules : IsGraph g) (t : GoT
     detour = t.detours n too
 
     target_aside : is_listed (gone ∷ rest) detour.to ≡ false
-    target_aside = t.apart n detour.to too detour.passable.jump
+    target_aside = t.apart n detour.to too detour.leads.jump
 
     not_gone : n ≢ gone
     not_gone same = absurd (let none : is_listed rest n ≡ false = ap (is_listed rest) same ∙ t.once.0 in cc)
@@ -192,16 +192,16 @@ module _ (g : Graph) (gone : ℕ) (rest : List ℕ) (rules : IsGraph g) (t : GoT
     still = detour_still g gone rules first n not_gone detour not_to no_target
 
     used_still : is_among (uses (without_jump g gone first.to)) n ≡ true
-    used_still = name_used g gone first.to rules first.passable n (ne_eqb n gone not_gone) (t.are_named gone (here_listed gone rest)) (t.are_named n too)
+    used_still = name_used g gone first.to rules first.leads n (ne_eqb n gone not_gone) (t.are_named gone (here_listed gone rest)) (t.are_named n too)
 
     apart_still : (to : ℕ) → jump_from (without_jump g gone first.to) n ≡ Some to → is_listed rest to ≡ false
     apart_still to e =
         let same : to ≡ detour.to = let f : Some to ≡ Some detour.to = sym e ∙ jump g gone rules first n not_gone detour not_to no_target in cc in
         ap (is_listed rest) same ∙ (none_of_two (nat_eq detour.to gone) (is_listed rest detour.to) target_aside).1
 
-  pub rest_together : (k : Graph) → k ≡ straightened g gone → GoTogether k rest
+  pub rest_together : (k : Graph) → k ≡ without_detour g gone → GoTogether k rest
   rest_together k is =
-      subst (λ (m : Graph). GoTogether m rest) (sym (is ∙ passing_is g gone first.to first.passable.jump))
+      subst (λ (m : Graph). GoTogether m rest) (sym (is ∙ detour_made g gone first.to first.leads.jump))
       (record { detours = still; are_named = used_still; apart = λ n to listed. apart_still n listed to; once = t.once.1 })
 
 -- WHICH BLOCKS ARE CHOSEN
@@ -258,8 +258,8 @@ module _ (g : Graph) (blocks more gone gone' aims aims' : List ℕ) (block to : 
 
   not_itself : to ≢ block
   not_itself e =
-      let target : to ≡ too.detour.to = let f : Some to ≡ Some too.detour.to = sym too.jump ∙ too.detour.passable.jump in cc in
-      too.detour.passable.other (sym target ∙ e)
+      let target : to ≡ too.detour.to = let f : Some to ≡ Some too.detour.to = sym too.jump ∙ too.detour.leads.jump in cc in
+      too.detour.leads.other (sym target ∙ e)
 
   apart_too : (n k : ℕ) → is_listed more n ≡ true → jump_from g n ≡ Some k → is_listed more k ≡ false
   apart_too n k e leads =

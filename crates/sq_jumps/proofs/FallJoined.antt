@@ -1,8 +1,8 @@
 -- Row J1 and the canonical form: Jumps to the next slot may become Fall one after another, from the last one on, and the graph
 -- be made canonical once.
-use Rattle.std.proofs.Common.{◌≡◌, ◌⊎◌, ℕ, ◌+◌, ◌<◌, ◌≤◌, ◌==◌, Bool, true, false, ◌&&◌, ◌||◌, not, List, [], ◌∷◌, ◌++◌, take, drop, length, get_or, Option, None, Some, inl, inr, refl, sym, ap, ◌∙◌, subst, arith, append_assoc}
+use Rattle.std.proofs.Common.{◌≡◌, ℕ, ◌+◌, ◌≤◌, ◌==◌, Bool, true, false, ◌&&◌, ◌||◌, not, List, [], ◌∷◌, ◌++◌, take, drop, length, None, Some, inl, inr, refl, sym, ap, ◌∙◌, subst, arith, append_assoc}
 use Rattle.std.specs.List.{All}
-use Rattle.std.proofs.lemmas.Bool.{cases_Bool, eqb-true, or_left, or_right}
+use Rattle.std.proofs.lemmas.Bool.{cases_Bool, or_left, or_right}
 use Rattle.std.proofs.lemmas.List.{take_at, take_all, length-take-le, take-append-drop}
 use Rattle.std.proofs.lemmas.List.Elements.{All-cons, All-head, All-tail, All-append}
 use Rattle.sq_arena.specs.Entries.{HasDistinctKeys, value_of, first_key}
@@ -10,10 +10,9 @@ use Rattle.sq_arena.proofs.EntriesLaws.{absent_ahead}
 use Rattle.sq_isa.specs.Registers.{is_among}
 use Rattle.sq_num.specs.declared.packed.Savings.{Savings}
 use Rattle.sq_graph.specs.declared.item.Item.{Item}
-use Rattle.sq_graph.specs.declared.item.Term.{Term}
 use Rattle.sq_graph.specs.declared.item.Term.TheVariants.{Fall, Jump}
 use Rattle.sq_graph.specs.Graph.{Block, Graph}
-use Rattle.sq_graph.specs.Blocks.{named, block_of, block_items, block_term, items_of, items_of_blocks, items_of_bodies, all_items, next_of, term_of}
+use Rattle.sq_graph.specs.Blocks.{named, block_items, block_term, items_of_blocks, items_of_bodies, all_items}
 use Rattle.sq_graph.specs.Canonical.{bypassed_each, joined_onto, joined_blocks, joined, canonical_of}
 use Rattle.sq_graph.specs.Leaders.{has_no_items, is_fall, is_bare, follows_a_term, is_leader, FallsIntoLeaders, IsCanonical}
 use Rattle.sq_graph.specs.Parts.{names_of}
@@ -35,13 +34,12 @@ use Rattle.sq_pass.specs.Counted.{counted}
 use Rattle.sq_pass.specs.Rewrites.{IsRewritten}
 use Rattle.sq_jumps.specs.Candidates.{IsCandidate, described}
 use Rattle.sq_jumps.specs.Fall.{falling, JumpsToNext, IsPlainFall, IsCanonicalTo}
-use Rattle.sq_jumps.proofs.Applying.{fall_applied}
-use Rattle.sq_jumps.proofs.ShortenKept.{three_uses}
-use Rattle.sq_jumps.proofs.InvertKept.{HasFirst, first_is}
-use Rattle.sq_jumps.proofs.DetourLeaders.{or_cases, other_way, one_of_four, absent_tail, absent_parts}
-use Rattle.sq_jumps.proofs.Rewriting.{names-changed, fall_rules}
+use Rattle.sq_jumps.proofs.FallApplied.{fall_applied, fall_rules}
+use Rattle.sq_jumps.proofs.Leaders.{three_uses, absent_tail, absent_parts}
+use Rattle.sq_jumps.proofs.Blocks.{HasFirst, first_is, names-changed}
+use Rattle.sq_jumps.proofs.Booleans.{or_cases, other_way, one_of_four}
 use Rattle.sq_jumps.proofs.Ruled.{behind_it}
-use Rattle.sq_jumps.proofs.Sweeping.{row_rewritten}
+use Rattle.sq_jumps.proofs.Rewritten.{row_rewritten}
 
 -- JOINING TWICE
 

@@ -1,33 +1,42 @@
 -- Row J3 keeps a canonical graph canonical.
-use Rattle.std.proofs.Common.{◌≡◌, ◌⊎◌, ℕ, ◌==◌, Bool, true, false, ◌&&◌, ◌||◌, not, List, [], ◌∷◌, ◌++◌, None, Some, inl, inr, refl, sym, ap, ◌∙◌, subst, append_assoc}
+use Rattle.std.proofs.Common.{◌≡◌, ◌⊎◌, ℕ, Bool, true, false, not, ◌||◌, List, [], ◌∷◌, None, Some, inl, inr, refl, sym, ap, ◌∙◌, subst, ◌==◌, ◌++◌, ◌&&◌, append_assoc}
 use Rattle.std.specs.List.{All}
 use Rattle.std.proofs.lemmas.Bool.{or_left, or_right}
-use Rattle.std.proofs.lemmas.List.Elements.{All-cons, All-tail, All-append}
-use Rattle.sq_arena.specs.Entries.{HasDistinctKeys, value_of, first_key}
-use Rattle.sq_arena.proofs.EntriesLaws.{distinct_back}
-use Rattle.sq_isa.specs.Registers.{is_among}
-use Rattle.sq_isa.specs.Branches.{inverse_of}
 use Rattle.sq_isa.specs.declared.instructions.Cond.{Cond}
+use Rattle.sq_isa.specs.Branches.{inverse_of}
 use Rattle.sq_graph.specs.declared.item.Item.{Item}
-use Rattle.sq_graph.specs.declared.item.Term.TheVariants.{Jump, Branch}
-use Rattle.sq_graph.specs.Graph.{Block, Graph}
-use Rattle.sq_graph.specs.Blocks.{named, block_of, block_term, next_of, items_of_blocks, items_of_bodies}
-use Rattle.sq_graph.specs.Leaders.{has_no_items, is_fall, is_bare, follows_a_term, is_leader, FallsIntoLeaders, IsCanonical}
+use Rattle.sq_graph.specs.declared.item.Term.TheVariants.{Branch, Jump}
+use Rattle.sq_graph.specs.Graph.{Graph, Block}
+use Rattle.sq_graph.specs.Blocks.{next_of, named, block_of, block_term, items_of_blocks, items_of_bodies}
 use Rattle.sq_graph.specs.Operations.{with_blocks}
 use Rattle.sq_graph.specs.Rules.{IsGraph}
 use Rattle.sq_graph.specs.Terms.{goes_on}
-use Rattle.sq_graph.specs.Uses.{term_uses, items_uses, terms_uses, code_word_uses, uses}
-use Rattle.sq_graph.proofs.Changes.{with_blocks-at}
-use Rattle.sq_graph.proofs.Eachs.{All-left, All-right}
-use Rattle.sq_graph.proofs.Kept.{absent_behind}
-use Rattle.sq_graph.proofs.Located.{IsAt, located, named-append}
-use Rattle.sq_graph.proofs.Marks.{is_among-append}
-use Rattle.sq_graph.proofs.SlotReads.{block_at}
+use Rattle.sq_graph.specs.Uses.{uses, term_uses, items_uses, terms_uses, code_word_uses}
 use Rattle.sq_patch.specs.LoneJumps.{IsJumpedOver, inverted_over}
-use Rattle.sq_lookup.proofs.Targets.{has_term, IsLone, lone}
-use Rattle.sq_jumps.proofs.ShortenKept.{three_uses}
-use Rattle.sq_jumps.proofs.DetourLeaders.{or_cases, other_way, and_false, one_of_four, absent_tail, absent_parts, falls_on}
-use Rattle.sq_jumps.proofs.Ruled.{here, block_found, behind_it}
+use Rattle.sq_jumps.specs.Invert.{BranchesOverJump, inverted}
+use Rattle.sq_lookup.proofs.Targets.{has_term, lone, IsLone}
+use Rattle.std.proofs.lemmas.List.Elements.{All-cons, All-append, All-tail}
+use Rattle.sq_arena.specs.Entries.{value_of, HasDistinctKeys}
+use Rattle.sq_graph.proofs.Located.{located, IsAt, named-append}
+use Rattle.sq_graph.proofs.SlotReads.{block_at}
+use Rattle.sq_arena.proofs.EntriesLaws.{distinct_back}
+use Rattle.sq_graph.proofs.Kept.{absent_behind}
+use Rattle.sq_num.specs.declared.packed.Savings.{Savings}
+use Rattle.sq_graph.specs.Leaders.{IsCanonical, FallsIntoLeaders, has_no_items, is_fall, is_bare, follows_a_term, is_leader}
+use Rattle.sq_isa.specs.Registers.{is_among}
+use Rattle.sq_pass.specs.declared.cut.Row.TheVariants.{J3}
+use Rattle.sq_pass.specs.Counted.{counted}
+use Rattle.sq_pass.specs.Rewrites.{IsRewritten}
+use Rattle.sq_jumps.specs.Candidates.{IsCandidate, described}
+use Rattle.sq_graph.proofs.Changes.{with_blocks-at}
+use Rattle.sq_graph.proofs.Marks.{is_among-append}
+use Rattle.sq_graph.proofs.Eachs.{All-left, All-right}
+use Rattle.sq_jumps.proofs.Booleans.{or_cases, other_way, and_false, one_of_four}
+use Rattle.sq_jumps.proofs.Leaders.{absent_tail, absent_parts, falls_on, three_uses}
+use Rattle.sq_jumps.proofs.Blocks.{HasFirst, first_is}
+use Rattle.sq_jumps.proofs.InvertApplied.{invert_made, invert_applied}
+use Rattle.sq_jumps.proofs.Rewritten.{kept_rewritten}
+use Rattle.sq_jumps.proofs.Ruled.{behind_it, here, block_found}
 
 -- A BRANCH OVER A LONE JUMP, AND THE INVERTED ONE
 
@@ -155,16 +164,6 @@ pub record StandsOver (g : Graph) (block : ℕ) (cond : Cond) (a b over to : ℕ
   pub over_apart : (block == over) ≡ false
   pub over_behind : value_of (named (n ∷ back)) over ≡ None
 
-pub record HasFirst (bs : List Block) (name : ℕ) : Type 0 where
-  pub block : Block
-  pub rest : List Block
-  pub is : bs ≡ block ∷ rest
-  pub has_name : block.name ≡ name
-
-pub first_is : (bs : List Block) (name : ℕ) → first_key (named bs) ≡ Some name → HasFirst bs name
-first_is [] name e = absurd (cc)
-first_is (b ∷ rest) name e = record { block = b; rest = rest; is = refl; has_name = let same : b.name ≡ name = cc in same }
-
 module _ (g : Graph) (block : ℕ) (cond : Cond) (a b over behind to : ℕ) (rules : IsGraph g) (jumped : IsJumpedOver g block cond a b over behind to) where
   spot : IsAt g.blocks block
   spot = located g.blocks block (has_term g block (Branch cond a b behind) jumped.branch)
@@ -258,9 +257,16 @@ module _ (g : Graph) (block : ℕ) (cond new : Cond) (a b over to : ℕ) (s : St
   pub over_gone : with_blocks (λ c. []) (with_blocks (λ c. record c { term = Branch new a b to } ∷ []) g.blocks block) over ≡ s.front ++ other ∷ s.n ∷ s.back
   over_gone = ap (λ bs. with_blocks (λ c. []) bs over) first_change ∙ second_change ∙ append_assoc s.front (other ∷ []) (s.n ∷ s.back)
 
-pub inverted_canonical : (g : Graph) (block : ℕ) (cond : Cond) (a b over behind to : ℕ) → IsGraph g → IsJumpedOver g block cond a b over behind to → IsCanonical g → IsCanonical (inverted_over g block cond a b over to)
-inverted_canonical g block cond a b over behind to rules jumped canonical =
+pub invert_canonical : (g : Graph) (block : ℕ) (cond : Cond) (a b over behind to : ℕ) → IsGraph g → IsJumpedOver g block cond a b over behind to → IsCanonical g → IsCanonical (inverted_over g block cond a b over to)
+invert_canonical g block cond a b over behind to rules jumped canonical =
     let s = stands_over g block cond a b over behind to rules jumped in
     subst (λ bs. IsCanonical (record g { blocks = bs })) (sym (over_gone g block cond (inverse_of cond) a b over to s))
     (turned_canonical block over to a b cond (inverse_of cond) s.items s.n s.back g s.front s.over_apart s.over_ahead s.over_behind
     (subst (λ bs. IsCanonical (record g { blocks = bs })) s.whole canonical))
+
+-- IN A SWEEP
+
+pub invert_rewritten : (g h : Graph) (block : ℕ) (before after : Savings) → IsGraph g → IsCanonical g → BranchesOverJump g block → h ≡ inverted g block → after ≡ counted before J3 1 → IsRewritten IsCandidate described before after g h
+invert_rewritten g h block before after rules canonical o is counts =
+    kept_rewritten J3 block before after g h o (invert_applied g block rules o)
+    (subst IsCanonical (sym (invert_made g block o.cond o.a o.b o.over o.behind o.to o.jumped)) (invert_canonical g block o.cond o.a o.b o.over o.behind o.to rules o.jumped canonical)) is counts

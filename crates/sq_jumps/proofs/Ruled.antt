@@ -79,8 +79,8 @@ front_ends g b back rules apart lead (p ∷ q ∷ front) e =
 pub ends_without : (g : Graph) (name : ℕ) → IsGraph g → HasBlock g name → IsEntered g name → last_goes_on (without_block g name).blocks ≡ false
 ends_without g name rules has apart =
     let at = located g.blocks name has in
-    let entered : IsEntered g at.block.name = subst (IsEntered g) (sym at.has_name) apart in
-    let front = front_ends g at.block at.back rules entered [] at.front (sym at.whole) in
+    let detour_entered : IsEntered g at.block.name = subst (IsEntered g) (sym at.has_name) apart in
+    let front = front_ends g at.block at.back rules detour_entered [] at.front (sym at.whole) in
     ap last_goes_on (with_blocks-at (λ b. []) g.blocks name at) ∙ ends at.front at.block at.back front (sym (ap last_goes_on at.whole) ∙ rules.ends)
   where
     ends : (front : List Block) (b : Block) (back : List Block) → last_goes_on front ≡ false → last_goes_on (front ++ (b ∷ back)) ≡ false → last_goes_on (front ++ back) ≡ false

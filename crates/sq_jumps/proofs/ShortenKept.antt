@@ -1,25 +1,26 @@
 -- Row C keeps a canonical graph canonical, and its names.
-use Rattle.std.proofs.Common.{◌≡◌, ℕ, zero, suc, ◌+◌, ◌==◌, Bool, true, false, ◌&&◌, ◌||◌, not, List, [], ◌∷◌, ◌++◌, take, length, slice_get, Some, inl, inr, refl, sym, ap, ◌∙◌, subst, arith, append_assoc, append-nil}
-use Rattle.std.proofs.lemmas.Bool.{cases_Bool, eqb-true, eq-eqb, ne_eqb, or_left, or_right}
-use Rattle.std.proofs.lemmas.List.{drop_all}
-use Rattle.std.proofs.lemmas.List.Elements.{All-cons, All-head, All-tail}
+use Rattle.std.proofs.Common.{◌≡◌, ℕ, zero, suc, Bool, true, false, not, ◌||◌, List, [], ◌∷◌, length, slice_get, Some, inl, inr, refl, sym, ap, ◌∙◌, subst, arith, ◌+◌, ◌==◌, ◌++◌, ◌&&◌, take, append_assoc, append-nil}
 use Rattle.std.specs.List.{All}
-use Rattle.sq_isa.specs.Registers.{is_among}
+use Rattle.std.proofs.lemmas.Bool.{cases_Bool, eqb-true, eq-eqb, ne_eqb, or_left, or_right}
 use Rattle.sq_graph.specs.declared.item.Item.{Item}
 use Rattle.sq_graph.specs.declared.item.Item.TheVariants.{Hi}
 use Rattle.sq_graph.specs.declared.item.Term.TheVariants.{PartJump}
-use Rattle.sq_graph.specs.Graph.{Block, Graph}
-use Rattle.sq_graph.specs.Blocks.{block_of, block_items, block_term, items_of_blocks, items_of_bodies}
-use Rattle.sq_graph.specs.Leaders.{has_no_items, is_fall, is_bare, follows_a_term, is_leader, FallsIntoLeaders, IsCanonical}
+use Rattle.sq_graph.specs.Graph.{Graph, Block}
+use Rattle.sq_graph.specs.Blocks.{block_of, block_term, block_items, items_of_blocks, items_of_bodies}
 use Rattle.sq_graph.specs.Operations.{with_blocks, replaced_items}
 use Rattle.sq_graph.specs.Terms.{goes_on}
-use Rattle.sq_graph.specs.Uses.{item_uses, items_uses, term_uses, terms_uses, code_word_uses, uses}
-use Rattle.sq_graph.proofs.Changes.{with_blocks-at}
-use Rattle.sq_graph.proofs.Located.{IsAt, located}
-use Rattle.sq_graph.proofs.Marks.{is_among-append}
+use Rattle.sq_graph.specs.Uses.{uses, term_uses, item_uses, items_uses, terms_uses, code_word_uses}
+use Rattle.sq_lookup.proofs.Targets.{has_term}
+use Rattle.std.proofs.lemmas.List.Elements.{All-cons, All-head, All-tail}
+use Rattle.sq_graph.proofs.Located.{located, IsAt}
 use Rattle.sq_graph.proofs.SlotReads.{block_at}
 use Rattle.sq_patch.specs.Operations.{IsShortable, hastened as short_jump, shortened}
-use Rattle.sq_lookup.proofs.Targets.{has_term}
+use Rattle.sq_graph.specs.Leaders.{IsCanonical, FallsIntoLeaders, has_no_items, is_fall, is_bare, follows_a_term, is_leader}
+use Rattle.sq_isa.specs.Registers.{is_among}
+use Rattle.std.proofs.lemmas.List.{drop_all}
+use Rattle.sq_graph.proofs.Changes.{with_blocks-at}
+use Rattle.sq_graph.proofs.Marks.{is_among-append}
+use Rattle.sq_jumps.proofs.Leaders.{three_uses}
 
 -- TERMS
 
@@ -51,9 +52,6 @@ used_ahead (z ∷ zs) xs ys n same =
 
 without_half : (part to n : ℕ) (rest : List Item) → (to == n) ≡ false → is_among (items_uses (Hi part to ∷ rest)) n ≡ is_among (items_uses rest) n
 without_half part to n rest apart = ap (λ b. b || is_among (items_uses rest) n) apart
-
-pub three_uses : (words terms items : List ℕ) (n : ℕ) → is_among (words ++ (terms ++ items)) n ≡ (is_among words n || (is_among terms n || is_among items n))
-three_uses words terms items n = is_among-append words (terms ++ items) n ∙ ap (λ b. is_among words n || b) (is_among-append terms items n)
 
 used_by_term : (entry : ℕ) (words terms items : List ℕ) (n : ℕ) → is_among terms n ≡ true → is_among (entry ∷ (words ++ (terms ++ items))) n ≡ true
 used_by_term entry words terms items n used =
@@ -210,7 +208,7 @@ module _ (g : Graph) (block at link part to : ℕ) (can : IsShortable g block at
       changed_twice (λ b. record b { items = replaced_items b.items at 1 [] }) (λ b. record b { term = short_jump link to }) g.blocks block spot (λ b. refl)
       ∙ ap (λ items. spot.front ++ record { name = spot.block.name; items = items; term = short_jump link to } ∷ spot.back) (without_last spot.block.items at last)
 
-  pub shortened_canonical : IsCanonical g → IsCanonical (shortened g block at link to)
-  shortened_canonical canonical =
+  pub shorten_canonical : IsCanonical g → IsCanonical (shortened g block at link to)
+  shorten_canonical canonical =
       subst (λ bs. IsCanonical (record g { blocks = bs })) (sym blocks_after)
       (short_canonical spot.block.name link part to (take at spot.block.items) spot.back g spot.front (subst (λ bs. IsCanonical (record g { blocks = bs })) blocks_before canonical))

@@ -1,16 +1,16 @@
 -- What there is and what is spare add up to the same.
-use Rattle.std.proofs.Common.{◌≡◌, ℕ, ◌+◌, ◌-◌, ◌<◌, List, [], ◌∷◌, ◌++◌, take, drop, length, refl, ap, ◌∙◌, subst, arith, length-append}
-use Rattle.std.proofs.lemmas.List.{length-map, length-take, length-drop}
-use Rattle.sq_graph.specs.declared.parts.Room.{Room}
+use Rattle.std.proofs.Common.{◌≡◌, ℕ, ◌-◌, ◌<◌, List, [], ◌∷◌, length, refl, ap, ◌∙◌, subst, arith, ◌+◌, ◌++◌, take, drop, length-append}
 use Rattle.sq_graph.specs.declared.item.Item.{Item}
 use Rattle.sq_graph.specs.declared.item.Term.{Term}
-use Rattle.sq_graph.specs.Graph.{Block, Graph}
-use Rattle.sq_graph.specs.Blocks.{HasBlock, block_items, items_of, items_of_blocks, items_of_bodies, all_items}
-use Rattle.sq_graph.specs.Operations.{with_blocks, with_term, without_block, redirected, replaced, replaced_items}
-use Rattle.sq_graph.specs.Renames.{retargeted_item, retargeted_block, retargeted_procedure, swapped}
-use Rattle.sq_graph.specs.Room.{count_of, sum_of}
-use Rattle.sq_graph.proofs.Located.{IsAt, located, items_of_blocks-append}
+use Rattle.sq_graph.specs.Graph.{Graph, Block}
+use Rattle.sq_graph.specs.Blocks.{items_of, HasBlock, block_items, items_of_blocks, items_of_bodies, all_items}
+use Rattle.sq_graph.specs.Operations.{redirected, without_block, with_blocks, with_term, replaced, replaced_items}
+use Rattle.sq_graph.specs.declared.parts.Room.{Room}
+use Rattle.sq_graph.specs.Renames.{retargeted_block, swapped, retargeted_item, retargeted_procedure}
+use Rattle.sq_graph.specs.Room.{GraphAndRoom, KeepsTotal, count_of, sum_of}
+use Rattle.sq_graph.proofs.Located.{located, IsAt, items_of_blocks-append}
 use Rattle.sq_graph.proofs.SlotReads.{block_at}
+use Rattle.std.proofs.lemmas.List.{length-map, length-take, length-drop}
 use Rattle.sq_graph.proofs.Changes.{with_blocks-at, items_of_blocks-changed}
 use Rattle.sq_graph.proofs.RetargetRules.{all_items-other}
 use Rattle.sq_graph.proofs.Sizes.{same_room}
@@ -109,3 +109,13 @@ emptied_total g block spare has =
     (omega (arith, blocks))
     (omega (arith, own, none, items, ap (λ items. length items) is, length-append (items_of_blocks (with_blocks (λ b. record b { items = replaced_items b.items 0 (length (items_of g block)) [] } ∷ []) g.blocks block)) (items_of_bodies g.procedures), length-append (items_of_blocks g.blocks) (items_of_bodies g.procedures)))
     refl
+
+-- what there is and what is spare, of a graph that is known
+pub total_by : (old new : GraphAndRoom) (h : Graph) (spare : Room) → new.graph ≡ h → new.spare ≡ spare → sum_of (count_of h) spare ≡ sum_of (count_of old.graph) old.spare → KeepsTotal old new
+total_by old new h spare is left total = ap (λ (g : Graph). sum_of (count_of g) new.spare) is ∙ ap (λ (r : Room). sum_of (count_of h) r) left ∙ total
+
+-- what is spare once a block is gone
+pub removed_spare : (old spare : Room) (count : Graph → ℕ) (g h : Graph) → old ≡ spare → g ≡ h
+    → record old { blocks = old.blocks + 1; items = old.items + count g } ≡ record spare { blocks = spare.blocks + 1; items = spare.items + count h }
+removed_spare old spare count g h left same =
+    ap (λ (r : Room). record r { blocks = r.blocks + 1; items = r.items + count g }) left ∙ ap (λ (k : Graph). record spare { blocks = spare.blocks + 1; items = spare.items + count k }) same

@@ -6,9 +6,9 @@ use Rattle.sq_pass.specs.declared.cut.Cut.{Cut}
 use Rattle.sq_pass.specs.declared.cut.Row.{Row}
 use Rattle.sq_pass.specs.declared.cut.Row.TheVariants.{U, J1, J2, J3, C}
 use Rattle.sq_jumps.specs.Fall.{JumpsToNext, falling}
-use Rattle.sq_jumps.specs.Detour.{IsDetour, straightened}
+use Rattle.sq_jumps.specs.Detour.{IsDetour, without_detour}
 use Rattle.sq_jumps.specs.Invert.{BranchesOverJump, inverted}
-use Rattle.sq_jumps.specs.Shorten.{JumpsByDeadPart, hastened}
+use Rattle.sq_jumps.specs.Shorten.{JumpsByDeadPart, shortened_at}
 use Rattle.sq_jumps.specs.Unreached.{AreUnreached, words_gone, without_all}
 
 -- the block is one that the row is for
@@ -62,9 +62,9 @@ only_block (block ∷ rest) = block
 abbrev pub rewritten : Row → Graph → List ℕ → Graph
 rewritten U g blocks = without_all g blocks
 rewritten J1 g blocks = falling g (only_block blocks)
-rewritten J2 g blocks = straightened g (only_block blocks)
+rewritten J2 g blocks = without_detour g (only_block blocks)
 rewritten J3 g blocks = inverted g (only_block blocks)
-rewritten C g blocks = hastened g (only_block blocks)
+rewritten C g blocks = shortened_at g (only_block blocks)
 rewritten row g blocks = g
 
 abbrev pub described : Graph → Cut → Graph

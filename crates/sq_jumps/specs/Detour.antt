@@ -4,7 +4,7 @@ use Rattle.sq_isa.specs.declared.instructions.Cond.{Cond}
 use Rattle.sq_graph.specs.declared.item.Term.TheVariants.{Branch}
 use Rattle.sq_graph.specs.Graph.{Graph}
 use Rattle.sq_graph.specs.Blocks.{term_of}
-use Rattle.sq_patch.specs.LoneJumps.{IsPassable, without_jump}
+use Rattle.sq_patch.specs.LoneJumps.{IsDetourTo, without_jump}
 use Rattle.sq_layout.specs.Branches.{BranchReaches}
 use Rattle.sq_graph.specs.Resolve.{jump_from}
 use Rattle.sq_isa.specs.Registers.{is_among}
@@ -16,16 +16,16 @@ use Rattle.sq_jumps.specs.UnreachedClear.{AreOnce}
 -- the target once it is gone
 pub record IsDetour (g : Graph) (block : ℕ) : Type 0 where
   pub to : ℕ
-  pub passable : IsPassable g block to
+  pub leads : IsDetourTo g block to
   pub near : (from : ℕ) (cond : Cond) (a b : ℕ) → term_of g from ≡ Some (Branch cond a b block) → BranchReaches (without_jump g block to) from to
 
 -- J2: the block gives all its names to its target, and goes
-abbrev pub straightened_to : Graph → ℕ → Option ℕ → Graph
-straightened_to g block None = g
-straightened_to g block (Some to) = without_jump g block to
+abbrev pub without_detour_to : Graph → ℕ → Option ℕ → Graph
+without_detour_to g block None = g
+without_detour_to g block (Some to) = without_jump g block to
 
-abbrev pub straightened : Graph → ℕ → Graph
-straightened g block = straightened_to g block (jump_from g block)
+abbrev pub without_detour : Graph → ℕ → Graph
+without_detour g block = without_detour_to g block (jump_from g block)
 
 -- Detours that go together: something names each, and none leads to another of them.
 pub record GoTogether (g : Graph) (gone : List ℕ) : Type 0 where

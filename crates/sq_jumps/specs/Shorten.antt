@@ -19,12 +19,12 @@ pub record JumpsByDeadPart (g : Graph) (block : ℕ) : Type 0 where
   pub shortable : IsShortable g block at link part to
 
 -- C: the last item goes, and the PartJump becomes a Call, or a Jump where the link is x0
-abbrev pub hastened_by : Graph → ℕ → Option Term → Graph
-hastened_by g block (Some (PartJump link part to)) = shortened g block (length (items_of g block) - 1) link to
-hastened_by g block term = g
+abbrev pub shortened_by : Graph → ℕ → Option Term → Graph
+shortened_by g block (Some (PartJump link part to)) = shortened g block (length (items_of g block) - 1) link to
+shortened_by g block term = g
 
-abbrev pub hastened : Graph → ℕ → Graph
-hastened g block = hastened_by g block (term_of g block)
+abbrev pub shortened_at : Graph → ℕ → Graph
+shortened_at g block = shortened_by g block (term_of g block)
 
 -- These sets are the live registers of a graph before this one, and what was dead there at the start of a block is dead
 -- at that block's start still.

@@ -16,7 +16,7 @@ ghost use Rattle.sq_graph.specs.Leaders.{IsCanonical};
 ghost use Rattle.sq_graph.specs.Words.{words_of};
 ghost use Rattle.sq_follow.specs.Follows.{Follows};
 ghost use Rattle.sq_pass.specs.Rewrites.{IsRewritten};
-ghost use Rattle.sq_jumps.specs.Detour.{IsDetour, straightened, GoTogether, GoesToo, AreChosen};
+ghost use Rattle.sq_jumps.specs.Detour.{IsDetour, without_detour, GoTogether, GoesToo, AreChosen};
 
 use crate::survey::{Survey, survey_of};
 use sq_graph::Graph;
@@ -41,9 +41,9 @@ pub(crate) fn is_detour(graph: &Graph, survey: &Survey, block: u32) -> bool
 }
 
 /// Gives the names of the block to its target, and removes it.
-pub(crate) fn straighten(graph: &mut Graph, block: u32)
+pub(crate) fn remove_detour(graph: &mut Graph, block: u32)
     requires { IsDetour graph.old.graph block }
-    ensures graph { graph.new.graph ≡ straightened graph.old.graph block }
+    ensures graph { graph.new.graph ≡ without_detour graph.old.graph block }
     ensures total { KeepsTotal graph.old graph.new }
 {
     learn(graph);
@@ -114,7 +114,7 @@ fn detours_together(alloc: Global, graph: &Graph) -> Result<Vec<u32>, Memory>
 
 /// Gives the names of each of these blocks to its target, by row J2. That leaves the graph canonical, and the others go
 /// together still.
-fn straighten_each(graph: &mut Graph, blocks: &[u32], savings: Savings) -> Savings
+fn remove_detours(graph: &mut Graph, blocks: &[u32], savings: Savings) -> Savings
     requires canonical { IsCanonical graph.old.graph }
     requires detours { GoTogether graph.old.graph blocks.now }
     requires words { words_of graph.old.graph + words_saved savings ≤ 1048576 }
@@ -127,7 +127,7 @@ fn straighten_each(graph: &mut Graph, blocks: &[u32], savings: Savings) -> Savin
     let mut after = savings;
     for block in blocks {
         learn(graph);
-        straighten(graph, *block);
+        remove_detour(graph, *block);
         after = done.count(after);
     }
     after
@@ -154,7 +154,7 @@ pub(crate) fn sweep_detours(
         if detours.is_empty() {
             return Ok(after);
         }
-        after = straighten_each(graph, &detours, after);
+        after = remove_detours(graph, &detours, after);
     }
     Ok(after)
 }

@@ -21,7 +21,7 @@ ghost use Rattle.sq_jumps.specs.Invert.{BranchesOverJump};
 ghost use Rattle.sq_jumps.specs.Candidates.{HasRow, IsJumpCut, rewritten};
 
 use crate::cut::{cut_at, no_register, only_block};
-use crate::detour::{is_detour, straighten, sweep_detours};
+use crate::detour::{is_detour, remove_detour, sweep_detours};
 use crate::fall::{fall, jumps_to_next, sweep_falls};
 use crate::invert::{branches_over_jump, invert, sweep_branches};
 use crate::shorten::{jumps_by_dead_part, shorten, sweep_calls};
@@ -57,7 +57,7 @@ pub(crate) fn jump_row(graph: &Graph, survey: &Survey, block: u32) -> Option<Row
 }
 
 /// The row for which a block is a candidate.
-fn row_at(graph: &Graph, live: &Liveness, survey: &Survey, block: u32) -> Option<Row>
+pub(crate) fn row_at(graph: &Graph, live: &Liveness, survey: &Survey, block: u32) -> Option<Row>
     requires block { HasBlock graph.now.graph block }
     requires live { IsLivenessOf graph.now.graph live.now }
     requires survey { IsSurvey graph.now.graph (number_at survey.now.addresses) survey.now.used survey.now.needed }
@@ -175,7 +175,7 @@ pub(crate) fn apply_row(graph: &mut Graph, row: Row, block: u32)
     learn(graph);
     match row {
         Row::J1 => fall(graph, block),
-        Row::J2 => straighten(graph, block),
+        Row::J2 => remove_detour(graph, block),
         Row::J3 => invert(graph, block),
         Row::C => shorten(graph, block),
         _ => unreachable!(),

@@ -9,6 +9,7 @@ mod detour;
 mod fall;
 mod invert;
 mod jumps;
+mod proposals;
 mod shorten;
 mod survey;
 mod sweep;
@@ -16,3 +17,4 @@ mod unreached;
 mod uses;
 
 pub use jumps::Jumps;
+pub use proposals::propose;

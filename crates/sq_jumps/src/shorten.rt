@@ -16,7 +16,7 @@ ghost use Rattle.sq_graph.specs.Parts.{names_of};
 ghost use Rattle.sq_graph.specs.Words.{words_of};
 ghost use Rattle.sq_follow.specs.Follows.{Follows};
 ghost use Rattle.sq_pass.specs.Rewrites.{IsRewritten};
-ghost use Rattle.sq_jumps.specs.Shorten.{JumpsByDeadPart, hastened, IsStillDead};
+ghost use Rattle.sq_jumps.specs.Shorten.{JumpsByDeadPart, shortened_at, IsStillDead};
 
 use sq_graph::{Graph, Item, Term};
 use sq_isa::Reg;
@@ -61,7 +61,7 @@ fn short_jump(link: Reg, to: u32) -> Term
 /// Drops the last item, the upper half, and makes the PartJump a Call, or a Jump where its link is x0.
 pub(crate) fn shorten(graph: &mut Graph, block: u32)
     requires { JumpsByDeadPart graph.old.graph block }
-    ensures graph { graph.new.graph ≡ hastened graph.old.graph block }
+    ensures graph { graph.new.graph ≡ shortened_at graph.old.graph block }
     ensures total { KeepsTotal graph.old graph.new }
 {
     learn(graph);

@@ -137,9 +137,9 @@ module _ (g : Graph) (block at procedure : ℕ) (rules : IsGraph g) (callable : 
   calls b k =
       let each = bodies_stay every (live g) (Unit {0}) g h rules (λ n c. tt) refl refl (λ n c. tt) p here in
       let inner : Alike C b None (map line_of p.body ++ later) (inside p later) =
-      subst (λ items. Alike C b None (map line_of p.body ++ later) (map line_of items ++ (Return p.link ∷ later))) (own_items p.body) (carry_items C own p.body later (Return p.link ∷ later) each (return_after k)) in
+      subst (λ items. Alike C b None (map line_of p.body ++ later) (map line_of items ++ (Return p.link ∷ later))) (own_items p.body) (carry_items C own p.body later (Return p.link ∷ later) each (return_after tt k)) in
       subst (λ items. Alike C b None (map line_of items ++ later) (Enter procedure ∷ later)) (sym before_is)
-      (enter_after {m = None} {m' = None} p found.1 (λ r s l n. (let same : s ≡ r = n in subst (λ k. is_register p.link k ≡ false) (sym same) (is_other g p.link r (map line_of p.body ++ later) dead_before_it l), n)) inner)
+      (enter_after {m = None} {m' = None} tt p found.1 (λ r s l n. (let same : s ≡ r = n in subst (λ k. is_register p.link k ≡ false) (sym same) (is_other g p.link r (map line_of p.body ++ later) dead_before_it l), n)) inner)
 
   no_lowers : (m : ℕ) → Contains (flat_map lower_names by) m → Contains (code_targets g) m
   no_lowers m c = absurd (let l : c.0 < 0 = c.1 in omega arith)

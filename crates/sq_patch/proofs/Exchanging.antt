@@ -34,7 +34,7 @@ use Rattle.sq_patch.proofs.Carrying.{same_some, AreOf, ItemGoes, carry_items, Ba
 use Rattle.sq_patch.proofs.Layouts.{passed, Turn, choose}
 use Rattle.sq_patch.proofs.Restricting.{own, block_target, target_from}
 use Rattle.sq_patch.proofs.Standing.{stands_at, distinct_at, block_at, there_by_term}
-use Rattle.sq_patch.proofs.Passing.{lone_block, lone_lines}
+use Rattle.sq_patch.proofs.Detouring.{lone_block, lone_lines}
 use Rattle.sq_patch.proofs.Moving.{term_use}
 use Rattle.sq_patch.proofs.Used.{contains_first}
 use Rattle.sq_patch.proofs.Placing.{C as placing, items_stay, placed_follows, placed_sound, placed_place}
@@ -148,12 +148,12 @@ module _ (g : Graph) (block : ℕ) (cond : Cond) (a b over away to : ℕ) (rules
   away_goes : Alike C true None (block_lines g away) (lines_of (m ∷ back))
   away_goes =
       subst (λ lines. Alike C true None (block_lines g away) (Name n.name ∷ lines)) (sym jump_after_lines)
-      (name_after (jump_after (promised (refl, away_other))))
+      (name_after (jump_after tt (promised (refl, away_other))))
 
   to_goes : Alike C true None (lines_of (n ∷ back)) (block_lines h to)
   to_goes =
       subst (λ lines. Alike C true None (Name n.name ∷ lines) (block_lines h to)) (sym jump_before_lines)
-      (name_before (jump_before (promised (refl, to_other))))
+      (name_before (jump_before tt (promised (refl, to_other))))
 
   ended : (t : Bool) → Alike C t None (term_lines x.term (lines_of (n ∷ back))) (End turned ∷ lines_of (m ∷ back))
   ended t =

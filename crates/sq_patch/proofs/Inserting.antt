@@ -159,7 +159,7 @@ module _ (g : Graph) (new block next : ℕ) (rules : IsGraph g) (fresh : IsNew g
   -- the slot behind the block goes on like the Jump to it
   detour : (b : Bool) → Alike C b None back (lines_of (jump ∷ w ∷ rest))
   detour b =
-      name_before (name_after (jump_after (subst (λ lines. Alike C b None (body_lines w (lines_of rest)) lines) (sym next_leads) (next_goes b))))
+      name_before (name_after (jump_after tt (subst (λ lines. Alike C b None (body_lines w (lines_of rest)) lines) (sym next_leads) (next_goes b))))
 
   linked : links x.term ≡ true → MayHold w.name new
   linked l =
@@ -214,7 +214,7 @@ module _ (g : Graph) (new block next : ℕ) (rules : IsGraph g) (fresh : IsNew g
         | inr e ↦
             subst (λ k. Alike C false None (block_lines g n) (block_lines h k)) (sym e.1)
             (subst (λ ys. Alike C false None (block_lines g n) ys) (sym jump_leads)
-            (jump_after (subst (λ k. Alike C false None (block_lines g n) (block_lines h k)) e.0 (same n j.0))))
+            (jump_after tt (subst (λ k. Alike C false None (block_lines g n) (block_lines h k)) e.0 (same n j.0))))
       ]
 
   values : (n m : ℕ) → MayHold n m → Contains (code_targets g) n × MayGo n m

@@ -36,7 +36,7 @@ use Rattle.sq_patch.proofs.Carrying.{same_some, carry_body}
 use Rattle.sq_patch.proofs.Layouts.{passed, Turn, carries_lines, none_in}
 use Rattle.sq_patch.proofs.Restricting.{own, target_from}
 use Rattle.sq_patch.proofs.Standing.{stands_at, distinct_at, block_at, there_by_term}
-use Rattle.sq_patch.proofs.Passing.{lone_block, lone_lines}
+use Rattle.sq_patch.proofs.Detouring.{lone_block, lone_lines}
 use Rattle.sq_patch.proofs.Moving.{term_use}
 use Rattle.sq_patch.proofs.Used.{contains_first}
 use Rattle.sq_graph.specs.Uses.{term_uses}
@@ -250,7 +250,7 @@ module _ (g : Graph) (block : ℕ) (cond : Cond) (a b over behind to : ℕ) (rul
   detour : Alike C true None (lines_of (n ∷ back)) (block_lines h to)
   detour =
       subst (λ lines. Alike C true None (Name n.name ∷ lines) (block_lines h to)) (sym (lone_lines n.items n.term n.name to (lines_of back) stand.lone.0 stand.lone.1))
-      (name_before (jump_before (promised (refl, to_other))))
+      (name_before (jump_before tt (promised (refl, to_other))))
 
   ended : (t : Bool) → Alike C t None (term_lines stand.x.term (lines_of (n ∷ back))) (term_lines turned (lines_of back))
   ended t = subst (λ u. Alike C t None (term_lines u (lines_of (n ∷ back))) (End turned ∷ lines_of back)) (sym stand.branch) (both_turned cond a b behind to target_goes detour)

@@ -25,6 +25,7 @@ staying K X Z g h = record {
   Mode = NoMode;
   StandsIn = no_stands;
   Sound = Z;
+  MaySkip = Unit {0};
 }
 
 -- every register

@@ -22,7 +22,7 @@ pub mod Layouts
 pub mod Restricting
 pub mod Standing
 mod Remaining
-pub mod Passing
+pub mod Detouring
 mod Relating
 mod Placing
 mod Ending

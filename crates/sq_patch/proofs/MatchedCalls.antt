@@ -141,10 +141,10 @@ module _ (g : Graph) (block at procedure : ℕ) (rules : IsGraph g) (callable : 
   -- the items go on like the call
   calls : (b : Bool) → Alike C b None later later → Alike C b None (map line_of before ++ later) (map line_of by ++ later)
   calls b k =
-      enter_after {m = None} {m' = Some (in_mode Holds Goes (live g) (Unit {0}) g h before p.body p.link match free [])} p found.1
+      enter_after {m = None} {m' = Some (in_mode Holds Goes (live g) (Unit {0}) g h before p.body p.link match free [])} tt p found.1
       (λ r s l n. (n.link, at_first Holds Goes (live g) (Unit {0}) g h before p.body p.link match free r s n))
       (matched Holds Goes (live g) (Unit {0}) g h before p.body p.link match free stay b later (Return p.link ∷ later) each
-      (λ ws. return_after (shift (at_last Holds Goes (live g) (Unit {0}) g h before p.body p.link match free ws later pairs_die (λ r l. is_other g p.link r later dead l)) k)))
+      (λ ws. return_after tt (shift (at_last Holds Goes (live g) (Unit {0}) g h before p.body p.link match free ws later pairs_die (λ r l. is_other g p.link r later dead l)) k)))
 
   no_lowers : (m : ℕ) → Contains (flat_map lower_names by) m → Contains (code_targets g) m
   no_lowers m c = absurd (let l : c.0 < 0 = c.1 in omega arith)

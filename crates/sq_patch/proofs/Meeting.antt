@@ -195,8 +195,8 @@ module _ (Mode : Type 0) (StandsIn : Mode → ℕ → ℕ → Type 0) (X : List 
   -- such terms go on alike, once both sides have taken a step
   pub meet : {t u : Term} {s o : Option ℕ} → EndsMeet (Joint g) t u s o → (links t ≡ true → Targets s) → Alike C true None (term_lines t (slot_lines g.blocks s)) (term_lines u (slot_lines h.blocks o))
   meet (both_fall {s = s} {o = o} j) k = slots_go s o j
-  meet (fall_jumps j) k = name_before (jump_after (promised j))
-  meet (jump_falls j) k = jump_before (name_after (promised j))
+  meet (fall_jumps j) k = name_before (jump_after tt (promised j))
+  meet (jump_falls j) k = jump_before tt (name_after (promised j))
   meet (both_jump {n = n} {m = m} j) k = both_end (Jump n) (λ i. m) j (λ q. absurd (cc)) (λ q. absurd (cc))
   meet (both_branch {c = c} {a = a} {b = b} {n = n} {m = m} {s = s} {o = o} j l) k = both_end (Branch c a b n) (λ i. m) j (λ q. slots_go s o l) (λ q. absurd (cc))
   meet (both_call {l = l} {n = n} {m = m} {s = s} {o = o} j i) k = both_end (Call l n) (λ i. m) j (λ q. absurd (cc)) (λ q. slots_hold s o i (k q))

@@ -32,7 +32,7 @@ use Rattle.sq_patch.proofs.Carrying.{same_some, AreOf, ItemGoes, carry_items, ca
 use Rattle.sq_patch.proofs.Layouts.{Turn, choose}
 use Rattle.sq_patch.proofs.Restricting.{own, flat_from, block_target, slot_targets}
 use Rattle.sq_patch.proofs.Standing.{stands_at, distinct_at, block_at}
-use Rattle.sq_patch.proofs.Passing.{lone_block, lone_lines, jump_lines, jumps_from}
+use Rattle.sq_patch.proofs.Detouring.{lone_block, lone_lines, jump_lines, jumps_from}
 use Rattle.sq_patch.proofs.Relating.{items_stay, same_names, placed_follows, placed_sound, placed_place}
 use Rattle.sq_patch.proofs.Remaining.{AlikeAt, fits_at, fits_take, items_at, first_at}
 use Rattle.std.proofs.lemmas.Bool.{eqb-true}
@@ -288,7 +288,7 @@ module _ (g : Graph) (dropped at kept : ℕ) (rules : IsGraph g) (can : HaveEnds
       end_goes b =
           let other_end = term_lines k.term (slot_lines h.blocks (next_of g kept)) in
           let met : Alike C true None end other_end = subst (λ lines. Alike C true None (term_lines x.term lines) other_end) (sym slot_is) (meet Mode StandsIn X Z g h ends_meet slot_targeted) in
-          jump_after (subst (λ lines. Alike C b None (map line_of out ++ end) lines) (sym kept_lines) (goes b other_end met))
+          jump_after tt (subst (λ lines. Alike C b None (map line_of out ++ end) lines) (sym kept_lines) (goes b other_end met))
 
       body : (b : Bool) → Alike C b None (body_lines x (lines_of back)) (body_lines y (lines_of back))
       body b =
@@ -321,12 +321,12 @@ module _ (g : Graph) (dropped at kept : ℕ) (rules : IsGraph g) (can : HaveEnds
       walk_before : (n r : ℕ) (ys : List Line) → Hops g n r → Alike C false None (block_lines g r) ys → Alike C false None (block_lines g n) ys
       walk_before n r ys stop p = p
       walk_before n r ys (hop {m = m} e later) p =
-          let o = jump_lines g rules n m e in subst (λ xs. Alike C false None xs ys) (sym o.1) (jump_before (walk_before m r ys later p))
+          let o = jump_lines g rules n m e in subst (λ xs. Alike C false None xs ys) (sym o.1) (jump_before tt (walk_before m r ys later p))
 
       walk_after : (n r : ℕ) (xs : List Line) → Hops g n r → Alike C false None xs (block_lines h r) → Alike C false None xs (block_lines h n)
       walk_after n r xs stop p = p
       walk_after n r xs (hop {m = m} e later) p =
-          let o = jumps_on n m e in subst (λ ys. Alike C false None xs ys) (sym o.1) (jump_after (walk_after m r xs later p))
+          let o = jumps_on n m e in subst (λ ys. Alike C false None xs ys) (sym o.1) (jump_after tt (walk_after m r xs later p))
 
       names : (n m : ℕ) → Joint g n m → Alike C false None (block_lines g n) (block_lines h m)
       names n m j = walk_before n j.0 (block_lines h m) j.1.0 (walk_after m j.0 (block_lines g j.0) j.1.1 (same j.0))

@@ -29,14 +29,16 @@ use Rattle.sq_patch.specs.LiveAgreement.{SlotIsTarget, MakeTargets}
 use Rattle.sq_patch.specs.Changes.{Change, IsNamedHalf, SameSlot, Alike, IsSteady, both_do, both_enter, both_return, both_end, guarded}
 use Rattle.sq_patch.proofs.LiveSteps.{own_registers, own_sources}
 use Rattle.sq_patch.proofs.LiveTargets.{inside_makes, word_target}
-use Rattle.sq_patch.proofs.Patch.{change_follows}
+use Rattle.sq_patch.specs.Operations.{KeepsStep}
+use Rattle.sq_patch.proofs.Patch.{change_follows, change_keeps_step}
 use Rattle.sq_patch.proofs.Keeping.{NoMode, no_stands, all_matter, every_carrier}
 use Rattle.sq_patch.proofs.Lines.{ItemMakes, items_made as items_made_in}
 use Rattle.sq_patch.proofs.Used.{contains_first, contains_later, flat_contains, from_slice, slice_there, item_called, block_item, body_item, body_calls_none}
 
--- The change in which a name n of K becomes f n: it may be gone to, and where it is a code target it may be held.
-abbrev pub moving : (ℕ → Type 0) → (ℕ → ℕ) → Graph → Graph → Change
-moving K f g h = record {
+-- The change in which a name n of K becomes f n: it may be gone to, and where it is a code target it may be held. One side
+-- may make steps by itself, or neither.
+abbrev pub moving : Type 0 → (ℕ → Type 0) → (ℕ → ℕ) → Graph → Graph → Change
+moving may K f g h = record {
   before = g;
   after = h;
   MayHold = λ n m. (m ≡ f n) × (K n × Contains (code_targets g) n);
@@ -46,6 +48,7 @@ moving K f g h = record {
   Mode = NoMode;
   StandsIn = no_stands;
   Sound = Unit {0};
+  MaySkip = may;
 }
 
 -- what a block's term, and an item, uses is used
@@ -79,7 +82,7 @@ procedure_moved f ps q p e = slice_get-map (retargeted_procedure f) ps q ∙ ap 
 
 module _ (K : ℕ → Type 0) (f : ℕ → ℕ) (g h : Graph) (rules : IsGraph g) (used : (n : ℕ) → Contains (uses g) n → K n) (called : (q : ℕ) (p : Procedure) → slice_get g.procedures q ≡ Some p → slice_get h.procedures q ≡ Some (retargeted_procedure f p)) where
   abbrev pub M : Change
-  M = moving K f g h
+  M = moving ⊥ K f g h
 
   -- what is asked of an item that makes an address
   abbrev pub Makes : Item → Type 0
@@ -227,3 +230,13 @@ module _ (K : ℕ → Type 0) (f : ℕ → ℕ) (g h : Graph) (rules : IsGraph g
         (ap (λ ws. map word_address ws) words ∙ same_addresses f g.code_words)
         (ap (λ ws. map word_name ws) words ∙ other_names f g.code_words)
         word_held
+
+    -- it keeps step, too
+    pub moved_keeps_step : h.entry ≡ f g.entry → h.code_words ≡ retargeted_words f g.code_words → KeepsStep g h
+    moved_keeps_step entry words =
+        change_keeps_step M steady (λ may. may)
+        (record {
+          entry = (entry, used g.entry (contains_first g.entry (code_word_uses g.code_words ++ (terms_uses g.blocks ++ items_uses (all_items g)))));
+          names = ap (λ ws. map word_name ws) words ∙ other_names f g.code_words;
+          held = word_held;
+        })

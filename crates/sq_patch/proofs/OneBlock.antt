@@ -78,7 +78,7 @@ module _ (g : Graph) (block n : ℕ) (rules : IsGraph g) (jumps : term_of g bloc
       (subst (λ xs. Alike C b None xs (lines_of (w ∷ bs))) (sym leads) (name_after (body_itself every all_matter (Unit {0}) g h rules (λ m c. tt) refl refl (λ m c. tt) b (at.front ++ at.block ∷ []) w bs there)))
 
   ended : (b : Bool) → Alike C b None (term_lines at.block.term (lines_of at.back)) (lines_of at.back)
-  ended b = subst (λ t. Alike C b None (term_lines t (lines_of at.back)) (lines_of at.back)) (sym falls_from) (jump_before (slot_goes b at.back refl slot_first))
+  ended b = subst (λ t. Alike C b None (term_lines t (lines_of at.back)) (lines_of at.back)) (sym falls_from) (jump_before tt (slot_goes b at.back refl slot_first))
 
   turn : Turn C own every true true (at.block ∷ []) (record at.block { term = Fall } ∷ []) at.back at.back
   turn = term_turn every all_matter (Unit {0}) g h rules (λ m c. tt) refl refl (λ m c. tt) at.block [] at.back Fall (stands_at g rules at.front at.block at.back whole) ended (λ m k. refl) (λ m l c. absurd (cc))
@@ -217,7 +217,7 @@ module _ (g : Graph) (block at rd to : ℕ) (rules : IsGraph g) (there : slice_g
   drops : (b : Bool) → Alike DC b None dlater dlater → Alike DC b None (map line_of dbefore ++ dlater) dlater
   drops b k =
       subst (λ items. Alike DC b None (map line_of items ++ dlater) dlater) (sym (one_item dspot.block.items at (Hi rd to) hi_there))
-      (dead_before refl (λ r l. unwritten g rd r dlater dead_there l) k)
+      (dead_before tt refl (λ r l. unwritten g rd r dlater dead_there l) k)
 
   no_lowers : (m : ℕ) → Contains (flat_map lower_names []) m → Contains (code_targets g) m
   no_lowers m c = absurd (let l : c.0 < 0 = c.1 in omega arith)
@@ -316,10 +316,10 @@ module _ (g : Graph) (block at q : ℕ) (rules : IsGraph g) (there : slice_get (
   inlines b k =
       let each = bodies_stay every (live g) (IsSound g) g ih rules (λ n c. tt) refl refl (λ n c. tt) p here in
       let inner : Alike IC b None (inside p ilater) (map line_of p.body ++ ilater) =
-      subst (λ items. Alike IC b None (inside p ilater) (map line_of items ++ ilater)) (own_items p.body) (carry_items IC own p.body (Return p.link ∷ ilater) ilater each (return_before k)) in
+      subst (λ items. Alike IC b None (inside p ilater) (map line_of items ++ ilater)) (own_items p.body) (carry_items IC own p.body (Return p.link ∷ ilater) ilater each (return_before tt k)) in
       subst (λ items. Alike IC b None (map line_of items ++ ilater) (map line_of by ++ ilater)) (sym (one_item ispot.block.items at (Out q) out_there))
       (subst (λ items. Alike IC b None (Enter q ∷ ilater) (map line_of items ++ ilater)) (sym by_is)
-      (enter_before {m = None} {m' = None} p found.1 (λ r t x n z. n) (λ sound r l. is_other g p.link r (inside p ilater) (link_dead sound) l) inner))
+      (enter_before {m = None} {m' = None} tt p found.1 (λ r t x n z. n) (λ sound r l. is_other g p.link r (inside p ilater) (link_dead sound) l) inner))
 
   -- a body calls nothing
   body_dies : (items : List Item) (lines : List Line) → ((item : Item) → Contains items item → item_calls item ≡ []) → LinksDieIn ih lines → LinksDieIn ih (map line_of items ++ lines)

@@ -14,8 +14,8 @@ use Rattle.sq_isa.specs.declared.instructions.Insn.{Insn}
 use Rattle.sq_isa.specs.declared.instructions.Insn.TheVariants.{OpImm}
 use Rattle.sq_isa.specs.declared.instructions.ImmOp.TheVariants.{Addi}
 use Rattle.sq_runs.specs.Runs.{Went, Ended, Broke}
-use Rattle.sq_runs.specs.Simulation.{Matches, Meets, Simulates}
-use Rattle.sq_runs.proofs.Simulate.{follows_by, meets_now, meets_skip, meets_wait, meets_broke}
+use Rattle.sq_runs.specs.Simulation.{Matches, Meets, Simulates, SimulatesInStep}
+use Rattle.sq_runs.proofs.Simulate.{follows_by, locks_by, meets_now, meets_skip, meets_wait, meets_broke}
 use Rattle.sq_memory.specs.Regions.{get}
 use Rattle.sq_system.specs.Starts.{Start, stack_pointer}
 use Rattle.sq_system.specs.declared.event.Halt.TheVariants.{Fetch}
@@ -35,6 +35,7 @@ use Rattle.sq_follow.specs.Follows.{Follows, word_address, state_at_start}
 use Rattle.sq_patch.specs.Agreement.{Ties, SameValue, SameHeld, SameMemory, SameCore, IsTied}
 use Rattle.sq_patch.specs.Registers.{IsSource, AreSources}
 use Rattle.sq_patch.specs.LiveAgreement.{everywhere}
+use Rattle.sq_patch.specs.Operations.{KeepsStep}
 use Rattle.sq_patch.specs.Changes.{Change, Stands, IsNamedHalf, term_named, MayGoTo, falls, SameSlot, Alike, ends, promised, guarded, shift, name_before, name_after, jump_before, jump_after, return_before, return_after, enter_before, enter_after, dead_before, both_do, both_enter, both_return, both_end, both_turned, both_hastened, both_jumped, IsSteady}
 use Rattle.sq_patch.proofs.Deeds.{IsTiedHalf, SameDestination, sources_rel, operand_at, registers_rel, taken_rel, indirect_rel, do_rel, unless_lost, written_test}
 use Rattle.sq_patch.proofs.LiveSteps.{own_sources, not_zero, no_link}
@@ -124,6 +125,17 @@ module _ (C : Change) (w : World) (start : Start) (steady : IsSteady C) where
 
   abbrev Match : Moves → Moves → Type 0
   Match = Matches PatchState
+
+  -- they meet, and where no side may make steps by itself their next steps match
+  abbrev MeetOrMatch : Moves → Moves → Type 0
+  MeetOrMatch x y = Meet x y × (¬ C.MaySkip → Match x y)
+
+  now : (x y : Moves) → Match x y → MeetOrMatch x y
+  now x y m = (meets_now step_before step_after PatchState x y m, λ never. m)
+
+  -- steps of one side alone
+  aside : (x y : Moves) → C.MaySkip → Meet x y → MeetOrMatch x y
+  aside x y may m = (m, λ never. absurd (never may))
 
   -- knowing less of registers
   known_less : (P Q : ℕ → ℕ → Type 0) (a b : Core) → ((r q : ℕ) → Q r q → P r q) → SameCore everywhere T P a b → SameCore everywhere T Q a b
@@ -321,12 +333,12 @@ module _ (C : Change) (w : World) (start : Start) (steady : IsSteady C) where
       unless_lost everywhere T s all_names tied PatchState (reads_lost (part ∷ []) a) (term_step s C.before (PartJump link part n) xs a) (term_line s C.after t' ys b)
       (λ e. rw none (part_rel (is_upper_half n (pos 0) (register_value part a.registers)) link n xs a (term_step s C.after t' ys b) m))
 
-  end_now : (t : Term) (g : ℕ → ℕ) (xs ys : List Line) (k k' : Core) → MayGoTo C g t → (falls t ≡ true → Alike C true None xs ys) → (links t ≡ true → SameSlot C.MayHold (slot_name xs) (slot_name ys)) → Agrees None (End t ∷ xs) k k' → Meet (term_line s C.before t xs k) (term_line s C.after (term_named g t) ys k')
+  end_now : (t : Term) (g : ℕ → ℕ) (xs ys : List Line) (k k' : Core) → MayGoTo C g t → (falls t ≡ true → Alike C true None xs ys) → (links t ≡ true → SameSlot C.MayHold (slot_name xs) (slot_name ys)) → Agrees None (End t ∷ xs) k k' → MeetOrMatch (term_line s C.before t xs k) (term_line s C.after (term_named g t) ys k')
   end_now t g xs ys k k' j f l c =
-      meets_now step_before step_after PatchState (term_line s C.before t xs k) (term_line s C.after (term_named g t) ys k')
+      now (term_line s C.before t xs k) (term_line s C.after (term_named g t) ys k')
       (with_operands t (term_named g t) xs ys k k' (same_sources g t) c (λ v. term_rel t g xs ys k k' j f l v c))
 
-  end_meets : (t : Term) (g : ℕ → ℕ) (xs ys : List Line) (k k' : Core) → MayGoTo C g t → (falls t ≡ true → Alike C true None xs ys) → (links t ≡ true → SameSlot C.MayHold (slot_name xs) (slot_name ys)) → Agrees None (End t ∷ xs) k k' → Meet (lines_step s C.before (End t ∷ xs) k) (lines_step s C.after (End (term_named g t) ∷ ys) k')
+  end_meets : (t : Term) (g : ℕ → ℕ) (xs ys : List Line) (k k' : Core) → MayGoTo C g t → (falls t ≡ true → Alike C true None xs ys) → (links t ≡ true → SameSlot C.MayHold (slot_name xs) (slot_name ys)) → Agrees None (End t ∷ xs) k k' → MeetOrMatch (lines_step s C.before (End t ∷ xs) k) (lines_step s C.after (End (term_named g t) ∷ ys) k')
   end_meets Fall g xs ys k k' j f l c = absurd j
   end_meets (Jump to) g xs ys k k' j f l c = end_now (Jump to) g xs ys k k' j f l c
   end_meets (Branch cond x y to) g xs ys k k' j f l c = end_now (Branch cond x y to) g xs ys k k' j f l c
@@ -335,44 +347,48 @@ module _ (C : Change) (w : World) (start : Start) (steady : IsSteady C) where
   end_meets (Indirect link at offset) g xs ys k k' j f l c = end_now (Indirect link at offset) g xs ys k k' j f l c
   end_meets (Stop word) g xs ys k k' j f l c = end_now (Stop word) g xs ys k k' j f l c
 
-  piece_meets : (b : Bool) → ((n n' : ℕ) (k k' : Core) → b ≡ true → C.MayGo n n' → Agrees None (block_lines C.before n) k k' → Meet (lines_step s C.before (block_lines C.before n) k) (lines_step s C.after (block_lines C.after n') k')) → {m : Option C.Mode} {xs ys : List Line} (k k' : Core) → Alike C b m xs ys → Agrees m xs k k' → Meet (lines_step s C.before xs k) (lines_step s C.after ys k')
-  piece_meets b pr k k' ends c = meets_broke step_before step_after PatchState LeavesGraph (lines_step s C.after [] k')
+  piece_meets : (b : Bool) → ((n n' : ℕ) (k k' : Core) → b ≡ true → C.MayGo n n' → Agrees None (block_lines C.before n) k k' → MeetOrMatch (lines_step s C.before (block_lines C.before n) k) (lines_step s C.after (block_lines C.after n') k')) → {m : Option C.Mode} {xs ys : List Line} (k k' : Core) → Alike C b m xs ys → Agrees m xs k k' → MeetOrMatch (lines_step s C.before xs k) (lines_step s C.after ys k')
+  piece_meets b pr k k' ends c = (meets_broke step_before step_after PatchState LeavesGraph (lines_step s C.after [] k'), λ never. tt)
   piece_meets b pr k k' (promised {n = n} {n' = n'} j) c = pr n n' k k' refl j c
   piece_meets b pr k k' (guarded p) c = piece_meets false (λ n n' k k' e j c. absurd (cc)) k k' p c
   piece_meets b pr k k' (shift {m = m} {m' = m'} {xs = xs} h p) c = piece_meets b pr k k' p (known_less (Known C m xs) (Known C m' xs) k k' (λ r q n. (n.0, h r q n.0 n.1)) c)
   piece_meets b pr k k' (name_before {m = m} {n = n} {xs = xs} p) c = piece_meets b pr k k' p (behind m (Name n) xs xs k k' (λ r. refl) refl c)
   piece_meets b pr k k' (name_after p) c = piece_meets b pr k k' p c
-  piece_meets b pr k k' (jump_before {m = m} {n = n} {xs = xs} {ys = ys} p) c =
-      meets_skip step_before step_after PatchState (At (block_lines C.before n) k) (lines_step s C.after ys k') (piece_meets b pr k k' p (behind m (End (Jump n)) xs (block_lines C.before n) k k' no_link refl c))
-  piece_meets b pr k k' (jump_after {n = n} {xs = xs} p) c =
-      meets_wait step_before step_after PatchState (lines_step s C.before xs k) (At (block_lines C.after n) k') (piece_meets b pr k k' p c)
-  piece_meets b pr k k' (return_before {m = m} {l = l} {xs = xs} {ys = ys} p) c =
-      meets_skip step_before step_after PatchState (At xs k) (lines_step s C.after ys k') (piece_meets b pr k k' p (behind m (Return l) xs xs k k' (λ r. refl) refl c))
-  piece_meets b pr k k' (return_after {xs = xs} {ys = ys} p) c =
-      meets_wait step_before step_after PatchState (lines_step s C.before xs k) (At ys k') (piece_meets b pr k k' p c)
-  piece_meets b pr k k' (enter_before {m = m} {m' = m'} {q = q} {xs = xs} {ys = ys} d e h z p) c =
+  piece_meets b pr k k' (jump_before {m = m} {n = n} {xs = xs} {ys = ys} may p) c =
+      aside (lines_step s C.before (End (Jump n) ∷ xs) k) (lines_step s C.after ys k') may
+      (meets_skip step_before step_after PatchState (At (block_lines C.before n) k) (lines_step s C.after ys k') (piece_meets b pr k k' p (behind m (End (Jump n)) xs (block_lines C.before n) k k' no_link refl c)).0)
+  piece_meets b pr k k' (jump_after {n = n} {xs = xs} {ys = ys} may p) c =
+      aside (lines_step s C.before xs k) (lines_step s C.after (End (Jump n) ∷ ys) k') may
+      (meets_wait step_before step_after PatchState (lines_step s C.before xs k) (At (block_lines C.after n) k') (piece_meets b pr k k' p c).0)
+  piece_meets b pr k k' (return_before {m = m} {l = l} {xs = xs} {ys = ys} may p) c =
+      aside (Went None (At xs k)) (lines_step s C.after ys k') may
+      (meets_skip step_before step_after PatchState (At xs k) (lines_step s C.after ys k') (piece_meets b pr k k' p (behind m (Return l) xs xs k k' (λ r. refl) refl c)).0)
+  piece_meets b pr k k' (return_after {xs = xs} {ys = ys} may p) c =
+      aside (lines_step s C.before xs k) (Went None (At ys k')) may
+      (meets_wait step_before step_after PatchState (lines_step s C.before xs k) (At ys k') (piece_meets b pr k k' p c).0)
+  piece_meets b pr k k' (enter_before {m = m} {m' = m'} {q = q} {xs = xs} {ys = ys} may d e h z p) c =
       let lost : Core = with_register d.link Lost k in
       let at : Agrees m' (inside d xs) lost k' = record {
         registers = λ r t n. lost_rel d.link r (k.registers r) (k'.registers t) (λ f. c.registers r t (steady.carrier.kept (Enter q) xs (inside d xs) r (ap (λ o. is_link_of o r) e ∙ f) (d, e, refl) n.0, h r t n.0 n.1 f));
         store = c.store;
       } in
-      rw e (meets_skip step_before step_after PatchState (At (inside d xs) lost) (lines_step s C.after ys k') (piece_meets b pr lost k' p at))
-  piece_meets b pr k k' (enter_after {m = m} {m' = m'} {q = q} {xs = xs} {ys = ys} d e h p) c =
+      rw e (aside (Went None (At (inside d xs) lost)) (lines_step s C.after ys k') may (meets_skip step_before step_after PatchState (At (inside d xs) lost) (lines_step s C.after ys k') (piece_meets b pr lost k' p at).0))
+  piece_meets b pr k k' (enter_after {m = m} {m' = m'} {q = q} {xs = xs} {ys = ys} may d e h p) c =
       let lost : Core = with_register d.link Lost k' in
       let at : Agrees m' xs k lost = record {
         registers = λ r t n. let x = h r t n.0 n.1 in unwritten_rel d.link t (k.registers r) (k'.registers t) x.0 (c.registers r t (n.0, x.1));
         store = c.store;
       } in
-      rw e (meets_wait step_before step_after PatchState (lines_step s C.before xs k) (At (inside d ys) lost) (piece_meets b pr k lost p at))
-  piece_meets b pr k k' (dead_before {m = m} {n = n} {word = word} {insn = insn} {xs = xs} {ys = ys} none d p) c =
+      rw e (aside (lines_step s C.before xs k) (Went None (At (inside d ys) lost)) may (meets_wait step_before step_after PatchState (lines_step s C.before xs k) (At (inside d ys) lost) (piece_meets b pr k lost p at).0))
+  piece_meets b pr k k' (dead_before {m = m} {n = n} {word = word} {insn = insn} {xs = xs} {ys = ys} may none d p) c =
       let made : Core = with_register (destination_of insn) (Holds (Tagged (Part n word))) k in
       let at : Agrees m xs made k' = record {
         registers = λ r t q. dead_rel (destination_of insn) r (k.registers r) (k'.registers t) (Holds (Tagged (Part n word))) (d r q.0) (c.registers r t (steady.carrier.kept (Do (Upper n word) insn) xs xs r (d r q.0) refl q.0, q.1));
         store = c.store;
       } in
-      rw none (meets_skip step_before step_after PatchState (At xs made) (lines_step s C.after ys k') (piece_meets b pr made k' p at))
+      rw none (aside (Went None (At xs made)) (lines_step s C.after ys k') may (meets_skip step_before step_after PatchState (At xs made) (lines_step s C.after ys k') (piece_meets b pr made k' p at).0))
   piece_meets b pr k k' (both_do {m = m} {m' = m'} {half = half} {half' = half'} {xs = xs} {ys = ys} insn d x y nm src h p) c =
-      meets_now step_before step_after PatchState (do_line s half insn xs k) (do_line s half' (with_registers d x y insn) ys k')
+      now (do_line s half insn xs k) (do_line s half' (with_registers d x y insn) ys k')
       (do_rel everywhere T s all_names tied (Known C m (Do half insn ∷ xs)) (Known C m' xs) PatchState half half' insn d x y xs ys k k' (half_tied half half' insn nm)
       (known_sources (Stands C m) (Known C m (Do half insn ∷ xs)) (sources_of insn) (sources_of (with_registers d x y insn)) src (λ r t e st. (steady.carrier.read (Do half insn) xs r e, st)))
       (λ r t n. let v = h r t n.0 n.1 in (v.0, λ e. (steady.carrier.kept (Do half insn) xs xs r e refl n.0, v.1 e)))
@@ -383,32 +399,38 @@ module _ (C : Change) (w : World) (start : Start) (steady : IsSteady C) where
             (λ r t n. let v = h r t n.0 n.1 in (v.0, λ f. (steady.carrier.kept (Enter q) xs (inside d xs) r (ap (λ o. is_link_of o r) e ∙ f) (d, e, refl) n.0, v.1 f))) tt c.registers;
         store = c.store;
       } in
-      rw (e, e') (meets_now step_before step_after PatchState (Went None (At (inside d xs) (with_register d.link Lost k))) (Went None (At (inside d' ys) (with_register d'.link Lost k'))) (refl, (m', (p, at))))
+      rw (e, e') (now (Went None (At (inside d xs) (with_register d.link Lost k))) (Went None (At (inside d' ys) (with_register d'.link Lost k'))) (refl, (m', (p, at))))
   piece_meets b pr k k' (both_return {m = m} {l = l} {xs = xs} {ys = ys} p) c =
-      meets_now step_before step_after PatchState (Went None (At xs k)) (Went None (At ys k')) (refl, (m, (p, behind m (Return l) xs xs k k' (λ r. refl) refl c)))
+      now (Went None (At xs k)) (Went None (At ys k')) (refl, (m, (p, behind m (Return l) xs xs k k' (λ r. refl) refl c)))
   piece_meets b pr k k' (both_end {xs = xs} {ys = ys} t g j f l) c = end_meets t g xs ys k k' j f l c
   piece_meets b pr k k' (both_turned {xs = xs} {ys = ys} cond x y n n' p q) c =
-      meets_now step_before step_after PatchState (term_line s C.before (Branch cond x y n) xs k) (term_line s C.after (Branch (inverse_of cond) x y n') ys k')
+      now (term_line s C.before (Branch cond x y n) xs k) (term_line s C.after (Branch (inverse_of cond) x y n') ys k')
       (with_operands (Branch cond x y n) (Branch (inverse_of cond) x y n') xs ys k k' refl c
       (λ v. turned_step n n' xs ys k k' (is_taken s cond (register_value x k.registers) (register_value y k.registers)) (is_taken s (inverse_of cond) (register_value x k'.registers) (register_value y k'.registers))
       (λ t e. inverse_rel cond (register_value x k'.registers) (register_value y k'.registers) t (taken_rel everywhere T s all_names cond (register_value x k.registers) (register_value y k.registers) (register_value x k'.registers) (register_value y k'.registers) t (v 0) (v 1) e))
       (None, (p, behind None (End (Branch cond x y n)) xs (block_lines C.before n) k k' no_link (inl refl) c))
       (None, (q, behind None (End (Branch cond x y n)) xs xs k k' no_link (inr refl) c))))
   piece_meets b pr k k' (both_hastened {xs = xs} {ys = ys} link part n n' j l) c =
-      meets_now step_before step_after PatchState (term_line s C.before (PartJump link part n) xs k) (term_line s C.after (Call link n') ys k')
+      now (term_line s C.before (PartJump link part n) xs k) (term_line s C.after (Call link n') ys k')
       (hastened_step link part n n' xs ys k k' (Call link n') (link_step link (PartJump link part n) xs ys n n' k k' refl l (λ r e. linking r link e) j refl c) c refl)
   piece_meets b pr k k' (both_jumped {xs = xs} {ys = ys} part n n' j) c =
-      meets_now step_before step_after PatchState (term_line s C.before (PartJump 0 part n) xs k) (term_line s C.after (Jump n') ys k')
+      now (term_line s C.before (PartJump 0 part n) xs k) (term_line s C.after (Jump n') ys k')
       (hastened_step 0 part n n' xs ys k k' (Jump n') (refl, (None, (promised j, behind None (End (PartJump 0 part n)) xs (block_lines C.before n) k k' no_link refl c))) c refl)
 
-  meets_false : {m : Option C.Mode} {xs ys : List Line} (k k' : Core) → Alike C false m xs ys → Agrees m xs k k' → Meet (lines_step s C.before xs k) (lines_step s C.after ys k')
+  meets_false : {m : Option C.Mode} {xs ys : List Line} (k k' : Core) → Alike C false m xs ys → Agrees m xs k k' → MeetOrMatch (lines_step s C.before xs k) (lines_step s C.after ys k')
   meets_false k k' p c = piece_meets false (λ n n' k k' e j c. absurd (cc)) k k' p c
 
+  state_meets : (x y : State) → PatchState x y → MeetOrMatch (step_before x) (step_after y)
+  state_meets (At xs k) (At ys k') r = piece_meets true (λ n n' k k' e j c. meets_false k k' (steady.names n n' j) c) k k' r.1.0 r.1.1
+  state_meets (Fetching x) (Fetching y) r = now (Ended (Fetch x)) (Ended (Fetch y)) (ap Fetch r)
+  state_meets (At xs k) (Fetching y) r = absurd r
+  state_meets (Fetching x) (At ys k') r = absurd r
+
   pub patch_simulates : Simulates step_before step_after PatchState
-  patch_simulates (At xs k) (At ys k') r = piece_meets true (λ n n' k k' e j c. meets_false k k' (steady.names n n' j) c) k k' r.1.0 r.1.1
-  patch_simulates (Fetching x) (Fetching y) r = meets_now step_before step_after PatchState (Ended (Fetch x)) (Ended (Fetch y)) (ap Fetch r)
-  patch_simulates (At xs k) (Fetching y) r = absurd r
-  patch_simulates (Fetching x) (At ys k') r = absurd r
+  patch_simulates x y r = (state_meets x y r).0
+
+  pub patch_in_step : ¬ C.MaySkip → SimulatesInStep step_before step_after PatchState
+  patch_in_step never x y r = (state_meets x y r).1 never
 
 -- the same numbers at the start
 start_held : (T : Ties) (t : Bool) (x : ℕ) → SameHeld T (if t then Holds (Num x) else Holds (Num 0)) (if t then Holds (Num x) else Holds (Num 0))
@@ -418,23 +440,39 @@ start_held T false x = refl
 first_held : (T : Ties) (start : Start) (r q : ℕ) → q ≡ r → SameHeld T (first_registers start r) (first_registers start q)
 first_held T start r q e = subst (λ q. SameHeld T (first_registers start r) (first_registers start q)) (sym e) (start_held T (r == 2 && not (2 == 0)) (stack_pointer start))
 
+-- what both theorems ask of the entry and of the code words
+pub record IsStarting (C : Change) : Type 0 where
+  pub entry : C.MayGo C.before.entry C.after.entry
+  pub names : map word_name C.after.code_words ≡ map C.renamed (map word_name C.before.code_words)
+  pub held : (i n : ℕ) → slice_get (map word_name C.before.code_words) i ≡ Some n → C.MayHold n (C.renamed n)
+
+starting : (C : Change) (steady : IsSteady C) → IsStarting C → (w : World) (start : Start) → PatchState C w start steady (state_at_start w C.before start) (state_at_start w C.after start)
+starting C steady begins w start = (
+  None,
+  (
+    promised begins.entry,
+    record {
+      registers = λ r q n. first_held (ties_of C) start r q n.1;
+      store = record {
+        memory = subst (λ words. SameMemory everywhere (ties_of C) (get (regions_at_start w (map word_name C.before.code_words) start)) (get (regions_at_start w words start))) (sym begins.names) (start_memory_rel (ties_of C) C.renamed w (map word_name C.before.code_words) start begins.held);
+        input = refl;
+        reservation = refl;
+      };
+    },
+  ),
+)
+
 -- THE THEOREM
 pub change_follows : (C : Change) → IsSteady C → C.MayGo C.before.entry C.after.entry → map word_address C.after.code_words ≡ map word_address C.before.code_words → map word_name C.after.code_words ≡ map C.renamed (map word_name C.before.code_words) → ((i n : ℕ) → slice_get (map word_name C.before.code_words) i ≡ Some n → C.MayHold n (C.renamed n)) → Follows C.before C.after
-change_follows C steady j addresses names held = record {
+change_follows C steady entry addresses names held = record {
   addresses = addresses;
   runs = λ w world count start valid.
-      follows_by (graph_step (setting_of w start) C.before) (graph_step (setting_of w start) C.after) (PatchState C w start steady) (patch_simulates C w start steady) (state_at_start w C.before start) (state_at_start w C.after start) (
-        None,
-        (
-          promised j,
-          record {
-            registers = λ r q n. first_held (ties_of C) start r q n.1;
-            store = record {
-              memory = subst (λ words. SameMemory everywhere (ties_of C) (get (regions_at_start w (map word_name C.before.code_words) start)) (get (regions_at_start w words start))) (sym names) (start_memory_rel (ties_of C) C.renamed w (map word_name C.before.code_words) start held);
-              input = refl;
-              reservation = refl;
-            };
-          },
-        ),
-      );
+      follows_by (graph_step (setting_of w start) C.before) (graph_step (setting_of w start) C.after) (PatchState C w start steady) (patch_simulates C w start steady) (state_at_start w C.before start) (state_at_start w C.after start)
+      (starting C steady (record { entry = entry; names = names; held = held }) w start);
 }
+
+-- where no side may make steps by itself, the second keeps step with the first
+pub change_keeps_step : (C : Change) → IsSteady C → ¬ C.MaySkip → IsStarting C → KeepsStep C.before C.after
+change_keeps_step C steady never begins w start =
+    locks_by (graph_step (setting_of w start) C.before) (graph_step (setting_of w start) C.after) (PatchState C w start steady) (patch_in_step C w start steady never) (state_at_start w C.before start) (state_at_start w C.after start)
+    (starting C steady begins w start)

@@ -35,6 +35,7 @@ relating Mode StandsIn MayHold MayGo X Z g h = record {
   Mode = Mode;
   StandsIn = StandsIn;
   Sound = Z;
+  MaySkip = Unit {0};
 }
 
 module _ (Mode : Type 0) (StandsIn : Mode → ℕ → ℕ → Type 0) (MayHold MayGo : ℕ → ℕ → Type 0) (K : ℕ → Type 0) (X : List Line → ℕ → Type 0) (Z : Type 0) (g h : Graph) (rules : IsGraph g) (procedures : h.procedures ≡ g.procedures) (words : h.code_words ≡ g.code_words) where

@@ -13,12 +13,12 @@ use Rattle.sq_graph.specs.Lines.{body_lines, lines_of, behind_name, slot_name}
 use Rattle.sq_follow.specs.Follows.{Follows}
 use Rattle.sq_patch.specs.LiveAgreement.{MakeTargets}
 use Rattle.sq_patch.specs.Changes.{Change, Alike, ends, name_before, name_after}
-use Rattle.sq_patch.specs.Operations.{RenameFollows, OutlineFollows}
+use Rattle.sq_patch.specs.Operations.{KeepsStep, RenameFollows, RenameKeepsStep, OutlineFollows}
 use Rattle.sq_graph.proofs.Bypassing.{retargeted_same}
 use Rattle.sq_patch.proofs.LiveTargets.{lines_make}
 use Rattle.sq_patch.proofs.Lines.{body_unnamed}
 use Rattle.sq_patch.proofs.Changing.{ahead, in_tail, tail_made}
-use Rattle.sq_patch.proofs.Moving.{M, SlotMoves, move_body, moved_follows, procedure_moved}
+use Rattle.sq_patch.proofs.Moving.{M, SlotMoves, move_body, moved_follows, moved_keeps_step, procedure_moved}
 use Rattle.sq_patch.proofs.Used.{contains_first, from_all}
 
 -- a block of the list has its name
@@ -81,6 +81,12 @@ module _ (g : Graph) (f : ℕ → ℕ) (rules : IsGraph g) (apart : (m n : ℕ) 
 
   pub renamed_follows : Follows g h
   renamed_follows = moved_follows (HasBlock g) f g h rules used called (λ n has. behind n has [] g.blocks refl) refl refl
+
+  pub renamed_keeps_step : KeepsStep g h
+  renamed_keeps_step = moved_keeps_step (HasBlock g) f g h rules used called (λ n has. behind n has [] g.blocks refl) refl refl
+
+pub rename_keeps_step : RenameKeepsStep
+rename_keeps_step g f rules apart = renamed_keeps_step g f rules apart (map (retargeted_procedure f) g.procedures) (procedure_moved f g.procedures)
 
 pub rename_follows : RenameFollows
 rename_follows g f rules apart = renamed_follows g f rules apart (map (retargeted_procedure f) g.procedures) (procedure_moved f g.procedures)

@@ -258,7 +258,7 @@ module _ (g : Graph) (keep held : ℕ → Bool) (rules : IsGraph g) (closed : Is
   h = restricted keep held g
 
   abbrev C : Change
-  C = moving Kept own g h
+  C = moving ⊥ Kept own g h
 
   abbrev left : List Block → List Block
   left bs = map (recalled_block number) (filter (λ (b : Block). keep b.name) bs)

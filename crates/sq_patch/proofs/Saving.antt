@@ -28,10 +28,10 @@ use Rattle.sq_patch.proofs.Tailing.{tail_saves}
 use Rattle.sq_patch.proofs.Merging.{can_merge, merge_saves}
 use Rattle.sq_patch.proofs.MatchedBodies.{body_saves}
 use Rattle.sq_patch.specs.Calls.{call_end, called_there}
-use Rattle.sq_patch.specs.LoneJumps.{IsPassable, without_jump}
+use Rattle.sq_patch.specs.LoneJumps.{IsDetourTo, without_jump}
 use Rattle.sq_patch.proofs.Places.{found_at}
 use Rattle.sq_patch.proofs.Carrying.{same_some}
-use Rattle.sq_patch.proofs.Passing.{lone_block, jumps_from}
+use Rattle.sq_patch.proofs.Detouring.{lone_block, jumps_from}
 use Rattle.sq_patch.proofs.OneBlock.{item_within}
 
 -- other names and numbers take as many words
@@ -203,10 +203,10 @@ insert_saves g new block next has =
 lone_words : (b : Block) (to : ℕ) → jump_of b.items b.term ≡ Some to → block_words b ≡ 1
 lone_words b to e = let o = lone_block b.items b.term to e in rw (o.0, o.1) refl
 
-pub detour_saves : (g : Graph) (block to : ℕ) → IsPassable g block to → words_of (without_jump g block to) + 1 ≡ words_of g
-detour_saves g block to passable =
+pub detour_saves : (g : Graph) (block to : ℕ) → IsDetourTo g block to → words_of (without_jump g block to) + 1 ≡ words_of g
+detour_saves g block to leads =
     let f = swapped block to in
-    let o = jumps_from (block_of g block) to passable.jump in
+    let o = jumps_from (block_of g block) to leads.jump in
     let at = located g.blocks block (subst IsSome (sym o.1.0) refl) in
     let same : at.block ≡ o.0 = same_some at.block o.0 (sym (found_there g.blocks block at) ∙ o.1.0) in
     let one : block_words at.block ≡ 1 = ap block_words same ∙ lone_words o.0 to o.1.1 in

@@ -110,24 +110,24 @@ module _ (C : Change) (steady : IsSteady C) (targets : (n' : ℕ) → Contains (
   near_alike q b pr (name_before p) v = let o = near_alike q b pr p v in (o.0, (o.1.0, live_behind refl refl o.1.1))
   near_alike q b pr (name_after p) (near_read e) = absurd (cc)
   near_alike q b pr (name_after {m = m} {xs = xs} p) (near_kept w g y) = subst (IsBacked C q) g y b m xs p
-  near_alike q b pr (jump_before {n = n} p) v = let o = near_alike q b pr p v in (o.0, (o.1.0, live_behind (no_link o.0) refl o.1.1))
-  near_alike q b pr (jump_after p) (near_read e) = absurd (no_sources q e)
-  near_alike q b pr (jump_after {m = m} {xs = xs} p) (near_kept w g y) = subst (IsBacked C q) g y b m xs p
-  near_alike q b pr (return_before p) v = let o = near_alike q b pr p v in (o.0, (o.1.0, live_behind refl refl o.1.1))
-  near_alike q b pr (return_after p) (near_read e) = absurd (cc)
-  near_alike q b pr (return_after {m = m} {xs = xs} p) (near_kept w g y) = subst (IsBacked C q) g y b m xs p
-  near_alike q b pr (enter_before {xs = xs} d e h z p) v =
+  near_alike q b pr (jump_before {n = n} may p) v = let o = near_alike q b pr p v in (o.0, (o.1.0, live_behind (no_link o.0) refl o.1.1))
+  near_alike q b pr (jump_after may p) (near_read e) = absurd (no_sources q e)
+  near_alike q b pr (jump_after {m = m} {xs = xs} may p) (near_kept w g y) = subst (IsBacked C q) g y b m xs p
+  near_alike q b pr (return_before may p) v = let o = near_alike q b pr p v in (o.0, (o.1.0, live_behind refl refl o.1.1))
+  near_alike q b pr (return_after may p) (near_read e) = absurd (cc)
+  near_alike q b pr (return_after {m = m} {xs = xs} may p) (near_kept w g y) = subst (IsBacked C q) g y b m xs p
+  near_alike q b pr (enter_before {xs = xs} may d e h z p) v =
       let o = near_alike q b pr p v in
       let l = matters (inside d xs) o.0 o.1.1 in
       let dead = z sound o.0 l in
       (o.0, (h o.0 q l o.1.0 dead, live_behind (ap (λ k. is_link_of k o.0) e ∙ dead) (d, e, refl) o.1.1))
-  near_alike q b pr (enter_after d e h p) (near_read i) = absurd (cc)
-  near_alike q b pr (enter_after {m' = m'} {xs = xs} {ys = ys} d e h p) (near_kept w g y) =
+  near_alike q b pr (enter_after may d e h p) (near_read i) = absurd (cc)
+  near_alike q b pr (enter_after {m' = m'} {xs = xs} {ys = ys} may d e h p) (near_kept w g y) =
       let i : g.0 ≡ d = let f : Some g.0 ≡ Some d = sym g.1 ∙ e in cc in
       let y' = subst (IsBacked C q) (g.2 ∙ ap (λ (p : Procedure). inside p ys) i) y in
       let o = y' b m' xs p in
       (o.0, ((h o.0 q (matters xs o.0 o.1.1) o.1.0).1, o.1.1))
-  near_alike q b pr (dead_before {xs = xs} none d p) v = let o = near_alike q b pr p v in (o.0, (o.1.0, live_behind (d o.0 (matters xs o.0 o.1.1)) refl o.1.1))
+  near_alike q b pr (dead_before {xs = xs} may none d p) v = let o = near_alike q b pr p v in (o.0, (o.1.0, live_behind (d o.0 (matters xs o.0 o.1.1)) refl o.1.1))
   near_alike q b pr (both_do {m = m} insn d x y nm src h p) (near_read e) =
       let o = from_sources (Stands C m) (sources_of insn) (sources_of (with_registers d x y insn)) q src e in (o.0, (o.1.0, read_here o.1.1))
   near_alike q b pr (both_do {m = m} {m' = m'} {xs = xs} insn d x y nm src h p) (near_kept w g k) =

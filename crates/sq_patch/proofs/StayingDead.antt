@@ -19,7 +19,7 @@ use Rattle.sq_patch.proofs.Exchanging.{exchange_live}
 use Rattle.sq_patch.proofs.Reordering.{reorder_live}
 use Rattle.sq_patch.proofs.Shortening.{shorten_live}
 use Rattle.sq_patch.proofs.Restricting.{restrict_live}
-use Rattle.sq_patch.proofs.Passing.{detour_live}
+use Rattle.sq_patch.proofs.Detouring.{detour_live}
 use Rattle.sq_patch.proofs.Inverting.{invert_live}
 
 -- a place of a block, as one behind its start
@@ -33,7 +33,7 @@ pub hasten_dead : HastenKeepsDead
 hasten_dead g block link part to rules jumps other place r has l stays gone live = gone (hasten_place g block link part to rules jumps other place r l live)
 
 pub detour_dead : DetourKeepsDead
-detour_dead g block to rules passable other place r has l stays gone live = gone (detour_live g block to rules passable other place r stays l live)
+detour_dead g block to rules leads other place r has l stays gone live = gone (detour_live g block to rules leads other place r stays l live)
 
 pub invert_dead : InvertKeepsDead
 invert_dead g block cond a b over behind to rules jumped other place r has l stays gone live = gone (invert_live g block cond a b over behind to rules jumped other place r stays l live)

@@ -29,7 +29,7 @@ use Rattle.sq_patch.proofs.OneBlock.{split_follows, split_sound, split_live, spl
 use Rattle.sq_patch.proofs.Remaining.{fits_take}
 use Rattle.sq_patch.proofs.Carrying.{same_some}
 use Rattle.sq_patch.proofs.Standing.{distinct_at, block_at}
-use Rattle.sq_patch.proofs.Passing.{lone_block, jumps_from}
+use Rattle.sq_patch.proofs.Detouring.{lone_block, jumps_from}
 use Rattle.sq_patch.proofs.Leading.{others_same, Hops, stop, hop}
 use Rattle.sq_patch.proofs.Meeting.{EndsMeet, meet_weaker, Joint}
 use Rattle.sq_patch.proofs.Merging.{CanMerge, joint_terms, with_items, merge_follows, merge_sound, merge_live, merge_saves}

@@ -18,7 +18,8 @@ use Rattle.sq_patch.specs.Registers.{AreSources}
 
 -- What a change is given by: the two graphs; names that values may hold for one another; names to which the two may
 -- go; for upper halves and their targets one function; a carrier, which has the registers that matter at a place; and
--- in each mode what is known of registers: "r of the first stands for s of the second".
+-- in each mode what is known of registers: "r of the first stands for s of the second"; and whether one side may make steps
+-- by itself.
 pub record Change : Type 1 where
   pub before : Graph
   pub after : Graph
@@ -29,6 +30,7 @@ pub record Change : Type 1 where
   pub Mode : Type 0
   pub StandsIn : Mode → ℕ → ℕ → Type 0
   pub Sound : Type 0
+  pub MaySkip : Type 0
 
 -- the carrier has what is read before it is written
 pub record IsCarrier (g : Graph) (X : List Line → ℕ → Type 0) : Type 0 where
@@ -87,8 +89,8 @@ SameSlot V None o = Unit {0}
 SameSlot V (Some n) None = ⊥
 SameSlot V (Some n) (Some m) = V n m
 
--- The two places go on alike: by steps of one side that break nothing, to a step that both take. Behind such a step
--- (where the flag is true) names may be promised, so that code may go round.
+-- The two places go on alike: by steps of one side that break nothing, where these may be made, to a step that both take.
+-- Behind such a step (where the flag is true) names may be promised, so that code may go round.
 pub data Alike (C : Change) : Bool → Option C.Mode → List Line → List Line → Type 0 where
   ends : {b : Bool} {m : Option C.Mode} → Alike C b m [] []
   promised : {n n' : ℕ} → C.MayGo n n' → Alike C true None (block_lines C.before n) (block_lines C.after n')
@@ -96,13 +98,13 @@ pub data Alike (C : Change) : Bool → Option C.Mode → List Line → List Line
   shift : {b : Bool} {m m' : Option C.Mode} {xs ys : List Line} → ((r s : ℕ) → C.Matters xs r → Stands C m' r s → Stands C m r s) → Alike C b m' xs ys → Alike C b m xs ys
   name_before : {b : Bool} {m : Option C.Mode} {n : ℕ} {xs ys : List Line} → Alike C b m xs ys → Alike C b m (Name n ∷ xs) ys
   name_after : {b : Bool} {m : Option C.Mode} {n : ℕ} {xs ys : List Line} → Alike C b m xs ys → Alike C b m xs (Name n ∷ ys)
-  jump_before : {b : Bool} {m : Option C.Mode} {n : ℕ} {xs ys : List Line} → Alike C b m (block_lines C.before n) ys → Alike C b m (End (Jump n) ∷ xs) ys
-  jump_after : {b : Bool} {m : Option C.Mode} {n : ℕ} {xs ys : List Line} → Alike C b m xs (block_lines C.after n) → Alike C b m xs (End (Jump n) ∷ ys)
-  return_before : {b : Bool} {m : Option C.Mode} {l : ℕ} {xs ys : List Line} → Alike C b m xs ys → Alike C b m (Return l ∷ xs) ys
-  return_after : {b : Bool} {m : Option C.Mode} {l : ℕ} {xs ys : List Line} → Alike C b m xs ys → Alike C b m xs (Return l ∷ ys)
-  enter_before : {b : Bool} {m m' : Option C.Mode} {q : ℕ} {xs ys : List Line} (p : Procedure) → slice_get C.before.procedures q ≡ Some p → ((r s : ℕ) → C.Matters (inside p xs) r → Stands C m' r s → is_register p.link r ≡ false → Stands C m r s) → (C.Sound → (r : ℕ) → C.Matters (inside p xs) r → is_register p.link r ≡ false) → Alike C b m' (inside p xs) ys → Alike C b m (Enter q ∷ xs) ys
-  enter_after : {b : Bool} {m m' : Option C.Mode} {q : ℕ} {xs ys : List Line} (p : Procedure) → slice_get C.after.procedures q ≡ Some p → ((r s : ℕ) → C.Matters xs r → Stands C m' r s → (is_register p.link s ≡ false) × Stands C m r s) → Alike C b m' xs (inside p ys) → Alike C b m xs (Enter q ∷ ys)
-  dead_before : {b : Bool} {m : Option C.Mode} {n : ℕ} {word : Option ℕ} {insn : Insn} {xs ys : List Line} → sources_of insn ≡ [] → ((r : ℕ) → C.Matters xs r → is_written insn r ≡ false) → Alike C b m xs ys → Alike C b m (Do (Upper n word) insn ∷ xs) ys
+  jump_before : {b : Bool} {m : Option C.Mode} {n : ℕ} {xs ys : List Line} → C.MaySkip → Alike C b m (block_lines C.before n) ys → Alike C b m (End (Jump n) ∷ xs) ys
+  jump_after : {b : Bool} {m : Option C.Mode} {n : ℕ} {xs ys : List Line} → C.MaySkip → Alike C b m xs (block_lines C.after n) → Alike C b m xs (End (Jump n) ∷ ys)
+  return_before : {b : Bool} {m : Option C.Mode} {l : ℕ} {xs ys : List Line} → C.MaySkip → Alike C b m xs ys → Alike C b m (Return l ∷ xs) ys
+  return_after : {b : Bool} {m : Option C.Mode} {l : ℕ} {xs ys : List Line} → C.MaySkip → Alike C b m xs ys → Alike C b m xs (Return l ∷ ys)
+  enter_before : {b : Bool} {m m' : Option C.Mode} {q : ℕ} {xs ys : List Line} → C.MaySkip → (p : Procedure) → slice_get C.before.procedures q ≡ Some p → ((r s : ℕ) → C.Matters (inside p xs) r → Stands C m' r s → is_register p.link r ≡ false → Stands C m r s) → (C.Sound → (r : ℕ) → C.Matters (inside p xs) r → is_register p.link r ≡ false) → Alike C b m' (inside p xs) ys → Alike C b m (Enter q ∷ xs) ys
+  enter_after : {b : Bool} {m m' : Option C.Mode} {q : ℕ} {xs ys : List Line} → C.MaySkip → (p : Procedure) → slice_get C.after.procedures q ≡ Some p → ((r s : ℕ) → C.Matters xs r → Stands C m' r s → (is_register p.link s ≡ false) × Stands C m r s) → Alike C b m' xs (inside p ys) → Alike C b m xs (Enter q ∷ ys)
+  dead_before : {b : Bool} {m : Option C.Mode} {n : ℕ} {word : Option ℕ} {insn : Insn} {xs ys : List Line} → C.MaySkip → sources_of insn ≡ [] → ((r : ℕ) → C.Matters xs r → is_written insn r ≡ false) → Alike C b m xs ys → Alike C b m (Do (Upper n word) insn ∷ xs) ys
   both_do : {b : Bool} {m m' : Option C.Mode} {half half' : AddressHalf} {xs ys : List Line} (insn : Insn) (d x y : ℕ) → IsNamedHalf C half half' insn → AreSources (Stands C m) (sources_of insn) (sources_of (with_registers d x y insn)) → ((r s : ℕ) → C.Matters xs r → Stands C m' r s → (is_register (destination_of (with_registers d x y insn)) s ≡ is_register (destination_of insn) r) × (is_register (destination_of insn) r ≡ false → Stands C m r s)) → Alike C true m' xs ys → Alike C b m (Do half insn ∷ xs) (Do half' (with_registers d x y insn) ∷ ys)
   both_enter : {b : Bool} {m m' : Option C.Mode} {q q' : ℕ} {xs ys : List Line} (p p' : Procedure) → slice_get C.before.procedures q ≡ Some p → slice_get C.after.procedures q' ≡ Some p' → ((r s : ℕ) → C.Matters (inside p xs) r → Stands C m' r s → (is_register p'.link s ≡ is_register p.link r) × (is_register p.link r ≡ false → Stands C m r s)) → Alike C true m' (inside p xs) (inside p' ys) → Alike C b m (Enter q ∷ xs) (Enter q' ∷ ys)
   both_return : {b : Bool} {m : Option C.Mode} {l l' : ℕ} {xs ys : List Line} → Alike C true m xs ys → Alike C b m (Return l ∷ xs) (Return l' ∷ ys)

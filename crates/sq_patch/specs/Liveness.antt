@@ -13,7 +13,7 @@ use Rattle.sq_graph.specs.Lines.{place_lines}
 use Rattle.sq_graph.specs.Walks.{IsLive}
 use Rattle.sq_graph.specs.Soundness.{IsSound}
 use Rattle.sq_graph.specs.Uses.{calls}
-use Rattle.sq_patch.specs.LoneJumps.{IsPassable, without_jump, IsJumpedOver, inverted_over, IsOverJump, exchanged}
+use Rattle.sq_patch.specs.LoneJumps.{IsDetourTo, without_jump, IsJumpedOver, inverted_over, IsOverJump, exchanged}
 use Rattle.sq_patch.specs.Inserts.{AreReordered}
 use Rattle.sq_patch.specs.Recalls.{AreEqual}
 use Rattle.sq_patch.specs.Restrictions.{restricted, IsClosed}
@@ -68,7 +68,7 @@ ShortenKeepsDead = (g : Graph) (block at link part to : ℕ) → IsGraph g → I
 
 -- A lone Jump gives its name to its target, and goes.
 abbrev pub DetourKeepsDead : Type 0
-DetourKeepsDead = (g : Graph) (block to : ℕ) → IsGraph g → IsPassable g block to → KeepsDead g (without_jump g block to) (Elsewhere block)
+DetourKeepsDead = (g : Graph) (block to : ℕ) → IsGraph g → IsDetourTo g block to → KeepsDead g (without_jump g block to) (Elsewhere block)
 
 -- A Branch over a lone Jump becomes the inverted one to its target.
 abbrev pub InvertKeepsDead : Type 0

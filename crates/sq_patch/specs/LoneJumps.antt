@@ -20,7 +20,7 @@ abbrev pub IsApart : Graph → ℕ → Type 0
 IsApart g block = (before : ℕ) (term : Term) → next_of g before ≡ Some block → term_of g before ≡ Some term → goes_on term ≡ false
 
 -- a lone Jump block to another block, into which nothing goes on
-pub record IsPassable (g : Graph) (block to : ℕ) : Type 0 where
+pub record IsDetourTo (g : Graph) (block to : ℕ) : Type 0 where
   pub jump : jump_from g block ≡ Some to
   pub other : to ≢ block
   pub apart : IsApart g block
@@ -31,10 +31,10 @@ without_jump g block to = without_block (redirected g block to) block
 
 -- A graph in which a lone Jump block gave its name to its target follows it, and is sound where it is.
 abbrev pub DetourFollows : Type 0
-DetourFollows = (g : Graph) (block to : ℕ) → IsGraph g → IsPassable g block to → Follows g (without_jump g block to)
+DetourFollows = (g : Graph) (block to : ℕ) → IsGraph g → IsDetourTo g block to → Follows g (without_jump g block to)
 
 abbrev pub DetourIsSound : Type 0
-DetourIsSound = (g : Graph) (block to : ℕ) → IsGraph g → IsPassable g block to → IsSound g → IsSound (without_jump g block to)
+DetourIsSound = (g : Graph) (block to : ℕ) → IsGraph g → IsDetourTo g block to → IsSound g → IsSound (without_jump g block to)
 
 -- A Branch over the next slot, which is a lone Jump block that nothing names, to the slot behind that.
 pub record IsJumpedOver (g : Graph) (block : ℕ) (cond : Cond) (a b over behind to : ℕ) : Type 0 where

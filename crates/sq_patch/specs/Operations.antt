@@ -13,7 +13,11 @@ use Rattle.sq_graph.specs.Canonical.{canonical_of}
 use Rattle.sq_graph.specs.Lines.{block_lines, place_lines}
 use Rattle.sq_graph.specs.Walks.{IsLive}
 use Rattle.sq_graph.specs.Soundness.{IsSoundBody, IsSound}
-use Rattle.sq_follow.specs.Follows.{Follows}
+use Rattle.sq_runs.specs.Follows.{LocksWith}
+use Rattle.sq_system.specs.Starts.{Start}
+use Rattle.sq_follow.specs.Worlds.{World, setting_of}
+use Rattle.sq_follow.specs.GraphRuns.{graph_step}
+use Rattle.sq_follow.specs.Follows.{state_at_start, Follows}
 
 -- A graph with one block split follows it, and is sound where it is.
 abbrev pub SplitFollows : Type 0
@@ -67,6 +71,17 @@ CanonicalIsSound = (g : Graph) → IsGraph g → IsSound g → IsSound (canonica
 abbrev pub RenameFollows : Type 0
 RenameFollows =
     (g : Graph) (f : ℕ → ℕ) → IsGraph g → ((m n : ℕ) → HasBlock g m → HasBlock g n → f m ≡ f n → m ≡ n) → Follows g (renamed f g)
+
+-- The graph h keeps step with the graph g: over every world and from every start its run shows what that of g shows, after
+-- each number of steps, while that is unbroken. The run of h is then unbroken too.
+abbrev pub KeepsStep : Graph → Graph → Type 0
+KeepsStep g h =
+    (w : World) (start : Start) → LocksWith (graph_step (setting_of w start) g) (state_at_start w g start) (graph_step (setting_of w start) h) (state_at_start w h start)
+
+-- So does a graph whose blocks have other names, different ones different names.
+abbrev pub RenameKeepsStep : Type 0
+RenameKeepsStep =
+    (g : Graph) (f : ℕ → ℕ) → IsGraph g → ((m n : ℕ) → HasBlock g m → HasBlock g n → f m ≡ f n → m ≡ n) → KeepsStep g (renamed f g)
 
 -- A graph with a body of its own items as one more procedure follows it, and is sound where it and the body are.
 abbrev pub OutlineFollows : Type 0

@@ -12,7 +12,7 @@ use Rattle.sq_graph.specs.Operations.{IsNew, with_term, replaced, inlined, outli
 use Rattle.sq_graph.specs.Words.{term_words, words_of}
 use Rattle.sq_patch.specs.Operations.{hastened}
 use Rattle.sq_patch.specs.Restrictions.{restricted}
-use Rattle.sq_patch.specs.LoneJumps.{IsPassable, without_jump, IsJumpedOver, inverted_over, IsOverJump, exchanged}
+use Rattle.sq_patch.specs.LoneJumps.{IsDetourTo, without_jump, IsJumpedOver, inverted_over, IsOverJump, exchanged}
 use Rattle.sq_patch.specs.Calls.{call_end, called_there}
 use Rattle.sq_patch.specs.Merges.{IsMergeable, merged, HaveTail, tailed}
 use Rattle.sq_patch.specs.Bodies.{HaveBodies}
@@ -21,7 +21,7 @@ pub record SaveWords : Type 0 where
   -- what goes is the graph with the others alone
   pub restrict : (g : Graph) (keep held : ℕ → Bool) → words_of (restricted keep held g) + words_of (restricted (λ n. not (keep n)) (λ q. not (held q)) g) ≡ words_of g
   pub fall : (g : Graph) (block n : ℕ) → term_of g block ≡ Some (Jump n) → words_of (with_term g block Fall) + 1 ≡ words_of g
-  pub detour : (g : Graph) (block to : ℕ) → IsPassable g block to → words_of (without_jump g block to) + 1 ≡ words_of g
+  pub detour : (g : Graph) (block to : ℕ) → IsDetourTo g block to → words_of (without_jump g block to) + 1 ≡ words_of g
   pub invert : (g : Graph) (block : ℕ) (cond : Cond) (a b over behind to : ℕ) → IsGraph g → IsJumpedOver g block cond a b over behind to → words_of (inverted_over g block cond a b over to) + 1 ≡ words_of g
   pub exchange : (g : Graph) (block : ℕ) (cond : Cond) (a b over away to : ℕ) → IsGraph g → IsOverJump g block cond a b over away to → words_of (exchanged g block cond a b over away to) ≡ words_of g
   pub hasten : (g : Graph) (block link part to : ℕ) → term_of g block ≡ Some (PartJump link part to) → words_of (with_term g block (hastened link to)) ≡ words_of g

@@ -13,7 +13,7 @@ mod liveness;
 ghost use Rattle.sq_patch.specs.LiveAgreement.{StepsAgree, PlacesMakeTargets};
 ghost use Rattle.sq_patch.specs.Restrictions.{UnreachedFollows, UnreachedIsSound, ReachedAreClosed};
 ghost use Rattle.sq_patch.specs.LoneJumps.{DetourFollows, DetourIsSound, InvertFollows, InvertIsSound, ExchangeFollows, ExchangeIsSound};
-ghost use Rattle.sq_patch.specs.Operations.{SplitFollows, SplitIsSound, FallFollows, FallIsSound, DropFollows, DropIsSound, HastenFollows, HastenIsSound, InlineFollows, InlineIsSound, CanonicalFollows, CanonicalIsSound, RenameFollows, OutlineFollows, OutlineIsSound, ShortenFollows, ShortenIsSound};
+ghost use Rattle.sq_patch.specs.Operations.{SplitFollows, SplitIsSound, FallFollows, FallIsSound, DropFollows, DropIsSound, HastenFollows, HastenIsSound, InlineFollows, InlineIsSound, CanonicalFollows, CanonicalIsSound, RenameFollows, RenameKeepsStep, OutlineFollows, OutlineIsSound, ShortenFollows, ShortenIsSound};
 ghost use Rattle.sq_patch.specs.Calls.{CallFollows, CallIsSound, MatchFollows, MatchIsSound};
 ghost use Rattle.sq_patch.specs.Merges.{MergeFollows, MergeIsSound, TailFollows, TailIsSound};
 ghost use Rattle.sq_patch.specs.Bodies.{BodyFollows, BodyIsSound};
@@ -70,9 +70,10 @@ pub fn canonical_keeps_soundness()
     ensures { CanonicalIsSound }
 {}
 
-/// A graph whose blocks have other names, different ones different names, follows it.
+/// A graph whose blocks have other names, different ones different names, follows it, and keeps step with it.
 pub fn rename_keeps_runs()
-    ensures { RenameFollows }
+    ensures follows { RenameFollows }
+    ensures step { RenameKeepsStep }
 {}
 
 /// A graph with items of one of its blocks as the body of one more procedure follows it.

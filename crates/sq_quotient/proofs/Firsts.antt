@@ -1,5 +1,5 @@
 -- Of each class of a stable partition the first block stays.
-use Rattle.std.proofs.Common.{◌≡◌, ℕ, zero, suc, Bool, true, false, true≢false, ◌⊎◌, if◌then◌else◌, List, [], ◌∷◌, map, Option, None, Some, nat_eq, slice_get, Contains, inl, inr, refl, sym, ap, ◌∙◌, subst, arith}
+use Rattle.std.proofs.Common.{◌≡◌, ℕ, zero, suc, Bool, true, false, true≢false, ◌⊎◌, if◌then◌else◌, List, [], ◌∷◌, map, Option, Some, nat_eq, slice_get, inl, inr, refl, sym, ap, ◌∙◌}
 use Rattle.std.specs.Option.{option_eq}
 use Rattle.std.proofs.lemmas.Bool.{cases_Bool}
 use Rattle.sq_graph.specs.Graph.{Graph}

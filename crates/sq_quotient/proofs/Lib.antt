@@ -1,3 +1,9 @@
+mod FirstBlocks
 mod Firsts
+mod FoldedRules
+mod Keeping
+mod Left
+mod Made
+mod PartsLeft
 mod Quotient
 mod Refilled

@@ -1,5 +1,5 @@
 -- A graph whose blocks are folded follows it.
-use Rattle.std.proofs.Common.{◌≡◌, ◌≢◌, ℕ, zero, suc, ◌==◌, Bool, true, false, true≢false, not, ◌&&◌, if◌then◌else◌, ◌⊎◌, inl, inr, List, [], ◌∷◌, ◌++◌, map, Option, None, Some, IsSome, slice_get, refl, sym, ap, ◌∙◌, subst, arith}
+use Rattle.std.proofs.Common.{◌≡◌, ℕ, zero, suc, ◌==◌, Bool, true, false, true≢false, not, ◌&&◌, if◌then◌else◌, ◌⊎◌, inl, inr, List, [], ◌∷◌, ◌++◌, map, None, Some, IsSome, slice_get, refl, sym, ap, ◌∙◌, subst, arith}
 use Rattle.std.specs.List.{All, Contains, flat_map}
 use Rattle.std.proofs.lemmas.List.Elements.{Contains-append_cases}
 use Rattle.std.specs.Option.{option_map}
@@ -14,21 +14,21 @@ use Rattle.sq_graph.specs.Leaders.{is_fall, has_no_items, is_bare}
 use Rattle.sq_graph.specs.Rules.{IsGraph, last_goes_on}
 use Rattle.sq_graph.specs.Terms.{goes_on, links}
 use Rattle.sq_graph.specs.Uses.{uses, term_uses, code_word_uses, terms_uses, items_uses}
-use Rattle.sq_graph.specs.Renames.{retargeted_items, retargeted_term, retargeted_block, retargeted_words}
+use Rattle.sq_graph.specs.Renames.{retargeted_items, retargeted_term, retargeted_block}
 use Rattle.sq_graph.specs.Lines.{Line, Name, End, line_of, term_lines, body_lines, lines_of, behind_name, slot_name, block_lines}
 use Rattle.sq_graph.specs.Walks.{code_targets, word_name, lower_names, link_names}
 use Rattle.sq_graph.specs.Soundness.{LinksDieIn, IsSound}
 use Rattle.sq_graph.proofs.Located.{IsAt, located}
 use Rattle.sq_graph.proofs.SlotReads.{block_at as found_at_spot}
 use Rattle.sq_graph.proofs.SplitRules.{last_goes_on-append}
-use Rattle.sq_follow.specs.Follows.{Follows, word_address}
+use Rattle.sq_follow.specs.Follows.{Follows}
 use Rattle.sq_fold.specs.Nodes.{item_name, term_name, slot_of, term_leads, leads_on}
-use Rattle.sq_fold.specs.Partition.{bare_item, bare_term, references_of, shape_of}
+use Rattle.sq_fold.specs.Partition.{bare_item, bare_term}
 use Rattle.sq_fold.proofs.Blocks.{pick, refer_terms, term_references}
 use Rattle.sq_fold.proofs.Referred.{slot_behind}
-use Rattle.sq_patch.specs.Changes.{Change, SameSlot, falls, Alike, IsSteady, promised, name_before, name_after, jump_before, jump_after, both_end, guarded}
+use Rattle.sq_patch.specs.Changes.{Change, falls, Alike, IsSteady, promised, name_before, name_after, jump_before, jump_after, both_end, guarded}
 use Rattle.sq_patch.proofs.Bypassing.{slot_known}
-use Rattle.sq_patch.proofs.Carrying.{carried_items, AreOf, ItemGoes, TermGoesOn, SlotGoes, slot_same, carry_items, carry_some, same_some, items_die}
+use Rattle.sq_patch.proofs.Carrying.{carried_items, AreOf, ItemGoes, TermGoesOn, SlotGoes, slot_same, carry_items, carry_some, items_die}
 use Rattle.sq_patch.proofs.Changing.{ahead}
 use Rattle.sq_patch.proofs.Keeping.{NoMode, no_stands, all_matter, every_carrier}
 use Rattle.sq_patch.proofs.Layouts.{passed, none_in, IsHeld, lowers_of, Turn, Carries, done, stays, turns, gone as gone_turn, items_held, carried_sound}
@@ -110,6 +110,7 @@ module _ (g : Graph) (f new : ℕ → ℕ) (rules : IsGraph g) (solid : All (λ 
     Mode = NoMode;
     StandsIn = no_stands;
     Sound = Unit {0};
+    MaySkip = Unit {0};
   }
 
   used : (n : ℕ) → Contains (uses g) n → HasBlock g n
@@ -340,7 +341,7 @@ module _ (g : Graph) (f new : ℕ → ℕ) (rules : IsGraph g) (solid : All (λ 
           | inr gone ↦
               let away : falls_away f at.block at.back ≡ true = away_is on s ∙ ap not gone in
               let ends : ends_there ≡ End (Jump (lands_at f at.back)) ∷ lines_of (folded_blocks f new at.back) = rw (away, fall) refl in
-              subst (λ ys. Alike C true None (block_lines g m) ys) (sym ends) (jump_after (promised (has, inl (lands_is s ∙ sym same))))
+              subst (λ ys. Alike C true None (block_lines g m) ys) (sym ends) (jump_after tt (promised (has, inl (lands_is s ∙ sym same))))
         ]
 
     -- a block that doesn't go on keeps its end
@@ -354,7 +355,7 @@ module _ (g : Graph) (f new : ℕ → ℕ) (rules : IsGraph g) (solid : All (λ 
     jump_leads : (to : ℕ) → at.block.term ≡ Jump to → (m : ℕ) → HasBlock g m → f m ≡ f to → Alike C true None (block_lines g m) ends_there
     jump_leads to is m has same =
         let ends : ends_there ≡ End (Jump (f to)) ∷ lines_of (folded_blocks f new at.back) = still_ends (ap goes_on is) ∙ ap (λ t. term_lines (retargeted_term f t) (lines_of (folded_blocks f new at.back))) is in
-        subst (λ ys. Alike C true None (block_lines g m) ys) (sym ends) (jump_after (promised (has, inl (sym same))))
+        subst (λ ys. Alike C true None (block_lines g m) ys) (sym ends) (jump_after tt (promised (has, inl (sym same))))
 
   -- a term that is no Fall
   plain : (t : Term) (xs ys : List Line) → is_fall t ≡ false → TermGoesOn C own t → (links t ≡ true → SlotGoes C own (slot_name xs) (slot_name ys)) → (falls t ≡ true → Alike C true None xs ys) → Alike C false None (term_lines t xs) (term_lines (retargeted_term f t) ys)
@@ -473,7 +474,7 @@ module _ (g : Graph) (f new : ℕ → ℕ) (rules : IsGraph g) (solid : All (λ 
     from_jump j to is lead on =
         let known : HasBlock g j = (goes_here j (subst (λ w. Contains (term_uses w) j) (sym is) (contains_first j []))).0 in
         let meet : f j ≡ f to = some_same (sym (ap (option_map f) (lead_target n x (ap is_fall is) ∙ ap term_name is)) ∙ led.1 ∙ ap (option_map f) lead) in
-        subst (λ w. Alike C true None (term_lines w (lines_of x.back)) (ends_there k y)) (sym is) (jump_before (on j known meet))
+        subst (λ w. Alike C true None (term_lines w (lines_of x.back)) (ends_there k y)) (sym is) (jump_before tt (on j known meet))
 
     to_fall : is_fall u ≡ true → Goal true
     to_fall e' =
@@ -523,7 +524,7 @@ module _ (g : Graph) (f new : ℕ → ℕ) (rules : IsGraph g) (solid : All (λ 
   names n m j =
       elim j.1 [
         | inl e ↦ subst (λ k. Alike C false None (block_lines g n) (block_lines h k)) (sym e) (goes_alike n j.0)
-        | inr jump ↦ subst (λ ys. Alike C false None (block_lines g n) ys) (sym jump.1) (jump_after (goes_alike n j.0))
+        | inr jump ↦ subst (λ ys. Alike C false None (block_lines g n) ys) (sym jump.1) (jump_after tt (goes_alike n j.0))
       ]
 
   steady : IsSteady C

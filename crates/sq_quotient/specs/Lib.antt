@@ -1,2 +1,4 @@
+pub mod Folded
 pub mod Folding
 pub mod Laws
+pub mod Staying

@@ -1,5 +1,5 @@
-use Rattle.sq_patch.proofs.Passing.{detour_sound}
+use Rattle.sq_patch.proofs.Detouring.{detour_sound}
 use Rattle.sq_patch.proofs.detour_keeps_soundness.Goals as goal
 
 pub returns : goal.returns
-returns c = λ g block to rules passable sound. detour_sound g block to rules passable sound
+returns c = λ g block to rules leads sound. detour_sound g block to rules leads sound

@@ -1,6 +1,5 @@
 use Rattle.std.proofs.Common.{ap, is_some, ◌∙◌}
 use Rattle.sq_live.proofs.Layouts.{block_at}
-use Rattle.sq_jumps.proofs.DetoursApart.{none_chosen}
 use Rattle.sq_jumps.proofs.detour.detours_together.Goals as goal
 
 pub choose-requires-clause-block : goal.choose-requires-clause-block

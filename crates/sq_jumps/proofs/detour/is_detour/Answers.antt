@@ -1,7 +1,8 @@
 use Rattle.std.proofs.Common.{not, sym, ap, ◌∙◌, inl, inr}
 use Rattle.std.proofs.lemmas.Bool.{cases_Bool}
-use Rattle.sq_jumps.proofs.RowTests.{not_both, detour_is, detour_not}
 use Rattle.sq_jumps.proofs.detour.is_detour.Goals as goal
+use Rattle.sq_jumps.proofs.Booleans.{not_both}
+use Rattle.sq_jumps.proofs.DetourTests.{detour_is, detour_not}
 
 pub returns-then-to-block : goal.returns-then-to-block
 returns-then-to-block c =

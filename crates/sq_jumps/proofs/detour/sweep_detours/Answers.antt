@@ -14,12 +14,12 @@ returns-then-is_empty-clause-rewritten c = c.loop-round.invariant
 pub returns-then-is_empty-clause-follows : goal.returns-then-is_empty-clause-follows
 returns-then-is_empty-clause-follows c = c.loop-round.invariant.lighter.follows
 
-pub straighten_each-after-requires-clause-canonical : goal.straighten_each-after-requires-clause-canonical
-straighten_each-after-requires-clause-canonical c = c.loop-round.invariant.lighter.canonical
+pub remove_detours-after-requires-clause-canonical : goal.remove_detours-after-requires-clause-canonical
+remove_detours-after-requires-clause-canonical c = c.loop-round.invariant.lighter.canonical
 
 pub loop-round-preserved : goal.loop-round-preserved
 loop-round-preserved c =
-    rewritten_through IsCandidate described c.args.savings c.loop-round.after c.straighten_each-after.result c.args.graph.now.graph c.loop-round.graph.graph c.straighten_each-after.new.graph.graph c.loop-round.invariant c.straighten_each-after.ensures
+    rewritten_through IsCandidate described c.args.savings c.loop-round.after c.remove_detours-after.result c.args.graph.now.graph c.loop-round.graph.graph c.remove_detours-after.new.graph.graph c.loop-round.invariant c.remove_detours-after.ensures
 
 pub returns-clause-rewritten : goal.returns-clause-rewritten
 returns-clause-rewritten c = c.loop-round.invariant

@@ -1,9 +1,9 @@
 use Rattle.sq_graph.specs.declared.item.Term.TheVariants.{Fall}
 use Rattle.sq_graph.specs.Operations.{with_term}
 use Rattle.sq_lookup.proofs.Targets.{has_term}
-use Rattle.sq_jumps.proofs.Totals.{term_total}
-use Rattle.sq_jumps.proofs.Rewriting.{total_by, fall_rules}
 use Rattle.sq_jumps.proofs.fall.fall.Goals as goal
+use Rattle.sq_jumps.proofs.Totals.{term_total, total_by}
+use Rattle.sq_jumps.proofs.FallApplied.{fall_rules}
 
 pub set_term-requires-clause-rules : goal.set_term-requires-clause-rules
 set_term-requires-clause-rules c = fall_rules c.args.graph.now.graph c.args.block c.requires.to c.learn.ensures.rules c.requires.jump c.requires.next

@@ -1,13 +1,13 @@
-use Rattle.std.proofs.Common.{◌+◌, ◌≡◌, ap, is_some, arith}
+use Rattle.std.proofs.Common.{ap, is_some, arith}
 use Rattle.sq_graph.specs.Canonical.{canonical_of}
 use Rattle.sq_graph.proofs.CanonicalLaws.{canonical_is_canonical}
 use Rattle.sq_graph.specs.Words.{words_of}
 use Rattle.sq_jumps.specs.Candidates.{IsCandidate, described}
 use Rattle.sq_live.proofs.Layouts.{block_at}
 use Rattle.sq_pass.proofs.Rewriting.{rewritten_itself}
-use Rattle.sq_jumps.proofs.Applying.{fall_applied}
-use Rattle.sq_jumps.proofs.FallJoined.{fall_rewritten, fall_kept, fall_names, canonical_to_fewer}
 use Rattle.sq_jumps.proofs.fall.fall_one.Goals as goal
+use Rattle.sq_jumps.proofs.FallApplied.{fall_applied}
+use Rattle.sq_jumps.proofs.FallJoined.{fall_rewritten, fall_kept, fall_names, canonical_to_fewer}
 
 pub is_plain_fall-requires : goal.is_plain_fall-requires
 is_plain_fall-requires c = ap is_some (block_at c.args.graph.now.graph c.args.names.now c.args.place c.learn.ensures.rules c.requires.names c.requires.place).found

@@ -1,11 +1,12 @@
 use Rattle.std.proofs.Common.{sym, ◌∙◌}
 use Rattle.sq_lookup.specs.Tables.{number_at}
 use Rattle.sq_lookup.proofs.Targets.{has_term}
-use Rattle.sq_jumps.proofs.Ruled.{next_there}
-use Rattle.sq_jumps.proofs.RowTests.{slot_if, over_is, over_unused, over_reaches}
 use Rattle.sq_lookup.proofs.Sizes.{addresses_are, addresses_small}
-use Rattle.sq_jumps.proofs.StillSafe.{reaches_by, over_still}
 use Rattle.sq_jumps.proofs.invert.branches_over_jump.Goals as goal
+use Rattle.sq_jumps.proofs.Ruled.{next_there}
+use Rattle.sq_jumps.proofs.InvertTests.{slot_if, invert_is, invert_unused, invert_reaches}
+use Rattle.sq_jumps.proofs.OldSurveys.{reaches_by}
+use Rattle.sq_jumps.proofs.InvertSafe.{invert_still}
 
 pub jump_from-requires : goal.jump_from-requires
 jump_from-requires c = next_there c.args.graph.now.graph c.args.block c.in-Some.over c.learn.ensures.rules (sym c.next.ensures ∙ c.in-Some.is)
@@ -13,7 +14,7 @@ jump_from-requires c = next_there c.args.graph.now.graph c.args.block c.in-Some.
 pub returns-then-has : goal.returns-then-has
 returns-then-has c = record {
   some = λ no. absurd (cc);
-  all = λ survey over. absurd (over_unused c.args.graph.now.graph _ _ _ c.learn.ensures.rules survey c.args.block c.in-Some.over (sym c.next.ensures ∙ c.in-Some.is) (sym c.has.ensures ∙ c.if-has.true) over);
+  all = λ survey over. absurd (invert_unused c.args.graph.now.graph _ _ _ c.learn.ensures.rules survey c.args.block c.in-Some.over (sym c.next.ensures ∙ c.in-Some.is) (sym c.has.ensures ∙ c.if-has.true) over);
 }
 
 pub reaches_without-requires-clause-small : goal.reaches_without-requires-clause-small
@@ -30,10 +31,10 @@ returns c =
     let jump = sym c.jump_from.ensures ∙ c.in-Some-jump_from.is in
     record {
       some = λ yes.
-          over_is g c.args.block c.in-Branch.cond c.in-Branch.a c.in-Branch.b c.in-Some.over c.in-Branch.behind c.in-Some-jump_from.to c.learn.ensures.rules c.in-Branch.ensures next slot jump (safe.unused c.in-Some.over (sym c.has.ensures ∙ c.if-has.false))
-          (over_still g c.args.block c.in-Some.over c.in-Some-jump_from.to _ _ c.learn.ensures.rules (has_term g c.args.block _ c.in-Branch.ensures) jump safe (c.reaches_without.ensures.0 yes));
+          invert_is g c.args.block c.in-Branch.cond c.in-Branch.a c.in-Branch.b c.in-Some.over c.in-Branch.behind c.in-Some-jump_from.to c.learn.ensures.rules c.in-Branch.ensures next slot jump (safe.unused c.in-Some.over (sym c.has.ensures ∙ c.if-has.false))
+          (invert_still g c.args.block c.in-Some.over c.in-Some-jump_from.to _ _ c.learn.ensures.rules (has_term g c.args.block _ c.in-Branch.ensures) jump safe (c.reaches_without.ensures.0 yes));
       all = λ survey over.
           c.reaches_without.ensures.1
           (reaches_by _ _ _ c.in-Some.over c.args.block c.in-Some-jump_from.to (sym (addresses_are (number_at c.args.survey.now.addresses) g survey.addresses))
-          (over_reaches g _ _ _ c.learn.ensures.rules survey c.args.block c.in-Branch.cond c.in-Branch.a c.in-Branch.b c.in-Some.over c.in-Branch.behind c.in-Some-jump_from.to c.in-Branch.ensures next jump over));
+          (invert_reaches g _ _ _ c.learn.ensures.rules survey c.args.block c.in-Branch.cond c.in-Branch.a c.in-Branch.b c.in-Some.over c.in-Branch.behind c.in-Some-jump_from.to c.in-Branch.ensures next jump over));
     }

@@ -1,6 +1,6 @@
 use Rattle.sq_follow.proofs.Following.{graph_follows_itself}
-use Rattle.sq_jumps.proofs.RowTests.{survey_safe}
 use Rattle.sq_jumps.proofs.invert.sweep_branches.Goals as goal
+use Rattle.sq_jumps.proofs.InvertTests.{survey_safe}
 
 pub returns-in_err-names-clause-follows : goal.returns-in_err-names-clause-follows
 returns-in_err-names-clause-follows c = graph_follows_itself c.args.graph.now.graph

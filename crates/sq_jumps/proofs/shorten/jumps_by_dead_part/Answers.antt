@@ -1,8 +1,8 @@
 use Rattle.std.proofs.Common.{Some, inr, sym, ap, ◌∙◌, arith}
 use Rattle.sq_graph.specs.declared.item.Item.TheVariants.{Hi}
-use Rattle.sq_jumps.proofs.RowTests.{apart_if, same_if, dead_part_is, dead_part_dies}
 use Rattle.sq_lookup.proofs.Targets.{part_there}
 use Rattle.sq_jumps.proofs.shorten.jumps_by_dead_part.Goals as goal
+use Rattle.sq_jumps.proofs.ShortenTests.{apart_if, same_if, shorten_is, shorten_dies}
 
 pub dead_at-requires : goal.dead_at-requires
 dead_at-requires c =
@@ -18,7 +18,7 @@ returns-else-eq c =
     let before = c.dead_at.ensures.dead still.before still.lives (still.there c.in-PartJump.to there) (omega arith) in
     let last = sym c.in-Some-Hi.ensures.value ∙ ap Some (c.in-Some-Hi.field-0-is ∙ ap (λ r. Hi r c.in-Some-Hi.half) (same_if c.in-Some-Hi.rd c.in-PartJump.part c.if-ne.ensures) ∙ ap (λ n. Hi c.in-PartJump.part n) c.if-half-to.false) in
     record {
-      some = λ yes. dead_part_is g c.args.block c.in-PartJump.link c.in-PartJump.part c.in-PartJump.to c.items.result.now c.items.ensures c.in-PartJump.ensures last (inr (still.dead c.in-PartJump.to c.in-PartJump.part there (before.0 yes)));
+      some = λ yes. shorten_is g c.args.block c.in-PartJump.link c.in-PartJump.part c.in-PartJump.to c.items.result.now c.items.ensures c.in-PartJump.ensures last (inr (still.dead c.in-PartJump.to c.in-PartJump.part there (before.0 yes)));
       all = λ lives by.
-          (c.dead_at.ensures.dead g lives there (omega arith)).1 (dead_part_dies g c.args.block c.in-PartJump.link c.in-PartJump.part c.in-PartJump.to c.in-PartJump.ensures (apart_if c.in-PartJump.part c.in-PartJump.link c.if-eq.ensures) by);
+          (c.dead_at.ensures.dead g lives there (omega arith)).1 (shorten_dies g c.args.block c.in-PartJump.link c.in-PartJump.part c.in-PartJump.to c.in-PartJump.ensures (apart_if c.in-PartJump.part c.in-PartJump.link c.if-eq.ensures) by);
     }

@@ -1,8 +1,8 @@
 use Rattle.std.proofs.Common.{sym, ◌∙◌}
 use Rattle.sq_jumps.specs.Candidates.{IsCandidate, described}
 use Rattle.sq_pass.proofs.Rewriting.{rewritten_itself, rewritten_through}
-use Rattle.sq_jumps.proofs.Sweeping.{listed_there}
 use Rattle.sq_jumps.proofs.shorten.shorten_each.Goals as goal
+use Rattle.sq_jumps.proofs.Blocks.{listed_there}
 
 pub loop-name-init : goal.loop-name-init
 loop-name-init c = record {

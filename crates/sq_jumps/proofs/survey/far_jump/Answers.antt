@@ -1,11 +1,11 @@
 use Rattle.std.proofs.Common.{◌≡◌, Some, sym, ap, subst, ◌∙◌}
 use Rattle.sq_lookup.proofs.Targets.{branch_there, jump_there}
-use Rattle.sq_jumps.proofs.InvertDistances.{not_far, too_far, far_if_jump}
 use Rattle.sq_jumps.specs.Surveys.{IsTooFar}
 use Rattle.sq_lookup.specs.Tables.{number_at}
 use Rattle.sq_lookup.proofs.Sizes.{addresses_are, addresses_small}
-use Rattle.sq_jumps.proofs.StillSafe.{reaches_by}
 use Rattle.sq_jumps.proofs.survey.far_jump.Goals as goal
+use Rattle.sq_jumps.proofs.Distances.{not_far, too_far, far_if_jump}
+use Rattle.sq_jumps.proofs.OldSurveys.{reaches_by}
 
 pub jump_from-requires : goal.jump_from-requires
 jump_from-requires c =

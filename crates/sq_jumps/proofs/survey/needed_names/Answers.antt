@@ -1,8 +1,8 @@
 use Rattle.std.proofs.Common.{inl, inr, ap, is_some, arith}
 use Rattle.sq_live.proofs.Layouts.{block_at}
-use Rattle.sq_jumps.proofs.Surveying.{none_gathered, one_gathered, all_gathered}
-use Rattle.sq_jumps.proofs.InvertDistances.{needs_there}
 use Rattle.sq_jumps.proofs.survey.needed_names.Goals as goal
+use Rattle.sq_jumps.proofs.Surveying.{none_gathered, one_gathered, all_gathered}
+use Rattle.sq_jumps.proofs.Distances.{needs_there}
 
 pub loop-name-init : goal.loop-name-init
 loop-name-init c = none_gathered c.args.graph.now.graph c.args.names.now c.new-needed.result c.new-needed.ensures

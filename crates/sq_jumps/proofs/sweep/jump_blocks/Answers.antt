@@ -1,8 +1,8 @@
 use Rattle.std.proofs.Common.{List, ℕ, get_or, is_some, sym, ap, ◌∙◌, subst}
 use Rattle.sq_live.proofs.Layouts.{block_at}
-use Rattle.sq_jumps.proofs.Sweeping.{AreJumps, one_listed}
 use Rattle.sq_jumps.proofs.sweep.jump_blocks.Goals as goal
 use Rattle.sq_jumps.proofs.sweep.jump_blocks.Goals.{then-is_some+in_ok-push, else-is_some}
+use Rattle.sq_jumps.proofs.Rewritten.{AreJumps, one_listed}
 
 pub jump_row-requires-clause-block : goal.jump_row-requires-clause-block
 jump_row-requires-clause-block c =

@@ -3,8 +3,8 @@ use Rattle.std.specs.Prelude.{IfSome}
 use Rattle.sq_follow.proofs.Following.{graph_follows_itself}
 use Rattle.sq_pass.proofs.Rewriting.{rewritten_itself}
 use Rattle.sq_jumps.specs.Candidates.{HasRow, IsCandidate, described}
-use Rattle.sq_jumps.proofs.Sweeping.{row_rewritten}
 use Rattle.sq_jumps.proofs.sweep.rewrite_one.Goals as goal
+use Rattle.sq_jumps.proofs.Rewritten.{row_rewritten}
 
 pub returns-then-not-is_block-clause-rewritten : goal.returns-then-not-is_block-clause-rewritten
 returns-then-not-is_block-clause-rewritten c = rewritten_itself IsCandidate described c.args.savings c.args.graph.now.graph c.requires.canonical

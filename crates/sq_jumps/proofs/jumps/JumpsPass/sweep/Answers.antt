@@ -1,8 +1,8 @@
 use Rattle.sq_follow.proofs.Following.{graph_follows_through}
 use Rattle.sq_pass.proofs.Rewriting.{rewritten_through}
 use Rattle.sq_jumps.specs.Candidates.{IsCandidate, described}
-use Rattle.sq_jumps.proofs.Sweeping.{swept_on}
 use Rattle.sq_jumps.proofs.jumps.JumpsPass.sweep.Goals as goal
+use Rattle.sq_jumps.proofs.Rewritten.{swept_on}
 
 pub returns-in_err-after_detours-clause-follows : goal.returns-in_err-after_detours-clause-follows
 returns-in_err-after_detours-clause-follows c = graph_follows_through c.args.graph.now.graph c.sweep_calls.new.graph.graph c.sweep_detours.new.graph.graph c.sweep_calls.ensures.follows c.sweep_detours.ensures.follows

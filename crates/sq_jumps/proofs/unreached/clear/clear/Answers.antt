@@ -6,9 +6,9 @@ use Rattle.sq_graph.specs.Rules.{IsGraph}
 use Rattle.sq_graph.specs.Operations.{with_term, replaced}
 use Rattle.sq_jumps.specs.UnreachedClear.{cleared}
 use Rattle.sq_layout.proofs.Walks.{items_few}
-use Rattle.sq_jumps.proofs.Rewriting.{total_by}
-use Rattle.sq_jumps.proofs.UnreachedCleared.{emptied_rules, emptied_there, cleared_rules, cleared_there, cleared_total}
 use Rattle.sq_jumps.proofs.unreached.clear.clear.Goals as goal
+use Rattle.sq_jumps.proofs.Totals.{total_by}
+use Rattle.sq_jumps.proofs.UnreachedCleared.{emptied_rules, emptied_there, cleared_rules, cleared_there, cleared_total}
 
 pub overflow_cast-count : goal.overflow_cast-count
 overflow_cast-count c = let few = items_few c.args.graph.now.graph c.args.block c.learn.ensures.few in let is = ap length c.items.ensures in omega arith

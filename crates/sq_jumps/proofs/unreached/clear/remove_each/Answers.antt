@@ -3,10 +3,9 @@ use Rattle.sq_graph.specs.Graph.{Graph}
 use Rattle.sq_graph.specs.Blocks.{items_of}
 use Rattle.sq_graph.specs.Operations.{without_block}
 use Rattle.sq_jumps.specs.UnreachedClear.{without_each, MayGo}
-use Rattle.sq_jumps.proofs.Totals.{without_total}
-use Rattle.sq_jumps.proofs.Rewriting.{total_by}
-use Rattle.sq_jumps.proofs.UnreachedRemoved.{split_at_index, goes_there, goes_rules, others_may}
 use Rattle.sq_jumps.proofs.unreached.clear.remove_each.Goals as goal
+use Rattle.sq_jumps.proofs.Totals.{without_total, total_by}
+use Rattle.sq_jumps.proofs.UnreachedRemoved.{split_at_index, goes_there, goes_rules, others_may}
 
 pub remove-requires-clause-block : goal.remove-requires-clause-block
 remove-requires-clause-block c =

@@ -4,9 +4,9 @@ use Rattle.sq_graph.specs.Blocks.{body_of}
 use Rattle.sq_graph.specs.Operations.{without_procedure}
 use Rattle.sq_graph.proofs.OperationRules.{without_procedure_rules}
 use Rattle.sq_jumps.specs.UnreachedClear.{is_called, without_uncalled}
-use Rattle.sq_jumps.proofs.Rewriting.{total_by}
-use Rattle.sq_jumps.proofs.UnreachedCalls.{uncalled_unused, uncalled_total, left_count, step_called, step_uncalled}
 use Rattle.sq_jumps.proofs.unreached.clear.remove_uncalled.Goals as goal
+use Rattle.sq_jumps.proofs.Totals.{total_by}
+use Rattle.sq_jumps.proofs.UnreachedCalls.{uncalled_unused, uncalled_total, left_count, step_called, step_uncalled}
 
 pub remove_procedure-requires-clause-unused : goal.remove_procedure-requires-clause-unused
 remove_procedure-requires-clause-unused c =

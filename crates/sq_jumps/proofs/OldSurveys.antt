@@ -1,36 +1,21 @@
 -- What an old survey tells of a graph from which blocks went since.
-use Rattle.std.proofs.Common.{◌≡◌, ◌≢◌, ◌⊎◌, ℕ, pos, ◌-ℤ◌, ◌+◌, ◌*◌, ◌≤◌, List, [], length, Option, None, Some, IsSome, unwrap_or, inl, inr, refl, sym, ap, ◌∙◌, subst, arith}
-use Rattle.std.specs.List.{All, Contains}
+use Rattle.std.proofs.Common.{◌≡◌, ◌⊎◌, ℕ, pos, List, length, Option, None, Some, inl, inr, refl, sym, ap, subst, arith, ◌+◌, IsSome, ◌-ℤ◌, ◌*◌, ◌≤◌, unwrap_or}
 use Rattle.std.proofs.lemmas.Int.{ints}
-use Rattle.std.proofs.lemmas.List.Elements.{All-nil, All-cons, All-head}
-use Rattle.sq_arena.specs.Entries.{HasDistinctKeys}
-use Rattle.sq_isa.specs.Branches.{inverse_of}
 use Rattle.sq_graph.specs.declared.item.Item.{Item}
-use Rattle.sq_graph.specs.declared.item.Term.{Term}
-use Rattle.sq_graph.specs.declared.item.Term.TheVariants.{Jump, Branch}
-use Rattle.sq_graph.specs.Graph.{Block, Graph}
-use Rattle.sq_graph.specs.Blocks.{named, HasBlock, block_of, block_items, items_of}
-use Rattle.sq_graph.specs.Operations.{with_term}
+use Rattle.sq_graph.specs.Graph.{Graph, Block}
+use Rattle.sq_graph.specs.Blocks.{items_of, named, HasBlock, block_of, block_items}
+use Rattle.sq_graph.specs.Places.{Reaches, address_in}
 use Rattle.sq_graph.specs.Resolve.{jump_from}
-use Rattle.sq_graph.specs.Places.{address_in, Reaches}
 use Rattle.sq_graph.specs.Rules.{IsGraph}
-use Rattle.sq_graph.specs.Uses.{uses}
 use Rattle.sq_graph.specs.Words.{term_words, block_words}
-use Rattle.sq_graph.proofs.Fitting.{term_fits}
-use Rattle.sq_patch.specs.LoneJumps.{inverted_over}
-use Rattle.sq_jumps.specs.Invert.{inverted, BranchesOverJump, IsStillSafe}
-use Rattle.sq_layout.specs.Shrinks.{Shrinks}
 use Rattle.sq_layout.specs.Branches.{lifted}
-use Rattle.sq_lookup.specs.Addresses.{address_of, address_at}
-use Rattle.sq_jumps.specs.Surveys.{ReachesBy, ReachesWithout}
-use Rattle.sq_lookup.proofs.Sizes.{addresses_are}
+use Rattle.sq_jumps.specs.Surveys.{ReachesWithout, ReachesBy}
+use Rattle.sq_lookup.proofs.Targets.{jump_there, lone}
+use Rattle.sq_arena.specs.Entries.{HasDistinctKeys}
 use Rattle.sq_layout.proofs.Standing.{above, below}
-use Rattle.sq_jumps.proofs.Applying.{inverting_is, invert_shrinks}
-use Rattle.sq_lookup.proofs.Targets.{has_term, lone, lone_term, jump_there, targets_are}
-use Rattle.sq_jumps.proofs.Rewriting.{all_apart, turned_rules, over_there, inverted_rules}
-use Rattle.sq_jumps.proofs.Ruled.{still_unused, without_names}
+use Rattle.sq_layout.specs.Shrinks.{Shrinks}
 use Rattle.sq_layout.proofs.Shrinking.{IsNoFurther, no_further, placed, source_of}
-use Rattle.sq_layout.proofs.Shrunk.{shrinks_twice}
+use Rattle.sq_lookup.specs.Addresses.{address_of}
 
 pub reaches_by : (p q : ℕ → ℕ) (items gone from to : ℕ) → p ≡ q → ReachesBy p items gone from to → ReachesBy q items gone from to
 reaches_by p q items gone from to same reach = subst (λ (f : ℕ → ℕ). ReachesBy f items gone from to) same reach
@@ -113,8 +98,6 @@ reaches_still g h gone from to o f t distinct shrinks at_gone some at_from at_to
     (nearer (4 * block_words was_from.block) (4 * block_words f) (length f.items) go.old go.new fr.old fr.new ta.old ta.new (lifted go.old fr.old) (lifted go.new fr.new) (lifted go.old ta.old) (lifted go.new ta.new) within fewer
     (lifts (4 * block_words was_gone.block) (4 * block_words o) go.old go.new fr.old fr.new word word' first) (lifts (4 * block_words was_gone.block) (4 * block_words o) go.old go.new ta.old ta.new word word' second) third)
 
--- ROW J3
-
 -- a Branch reaches the target of a lone Jump once that is gone, where by the places of then it did
 pub without_still : (g h : Graph) (block over to : ℕ) → HasDistinctKeys (named g.blocks) → Shrinks g.blocks h.blocks → IsGraph h → HasBlock h block → jump_from h over ≡ Some to → ReachesBy (address_of g) (length (items_of h block)) over block to → ReachesWithout h over block to
 without_still g h block over to distinct shrinks rules has jump reach =
@@ -129,42 +112,3 @@ without_still g h block over to distinct shrinks rules has jump reach =
     of_some : (o : Option Block) → IsSome o → (b : Block) × (o ≡ Some b)
     of_some None some = absurd (cc)
     of_some (Some b) some = (b, refl)
-
-pub over_still : (g : Graph) (block over to : ℕ) (address : ℕ → Option ℕ) (used : List ℕ) → IsGraph g → HasBlock g block → jump_from g over ≡ Some to → IsStillSafe address used g → ReachesBy (address_at address) (length (items_of g block)) over block to → ReachesWithout g over block to
-over_still g block over to address used rules has jump safe reach =
-    without_still safe.before g block over to safe.distinct safe.shrinks rules has jump
-    (reaches_by (address_at address) (address_of safe.before) (length (items_of g block)) over block to (addresses_are address safe.before safe.addresses) reach)
-
-not_among : (xs : List ℕ) (n : ℕ) → All (λ k. k ≢ n) xs → ¬ Contains xs n
-not_among xs n all c = all c.0 n c.1 c.2
-
-module _ (g : Graph) (block : ℕ) (rules : IsGraph g) (o : BranchesOverJump g block) where
-  abbrev t : Term
-  t = Branch (inverse_of o.cond) o.a o.b o.to
-
-  inverted_unused : (n : ℕ) → ¬ Contains (uses g) n → ¬ Contains (uses (inverted_over g block o.cond o.a o.b o.over o.to)) n
-  inverted_unused n none =
-      let N : ℕ → Type 0 = λ k. k ≢ n in
-      let apart = all_apart (uses g) n none in
-      let to_apart : o.to ≢ n = All-head N o.to [] (targets_are N g o.over (Jump o.to) rules apart (lone_term g o.over o.to (lone g o.over o.to o.jumped.jump))) in
-      let turned = turned_rules g block o.cond o.a o.b o.over o.behind o.to (inverse_of o.cond) rules o.jumped in
-      let left = inverted_rules g block o.cond o.a o.b o.over o.behind o.to (inverse_of o.cond) rules o.jumped in
-      let there = over_there g block o.cond o.a o.b o.over o.behind o.to (inverse_of o.cond) rules o.jumped in
-      let has = has_term g block (Branch o.cond o.a o.b o.behind) o.jumped.branch in
-      not_among (uses (inverted_over g block o.cond o.a o.b o.over o.to)) n
-      (without_names N (with_term g block t) o.over turned left there
-      (still_unused g block n t rules turned has apart (All-cons N o.to [] to_apart (All-nil N)) (term_fits g block (Branch o.cond o.a o.b o.behind) rules o.jumped.branch)))
-
-  inverted_safe_over : (address : ℕ → Option ℕ) (used : List ℕ) → IsStillSafe address used g → IsStillSafe address used (inverted_over g block o.cond o.a o.b o.over o.to)
-  inverted_safe_over address used safe = record {
-    before = safe.before;
-    distinct = safe.distinct;
-    few = safe.few;
-    addresses = safe.addresses;
-    shrinks = shrinks_twice safe.shrinks (invert_shrinks g block o);
-    unused = λ n none. inverted_unused n (safe.unused n none);
-  }
-
-  pub inverted_safe : (h : Graph) (address : ℕ → Option ℕ) (used : List ℕ) → h ≡ inverted g block → IsStillSafe address used g → IsStillSafe address used h
-  inverted_safe h address used is safe =
-      subst (IsStillSafe address used) (sym (is ∙ inverting_is g block o.cond o.a o.b o.over o.behind o.to o.jumped)) (inverted_safe_over address used safe)

@@ -2,7 +2,7 @@ use Rattle.std.proofs.Common.{drop}
 use Rattle.sq_pass.specs.Rewrites.{IsRewritten}
 use Rattle.sq_jumps.specs.Candidates.{IsCandidate, described}
 use Rattle.sq_jumps.specs.Detour.{GoTogether}
-use Rattle.sq_jumps.proofs.detour.straighten_each.Given as goal
+use Rattle.sq_jumps.proofs.detour.remove_detours.Given as goal
 
 abbrev pub invariant-loop-block : goal.invariant-loop-block
 invariant-loop-block l =

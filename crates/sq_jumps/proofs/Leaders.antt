@@ -1,28 +1,12 @@
--- Leaders of a graph from which a lone Jump goes.
-use Rattle.std.proofs.Common.{◌≡◌, ◌⊎◌, ℕ, ◌==◌, Bool, true, false, ◌&&◌, ◌||◌, List, [], ◌∷◌, ◌++◌, None, inl, inr, refl, sym}
-use Rattle.std.proofs.lemmas.Bool.{cases_Bool, eqb-false, ne_eqb, or_left, or_right}
-use Rattle.sq_arena.specs.Entries.{value_of}
+-- Leaders, of a graph in which blocks went, or other terms came.
+use Rattle.std.proofs.Common.{◌≡◌, ℕ, Bool, true, false, ◌||◌, List, [], ◌∷◌, None, inl, inr, refl, ap, ◌∙◌, ◌==◌, ◌++◌}
+use Rattle.std.proofs.lemmas.Bool.{cases_Bool}
 use Rattle.sq_graph.specs.Graph.{Block}
 use Rattle.sq_graph.specs.Blocks.{named}
+use Rattle.sq_arena.specs.Entries.{value_of}
 use Rattle.sq_graph.specs.Leaders.{FallsIntoLeaders}
-
-pub or_cases : (a b : Bool) → (a || b) ≡ true → (a ≡ true) ⊎ (b ≡ true)
-or_cases true b e = inl refl
-or_cases false b e = inr e
-
-pub other_way : (a b : ℕ) → (a == b) ≡ false → (b == a) ≡ false
-other_way a b e = ne_eqb b a (λ same. eqb-false a b e (sym same))
-
-pub and_false : (b : Bool) → (b && false) ≡ false
-and_false true = refl
-and_false false = refl
-
--- one of four holds, once another stands for the third
-pub one_of_four : (Q : Type 0) (a b c c' d : Bool) → (c ≡ true → (c' ≡ true) ⊎ Q) → (a || (b || (c || d))) ≡ true → ((a || (b || (c' || d))) ≡ true) ⊎ Q
-one_of_four Q true b c c' d h e = inl refl
-one_of_four Q false true c c' d h e = inl refl
-one_of_four Q false false true c' d h e = elim (h refl) [ inl holds ↦ inl (or_left c' d holds) | inr q ↦ inr q ]
-one_of_four Q false false false c' d h e = inl (or_right c' d e)
+use Rattle.sq_isa.specs.Registers.{is_among}
+use Rattle.sq_graph.proofs.Marks.{is_among-append}
 
 -- no block of a list has the name
 pub absent_tail : (b : Block) (bs : List Block) (n : ℕ) → value_of (named (b ∷ bs)) n ≡ None → ((b.name == n) ≡ false) × (value_of (named bs) n ≡ None)
@@ -46,3 +30,6 @@ module _ (gone : ℕ) (leads others : ℕ → Bool) (more : (n : ℕ) → (n == 
   falls_on (b ∷ next ∷ bs) none falls =
       let later = (absent_tail b (next ∷ bs) gone none).1 in
       (λ fall. more next.name (absent_tail next bs gone later).0 (falls.0 fall), falls_on (next ∷ bs) later falls.1)
+
+pub three_uses : (words terms items : List ℕ) (n : ℕ) → is_among (words ++ (terms ++ items)) n ≡ (is_among words n || (is_among terms n || is_among items n))
+three_uses words terms items n = is_among-append words (terms ++ items) n ∙ ap (λ b. is_among words n || b) (is_among-append terms items n)

@@ -1,19 +1,19 @@
 -- Branches over lone Jumps that go, by the addresses that a survey has.
-use Rattle.std.proofs.Common.{◌≡◌, ◌≢◌, ◌↔◌, ℕ, List, length, Some, inl, inr, sym, ap, ◌∙◌, subst, arith}
+use Rattle.std.proofs.Common.{◌≡◌, ◌≢◌, ℕ, List, length, Some, inl, inr, sym, ap, ◌∙◌, subst, arith, ◌↔◌}
 use Rattle.sq_isa.specs.declared.instructions.Cond.{Cond}
 use Rattle.sq_graph.specs.declared.item.Item.{Item}
 use Rattle.sq_graph.specs.declared.item.Term.{Term}
-use Rattle.sq_graph.specs.declared.item.Term.TheVariants.{Jump, Branch}
+use Rattle.sq_graph.specs.declared.item.Term.TheVariants.{Branch, Jump}
 use Rattle.sq_graph.specs.Graph.{Graph}
-use Rattle.sq_graph.specs.Blocks.{HasBlock, block_of, term_of}
-use Rattle.sq_graph.specs.Operations.{with_term, redirected, without_block}
+use Rattle.sq_graph.specs.Blocks.{term_of, HasBlock, block_of}
+use Rattle.sq_graph.specs.Operations.{redirected, without_block, with_term}
 use Rattle.sq_graph.specs.Resolve.{jump_from}
 use Rattle.sq_graph.specs.Words.{term_words, block_words}
 use Rattle.sq_layout.specs.Branches.{BranchReaches}
-use Rattle.sq_lookup.specs.Addresses.{address_of}
-use Rattle.sq_jumps.specs.Surveys.{ReachesWithout, IsTooFar, Needs}
+use Rattle.sq_jumps.specs.Surveys.{ReachesWithout, Needs, IsTooFar}
+use Rattle.sq_lookup.proofs.Targets.{has_term, lone, lone_term, IsLone, has_lone}
 use Rattle.sq_layout.proofs.Shrinking.{block_with}
-use Rattle.sq_lookup.proofs.Targets.{IsLone, lone, has_term, has_lone, lone_term}
+use Rattle.sq_lookup.specs.Addresses.{address_of}
 use Rattle.sq_lookup.proofs.Sizes.{placed_at}
 use Rattle.sq_jumps.proofs.Addresses.{IsRemovable, detour_reaches, other_term_reaches}
 
@@ -39,13 +39,13 @@ removable g n from to x cond a b z l e there other = record {
 }
 
 -- a Branch to a lone Jump, once that has given its name to its target and is gone
-pub passes : (g : Graph) (n from to : ℕ) (cond : Cond) (a b : ℕ) → jump_from g n ≡ Some to → term_of g from ≡ Some (Branch cond a b n) → HasBlock g to → to ≢ n → BranchReaches (without_block (redirected g n to) n) from to ↔ ReachesWithout g n from to
-passes g n from to cond a b jump e there other =
+pub detour_near : (g : Graph) (n from to : ℕ) (cond : Cond) (a b : ℕ) → jump_from g n ≡ Some to → term_of g from ≡ Some (Branch cond a b n) → HasBlock g to → to ≢ n → BranchReaches (without_block (redirected g n to) n) from to ↔ ReachesWithout g n from to
+detour_near g n from to cond a b jump e there other =
     detour_reaches g n (address_of g n) from to (address_of g from) (address_of g to) (removable g n from to to cond a b n (lone g n to jump) e there other)
 
 -- a Branch in place of another, once the lone Jump is gone
-pub turns : (g : Graph) (n from to : ℕ) (cond new : Cond) (a b z x y : ℕ) → jump_from g n ≡ Some to → term_of g from ≡ Some (Branch cond a b z) → HasBlock g to → to ≢ n → BranchReaches (without_block (with_term g from (Branch new x y to)) n) from to ↔ ReachesWithout g n from to
-turns g n from to cond new a b z x y jump e there other =
+pub invert_near : (g : Graph) (n from to : ℕ) (cond new : Cond) (a b z x y : ℕ) → jump_from g n ≡ Some to → term_of g from ≡ Some (Branch cond a b z) → HasBlock g to → to ≢ n → BranchReaches (without_block (with_term g from (Branch new x y to)) n) from to ↔ ReachesWithout g n from to
+invert_near g n from to cond new a b z x y jump e there other =
     let o = block_with (block_of g from) (Branch cond a b z) e in
     other_term_reaches g n (address_of g n) from to (address_of g from) (address_of g to) o.0 (Branch new x y to)
     (removable g n from to to cond a b z (lone g n to jump) e there other) o.1 (sym (ap term_words o.2))
@@ -66,7 +66,7 @@ not_far g from over to cond a b n there e jump other reach f =
     let same = far_if_jump g from over cond a b n e f in
     let j : jump_from g over ≡ Some f.to = subst (λ k. jump_from g k ≡ Some f.to) (sym same) f.jump in
     let to_is : to ≡ f.to = cc in
-    f.far (subst (λ k. BranchReaches (without_block (redirected g k f.to) k) from f.to) same (subst (λ k. BranchReaches (without_block (redirected g over k) over) from k) to_is ((passes g over from to cond a b jump e there other).1 reach)))
+    f.far (subst (λ k. BranchReaches (without_block (redirected g k f.to) k) from f.to) same (subst (λ k. BranchReaches (without_block (redirected g over k) over) from k) to_is ((detour_near g over from to cond a b jump e there other).1 reach)))
 
 pub too_far : (g : Graph) (from over to : ℕ) (cond : Cond) (a b : ℕ) → HasBlock g to → term_of g from ≡ Some (Branch cond a b over) → jump_from g over ≡ Some to → to ≢ over → ¬ ReachesWithout g over from to → IsTooFar g from over
 too_far g from over to cond a b there e jump other far = record {
@@ -77,7 +77,7 @@ too_far g from over to cond a b there e jump other far = record {
   branch = e;
   jump = jump;
   other = other;
-  far = λ reach. far ((passes g over from to cond a b jump e there other).0 reach);
+  far = λ reach. far ((detour_near g over from to cond a b jump e there other).0 reach);
 }
 
 -- a block that needs another is there

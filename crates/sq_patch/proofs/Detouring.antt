@@ -20,7 +20,7 @@ use Rattle.sq_graph.specs.Soundness.{IsSound}
 use Rattle.sq_graph.proofs.Located.{located}
 use Rattle.sq_follow.specs.Follows.{Follows}
 use Rattle.sq_patch.specs.Changes.{Change, Alike, IsSteady, falls, jump_before}
-use Rattle.sq_patch.specs.LoneJumps.{IsPassable, without_jump}
+use Rattle.sq_patch.specs.LoneJumps.{IsDetourTo, without_jump}
 use Rattle.sq_patch.proofs.LiveTargets.{word_target}
 use Rattle.sq_patch.proofs.Patch.{change_follows}
 use Rattle.sq_patch.proofs.Keeping.{every_carrier}
@@ -78,7 +78,7 @@ other_to from to n e = let apart : (n == from) ≡ false = ne_eqb n from e in rw
 pub this_to : (from to n : ℕ) → n ≡ from → swapped from to n ≡ to
 this_to from to n e = let same : (n == from) ≡ true = eq-eqb n from e in rw same refl
 
-module _ (g : Graph) (block to : ℕ) (rules : IsGraph g) (passable : IsPassable g block to) where
+module _ (g : Graph) (block to : ℕ) (rules : IsGraph g) (leads : IsDetourTo g block to) where
   abbrev f : ℕ → ℕ
   f = swapped block to
 
@@ -86,7 +86,7 @@ module _ (g : Graph) (block to : ℕ) (rules : IsGraph g) (passable : IsPassable
   h = without_jump g block to
 
   abbrev C : Change
-  C = moving every f g h
+  C = moving (Unit {0}) every f g h
 
   -- every name but the block's
   abbrev Other : ℕ → Type 0
@@ -107,7 +107,7 @@ module _ (g : Graph) (block to : ℕ) (rules : IsGraph g) (passable : IsPassable
   -- nothing goes on into the block
   next_other : (front : List Block) (x next : Block) (bs : List Block) → front ++ (x ∷ next ∷ bs) ≡ g.blocks → goes_on x.term ≡ true → next.name ≢ block
   next_other front x next bs e goes is =
-      let closed : goes_on x.term ≡ false = passable.apart x.name x.term (next_name_at g rules front x next bs e ∙ ap Some is) (ap block_term (block_at g rules front x (next ∷ bs) e)) in cc
+      let closed : goes_on x.term ≡ false = leads.apart x.name x.term (next_name_at g rules front x next bs e ∙ ap Some is) (ap block_term (block_at g rules front x (next ∷ bs) e)) in cc
 
   -- the first of these, where something goes on into it
   abbrev FirstOther : List Block → Type 0
@@ -167,10 +167,10 @@ module _ (g : Graph) (block to : ℕ) (rules : IsGraph g) (passable : IsPassable
       elim (cases_Bool (n == block)) [
         | inl here ↦
             let same : n ≡ block = eqb-true n block here in
-            let o = jump_lines g rules block to passable.jump in
-            let target : Alike C false None (block_lines g to) (block_lines h to) = carries_behind C own Other to passable.other every_block in
+            let o = jump_lines g rules block to leads.jump in
+            let target : Alike C false None (block_lines g to) (block_lines h to) = carries_behind C own Other to leads.other every_block in
             subst (λ m. Alike C false None (block_lines g n) (block_lines h m)) (sym (this_to block to n same))
-            (subst (λ lines. Alike C false None lines (block_lines h to)) (sym (ap (block_lines g) same ∙ o.1)) (jump_before target))
+            (subst (λ lines. Alike C false None lines (block_lines h to)) (sym (ap (block_lines g) same ∙ o.1)) (jump_before tt target))
         | inr apart ↦
             let other : n ≢ block = eqb-false n block apart in
             subst (λ m. Alike C false None (block_lines g n) (block_lines h m)) (sym (other_to block to n other)) (carries_behind C own Other n other every_block)
