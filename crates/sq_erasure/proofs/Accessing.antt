@@ -32,7 +32,7 @@ use Rattle.sq_follow.specs.Arithmetic.{atomic_result}
 use Rattle.sq_follow.specs.Accesses.{Step, gives, aligned_cells, stored, reserved, tag_in, with_tag_or_number, with_loaded, load_cells, load_at, is_word, store_at, lr_cells, update, amo_cells, atomic_at}
 use Rattle.sq_follow.specs.Accesses as tagged
 use Rattle.sq_erasure.specs.Erasure.{Erasing, IsErasing, IsErasedTag, IsErased, IsErasedCell, IsErasedStore, IsErasedSetting}
-use Rattle.sq_erasure.proofs.Cells.{word_number, AreErased, erased_numbers, whole_bytes, stored_erased}
+use Rattle.sq_erasure.proofs.Cells.{word_number, AreErased, erased_numbers, whole_bytes, stored_erased, stored_fresh, stale_kept}
 
 pub if_rel : {A B : Type 0} (R : A → B → Type 0) (b c : Bool) (x y : A) (x' y' : B) → c ≡ b → (b ≡ true → R x x') → (b ≡ false → R y y') → R (if b then x else y) (if c then x' else y')
 if_rel R true true x y x' y' e h k = h refl
@@ -70,7 +70,7 @@ module _ (P : ℕ → Type 0) (E : Erasing) (s : Setting) (w : World) (naming : 
     value = y;
     value_is = h;
     registers = λ r. ap (λ z. if r == d && not (d == 0) then y else z) (f r);
-    store = record { memory = g.memory; input = g.input; reservation = g.reservation };
+    store = record { memory = g.memory; stale = g.stale; input = g.input; reservation = g.reservation };
   }
 
   pub gives_erased : (d y : ℕ) (v : Value) (a : Store) (b : State) → IsErased E v y → IsErasedStore P E a b → Same d b (gives v a) (Went None (finish d y b))
@@ -85,7 +85,7 @@ module _ (P : ℕ → Type 0) (E : Erasing) (s : Setting) (w : World) (naming : 
       value = y;
       value_is = h;
       registers = λ r. sym (nothing_written y b.registers r);
-      store = record { memory = g.memory; input = g.input; reservation = g.reservation };
+      store = record { memory = g.memory; stale = g.stale; input = g.input; reservation = g.reservation };
     },
   )
 
@@ -180,6 +180,7 @@ module _ (P : ℕ → Type 0) (E : Erasing) (s : Setting) (w : World) (naming : 
   unfolding with_bytes
   stored_same x width v y a b t h g = record {
     memory = with_cells-agree P (IsErasedCell E) (cells_of width v) (little_bytes width y) a.memory b.memory x (stored_erased E width v y t h) g.memory;
+    stale = stale_kept E P E.stale (cells_of width v) (little_bytes width y) a.memory b.memory x (stored_fresh width v) (stored_erased E width v y t h) g.stale;
     input = g.input;
     reservation = g.reservation;
   }
@@ -194,7 +195,7 @@ module _ (P : ℕ → Type 0) (E : Erasing) (s : Setting) (w : World) (naming : 
           value = 0;
           value_is = refl;
           registers = λ r. sym (nothing_written 0 b.registers r);
-          store = record { memory = k.memory; input = k.input; reservation = k.reservation };
+          store = record { memory = k.memory; stale = k.stale; input = k.input; reservation = k.reservation };
         },
       )
 
@@ -228,7 +229,7 @@ module _ (P : ℕ → Type 0) (E : Erasing) (s : Setting) (w : World) (naming : 
 
   reserved_same : (o : Option ℕ) (a : Store) (b : State) → IsErasedStore P E a b → IsErasedStore P E (reserved o a) (with_reservation o b)
   unfolding with_reservation
-  reserved_same o a b h = record { memory = h.memory; input = h.input; reservation = refl }
+  reserved_same o a b h = record { memory = h.memory; stale = h.stale; input = h.input; reservation = refl }
 
   -- a value into a register, from a state that differs from the one before in its store alone
   finish_after : (d y : ℕ) (v : Value) (a : Store) (b c : State) → IsErased E v y → next_pc c ≡ next_pc b → ((r : ℕ) → c.registers r ≡ b.registers r) → IsErasedStore P E a c → Same d b (gives v a) (Went None (finish d y c))
@@ -251,7 +252,7 @@ module _ (P : ℕ → Type 0) (E : Erasing) (s : Setting) (w : World) (naming : 
   unfolding with_reservation with_bytes
   sc_erased x d y v a b true e h =
       let k = stored_same x 4 v y a b (λ _. refl) e h in
-      finish_after d 0 (Num 0) (reserved None (stored x 4 v a)) b (with_bytes x (little_bytes 4 y) (with_reservation None b)) refl refl (λ r. refl) (record { memory = k.memory; input = k.input; reservation = refl })
+      finish_after d 0 (Num 0) (reserved None (stored x 4 v a)) b (with_bytes x (little_bytes 4 y) (with_reservation None b)) refl refl (λ r. refl) (record { memory = k.memory; stale = k.stale; input = k.input; reservation = refl })
   sc_erased x d y v a b false e h = finish_after d 1 (Num 1) (reserved None a) b (with_reservation None b) refl refl (λ r. refl) (reserved_same None a b h)
 
   update_erased : (op : AtomicOp) (x d z y : ℕ) (old v : Value) (a : Store) (b : State) → IsErased E old z → IsErased E v y → IsErasedStore P E a b → Same d b (update x old a (atomic_result op old v)) (Went None (finish d z (with_bytes x (little_bytes 4 (atomic_value_of op z y)) b)))

@@ -24,7 +24,7 @@ use Rattle.sq_follow.specs.Settings.{Setting, Store, Made, meets_text}
 use Rattle.sq_follow.specs.Accesses.{Step}
 use Rattle.sq_follow.specs.Calls.{CallOperands, call_of, with_buffer, with_input, effect_row, number_row, call_row}
 use Rattle.sq_erasure.specs.Erasure.{Erasing, IsErasing, IsErased, IsErasedCell, IsErasedStore, IsErasedSetting}
-use Rattle.sq_erasure.proofs.Cells.{AreErased, erased_numbers, bytes_erased}
+use Rattle.sq_erasure.proofs.Cells.{AreErased, erased_numbers, bytes_erased, bytes_fresh, stale_kept}
 use Rattle.sq_erasure.proofs.Accessing.{Plainly, IsErasedMade, range_same}
 
 number_of : (v : Value) → is_tagged v ≡ false → (x : ℕ) × (v ≡ Num x)
@@ -50,7 +50,7 @@ module _ (P : ℕ → Type 0) (E : Erasing) (s : Setting) (w : World) (naming : 
     value = y;
     value_is = refl;
     registers = λ r. ap (λ z. if r == 10 && not (10 == 0) then y else z) (f r);
-    store = record { memory = h.memory; input = h.input; reservation = h.reservation };
+    store = record { memory = h.memory; stale = h.stale; input = h.input; reservation = h.reservation };
   }
 
   -- a call that leaves memory and input alone
@@ -63,6 +63,7 @@ module _ (P : ℕ → Type 0) (E : Erasing) (s : Setting) (w : World) (naming : 
   unfolding with_bytes without_input
   read_store x count a b h = record {
     memory = with_cells-agree P (IsErasedCell E) (map Byte (take count a.input)) (take count b.input) a.memory b.memory x (subst (λ input. AreErased E (map Byte (take count a.input)) (take count input)) (sym h.input) (bytes_erased E (take count a.input))) h.memory;
+    stale = stale_kept E P E.stale (map Byte (take count a.input)) (take count b.input) a.memory b.memory x (bytes_fresh (take count a.input)) (subst (λ input. AreErased E (map Byte (take count a.input)) (take count input)) (sym h.input) (bytes_erased E (take count a.input))) h.stale;
     input = ap (drop count) h.input;
     reservation = h.reservation;
   }

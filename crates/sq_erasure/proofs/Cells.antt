@@ -1,10 +1,10 @@
 -- Cells and their bytes.
-use Rattle.std.proofs.Common.{◌≡◌, ℕ, ◌+◌, ◌^◌, ◌<◌, Bool, true, false, ◌==◌, List, [], ◌∷◌, length, map, Option, Some, None, slice_get, if◌then◌else◌, refl, sym, ap, ap₂, ◌∙◌, subst, arith}
+use Rattle.std.proofs.Common.{◌≡◌, ℕ, ◌+◌, ◌^◌, ◌<◌, Bool, true, false, ◌==◌, ◌||◌, nat_eq, List, [], ◌∷◌, length, map, Option, Some, None, slice_get, if◌then◌else◌, refl, sym, ap, ap₂, ◌∙◌, subst, arith}
 use Rattle.std.specs.List.{list_any}
 use Rattle.std.proofs.lemmas.Bool.{and_parts, eqb-true}
 use Rattle.byteorder.specs.Endian.{little_bytes}
 use Rattle.sq_isa.specs.Accesses.{bytes_number}
-use Rattle.sq_memory.specs.Cells.{AllAgree}
+use Rattle.sq_memory.specs.Cells.{Cells, AllAgree, replaced, with_cell, with_cells}
 use Rattle.sq_follow.specs.Values.{Tag, Code, Part, Value, Num, Tagged, Cell, Byte, Frag, Stale, is_tagged, same_word, same_tag, is_stale, is_fragment, byte_of, is_part_of, are_parts_of, whole, cells_of}
 use Rattle.sq_erasure.specs.Erasure.{Erasing, IsErasedTag, IsErased, IsErasedCell}
 
@@ -104,3 +104,40 @@ module _ (E : Erasing) where
   pub stored_erased : (width : ℕ) (v : Value) (y : ℕ) → (is_tagged v ≡ true → width ≡ 4) → IsErased E v y → AreErased (cells_of width v) (little_bytes width y)
   stored_erased width (Num x) y w h = rw h (bytes_erased (little_bytes width x))
   stored_erased width (Tagged tag) y w h = rw (w refl) ((y, h, refl), ((y, h, refl), ((y, h, refl), ((y, h, refl), tt))))
+
+-- what is stored is not stale
+pub bytes_fresh : (bs : List ℕ) → list_any is_stale (map Byte bs) ≡ false
+bytes_fresh [] = refl
+bytes_fresh (b ∷ bs) = bytes_fresh bs
+
+pub stored_fresh : (width : ℕ) (v : Value) → list_any is_stale (cells_of width v) ≡ false
+stored_fresh width (Num x) = bytes_fresh (little_bytes width x)
+stored_fresh width (Tagged tag) = refl
+
+-- where cells that aren't stale are stored, what is stale was, and its byte is the same
+module _ (E : Erasing) (P : ℕ → Type 0) (stale : Cells ℕ) where
+  abbrev pub StandFor : Cells Cell → Cells ℕ → Type 0
+  StandFor m n = (y : ℕ) → P y → m y ≡ Some Stale → n y ≡ stale y
+
+  one_kept : (m : Cells Cell) (n : Cells ℕ) (x : ℕ) (c : Cell) (d : ℕ) → is_stale c ≡ false → StandFor m n → StandFor (with_cell m x c) (with_cell n x d)
+  one_kept m n x c d fresh h y p e = go (nat_eq y x) e
+    where
+      put : (o : Option Cell) → replaced o c ≡ Some Stale → ⊥
+      put None f = absurd (cc)
+      put (Some was) f = let g : false ≡ true = sym fresh ∙ ap is_stale (some_same f) in cc
+
+      go : (t : Bool) → (if t then replaced (m y) c else m y) ≡ Some Stale → (if t then replaced (n y) d else n y) ≡ stale y
+      go true f = absurd (put (m y) f)
+      go false f = h y p f
+
+  pub stale_kept : (cs : List Cell) (bs : List ℕ) (m : Cells Cell) (n : Cells ℕ) (x : ℕ) → list_any is_stale cs ≡ false → AreErased E cs bs → StandFor m n → StandFor (with_cells m x cs) (with_cells n x bs)
+  stale_kept [] [] m n x fresh a h = h
+  stale_kept [] (b ∷ bs) m n x fresh a h = absurd a
+  stale_kept (c ∷ cs) [] m n x fresh a h = absurd a
+  stale_kept (c ∷ cs) (b ∷ bs) m n x fresh a h =
+      let f = or_false (is_stale c) (list_any is_stale cs) fresh in
+      stale_kept cs bs (with_cell m x c) (with_cell n x b) (x + 1) f.1 a.1 (one_kept m n x c b f.0 h)
+    where
+      or_false : (p q : Bool) → (p || q) ≡ false → (p ≡ false) × (q ≡ false)
+      or_false false q e = (refl, e)
+      or_false true q e = absurd (cc)

@@ -1,19 +1,21 @@
 -- Tagged runs without their tags: what a plain machine holds where a tagged run holds values.
 use Rattle.std.specs.Prelude.{◌≡◌, ℕ, ◌+◌, ◌%◌, ◌^◌, ◌<◌, ◌≤◌, true, false, Option, Some, slice_get}
 use Rattle.byteorder.specs.Endian.{little_bytes}
-use Rattle.sq_memory.specs.Cells.{AgreeOn}
+use Rattle.sq_memory.specs.Cells.{Cells, AgreeOn}
 use Rattle.sq_system.specs.World.{World, is_writable}
 use Rattle.sq_machine.specs.State.{State}
 use Rattle.sq_follow.specs.Values.{Tag, Code, Part, Value, Num, Tagged, Cell, Byte, Frag, Stale, Held, Holds, Lost}
 use Rattle.sq_follow.specs.Settings.{Setting, Store, is_in_text, meets_text}
 use Rattle.sq_follow.specs.GraphRuns.{Core}
 
--- which names stand for addresses, and for which; which upper halves there are, and the word of each
+-- which names stand for addresses, and for which; which upper halves there are, and the word of each; and by address the
+-- bytes for which stale ones stand
 pub record Erasing : Type 1 where
   pub Names : ℕ → Type 0
   pub address : ℕ → ℕ
   pub Halves : ℕ → Option ℕ → Type 0
   pub word : ℕ → Option ℕ → ℕ
+  pub stale : Cells ℕ
 
 -- addresses are those of words of text, and upper halves are words
 pub record IsErasing (E : Erasing) (s : Setting) : Type 0 where
@@ -36,15 +38,18 @@ abbrev pub IsErasedHeld : Erasing → Held → ℕ → Type 0
 IsErasedHeld E (Holds v) y = IsErased E v y
 IsErasedHeld E Lost y = Unit {0}
 
--- byte k of a tagged value is that of its word; a stale byte may be anything
+-- byte k of a tagged value is that of its word; a stale byte may be anything by itself, and stands for the one that
+-- memory has at its address (IsErasedStore)
 abbrev pub IsErasedCell : Erasing → Cell → ℕ → Type 0
 IsErasedCell E (Byte b) c = c ≡ b
 IsErasedCell E (Frag tag k) c = (y : ℕ) × IsErasedTag E tag y × (slice_get (little_bytes 4 y) k ≡ Some c)
 IsErasedCell E Stale c = Unit {0}
 
--- where P holds, memory has the erased cells; the input and the reservation are the same
+-- where P holds, memory has the erased cells, and for a stale byte the one for which it stands; the input and the
+-- reservation are the same
 pub record IsErasedStore (P : ℕ → Type 0) (E : Erasing) (a : Store) (b : State) : Type 0 where
   pub memory : AgreeOn P (IsErasedCell E) a.memory b.memory
+  pub stale : (x : ℕ) → P x → a.memory x ≡ Some Stale → b.memory x ≡ E.stale x
   pub input : b.input ≡ a.input
   pub reservation : b.reservation ≡ a.reservation
 

@@ -1,7 +1,7 @@
 -- The world of a file: each word of text stands in a piece that is executable.
 use Rattle.std.proofs.Common.{◌≡◌, ◌≢◌, ◌⊎◌, inl, inr, ℕ, zero, suc, ◌+◌, ◌≤◌, ◌<◌, nat_eq, nat_le, nat_lt, Bool, true, false, not, ◌==◌, ◌&&◌, ◌||◌, List, [], ◌∷◌, ◌++◌, map, Option, Some, None, if◌then◌else◌, refl, sym, subst, arith, bit_and}
 use Rattle.std.specs.Option.{option_map}
-use Rattle.std.specs.List.{list_any, flat_map}
+use Rattle.std.specs.List.{AllByRecursion, list_any, flat_map}
 use Rattle.std.proofs.lemmas.Bool.{and_from, or_left, eqb-true, eqb-false}
 use Rattle.sq_num.specs.declared.refusal.Refusal.TheVariants.{BadNote}
 use Rattle.sq_system.specs.Starts.{Start}
@@ -14,7 +14,7 @@ use Rattle.sq_elf.specs.Memory.{has_memory, segments_before}
 use Rattle.sq_elf.proofs.TextFacts.{TextFacts, text_facts}
 use Rattle.sq_follow.specs.Worlds.{StartPiece, piece_of, layout_of}
 use Rattle.sq_program.specs.Programs.{Word, Note, Program, word_at}
-use Rattle.sq_program.specs.FilePrograms.{text_of, note_refusal, early_refusal, IsReadAs, IsAccepted}
+use Rattle.sq_program.specs.FilePrograms.{IsLiftedFrom, text_of, note_refusal, early_refusal, IsReadAs, IsAccepted}
 use Rattle.sq_program.specs.Notes.{bad_note}
 use Rattle.sq_program.specs.NoteSections.{notes_of}
 use Rattle.sq_program.specs.Faults.{text_refusal}
@@ -23,7 +23,9 @@ use Rattle.sq_lifting.specs.Lifting.{IsReadable, IsFine, IsWorldOf}
 use Rattle.sq_lifting.proofs.TextWords.{stood}
 use Rattle.sq_lifting.proofs.Facts.{or_none}
 use Rattle.sq_follow.specs.Follows.{Follows}
-use Rattle.sq_patch.proofs.Renaming.{rename_follows}
+use Rattle.sq_graph.specs.Graph.{Graph}
+use Rattle.sq_patch.specs.Operations.{KeepsStep}
+use Rattle.sq_patch.proofs.Renaming.{rename_follows, rename_keeps_step}
 use Rattle.sq_program.specs.Lifted.{lifted}
 use Rattle.sq_lifting.proofs.Whole.{lifting_keeps}
 use Rattle.sq_lifted.specs.Files.{FileWorldsFit, LiftedFilesKeepRuns, LiftedFilesAreGood, LiftedFilesFollow}
@@ -170,3 +172,8 @@ files_good bytes is p fit a =
 pub files_follow : LiftedFilesFollow
 files_follow bytes is p g fit from =
     subst (Follows (lifted is p)) (sym from.alike.is) (rename_follows (lifted is p) from.alike.name (files_good bytes is p fit from.accepted).graph from.alike.one_to_one)
+
+-- and keep step with it
+pub files_keep_step : (bytes : List ℕ) (is : ℕ → Bool) (p : Program) (g : Graph) → AllByRecursion (λ b. b < 256) bytes → IsLiftedFrom bytes is p g → KeepsStep (lifted is p) g
+files_keep_step bytes is p g fit from =
+    subst (KeepsStep (lifted is p)) (sym from.alike.is) (rename_keeps_step (lifted is p) from.alike.name (files_good bytes is p fit from.accepted).graph from.alike.one_to_one)

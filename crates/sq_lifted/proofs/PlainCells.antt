@@ -8,7 +8,7 @@ use Rattle.std.proofs.lemmas.List.{take_all, length-drop}
 use Rattle.std.proofs.lemmas.Option.{slice_get-map, slice_get_within}
 use Rattle.byteorder.specs.Endian.{little_number, little_bytes}
 use Rattle.sq_num.specs.Refusals.{first_from}
-use Rattle.sq_memory.specs.Cells.{Agree}
+use Rattle.sq_memory.specs.Cells.{Cells, Agree}
 use Rattle.sq_elf.specs.declared.segment.Segment.{Segment}
 use Rattle.sq_elf.specs.Headers.{phnum_of, is_load, segment_of}
 use Rattle.sq_elf.specs.Memory.{file_bytes_of}
@@ -170,36 +170,36 @@ module _ (bytes : List ℕ) (is : ℕ → Bool) (p : Program) (fit : AllByRecurs
             some_same e = cc
 
     -- what is at a byte of the segment erases to the plain byte
-    cell_erased : (size i b : ℕ) → i < segment.memsz → slice_get (filled size stored) i ≡ Some b → IsErasedCell (own_names is) (start_cell names (start_byte bytes p.code_words (segment.address + i) b)) b
-    cell_erased size i b small byte = go (code_word_number p.code_words (word_start x)) refl
+    cell_erased : (first : Cells ℕ) (size i b : ℕ) → i < segment.memsz → slice_get (filled size stored) i ≡ Some b → IsErasedCell (own_names is first) (start_cell names (start_byte bytes p.code_words (segment.address + i) b)) b
+    cell_erased first size i b small byte = go (code_word_number p.code_words (word_start x)) refl
       where
         x : ℕ
         x = segment.address + i
 
-        other : (t : Bool) → IsErasedCell (own_names is) (start_cell names (if t then StaleByte else Given b)) b
+        other : (t : Bool) → IsErasedCell (own_names is first) (start_cell names (if t then StaleByte else Given b)) b
         other true = tt
         other false = refl
 
-        word : (number : ℕ) → code_word_number p.code_words (word_start x) ≡ Some number → (o : Option ℕ) → slice_get names number ≡ o → IsErasedCell (own_names is) (word_cell (x % 4) o) b
+        word : (number : ℕ) → code_word_number p.code_words (word_start x) ≡ Some number → (o : Option ℕ) → slice_get names number ≡ o → IsErasedCell (own_names is first) (word_cell (x % 4) o) b
         word number e None f = tt
         word number e (Some n) f =
             (n, (target_reached number n f, refl), code_byte n size i b small byte (code_word_of (word_start x) number n e f))
 
-        go : (o : Option ℕ) → code_word_number p.code_words (word_start x) ≡ o → IsErasedCell (own_names is) (start_cell names (byte_of_word (x % 4) o (stale_or bytes x b))) b
+        go : (o : Option ℕ) → code_word_number p.code_words (word_start x) ≡ o → IsErasedCell (own_names is first) (start_cell names (byte_of_word (x % 4) o (stale_or bytes x b))) b
         go None e = other (is_stale bytes x)
         go (Some number) e = word number e (slice_get names number) refl
 
     -- so do all of them
-    pub cells_erased : (size i : ℕ) → length stored ≤ size → size ≤ segment.memsz → Agree (IsErasedCell (own_names is)) (slice_get (map (start_cell names) (start_bytes bytes p.code_words segment.address (filled size stored))) i) (slice_get (take size stored ++ replicate (size - length stored) 0) i)
-    cells_erased size i fewer most =
+    pub cells_erased : (first : Cells ℕ) (size i : ℕ) → length stored ≤ size → size ≤ segment.memsz → Agree (IsErasedCell (own_names is first)) (slice_get (map (start_cell names) (start_bytes bytes p.code_words segment.address (filled size stored))) i) (slice_get (take size stored ++ replicate (size - length stored) 0) i)
+    cells_erased first size i fewer most =
         rw (start_cell_get bytes p.code_words names segment.address (filled size stored) i, take_all size stored fewer) (go (slice_get (filled size stored) i) refl)
       where
-        go : (o : Option ℕ) → slice_get (filled size stored) i ≡ o → Agree (IsErasedCell (own_names is)) (option_map (start_cell names) (option_map (start_byte bytes p.code_words (segment.address + i)) o)) o
+        go : (o : Option ℕ) → slice_get (filled size stored) i ≡ o → Agree (IsErasedCell (own_names is first)) (option_map (start_cell names) (option_map (start_byte bytes p.code_words (segment.address + i)) o)) o
         go None e = tt
         go (Some b) e =
             let small = slice_get_within (filled size stored) i b e in
             let full = filled_length size stored fewer in
-            cell_erased size i b (omega (arith, small, full, most)) e
+            cell_erased first size i b (omega (arith, small, full, most)) e
 
   -- BYTES OF TEXT
 

@@ -9,7 +9,7 @@ use Rattle.std.proofs.lemmas.List.Concat.{flat_map-append}
 use Rattle.std.proofs.lemmas.Option.{slice_get-map, slice_get-get_or}
 use Rattle.sq_isa.specs.Accesses.{bytes_number}
 use Rattle.sq_num.specs.Refusals.{first_from}
-use Rattle.sq_memory.specs.Cells.{Agree, AgreeOn, cells_from}
+use Rattle.sq_memory.specs.Cells.{Cells, Agree, AgreeOn, cells_from}
 use Rattle.sq_memory.specs.Regions.{Region, region_cell, get}
 use Rattle.sq_memory.proofs.RangeLaws.{cells_from_is}
 use Rattle.sq_system.specs.Starts.{Start, ram_at_start}
@@ -140,36 +140,36 @@ module _ (bytes : List ℕ) (is : ℕ → Bool) (p : Program) (fit : AllByRecurs
     stored = file_bytes_of bytes segment
 
     -- a region with these bytes, wherever it stands
-    region_erased : (at size : ℕ) → length stored ≤ size → size ≤ segment.memsz → Agree (IsErasedCell (own_names is)) (if nat_le at x then slice_get (map (start_cell names) (start_bytes bytes p.code_words segment.address (filled size stored))) (x - at) else None) (if nat_le at x then slice_get (take size stored ++ replicate (size - length stored) 0) (x - at) else None)
-    region_erased at size fewer most = go (nat_le at x)
+    region_erased : (first : Cells ℕ) (at size : ℕ) → length stored ≤ size → size ≤ segment.memsz → Agree (IsErasedCell (own_names is first)) (if nat_le at x then slice_get (map (start_cell names) (start_bytes bytes p.code_words segment.address (filled size stored))) (x - at) else None) (if nat_le at x then slice_get (take size stored ++ replicate (size - length stored) 0) (x - at) else None)
+    region_erased first at size fewer most = go (nat_le at x)
       where
-        go : (b : Bool) → Agree (IsErasedCell (own_names is)) (if b then slice_get (map (start_cell names) (start_bytes bytes p.code_words segment.address (filled size stored))) (x - at) else None) (if b then slice_get (take size stored ++ replicate (size - length stored) 0) (x - at) else None)
+        go : (b : Bool) → Agree (IsErasedCell (own_names is first)) (if b then slice_get (map (start_cell names) (start_bytes bytes p.code_words segment.address (filled size stored))) (x - at) else None) (if b then slice_get (take size stored ++ replicate (size - length stored) 0) (x - at) else None)
         go false = tt
-        go true = cells_erased bytes is p fit read k within load size (x - at) fewer most
+        go true = cells_erased bytes is p fit read k within load first size (x - at) fewer most
 
-    own_erased : Agree (IsErasedCell (own_names is)) (region_cell (tagged_own bytes p.code_words segment) x) (region_cell (plain_own bytes segment) x)
-    own_erased =
+    own_erased : (first : Cells ℕ) → Agree (IsErasedCell (own_names is first)) (region_cell (tagged_own bytes p.code_words segment) x) (region_cell (plain_own bytes segment) x)
+    own_erased first =
         let n = bytes_length bytes read.file k within load in
         let m = whole bytes read.file k within load in
-        region_erased segment.address segment.memsz (omega (arith, n, m)) (omega arith)
+        region_erased first segment.address segment.memsz (omega (arith, n, m)) (omega arith)
 
-    copy_erased : Agree (IsErasedCell (own_names is)) (region_cell (tagged_copy bytes p.code_words segment) x) (region_cell (plain_copy bytes segment) x)
-    copy_erased =
+    copy_erased : (first : Cells ℕ) → Agree (IsErasedCell (own_names is first)) (region_cell (tagged_copy bytes p.code_words segment) x) (region_cell (plain_copy bytes segment) x)
+    copy_erased first =
         let n = bytes_length bytes read.file k within load in
         let m = whole bytes read.file k within load in
-        region_erased segment.load_address segment.filesz (omega (arith, n)) m
+        region_erased first segment.load_address segment.filesz (omega (arith, n)) m
 
-  memory_erased : AgreeOn everywhere (IsErasedCell (own_names is)) (get (regions_at_start (world_of bytes p) names start)) (file_state bytes start).memory
-  memory_erased = rw (tagged_memory, plain_memory) (λ x e. at x)
+  memory_erased : (first : Cells ℕ) → AgreeOn everywhere (IsErasedCell (own_names is first)) (get (regions_at_start (world_of bytes p) names start)) (file_state bytes start).memory
+  memory_erased first = rw (tagged_memory, plain_memory) (λ x e. at x)
     where
-      at : (x : ℕ) → Agree (IsErasedCell (own_names is)) (get (regions_before bytes (tagged_own bytes p.code_words) (tagged_copy bytes p.code_words) count ++ ram_region start ∷ []) x) (get (regions_before bytes (plain_own bytes) (plain_copy bytes) count ++ plain_ram start ∷ []) x)
+      at : (x : ℕ) → Agree (IsErasedCell (own_names is first)) (get (regions_before bytes (tagged_own bytes p.code_words) (tagged_copy bytes p.code_words) count ++ ram_region start ∷ []) x) (get (regions_before bytes (plain_own bytes) (plain_copy bytes) count ++ plain_ram start ∷ []) x)
       at x =
           rw (get_append (regions_before bytes (tagged_own bytes p.code_words) (tagged_copy bytes p.code_words) count) (ram_region start ∷ []) x, get_append (regions_before bytes (plain_own bytes) (plain_copy bytes) count) (plain_ram start ∷ []) x)
-          (or_agree (IsErasedCell (own_names is)) (get (regions_before bytes (tagged_own bytes p.code_words) (tagged_copy bytes p.code_words) count) x) (get (ram_region start ∷ []) x) (get (regions_before bytes (plain_own bytes) (plain_copy bytes) count) x) (get (plain_ram start ∷ []) x)
-          (before_agree (IsErasedCell (own_names is)) bytes (tagged_own bytes p.code_words) (tagged_copy bytes p.code_words) (plain_own bytes) (plain_copy bytes) x count
-          (λ k less has. own_erased k less (loaded bytes k has) x)
-          (λ k less has. copy_erased k less (loaded bytes k has) x))
-          (ram_agrees (IsErasedCell (own_names is)) (λ b. refl) start x))
+          (or_agree (IsErasedCell (own_names is first)) (get (regions_before bytes (tagged_own bytes p.code_words) (tagged_copy bytes p.code_words) count) x) (get (ram_region start ∷ []) x) (get (regions_before bytes (plain_own bytes) (plain_copy bytes) count) x) (get (plain_ram start ∷ []) x)
+          (before_agree (IsErasedCell (own_names is first)) bytes (tagged_own bytes p.code_words) (tagged_copy bytes p.code_words) (plain_own bytes) (plain_copy bytes) x count
+          (λ k less has. own_erased k less (loaded bytes k has) x first)
+          (λ k less has. copy_erased k less (loaded bytes k has) x first))
+          (ram_agrees (IsErasedCell (own_names is first)) (λ b. refl) start x))
 
   -- TEXT
 
@@ -387,7 +387,7 @@ module _ (bytes : List ℕ) (is : ℕ → Bool) (p : Program) (fit : AllByRecurs
     bytes = λ x e. let a = in_text_of x (subst (λ t. is_in_text t x ≡ true) read.program.text e) in text_cell x a.0 a.1;
     pc = sym read.program.entry;
     registers = λ r. refl;
-    memory = memory_erased;
+    memory = memory_erased (file_state bytes start).memory;
     input = refl;
     reservation = refl;
   }

@@ -21,10 +21,10 @@ use Rattle.sq_run.specs.FileRuns.{file_world, file_state, file_trace}
 use Rattle.sq_lift.proofs.FilePrograms.{one_program}
 use Rattle.sq_lifting.proofs.Watched.{watching_erases}
 use Rattle.sq_files.specs.Shows.{IsFileStart, ShowsGraph}
-use Rattle.sq_lifted.specs.LiftedFiles.{IsLiftedFile, RunsAsFile, KeepsRunsOf, IsAlikeShown}
+use Rattle.sq_lifted.specs.LiftedFiles.{IsLiftedFile, RunsAsFile, KeepsRunsOf, ShowsFile}
 use Rattle.sq_lifted.specs.Same.{HaveSameRuns, ShownGraphsAreSame}
 use Rattle.sq_lifted.proofs.Files.{files_linked}
-use Rattle.sq_lifted.proofs.FileWorlds.{early_readable, files_keep_runs, files_follow}
+use Rattle.sq_lifted.proofs.FileWorlds.{early_readable, files_keep_runs, files_follow, files_keep_step}
 use Rattle.sq_lifted.proofs.PlainStarts.{start_plain, show_plain}
 use Rattle.sq_lifted.proofs.FilePieces.{files_are_worlds, file_extents}
 
@@ -83,16 +83,16 @@ lifted_runs bytes g fit file = λ q of start valid.
           );
     })
 
--- the lifted graph that is named by addresses shows it step for step
-pub lifted_shows : (bytes : List ℕ) (g : Graph) → AllByRecursion (λ b. b < 256) bytes → IsLiftedFile bytes g → IsAlikeShown bytes g
+-- and shows, step for step, what the file's plain machine shows: the lifted graph that is named by addresses does, and with
+-- that it keeps step
+pub lifted_shows : (bytes : List ℕ) (g : Graph) → AllByRecursion (λ b. b < 256) bytes → IsLiftedFile bytes g → ShowsFile bytes g
 lifted_shows bytes g fit file =
     let p = file.program in
     let a = file.lifted.accepted in
     let are = a.read.program in
-    let graph = lifted file.is p in
-    let Shows : Program → Type 0 = λ r. (start : Start) (n : ℕ) → IsUnbrokenRun bytes r start n → IsUnbroken (graph_run (world_of bytes r) graph start n) × (graph_run (world_of bytes r) graph start n ≡ file_trace bytes start n) in
-    record {
-      named = graph;
-      alike = file.lifted.alike;
-      shows = λ q of. subst Shows (one_program bytes p.code_words p are.code_words are ∙ sym (one_program bytes p.code_words q are.code_words of)) (show_plain bytes file.is p fit a);
-    }
+    let Shows : Program → Type 0 = λ r. (start : Start) (n : ℕ) → IsUnbrokenRun bytes r start n → IsUnbroken (graph_run (world_of bytes r) g start n) × (graph_run (world_of bytes r) g start n ≡ file_trace bytes start n) in
+    λ q of.
+    subst Shows (one_program bytes p.code_words p are.code_words are ∙ sym (one_program bytes p.code_words q are.code_words of)) (λ start n unbroken.
+    let plain = show_plain bytes file.is p fit a start n unbroken in
+    let own = files_keep_step bytes file.is p g fit file.lifted (world_of bytes p) start n plain.0 in
+    (own.0, own.1 ∙ plain.1))

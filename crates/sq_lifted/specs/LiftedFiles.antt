@@ -8,7 +8,6 @@ use Rattle.sq_system.specs.Starts.{Start}
 use Rattle.sq_graph.specs.declared.parts.Room.{Room}
 use Rattle.sq_elf.specs.Text.{text_of}
 use Rattle.sq_reloc.specs.Outside.{code_word_at}
-use Rattle.sq_graph.specs.Alike.{AreAlike}
 use Rattle.sq_graph.specs.Graph.{Graph}
 use Rattle.sq_graph.specs.Leaders.{IsCanonical}
 use Rattle.sq_graph.specs.Soundness.{IsSound}
@@ -60,12 +59,6 @@ abbrev pub ShowsFile : List ℕ → Graph → Type 0
 ShowsFile bytes g =
     (p : Program) → IsProgramOf bytes p → (start : Start) (n : ℕ) → IsUnbrokenRun bytes p start n
     → IsUnbroken (graph_run (world_of bytes p) g start n) × (graph_run (world_of bytes p) g start n ≡ file_trace bytes start n)
-
--- so does a graph that differs from this one in the names of blocks alone
-pub record IsAlikeShown (bytes : List ℕ) (g : Graph) : Type 0 where
-  pub named : Graph
-  pub alike : AreAlike named g
-  pub shows : ShowsFile bytes named
 
 -- room for as many blocks, items and procedures as text has words
 abbrev pub room_for : Text → Room

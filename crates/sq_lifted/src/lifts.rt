@@ -9,7 +9,7 @@ ghost use Rattle.sq_graph.specs.Room.{Covers};
 ghost use Rattle.sq_program.specs.FilePrograms.{text_of, IsProgramOf};
 ghost use Rattle.sq_lift.specs.Flags.{is_flagged};
 ghost use Rattle.sq_lift.specs.Refused.{IsReadNoted};
-ghost use Rattle.sq_lifted.specs.LiftedFiles.{IsLiftedFile, IsRefusedFile, FitsFile, KeepsRunsOf, IsAlikeShown, room_for};
+ghost use Rattle.sq_lifted.specs.LiftedFiles.{IsLiftedFile, IsRefusedFile, FitsFile, KeepsRunsOf, ShowsFile, room_for};
 
 use crate::live_links::first_live;
 use sq_elf::Elf;
@@ -67,7 +67,7 @@ pub fn lift(alloc: Global, elf: &Elf<'_>, relocs: &Relocs<'_>) -> Result<Graph, 
     ensures lifted { IfOk result (λ graph. IsLiftedFile elf.now graph.graph) }
     ensures slotted { IfOk result (λ graph. IsSlotted graph.graph) }
     ensures runs { IfOk result (λ graph. KeepsRunsOf elf.now graph.graph) }
-    ensures shows { IfOk result (λ graph. IsAlikeShown elf.now graph.graph) }
+    ensures shows { IfOk result (λ graph. ShowsFile elf.now graph.graph) }
     ensures fits { IfOk result (λ graph. FitsFile elf.now graph.graph) }
     ensures spare { IfOk result (λ graph. Covers graph.spare (room_for (text_of elf.now))) }
     ensures refused { (refusal : Refusal) → result ≡ Err (Denied.Refused refusal) → IsRefusedFile elf.now refusal }

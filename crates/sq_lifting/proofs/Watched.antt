@@ -17,7 +17,7 @@ use Rattle.sq_isa.specs.declared.instructions.Insn.{Insn}
 use Rattle.sq_isa.specs.declared.instructions.Insn.TheVariants.{Lui, Auipc, Jal, Jalr, Branch as BranchInsn, Load, Store as StoreInsn, OpImm, Op as OpInsn, Fence, Ecall, Ebreak, Unimp, Atomic}
 use Rattle.sq_isa.specs.declared.instructions.ImmOp.TheVariants.{Addi}
 use Rattle.sq_runs.specs.Runs.{Went, Ended, Broke}
-use Rattle.sq_runs.specs.Simulation.{Matches}
+use Rattle.sq_runs.specs.Simulation.{Matches, SimulatesInStep}
 use Rattle.sq_runs.specs.Follows.{LocksWith}
 use Rattle.sq_runs.proofs.Simulate.{locks_by}
 use Rattle.sq_memory.specs.Cells.{Cells, Agree}
@@ -43,7 +43,7 @@ use Rattle.sq_follow.specs.Jumps.{ToName, ToNumber, number_jump, name_jump, indi
 use Rattle.sq_follow.specs.GraphRuns.{is_lost, value_in, register_value, operands}
 use Rattle.sq_follow.specs.Worlds.{World, layout_of, first_registers, regions_at_start}
 use Rattle.sq_patch.specs.LiveAgreement.{everywhere}
-use Rattle.sq_erasure.specs.Erasure.{Erasing, IsErasing, IsErased, IsErasedHeld, IsErasedCell, IsErasedCore, IsErasedSetting}
+use Rattle.sq_erasure.specs.Erasure.{Erasing, IsErasing, IsErased, IsErasedHeld, IsErasedCell, IsErasedSetting}
 use Rattle.sq_erasure.proofs.Accessing.{Plainly, IsErasedMade}
 use Rattle.sq_erasure.proofs.Rows.{AddUp, plain_erased, upper_erased, addi_erased, load_half_erased, store_half_erased, taken_erased}
 use Rattle.sq_erasure.proofs.TextKept.{Keeps, row_kept}
@@ -54,7 +54,7 @@ use Rattle.sq_program.specs.Monitored as monitored
 use Rattle.sq_program.specs.Monitored.{Watched, Watches, half_of, upper_value, at_address, jumped, branched, finished, jalr_jump, monitored_step}
 use Rattle.sq_program.specs.FileRuns.{watched_start}
 use Rattle.sq_lifting.specs.Lifting.{MarkFits, IsLinked}
-use Rattle.sq_lifting.specs.Watching.{own_names, IsPlainStart, WatchingErases}
+use Rattle.sq_lifting.specs.Watching.{own_names, IsPlainStart, WatchingErases, IsErasureOf, ErasureLaw}
 use Rattle.sq_lifting.proofs.TextWords.{some_is, is_there, stood, in_text_of}
 use Rattle.sq_lifting.proofs.Facts.{one, IsSoundWord, sound_word, used_reached, next_reached, reached_word}
 
@@ -63,7 +63,7 @@ module _ (p : Program) (is : ℕ → Bool) (linked : IsLinked p) (dec : Decides 
   t = p.text
 
   abbrev E : Erasing
-  E = own_names is
+  E = own_names is first.memory
 
   abbrev S : Setting
   S = monitored.setting_of (layout_of w start) t
@@ -106,20 +106,15 @@ module _ (p : Program) (is : ℕ → Bool) (linked : IsLinked p) (dec : Decides 
     outside = λ x n f m i l. tt;
   }
 
-  -- the plain state is the erased one, text is as at the start, and pc is at a reached word or where nothing is executable
-  record IsErasureOf (a : Watched) (b : State) : Type 0 where
-    pc : b.pc ≡ a.pc
-    core : IsErasedCore everywhere E a.core b
-    kept : (r : ℕ) → is_lost (a.core.registers r) ≡ false
-    text : (x : ℕ) → is_in_text t x ≡ true → a.core.store.memory x ≡ Cells_ x
-    place : (is a.pc ≡ true) ⊎ (is_executable plain_world a.pc ≡ false)
+  abbrev Erases : Watched → State → Type 0
+  Erases = IsErasureOf p is w start plain_world first
 
   abbrev Match : Watches → Plainly → Type 0
-  Match = Matches IsErasureOf
+  Match = Matches Erases
 
   -- REGISTERS
 
-  read_value : (a : Watched) (b : State) → IsErasureOf a b → (r : ℕ) → IsErased E (register_value r a.core.registers) (b.registers r)
+  read_value : (a : Watched) (b : State) → Erases a b → (r : ℕ) → IsErased E (register_value r a.core.registers) (b.registers r)
   read_value a b h zero = h.core.zero
   read_value a b h (suc r) = go (a.core.registers (suc r)) (h.kept (suc r)) (h.core.registers (suc r))
     where
@@ -151,7 +146,7 @@ module _ (p : Program) (is : ℕ → Bool) (linked : IsLinked p) (dec : Decides 
   next_small a b e i = let h = (placed (a.pc + 4) i).most in rw e (omega (arith, h))
 
   -- behind an instruction that goes on to the next word
-  finish_watch : (d : ℕ) (half : AddressHalf) (insn : Insn) (a : Watched) (b : State) (y : Plainly) → IsErasureOf a b → is (a.pc + 4) ≡ true → Matches (IsErasedMade everywhere E S plain_world naming laid d (next_pc b) b.registers) (row_of S half insn (operands insn a.core.registers) a.core.store) y → Match (finished a.pc d a.core (row_of S half insn (operands insn a.core.registers) a.core.store)) y
+  finish_watch : (d : ℕ) (half : AddressHalf) (insn : Insn) (a : Watched) (b : State) (y : Plainly) → Erases a b → is (a.pc + 4) ≡ true → Matches (IsErasedMade everywhere E S plain_world naming laid d (next_pc b) b.registers) (row_of S half insn (operands insn a.core.registers) a.core.store) y → Match (finished a.pc d a.core (row_of S half insn (operands insn a.core.registers) a.core.store)) y
   finish_watch d half insn a b y h i m = go (row_of S half insn (operands insn a.core.registers) a.core.store) y (row_kept S half insn (operands insn a.core.registers) a.core.store) m
     where
       go : (x : Step) (y : Plainly) → Keeps S a.core.store x → Matches (IsErasedMade everywhere E S plain_world naming laid d (next_pc b) b.registers) x y → Match (finished a.pc d a.core x) y
@@ -176,7 +171,7 @@ module _ (p : Program) (is : ℕ → Bool) (linked : IsLinked p) (dec : Decides 
       go (Ended g) (Broke c) k m = absurd m
       go (Broke kind) y k m = tt
 
-  operands_erased : (insn : Insn) (a : Watched) (b : State) → IsErasureOf a b → (i : ℕ) → IsErased E (operands insn a.core.registers i) (b.registers (source insn i))
+  operands_erased : (insn : Insn) (a : Watched) (b : State) → Erases a b → (i : ℕ) → IsErased E (operands insn a.core.registers i) (b.registers (source insn i))
   operands_erased insn a b h i = read_value a b h (source insn i)
 
   -- an upper half and a lower half of one address add up to it
@@ -205,7 +200,7 @@ module _ (p : Program) (is : ℕ → Bool) (linked : IsLinked p) (dec : Decides 
   -- JUMPS
 
   -- to an address, with the link written
-  jump_watch : (link x pc : ℕ) (a : Watched) (b : State) → IsErasureOf a b → (link ≢ 0 → is (a.pc + 4) ≡ true) → pc ≡ x → (is x ≡ true) ⊎ (is_executable plain_world x ≡ false) → Match (at_address x (monitored.with_link link a.pc a.core)) (Went None (jump pc (with_register link (next_pc b) b)))
+  jump_watch : (link x pc : ℕ) (a : Watched) (b : State) → Erases a b → (link ≢ 0 → is (a.pc + 4) ≡ true) → pc ≡ x → (is x ≡ true) ⊎ (is_executable plain_world x ≡ false) → Match (at_address x (monitored.with_link link a.pc a.core)) (Went None (jump pc (with_register link (next_pc b) b)))
   unfolding jump with_register
   jump_watch link x pc a b h next e place = (
     refl,
@@ -214,7 +209,7 @@ module _ (p : Program) (is : ℕ → Bool) (linked : IsLinked p) (dec : Decides 
       core = record {
         registers = λ r. held link r (a.core.registers r) (b.registers r) next (h.core.registers r);
         zero = zero_written link (next_pc b) b.registers h.core.zero;
-        store = record { memory = h.core.store.memory; input = h.core.store.input; reservation = h.core.store.reservation };
+        store = record { memory = h.core.store.memory; stale = h.core.store.stale; input = h.core.store.input; reservation = h.core.store.reservation };
       };
       kept = kept_written link (Tagged (Code (a.pc + 4))) a.core.registers h.kept;
       text = h.text;
@@ -244,14 +239,14 @@ module _ (p : Program) (is : ℕ → Bool) (linked : IsLinked p) (dec : Decides 
   even_word x i = let h = (placed x i).whole in omega (arith, h)
 
   -- to what a register holds
-  number_watch : (link x pc : ℕ) (a : Watched) (b : State) → IsErasureOf a b → (link ≢ 0 → is (a.pc + 4) ≡ true) → pc ≡ x → Match (jumped link a.pc a.core (number_jump S x)) (Went None (jump pc (with_register link (next_pc b) b)))
+  number_watch : (link x pc : ℕ) (a : Watched) (b : State) → Erases a b → (link ≢ 0 → is (a.pc + 4) ≡ true) → pc ≡ x → Match (jumped link a.pc a.core (number_jump S x)) (Went None (jump pc (with_register link (next_pc b) b)))
   number_watch link x pc a b h next e = go (is_executable (layout_of w start) x) refl
     where
       go : (c : Bool) → is_executable (layout_of w start) x ≡ c → Match (jumped link a.pc a.core (if c then Broke JumpBreak else Went None (ToNumber x))) (Went None (jump pc (with_register link (next_pc b) b)))
       go true f = tt
       go false f = jump_watch link x pc a b h next e (inr (begins.laid_out.executable x ∙ f))
 
-  away_watch : (link rs : ℕ) (offset : ℤ) (a : Watched) (b : State) (v : Value) → IsErasureOf a b → (link ≢ 0 → is (a.pc + 4) ≡ true) → IsErased E v (b.registers rs) → Match (jumped link a.pc a.core (indirect_jump S offset v)) (plain.jalr_row link rs offset b)
+  away_watch : (link rs : ℕ) (offset : ℤ) (a : Watched) (b : State) (v : Value) → Erases a b → (link ≢ 0 → is (a.pc + 4) ≡ true) → IsErased E v (b.registers rs) → Match (jumped link a.pc a.core (indirect_jump S offset v)) (plain.jalr_row link rs offset b)
   away_watch link rs offset a b (Num x) h next k = number_watch link (even (wrapped (x + unsigned offset))) (even (address_of rs offset b)) a b h next (ap (λ y. even (wrapped (y + unsigned offset))) k)
   away_watch link rs offset a b (Tagged (Part n word)) h next k = tt
   away_watch link rs offset a b (Tagged (Code n)) h next k = go (int_eq offset (pos 0)) refl
@@ -265,7 +260,7 @@ module _ (p : Program) (is : ℕ → Bool) (linked : IsLinked p) (dec : Decides 
           let at : even (address_of rs offset b) ≡ n = rw (z, k.1) (ap even same ∙ even_word n k.0) in
           jump_watch link n (even (address_of rs offset b)) a b h next at (inl k.0)
 
-  part_watch : (link rs to : ℕ) (offset : ℤ) (a : Watched) (b : State) (v : Value) → IsErasureOf a b → (link ≢ 0 → is (a.pc + 4) ≡ true) → (is_in_text t to ≡ true → is to ≡ true) → IsErased E v (b.registers rs) → Match (jumped link a.pc a.core (part_jump S to offset v)) (plain.jalr_row link rs offset b)
+  part_watch : (link rs to : ℕ) (offset : ℤ) (a : Watched) (b : State) (v : Value) → Erases a b → (link ≢ 0 → is (a.pc + 4) ≡ true) → (is_in_text t to ≡ true → is to ≡ true) → IsErased E v (b.registers rs) → Match (jumped link a.pc a.core (part_jump S to offset v)) (plain.jalr_row link rs offset b)
   part_watch link rs to offset a b v h next inside k = go (is_upper_half to offset v) refl
     where
       to_name : (c : Bool) → is_in_text t to ≡ c → wrapped (b.registers rs + unsigned offset) ≡ to → Match (jumped link a.pc a.core (if c then Went None (ToName to) else number_jump S (even to))) (plain.jalr_row link rs offset b)
@@ -277,20 +272,20 @@ module _ (p : Program) (is : ℕ → Bool) (linked : IsLinked p) (dec : Decides 
       go true f = to_name (is_in_text t to) refl (own_halves to offset v (b.registers rs) k f)
 
   -- a branch: neither side writes a register
-  step_watch : (x pc : ℕ) (a : Watched) (b : State) → IsErasureOf a b → pc ≡ x → is x ≡ true → Match (at_address x a.core) (Went None (jump pc b))
+  step_watch : (x pc : ℕ) (a : Watched) (b : State) → Erases a b → pc ≡ x → is x ≡ true → Match (at_address x a.core) (Went None (jump pc b))
   unfolding jump
   step_watch x pc a b h e i = (
     refl,
     record {
       pc = e;
-      core = record { registers = h.core.registers; zero = h.core.zero; store = record { memory = h.core.store.memory; input = h.core.store.input; reservation = h.core.store.reservation } };
+      core = record { registers = h.core.registers; zero = h.core.zero; store = record { memory = h.core.store.memory; stale = h.core.store.stale; input = h.core.store.input; reservation = h.core.store.reservation } };
       kept = h.kept;
       text = h.text;
       place = inl i;
     },
   )
 
-  branch_watch : (cond : Cond) (x y to : ℕ) (offset : ℤ) (a : Watched) (b : State) (o : Option Bool) → IsErasureOf a b → is (a.pc + 4) ≡ true → is to ≡ true → plain_target offset b ≡ to → ((c : Bool) → o ≡ Some c → taken_of cond (b.registers x) (b.registers y) ≡ c) → Match (branched a.pc to a.core o) (plain.branch_row cond x y offset b)
+  branch_watch : (cond : Cond) (x y to : ℕ) (offset : ℤ) (a : Watched) (b : State) (o : Option Bool) → Erases a b → is (a.pc + 4) ≡ true → is to ≡ true → plain_target offset b ≡ to → ((c : Bool) → o ≡ Some c → taken_of cond (b.registers x) (b.registers y) ≡ c) → Match (branched a.pc to a.core o) (plain.branch_row cond x y offset b)
   branch_watch cond x y to offset a b None h next i e taken = tt
   branch_watch cond x y to offset a b (Some true) h next i e taken = rw (taken true refl) (step_watch to (plain_target offset b) a b h e i)
   branch_watch cond x y to offset a b (Some false) h next i e taken = rw (taken false refl) (step_watch (a.pc + 4) (next_pc b) a b h (next_small a b h.pc next) next)
@@ -310,7 +305,7 @@ module _ (p : Program) (is : ℕ → Bool) (linked : IsLinked p) (dec : Decides 
   abbrev InsnGoal : Watched → State → AddressHalf → Insn → Type 0
   InsnGoal a b half insn = Match (monitored.insn_step S a.pc half insn a.core) (plain.row_of plain_world b insn)
 
-  item_watch : (insn : Insn) (a : Watched) (b : State) → IsErasureOf a b → is (a.pc + 4) ≡ true → Match (finished a.pc (destination_of insn) a.core (row_of S Plain insn (operands insn a.core.registers) a.core.store)) (plain.row_of plain_world b insn)
+  item_watch : (insn : Insn) (a : Watched) (b : State) → Erases a b → is (a.pc + 4) ≡ true → Match (finished a.pc (destination_of insn) a.core (row_of S Plain insn (operands insn a.core.registers) a.core.store)) (plain.row_of plain_world b insn)
   item_watch insn a b h i =
       finish_watch (destination_of insn) Plain insn a b (plain.row_of plain_world b insn) h i
       (plain_erased everywhere E S plain_world naming laid insn (operands insn a.core.registers) a.core.store b h.core.zero (operands_erased insn a b h) h.core.store)
@@ -322,7 +317,7 @@ module _ (p : Program) (is : ℕ → Bool) (linked : IsLinked p) (dec : Decides 
   unimp_is word (inl e) = rw e refl
   unimp_is word (inr e) = rw e refl
 
-  plain_watch : (insn : Insn) (mark : Mark) (a : Watched) (b : State) → IsErasureOf a b → Known a mark insn → InsnGoal a b Plain insn
+  plain_watch : (insn : Insn) (mark : Mark) (a : Watched) (b : State) → Erases a b → Known a mark insn → InsnGoal a b Plain insn
   plain_watch (Lui rd upper) mark a b h k = item_watch (Lui rd upper) a b h (k.next refl)
   plain_watch (Auipc rd upper) mark a b h k = tt
   plain_watch (Jal rd offset) mark a b h k =
@@ -341,7 +336,7 @@ module _ (p : Program) (is : ℕ → Bool) (linked : IsLinked p) (dec : Decides 
   plain_watch (Unimp word) mark a b h k = unimp_is word k.fits
   plain_watch (Atomic op order rd rs src) mark a b h k = item_watch (Atomic op order rd rs src) a b h (k.next refl)
 
-  upper_watch : (to : ℕ) (insn : Insn) (a : Watched) (b : State) → IsErasureOf a b → Known a (Hi to) insn → InsnGoal a b (Upper to (upper_value a.pc insn)) insn
+  upper_watch : (to : ℕ) (insn : Insn) (a : Watched) (b : State) → Erases a b → Known a (Hi to) insn → InsnGoal a b (Upper to (upper_value a.pc insn)) insn
   upper_watch to (Lui rd upper) a b h k =
       finish_watch rd (Upper to (Some (upper_word upper))) (Lui rd upper) a b (plain.row_of plain_world b (Lui rd upper)) h (k.next refl)
       (upper_erased everywhere E S plain_world naming laid to rd (upper_word upper) (Some (upper_word upper)) (Lui rd upper) (operands (Lui rd upper) a.core.registers) a.core.store b (upper_word upper, refl) (omega arith) h.core.store)
@@ -354,7 +349,7 @@ module _ (p : Program) (is : ℕ → Bool) (linked : IsLinked p) (dec : Decides 
       twice x = omega arith
   upper_watch to insn a b h k = absurd (let e = k.marked in cc)
 
-  lower_watch : (to : ℕ) (insn : Insn) (a : Watched) (b : State) → IsErasureOf a b → Known a (Lo to) insn → InsnGoal a b (Lower to) insn
+  lower_watch : (to : ℕ) (insn : Insn) (a : Watched) (b : State) → Erases a b → Known a (Lo to) insn → InsnGoal a b (Lower to) insn
   lower_watch to (OpImm Addi rd rs imm) a b h k =
       finish_watch rd (Lower to) (OpImm Addi rd rs imm) a b (plain.row_of plain_world b (OpImm Addi rd rs imm)) h (k.next refl)
       (addi_erased everywhere E S plain_world naming laid to to rd rs imm imm (operands (OpImm Addi rd rs imm) a.core.registers) a.core.store b (own_halves to imm) (k.half to (one to)) (read_value a b h rs) h.core.store)
@@ -367,7 +362,7 @@ module _ (p : Program) (is : ℕ → Bool) (linked : IsLinked p) (dec : Decides 
   lower_watch to (Jalr rd rs offset) a b h k = part_watch rd rs to offset a b (register_value rs a.core.registers) h (λ n. k.next (goes_link rd n)) (k.inside to (one to)) (read_value a b h rs)
   lower_watch to insn a b h k = absurd (let e = k.marked in cc)
 
-  insn_watch : (mark : Mark) (insn : Insn) (a : Watched) (b : State) → IsErasureOf a b → Known a mark insn → InsnGoal a b (half_of a.pc mark insn) insn
+  insn_watch : (mark : Mark) (insn : Insn) (a : Watched) (b : State) → Erases a b → Known a mark insn → InsnGoal a b (half_of a.pc mark insn) insn
   insn_watch (Hi to) insn a b h k = upper_watch to insn a b h k
   insn_watch (Lo to) insn a b h k = lower_watch to insn a b h k
   insn_watch mark insn a b h k = plain_watch insn mark a b h k
@@ -394,12 +389,12 @@ module _ (p : Program) (is : ℕ → Bool) (linked : IsLinked p) (dec : Decides 
       go None k = absurd k
       go (Some d) k = ap Some k
 
-  same_byte : (a : Watched) (b : State) → IsErasureOf a b → (x : ℕ) → is_in_text t x ≡ true → b.memory x ≡ first.memory x
+  same_byte : (a : Watched) (b : State) → Erases a b → (x : ℕ) → is_in_text t x ≡ true → b.memory x ≡ first.memory x
   same_byte a b h x e =
       let c = begins.bytes x e in
       text_byte b a.core.store.memory x c.0 (h.text x e ∙ c.1) (h.core.store.memory x tt) ∙ sym (text_byte first Cells_ x c.0 c.1 (begins.memory x tt))
 
-  same_word : (a : Watched) (b : State) → IsErasureOf a b → (x : ℕ) (v : Word) → word_at t x ≡ Some v → aligned_number b.memory x 4 ≡ Some v.number
+  same_word : (a : Watched) (b : State) → Erases a b → (x : ℕ) (v : Word) → word_at t x ≡ Some v → aligned_number b.memory x 4 ≡ Some v.number
   unfolding number_at
   same_word a b h x v e =
       let s = stood x t.lo v t.words e in
@@ -415,12 +410,12 @@ module _ (p : Program) (is : ℕ → Bool) (linked : IsLinked p) (dec : Decides 
           let d : nat_lt y (end_of t) ≡ true = grind (arith, nat_tests) in
           rw (c, d) refl
 
-  fetch_word : (a : Watched) (b : State) → IsErasureOf a b → (v : Word) → word_at t a.pc ≡ Some v → fetched plain_world b ≡ Some v.number
+  fetch_word : (a : Watched) (b : State) → Erases a b → (v : Word) → word_at t a.pc ≡ Some v → fetched plain_world b ≡ Some v.number
   fetch_word a b h v e =
       let r : is_range (is_executable plain_world) b.pc 4 ≡ true = subst (λ pc. is_range (is_executable plain_world) pc 4 ≡ true) (sym h.pc) (begins.text a.pc v e).0 in
       rw r (subst (λ pc. aligned_number b.memory pc 4 ≡ Some v.number) (sym h.pc) (same_word a b h a.pc v e))
 
-  fetch_none : (a : Watched) (b : State) → IsErasureOf a b → is_executable plain_world a.pc ≡ false → fetched plain_world b ≡ None
+  fetch_none : (a : Watched) (b : State) → Erases a b → is_executable plain_world a.pc ≡ false → fetched plain_world b ≡ None
   fetch_none a b h e =
       let f : is_executable plain_world (b.pc + 0) ≡ false = subst (λ pc. is_executable plain_world pc ≡ false) (sym h.pc ∙ sym (plus_zero b.pc)) e in
       let r : is_range (is_executable plain_world) b.pc 4 ≡ false = rw f (none (nat_le (b.pc + 4) (2 ^ 32))) in
@@ -446,7 +441,7 @@ module _ (p : Program) (is : ℕ → Bool) (linked : IsLinked p) (dec : Decides 
 
   -- ONE STEP
 
-  word_watch : (a : Watched) (b : State) → IsErasureOf a b → (o : Option Word) → word_at t a.pc ≡ o → (is a.pc ≡ true) ⊎ (is_executable plain_world a.pc ≡ false) → Match (monitored.word_step S a.pc o a.core) (word_step plain_world b (fetched plain_world b))
+  word_watch : (a : Watched) (b : State) → Erases a b → (o : Option Word) → word_at t a.pc ≡ o → (is a.pc ≡ true) ⊎ (is_executable plain_world a.pc ≡ false) → Match (monitored.word_step S a.pc o a.core) (word_step plain_world b (fetched plain_world b))
   word_watch a b h None e (inl i) = let v = word_of a.pc i in absurd (let f : Some v.0 ≡ None = sym v.1 ∙ e in cc)
   word_watch a b h None e (inr n) = rw (fetch_none a b h n) (ap Fetch h.pc)
   word_watch a b h (Some v) e (inr n) = absurd (let f : true ≡ false = sym (present a.pc v e) ∙ n in cc)
@@ -455,7 +450,7 @@ module _ (p : Program) (is : ℕ → Bool) (linked : IsLinked p) (dec : Decides 
       rw (fetch_word a b h v e)
       (subst (λ o. Match (monitored.marked_step S a.pc v.mark o a.core) (insn_step plain_world b o)) (sym s.is) (insn_watch v.mark s.insn a b h (known a v s i e)))
 
-  watch_step : (a : Watched) (b : State) → IsErasureOf a b → Match (monitored_step (layout_of w start) t a) (step_of plain_world b)
+  watch_step : (a : Watched) (b : State) → Erases a b → Match (monitored_step (layout_of w start) t a) (step_of plain_world b)
   unfolding step_of
   watch_step a b h = word_watch a b h (word_at t a.pc) refl h.place
 
@@ -475,20 +470,27 @@ module _ (p : Program) (is : ℕ → Bool) (linked : IsLinked p) (dec : Decides 
       go true = refl
       go false = refl
 
+  starts : Erases (watched_start w p start) first
+  starts = record {
+    pc = begins.pc;
+    core = record {
+      registers = start_held;
+      zero = begins.registers 0 ∙ zero_written 2 (stack_pointer start) (λ r. 0) refl;
+      store = record { memory = begins.memory; stale = λ x _ e. refl; input = begins.input; reservation = begins.reservation };
+    };
+    kept = start_kept;
+    text = λ x e. refl;
+    place = inl (dec.all p.entry (entry linked.entry));
+  }
+
+  pub erasing : Erases (watched_start w p start) first × SimulatesInStep (monitored_step (layout_of w start) t) (step_of plain_world) Erases
+  erasing = (starts, watch_step)
+
   pub watching : LocksWith (monitored_step (layout_of w start) t) (watched_start w p start) (step_of plain_world) first
-  watching =
-      locks_by (monitored_step (layout_of w start) t) (step_of plain_world) IsErasureOf watch_step (watched_start w p start) first
-      (record {
-        pc = begins.pc;
-        core = record {
-          registers = start_held;
-          zero = begins.registers 0 ∙ zero_written 2 (stack_pointer start) (λ r. 0) refl;
-          store = record { memory = begins.memory; input = begins.input; reservation = begins.reservation };
-        };
-        kept = start_kept;
-        text = λ x e. refl;
-        place = inl (dec.all p.entry (entry linked.entry));
-      })
+  watching = locks_by (monitored_step (layout_of w start) t) (step_of plain_world) Erases watch_step (watched_start w p start) first starts
+
+pub erasure_law : ErasureLaw
+erasure_law p is linked dec fine w start plain_world first lo hi begins = erasing p is linked dec fine w start plain_world first begins
 
 pub watching_erases : WatchingErases
 watching_erases p is linked dec fine w start plain_world first lo hi begins = watching p is linked dec fine w start plain_world first begins

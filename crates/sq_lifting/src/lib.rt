@@ -6,11 +6,17 @@
 #![tactic(auto)]
 
 ghost use Rattle.sq_lifting.specs.Lifting.{LiftingKeepsRuns};
-ghost use Rattle.sq_lifting.specs.Watching.{WatchingErases};
+ghost use Rattle.sq_lifting.specs.Watching.{WatchingErases, ErasureLaw};
 
 /// The run of the lifted graph shows what the monitored run of the program shows, step for step.
 pub fn lifting_keeps_runs()
     ensures { LiftingKeepsRuns }
+{}
+
+/// The plain machine's state is the monitored run's without its tags, at the start and behind each step: each name stands
+/// for its address, each upper half for its word, and each stale byte for the one that was there at the start.
+pub fn erasure_law()
+    ensures { ErasureLaw }
 {}
 
 /// The plain machine shows what the monitored run of the program shows, step for step.
