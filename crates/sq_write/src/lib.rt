@@ -18,6 +18,7 @@ mod piece;
 mod pieces;
 mod placed;
 mod plain;
+mod sections;
 mod text;
 mod text_bytes;
 mod writing;

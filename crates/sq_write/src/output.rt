@@ -9,6 +9,7 @@ use crate::file_parts::FileParts;
 use crate::layout::{Layout, aligned};
 use crate::parts::{SECTION_NAMES, SYMBOL_NAMES, SYMBOL_TABLE, push_file_header};
 use crate::piece::Piece;
+use crate::sections::SectionHeader;
 use sq_num::Memory;
 use std::alloc::Global;
 
@@ -95,13 +96,13 @@ fn push_sections(file: &mut Vec<u8>, p: &FileParts, l: &Layout) -> Result<(), Me
     let size = p.text.stored();
     let entries = length_of(&p.entries);
     let note = length_of(&p.note);
-    push_words(file, &[0; 10])?;
-    push_words(file, &[1, 1, 6, start, l.text, size, 0, 0, 4, 0])?;
-    push_words(file, &[7, 2, 0, 0, l.symbols, 16, 3, 1, 4, 16])?;
-    push_words(file, &[15, 3, 0, 0, l.symbol_names, 1, 0, 0, 1, 0])?;
-    push_words(file, &[23, 4, 0, 0, l.entries, entries, 2, 1, 4, 12])?;
-    push_words(file, &[34, 0x8051_5a31, 0, 0, l.note, note, 0, 0, 4, 0])?;
-    push_words(file, &[43, 3, 0, 0, l.section_names, 53, 0, 0, 1, 0])?;
+    SectionHeader::null().push(file)?;
+    SectionHeader::text(start, l.text, size).push(file)?;
+    SectionHeader::symbol_table(l.symbols).push(file)?;
+    SectionHeader::symbol_names(l.symbol_names).push(file)?;
+    SectionHeader::relocations(l.entries, entries).push(file)?;
+    SectionHeader::note(l.note, note).push(file)?;
+    SectionHeader::section_names(l.section_names).push(file)?;
     Ok(())
 }
 

@@ -139,7 +139,7 @@ module _ (bytes : List ℕ) (is : ℕ → Bool) (p : Program) (g : Graph) (read 
   hi = (text_range bytes).hi
 
   abbrev E : Erasing
-  E = new_names g lo
+  E = new_names g lo (λ x. None)
 
   abbrev names : List ℕ
   names = map word_name g.code_words

@@ -34,7 +34,7 @@ use Rattle.sq_graph.specs.declared.parts.CodeRef.{CodeRef}
 use Rattle.sq_graph.specs.Graph.{Graph}
 use Rattle.sq_graph.specs.Walks.{word_name}
 use Rattle.sq_graph.specs.Words.{words_of}
-use Rattle.sq_follow.specs.Values.{Cell, Byte}
+use Rattle.sq_follow.specs.Values.{Code, Part, Cell, Byte, Frag, Stale}
 use Rattle.sq_follow.specs.GraphRuns.{graph_step}
 use Rattle.sq_follow.specs.Worlds.{World, layout_of, setting_of, ram_region, regions_at_start}
 use Rattle.sq_follow.specs.Follows.{state_at_start, word_address}
@@ -166,6 +166,19 @@ segment_there P bytes (suc count) k l has h = elim (cases_lt k count) [ inl less
         let there : has_memory bytes count ≡ true = subst (λ j. has_memory bytes j ≡ true) same has in
         rw there (back (segments_before bytes count) (segment_of bytes count) (subst (λ j. P (segment_of bytes j)) same h))
 
+-- for which bytes stale ones stand tells nothing of a cell by itself
+stale_aside : (E : Erasing) (stale : Cells ℕ) (c : Cell) (b : ℕ) → IsErasedCell E c b → IsErasedCell (record E { stale = stale }) c b
+stale_aside E stale (Byte x) b h = h
+stale_aside E stale (Frag (Code n) k) b h = h
+stale_aside E stale (Frag (Part n w) k) b h = h
+stale_aside E stale Stale b h = h
+
+stale_apart : (E : Erasing) (stale : Cells ℕ) (o : Option Cell) (q : Option ℕ) → Agree (IsErasedCell E) o q → Agree (IsErasedCell (record E { stale = stale })) o q
+stale_apart E stale None None h = h
+stale_apart E stale None (Some b) h = h
+stale_apart E stale (Some c) None h = h
+stale_apart E stale (Some c) (Some b) h = stale_aside E stale c b h
+
 ram_agrees : (E : Erasing) (start : Start) (x : ℕ) → Agree (IsErasedCell E) (get (ram_region start ∷ []) x) (get (plain_ram start ∷ []) x)
 ram_agrees E start x = or_agree (IsErasedCell E) (region_cell (ram_region start) x) None (region_cell (plain_ram start) x) None (go (nat_le start.base x)) tt
   where
@@ -185,7 +198,7 @@ module _ (bytes : List ℕ) (is : ℕ → Bool) (p : Program) (g : Graph) (fit :
   hi = (text_range bytes).hi
 
   abbrev E : Erasing
-  E = new_names g lo
+  E = new_names g lo (λ x. None)
 
   abbrev set : ℕ → Option ℕ
   set = set_word_at g lo
@@ -494,13 +507,16 @@ module _ (bytes : List ℕ) (is : ℕ → Bool) (p : Program) (g : Graph) (fit :
     unfolding file_state with_register
     plain_reservation = refl
 
+    abbrev plain : Cells ℕ
+    plain = (file_state (written bytes g) start).memory
+
     begins : IsWrittenStart w g start (file_world (written bytes g) start) (file_state (written bytes g) start)
     begins = record {
       laid_out = record { base = plain_base; size = plain_size; writable = λ x e. writable_around x (outside x e); executable = not_executable };
       text = subst (λ l. HasWords g l (file_world (written bytes g) start) (file_state (written bytes g) start).memory) (sym lo_is) has_words;
       pc = plain_pc ∙ entry ∙ ap (λ l. new_address g l g.entry) (sym lo_is);
       registers = plain_registers;
-      memory = λ x e. subst (λ l. Agree (IsErasedCell (new_names g l)) (get (regions_at_start w names start) x) ((file_state (written bytes g) start).memory x)) (sym lo_is) (memory_around x (outside x e));
+      memory = λ x e. subst (λ l. Agree (IsErasedCell (new_names g l plain)) (get (regions_at_start w names start) x) (plain x)) (sym lo_is) (stale_apart E plain (get (regions_at_start w names start) x) (plain x) (memory_around x (outside x e)));
       input = plain_input;
       reservation = plain_reservation;
     }

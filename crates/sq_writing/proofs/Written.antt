@@ -158,7 +158,7 @@ module _ (w : World) (g : Graph) (can : IsWritable g w.lo w.hi) (start : Start) 
   S = setting_of w start
 
   abbrev E : Erasing
-  E = new_names g w.lo
+  E = new_names g w.lo first.memory
 
   abbrev P : ℕ → Type 0
   P = IsOutsideText S
@@ -366,7 +366,7 @@ module _ (w : World) (g : Graph) (can : IsWritable g w.lo w.hi) (start : Start) 
     erased = record {
       registers = λ r. held_written u (core.registers r) v (b.registers r) (r == d && not (d == 0)) e (h.erased.registers r);
       zero = zero_written d v b.registers h.erased.zero;
-      store = record { memory = h.erased.store.memory; input = h.erased.store.input; reservation = h.erased.store.reservation };
+      store = record { memory = h.erased.store.memory; stale = h.erased.store.stale; input = h.erased.store.input; reservation = h.erased.store.reservation };
     };
     text = h.text;
   }
@@ -378,7 +378,7 @@ module _ (w : World) (g : Graph) (can : IsWritable g w.lo w.hi) (start : Start) 
     erased = record {
       registers = λ r. subst (IsErasedHeld E (core.registers r)) (sym (nothing_written v b.registers r)) (h.erased.registers r);
       zero = zero_written 0 v b.registers h.erased.zero;
-      store = record { memory = h.erased.store.memory; input = h.erased.store.input; reservation = h.erased.store.reservation };
+      store = record { memory = h.erased.store.memory; stale = h.erased.store.stale; input = h.erased.store.input; reservation = h.erased.store.reservation };
     };
     text = h.text;
   }
@@ -389,7 +389,7 @@ module _ (w : World) (g : Graph) (can : IsWritable g w.lo w.hi) (start : Start) 
     erased = record {
       registers = h.erased.registers;
       zero = h.erased.zero;
-      store = record { memory = h.erased.store.memory; input = h.erased.store.input; reservation = h.erased.store.reservation };
+      store = record { memory = h.erased.store.memory; stale = h.erased.store.stale; input = h.erased.store.input; reservation = h.erased.store.reservation };
     };
     text = h.text;
   }
@@ -745,7 +745,7 @@ module _ (w : World) (g : Graph) (can : IsWritable g w.lo w.hi) (start : Start) 
           erased = record {
             registers = start_held;
             zero = begins.registers 0 ∙ zero_written 2 (stack_pointer start) (λ r. 0) refl;
-            store = record { memory = begins.memory; input = begins.input; reservation = begins.reservation };
+            store = record { memory = begins.memory; stale = λ x _ e. refl; input = begins.input; reservation = begins.reservation };
           };
           text = λ y e. refl;
         },

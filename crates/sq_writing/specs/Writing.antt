@@ -21,13 +21,15 @@ use Rattle.sq_erasure.specs.Erasure.{Erasing, IsErasedCell}
 use Rattle.sq_write.specs.Points.{Point, new_address, point_word, text_points}
 use Rattle.sq_writing.specs.Writable.{IsWritable}
 
--- the name of a block stands for its new address, and an upper half is that of this address
-abbrev pub new_names : Graph → ℕ → Erasing
-new_names g lo = record {
+-- the name of a block stands for its new address, an upper half is that of this address, and a stale byte stands for the
+-- one that was there at the start
+abbrev pub new_names : Graph → ℕ → Cells ℕ → Erasing
+new_names g lo first = record {
   Names = λ n. HasBlock g n;
   address = λ n. new_address g lo n;
   Halves = λ n w. w ≡ None;
   word = λ n w. upper_word (high_half (new_address g lo n));
+  stale = first;
 }
 
 abbrev pub IsOutsideText : Setting → ℕ → Type 0
@@ -52,7 +54,7 @@ pub record IsWrittenStart (w : World) (g : Graph) (start : Start) (plain : Layou
   pub text : HasWords g w.lo plain b.memory
   pub pc : b.pc ≡ new_address g w.lo g.entry
   pub registers : (r : ℕ) → b.registers r ≡ written 2 (stack_pointer start) (λ r. 0) r
-  pub memory : AgreeOn (IsOutsideText (setting_of w start)) (IsErasedCell (new_names g w.lo)) (get (regions_at_start w (map word_name g.code_words) start)) b.memory
+  pub memory : AgreeOn (IsOutsideText (setting_of w start)) (IsErasedCell (new_names g w.lo b.memory)) (get (regions_at_start w (map word_name g.code_words) start)) b.memory
   pub input : b.input ≡ start.input
   pub reservation : b.reservation ≡ None
 
