@@ -1,4 +1,4 @@
--- The cost rule: the candidates of all rows that are built, and what becomes of a graph by them. A pass to come takes its
+-- The cost rule: the candidates of all rows, and what becomes of a graph by them. A pass to come takes its
 -- place here, and no layer above changes.
 use Rattle.std.specs.Prelude.{◌≤◌, ◌⊎◌}
 use Rattle.std.proofs.Common.{inl, inr}
@@ -77,7 +77,7 @@ row_saves g cut (inr (inr (inr windows))) = windows_save g cut windows
 
 -- THE COST RULE
 
--- a candidate of any row that is built: of a pass, or of row L
+-- a candidate of any row: of a pass, or of row L
 abbrev pub IsCandidate : Graph → Cut → Type 0
 IsCandidate g cut = IsRowCandidate g cut ⊎ IsMove g cut
 
@@ -94,6 +94,6 @@ abbrev pub saves_a_word : (g : Graph) (cut : Cut) → IsCandidate g cut → 1 �
 saves_a_word g cut (inl candidate) = row_saves g cut candidate
 saves_a_word g cut (inr move) = move.some
 
--- no row that is built has a candidate
+-- no row has a candidate
 abbrev pub IsLeftoverFree : Graph → Type 0
 IsLeftoverFree g = (cut : Cut) → ¬ IsCandidate g cut

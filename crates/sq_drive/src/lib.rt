@@ -9,7 +9,7 @@
 #![tactic(auto)]
 
 mod checking;
-mod finding;
+mod hints;
 mod listed;
 mod noting;
 mod once;

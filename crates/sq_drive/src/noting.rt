@@ -17,9 +17,9 @@ ghost use Rattle.sq_drive.specs.Replay.{IsStep, IsReplay};
 ghost use Rattle.sq_drive.specs.Replaying.{IsLess};
 ghost use Rattle.sq_drive.specs.Rows.{IsRowCandidate, IsLeftoverFree, IsCandidate, described};
 
-use crate::finding::find_from;
+use crate::hints::next_cut;
 use crate::replaying::tidy;
-use crate::rows::{AllRows, RowPass};
+use crate::rows::AllRows;
 use sq_cert::{Cert, Step};
 use sq_chain::{movable, try_move};
 use sq_graph::{Graph, Term};
@@ -107,12 +107,12 @@ fn note_cut(alloc: Global, graph: &mut Graph, cut: Cut) -> Result<(Step, Rewrite
     Ok((step_of(cut), done))
 }
 
-/// Rewrites the graph by a candidate of a row that passes have, first by one of this pass, and tidies it: the step and what
+/// Rewrites the graph by a candidate of a row that passes have, first by one of these hints, and tidies it: the step and what
 /// it saved, or None where there is none.
 fn note_row(
     alloc: Global,
     graph: &mut Graph,
-    pass: RowPass,
+    hints: &mut Vec<Cut>,
 ) -> Result<Option<(Step, Rewrite)>, Memory>
     requires canonical { IsCanonical graph.old.graph }
     requires words { words_of graph.old.graph ≤ 1048576 }
@@ -125,7 +125,7 @@ fn note_row(
     ensures same { result ≡ Ok None → graph.new.graph ≡ graph.old.graph }
     ensures follows { Follows graph.old.graph graph.new.graph }
 {
-    match find_from(alloc, graph, pass)? {
+    match next_cut(alloc, graph, hints)? {
         Some(cut) => Ok(Some(note_cut(alloc, graph, cut)?)),
         None => Ok(None),
     }
@@ -199,12 +199,12 @@ fn note_move(alloc: Global, graph: &mut Graph) -> Result<Option<(Step, Rewrite)>
     Ok(Some((Step::L { from, to }, done)))
 }
 
-/// Rewrites the graph by a candidate of any row, first by one of this pass: the step and what it saved, or None where there
+/// Rewrites the graph by a candidate of any row, first by one of these hints: the step and what it saved, or None where there
 /// is none. A chain moves only where no other row has a candidate.
 fn note_step(
     alloc: Global,
     graph: &mut Graph,
-    pass: RowPass,
+    hints: &mut Vec<Cut>,
 ) -> Result<Option<(Step, Rewrite)>, Memory>
     requires canonical { IsCanonical graph.old.graph }
     requires words { words_of graph.old.graph ≤ 1048576 }
@@ -217,7 +217,7 @@ fn note_step(
     ensures same { result ≡ Ok None → graph.new.graph ≡ graph.old.graph }
     ensures follows { Follows graph.old.graph graph.new.graph }
 {
-    match note_row(alloc, graph, pass)? {
+    match note_row(alloc, graph, hints)? {
         Some(taken) => Ok(Some(taken)),
         None => note_move(alloc, graph),
     }
@@ -257,8 +257,8 @@ fn learn_step(step: &Step)
 }
 
 /// Rewrites the graph by all rows until none has a candidate, and answers the certificate of the steps and what each row
-/// saved. It sweeps nothing: each step looks at the whole graph, for a candidate of the pass that had the one before, and
-/// where that has none, of all. After want of memory the graph is as the steps left it so far.
+/// saved. Each step looks for live registers anew, and tries what one look proposed; where that is used up, it looks at the
+/// whole graph. After want of memory the graph is as the steps left it so far.
 pub fn settle_noting(alloc: Global, graph: &mut Graph) -> Result<Noted, Memory>
     requires canonical { IsCanonical graph.old.graph }
     requires slotted { IsSlotted graph.old.graph }
@@ -274,12 +274,11 @@ pub fn settle_noting(alloc: Global, graph: &mut Graph) -> Result<Noted, Memory>
 {
     let mut cert = Cert::new(alloc);
     let mut savings = Savings::NONE;
-    let mut pass = RowPass::Jumps;
-    while let Some((step, done)) = note_step(alloc, graph, pass)? {
+    let mut hints = Vec::new(alloc);
+    while let Some((step, done)) = note_step(alloc, graph, &mut hints)? {
         learn_step(&step);
         cert.push(step)?;
         savings = done.count(savings);
-        pass = RowPass::of(done.row);
     }
     Ok(Noted { cert, savings })
 }

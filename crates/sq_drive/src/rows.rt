@@ -44,7 +44,11 @@ impl RowPass {
 }
 
 /// A candidate of the passes that come before windows, or `None` where there is none.
-fn find_earlier(alloc: Global, graph: &Graph, live: &Liveness) -> Result<Option<Cut>, Memory>
+pub(crate) fn find_earlier(
+    alloc: Global,
+    graph: &Graph,
+    live: &Liveness,
+) -> Result<Option<Cut>, Memory>
     requires { IsLivenessOf graph.now.graph live.now }
     ensures some { IfOk result (λ found. IfSome found (λ cut. IsRowCandidate graph.now.graph cut)) }
     ensures none { result ≡ Ok None → (cut : Told) → ¬ IsEarlierCandidate graph.now.graph cut }

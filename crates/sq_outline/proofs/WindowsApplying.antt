@@ -17,6 +17,9 @@ use Rattle.sq_outline.proofs.Totals.{items_are_words}
 use Rattle.sq_outline.proofs.WindowsMaking.{window_applied}
 use Rattle.sq_outline.proofs.WindowsCalling.{callable_matches, inside_applied}
 
+pub inside_windows : (g : Graph) (cut : Cut) → IsInsideCut g cut → IsWindowsCandidate g cut
+inside_windows g cut candidate = subst (λ (row : Row). IsWindowsCutOf row g cut) (sym (ap (λ (given : Cut). given.row) candidate.is)) candidate
+
 pub inside_of : (g : Graph) (cut : Cut) → IsWindowsCandidate g cut → cut.row ≡ V → IsInsideCut g cut
 inside_of g cut candidate row = subst (λ r. IsWindowsCutOf r g cut) row candidate
 

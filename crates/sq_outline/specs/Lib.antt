@@ -17,3 +17,4 @@ pub mod WindowsMade
 pub mod WindowsSearch
 pub mod WindowsPast
 pub mod WindowsCandidates
+pub mod WindowsProposed

@@ -84,7 +84,7 @@ fn procedure_for(graph: &Graph, live: &Liveness, block: u32) -> Option<u32>
 }
 
 /// The same, where these are the prints of procedures. It looks at the procedures only where one has the print of the block.
-fn procedure_by_print(
+pub(crate) fn procedure_by_print(
     graph: &Graph,
     live: &Liveness,
     prints: &HashMap<u64, u32>,
@@ -135,7 +135,12 @@ pub(crate) fn call_saving(graph: &Graph, block: u32, procedure: u32) -> u32
 }
 
 /// The candidate of row O2 for a block and a procedure.
-fn call_cut(alloc: Global, graph: &Graph, block: u32, procedure: u32) -> Result<Cut, Memory>
+pub(crate) fn call_cut(
+    alloc: Global,
+    graph: &Graph,
+    block: u32,
+    procedure: u32,
+) -> Result<Cut, Memory>
     requires procedure { HasProcedure graph.now.graph procedure }
     requires may { MayCall graph.now.graph block procedure }
     ensures { IfOk result (IsCalledCut graph.now.graph) }

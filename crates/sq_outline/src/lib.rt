@@ -3,7 +3,7 @@
 //! To the layers above it promises that `Outlines` keeps the laws of passes, for the rows O1, O2, O3 and O4: what it finds
 //! and admits are candidates of these rows, it misses none, whatever set of blocks is taken, and what it makes of a graph is
 //! exactly what the row says. Its sweep takes many candidates of O1 and O2 by one look. The same of `Windows`, for the rows W
-//! and V: over all windows of all lengths it misses none.
+//! and V: over all windows of all lengths it misses none. `propose` and `propose_windows` give candidates that one look finds.
 #![tactic(auto)]
 
 mod call;
@@ -14,6 +14,7 @@ mod link;
 mod make;
 mod outlines;
 mod plain;
+mod proposals;
 mod recall;
 mod sets;
 mod sites;
@@ -21,4 +22,5 @@ mod sweep;
 mod windows;
 
 pub use outlines::Outlines;
-pub use windows::Windows;
+pub use proposals::propose;
+pub use windows::{Windows, propose_windows};

@@ -130,7 +130,7 @@ fn kept_ahead(
 }
 
 /// The block at this place with one ahead of it for which it may be dropped.
-fn pair_at(
+pub(crate) fn pair_at(
     graph: &Graph,
     live: &Liveness,
     names: &[u32],

@@ -4,10 +4,11 @@ ghost use Rattle.std.specs.Prelude.{◌≡◌, ◌≤◌, None, Ok, IfOk, IfSome
 ghost use Rattle.sq_graph.specs.Blocks.{HasBlock};
 ghost use Rattle.sq_live.specs.Liveness.{IsLivenessOf};
 ghost use Rattle.sq_pass.specs.declared.cut.Cut.{Cut as Told};
+ghost use Rattle.sq_tail.specs.Bodies.{IsBodyPair};
 ghost use Rattle.sq_tail.specs.Candidates.{IsBodyCut, IsCandidate};
 ghost use Rattle.sq_tail.specs.Tails.{tail_cut, IsTailCut};
 
-use crate::bodies::find_bodies;
+use crate::bodies::{BodyPair, find_bodies};
 use crate::ends::{common_items, end_words};
 use crate::search::find_tails;
 use sq_graph::Graph;
@@ -26,7 +27,7 @@ pub(crate) fn no_register() -> Reg
 }
 
 /// The cut of row T for so many items.
-fn tail_cut(
+pub(crate) fn tail_cut(
     alloc: Global,
     graph: &Graph,
     dropped: u32,
@@ -66,19 +67,26 @@ fn find_tail_cut(alloc: Global, graph: &Graph) -> Result<Option<Cut>, Memory>
     Ok(Some(cut))
 }
 
+/// The cut by which the one block goes for the other.
+pub(crate) fn body_cut(alloc: Global, graph: &Graph, pair: BodyPair) -> Result<Cut, Memory>
+    requires { IsBodyPair graph.now.graph pair.dropped pair.kept }
+    ensures { IfOk result (IsBodyCut graph.now.graph) }
+{
+    let _room = graph.spare();
+    let length = graph.items(pair.kept).len() as u32;
+    tail_cut(alloc, graph, pair.dropped, pair.kept, length)
+}
+
 /// The cut of two blocks of which the one's whole body matches the other's, or `None` where there are none.
 fn find_body_cut(alloc: Global, graph: &Graph, live: &Liveness) -> Result<Option<Cut>, Memory>
     requires { IsLivenessOf graph.now.graph live.now }
     ensures some { IfOk result (λ found. IfSome found (IsBodyCut graph.now.graph)) }
     ensures none { result ≡ Ok None → (cut : Told) → ¬ IsBodyCut graph.now.graph cut }
 {
-    let _room = graph.spare();
-    let Some(pair) = find_bodies(alloc, graph, live)? else {
-        return Ok(None);
-    };
-    let length = graph.items(pair.kept).len() as u32;
-    let cut = tail_cut(alloc, graph, pair.dropped, pair.kept, length)?;
-    Ok(Some(cut))
+    match find_bodies(alloc, graph, live)? {
+        Some(pair) => Ok(Some(body_cut(alloc, graph, pair)?)),
+        None => Ok(None),
+    }
 }
 
 /// A candidate, or `None` where there is none. It looks at each block a few times, and tries bodies that may match.

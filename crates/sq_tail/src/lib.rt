@@ -10,9 +10,11 @@ mod ends;
 mod find;
 mod joining;
 mod numbers;
+mod proposals;
 mod resolved;
 mod search;
 mod sweep;
 mod tails;
 
+pub use proposals::propose;
 pub use tails::Tails;

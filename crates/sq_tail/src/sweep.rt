@@ -1,7 +1,7 @@
 //! Rewrites the graph by many candidates, by a few looks at it.
 
 mod bodies;
-mod ends;
+pub(crate) mod ends;
 mod rewriting;
 
 ghost use Rattle.std.specs.Prelude.{◌≤◌, ◌+◌, IfOk};

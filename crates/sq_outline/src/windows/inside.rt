@@ -147,7 +147,12 @@ fn find_place(
 }
 
 /// The candidate of row V for a place and a procedure.
-fn inside_cut(alloc: Global, graph: &Graph, place: WindowAt, procedure: u32) -> Result<Cut, Memory>
+pub(crate) fn inside_cut(
+    alloc: Global,
+    graph: &Graph,
+    place: WindowAt,
+    procedure: u32,
+) -> Result<Cut, Memory>
     requires procedure { HasProcedure graph.now.graph procedure }
     requires may { MayCallInside graph.now.graph place.block place.at procedure }
     ensures { IfOk result (IsInsideCut graph.now.graph) }

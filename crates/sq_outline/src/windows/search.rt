@@ -78,7 +78,7 @@ pub(crate) fn classes_in_line(
 }
 
 /// The candidate of row W for a window of n items that may become a procedure.
-fn window_cut(alloc: Global, graph: &Graph, n: u32, found: Found) -> Result<Cut, Memory>
+pub(crate) fn window_cut(alloc: Global, graph: &Graph, n: u32, found: Found) -> Result<Cut, Memory>
     requires { IsWindowMade graph.now.graph found.first.block found.first.at n found.link found.saving }
     ensures { IfOk result (IsWindowCut graph.now.graph) }
 {

@@ -161,7 +161,7 @@ struct Hint {
 }
 
 /// Which part of the words of its occurrences a window of n items saves, in sixteenths.
-fn sixteenths(n: u32, saving: u32) -> u64
+pub(crate) fn sixteenths(n: u32, saving: u32) -> u64
     requires { 3 ≤ n }
 {
     let gone = u64::from(saving) + u64::from(n) + 1;

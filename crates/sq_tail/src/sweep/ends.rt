@@ -24,7 +24,7 @@ use std::collections::HashMap;
 
 /// How many last items of two blocks are equal, where both go on alike and a word is saved by dropping those of the first.
 /// It looks at the two blocks alone.
-fn joinable(graph: &Graph, dropped: u32, kept: u32) -> Option<u32>
+pub(crate) fn joinable(graph: &Graph, dropped: u32, kept: u32) -> Option<u32>
     ensures { IfSome result (λ n. IsCandidate graph.now.graph (tail_cut graph.now.graph dropped kept n)) }
 {
     if dropped == kept || !is_block(graph, dropped) || !is_block(graph, kept) {
@@ -126,7 +126,11 @@ fn join_each(
 }
 
 /// The numbers of the blocks' ends of one to four items.
-fn end_numbers(alloc: Global, graph: &Graph, names: &[u32]) -> Result<Vec<Vec<Option<u32>>>, Memory>
+pub(crate) fn end_numbers(
+    alloc: Global,
+    graph: &Graph,
+    names: &[u32],
+) -> Result<Vec<Vec<Option<u32>>>, Memory>
     requires { names.now ≡ names_of graph.now.graph }
 {
     let mut all = Vec::new(alloc);

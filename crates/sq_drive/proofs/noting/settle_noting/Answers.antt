@@ -14,8 +14,8 @@ use Rattle.sq_drive.proofs.Moves.{leftover_free_is_still}
 use Rattle.sq_drive.proofs.Replays.{replay_on, less_itself, less_through}
 use Rattle.sq_drive.proofs.noting.settle_noting.Goals as goal
 
-pub loop-cert-init : goal.loop-cert-init
-loop-cert-init c =
+pub loop-hints-init : goal.loop-hints-init
+loop-hints-init c =
     let g = c.args.graph.now.graph in
     record {
       replayed = subst (λ steps. IsReplay steps g g) (sym c.new-cert.ensures) refl;
@@ -28,17 +28,17 @@ loop-cert-init c =
 
 pub returns-in_err-step-clause-follows : goal.returns-in_err-step-clause-follows
 returns-in_err-step-clause-follows c =
-    let l = c.loop-cert in
+    let l = c.loop-hints in
     graph_follows_through c.args.graph.now.graph l.graph.graph c.note_step.new.graph.graph l.invariant.less.lighter.follows c.note_step.ensures.follows
 
 pub returns-in_err-push-clause-follows : goal.returns-in_err-push-clause-follows
 returns-in_err-push-clause-follows c =
-    let l = c.loop-cert in
+    let l = c.loop-hints in
     graph_follows_through c.args.graph.now.graph l.graph.graph c.note_step.new.graph.graph l.invariant.less.lighter.follows c.note_step.ensures.follows
 
-pub loop-cert-preserved : goal.loop-cert-preserved
-loop-cert-preserved c =
-    let l = c.loop-cert in
+pub loop-hints-preserved : goal.loop-hints-preserved
+loop-hints-preserved c =
+    let l = c.loop-hints in
     let old = c.args.graph.now.graph in
     let new = c.note_step.new.graph.graph in
     let taken = rw c.in-Some.is at c.in_ok-step.ensures.step in
@@ -56,7 +56,7 @@ loop-cert-preserved c =
 
 pub count-savings-requires : goal.count-savings-requires
 count-savings-requires c =
-    let l = c.loop-cert in
+    let l = c.loop-hints in
     let lighter = rw c.in-Some.is at c.in_ok-step.ensures.lighter in
     omega (arith, lighter.words, l.invariant.rewritten.total, l.invariant.rewritten.lighter.words, c.requires.words)
 
@@ -69,5 +69,5 @@ returns-clause-still c = leftover_free_is_still c.note_step.new.graph.graph (ret
 
 pub returns-clause-slotted : goal.returns-clause-slotted
 returns-clause-slotted c =
-    let l = c.loop-cert in
+    let l = c.loop-hints in
     subst IsSlotted (sym (c.in_ok-step.ensures.same (ap Ok c.in_default.is))) (l.invariant.less.slotted c.requires.slotted)

@@ -10,8 +10,8 @@ use Rattle.sq_drive.specs.Replaying.{IsLess}
 use Rattle.sq_drive.specs.Rows.{IsCandidate, described}
 use Rattle.sq_drive.proofs.noting.settle_noting.Given as goal
 
-abbrev pub invariant-loop-cert : goal.invariant-loop-cert
-invariant-loop-cert l = record {
+abbrev pub invariant-loop-hints : goal.invariant-loop-hints
+invariant-loop-hints l = record {
   replayed : IsReplay l.cert l.fn.graph.graph l.graph.graph;
   form : All HasForm l.cert;
   less : IsLess l.fn.graph.graph l.graph.graph;
@@ -20,5 +20,5 @@ invariant-loop-cert l = record {
   words : words_of l.graph.graph ≤ 1048576;
 }
 
-abbrev pub decreases-loop-cert : goal.decreases-loop-cert
-decreases-loop-cert l = words_of l.graph.graph
+abbrev pub decreases-loop-hints : goal.decreases-loop-hints
+decreases-loop-hints l = words_of l.graph.graph

@@ -1,0 +1,8 @@
+use Rattle.std.proofs.Common.{◌≡◌}
+use Rattle.std.specs.List.{All}
+use Rattle.sq_finger.specs.Lines.{line_of}
+use Rattle.sq_outline.specs.WindowsCandidates.{IsWindowsCandidate}
+use Rattle.sq_outline.proofs.windows.proposals.push_calls.Given as goal
+
+abbrev pub invariant-loop-place : goal.invariant-loop-place
+invariant-loop-place l = All (IsWindowsCandidate l.graph.graph) l.cuts.items

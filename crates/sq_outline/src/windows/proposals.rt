@@ -1,0 +1,130 @@
+//! Candidates of rows V and W that one look finds.
+
+ghost use Rattle.std.specs.Prelude.{◌≤◌, IfOk, IfSome, OnOk};
+ghost use Rattle.std.specs.List.{All};
+ghost use Rattle.sq_live.specs.Liveness.{IsLivenessOf};
+ghost use Rattle.sq_outline.specs.WindowsCandidates.{IsWindowsCandidate};
+ghost use Rattle.sq_outline.specs.WindowsProposed.{IsFoundWindow};
+ghost use Rattle.sq_outline.specs.WindowsSearch.{AreWindowClasses};
+
+use crate::windows::found::{Found, found_at};
+use crate::windows::heads::heads;
+use crate::windows::inside::{inside_cut, procedure_inside};
+use crate::windows::search::{classes_in_line, window_cut};
+use crate::windows::sweep::sixteenths;
+use sq_finger::{Groups, WindowAt, all_places, number_items, number_longer_runs, window_laws};
+use sq_graph::Graph;
+use sq_layout::learn;
+use sq_live::Liveness;
+use sq_num::Memory;
+use sq_pass::Cut;
+use std::alloc::Global;
+
+/// A window of n items that may become a procedure.
+#[derive(Clone, Copy, Debug)]
+struct FoundWindow {
+    n: u32,
+    found: Found,
+}
+
+/// Puts the windows of n items that may become procedures behind the others.
+fn push_windows(
+    alloc: Global,
+    graph: &Graph,
+    live: &Liveness,
+    n: u32,
+    classes: &Groups<WindowAt>,
+    windows: &mut Vec<FoundWindow>,
+) -> Result<(), Memory>
+    requires live { IsLivenessOf graph.now.graph live.now }
+    requires least { 3 ≤ n }
+    requires most { n ≤ 16 }
+    requires classes { AreWindowClasses graph.now.graph n classes.now }
+    requires windows { All (IsFoundWindow graph.now.graph) windows.old.items }
+    ensures { OnOk result (All (IsFoundWindow graph.now.graph) windows.new.items) }
+{
+    for number in 0..classes.len() {
+        if let Some(found) = found_at(alloc, graph, live, n, classes.members(number))? {
+            windows.push(FoundWindow { n, found })?;
+        }
+    }
+    Ok(())
+}
+
+/// All windows that may become procedures, the shortest first. It numbers the windows of each length.
+fn found_windows(alloc: Global, graph: &Graph, live: &Liveness) -> Result<Vec<FoundWindow>, Memory>
+    requires live { IsLivenessOf graph.now.graph live.now }
+    ensures { IfOk result (λ windows. All (IsFoundWindow graph.now.graph) windows.items) }
+{
+    learn(graph);
+    let _room = graph.spare();
+    window_laws();
+    let line = all_places(alloc, graph)?;
+    let items = number_items(alloc, graph, &line)?;
+    let mut numbers = number_longer_runs(alloc, &items, &items)?;
+    let mut windows = Vec::new(alloc);
+    for n in 3..17 {
+        numbers = number_longer_runs(alloc, &items, &numbers)?;
+        let classes = classes_in_line(alloc, graph, n, &line, &numbers)?;
+        push_windows(alloc, graph, live, n, &classes, &mut windows)?;
+    }
+    Ok(windows)
+}
+
+/// Puts behind the others a candidate of W for each of these windows that saves so many sixteenths of its words.
+fn push_made(
+    alloc: Global,
+    graph: &Graph,
+    windows: &[FoundWindow],
+    part: u64,
+    cuts: &mut Vec<Cut>,
+) -> Result<(), Memory>
+    requires windows { All (IsFoundWindow graph.now.graph) windows.now }
+    requires cuts { All (IsWindowsCandidate graph.now.graph) cuts.old.items }
+    ensures { OnOk result (All (IsWindowsCandidate graph.now.graph) cuts.new.items) }
+{
+    for window in windows {
+        let FoundWindow { n, found } = *window;
+        if sixteenths(n, found.saving) == part {
+            cuts.push(window_cut(alloc, graph, n, found)?)?;
+        }
+    }
+    Ok(())
+}
+
+/// Puts behind the others a candidate of V for each place that has one.
+fn push_calls(
+    alloc: Global,
+    graph: &Graph,
+    live: &Liveness,
+    cuts: &mut Vec<Cut>,
+) -> Result<(), Memory>
+    requires live { IsLivenessOf graph.now.graph live.now }
+    requires cuts { All (IsWindowsCandidate graph.now.graph) cuts.old.items }
+    ensures { OnOk result (All (IsWindowsCandidate graph.now.graph) cuts.new.items) }
+{
+    learn(graph);
+    let heads = heads(alloc, graph)?;
+    let line = all_places(alloc, graph)?;
+    for place in &line {
+        if let Some(procedure) = procedure_inside(graph, live, &heads, *place) {
+            cuts.push(inside_cut(alloc, graph, *place, procedure)?)?;
+        }
+    }
+    Ok(())
+}
+
+/// Candidates of W and V that one look finds, the last to be taken first: behind those of W, by which part of its words a window
+/// saves, those of V by place. It looks at each place, and numbers the windows of each length.
+pub fn propose_windows(alloc: Global, graph: &Graph, live: &Liveness) -> Result<Vec<Cut>, Memory>
+    requires { IsLivenessOf graph.now.graph live.now }
+    ensures { IfOk result (λ cuts. All (IsWindowsCandidate graph.now.graph) cuts.items) }
+{
+    let windows = found_windows(alloc, graph, live)?;
+    let mut cuts = Vec::new(alloc);
+    for part in 0..16 {
+        push_made(alloc, graph, &windows, part, &mut cuts)?;
+    }
+    push_calls(alloc, graph, live, &mut cuts)?;
+    Ok(cuts)
+}
