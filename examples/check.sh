@@ -68,6 +68,8 @@ check 0 "proved 0" "" check smallest smallest cert
 check 0 "text 820 -> 668, loaded 1044 -> 892" "" prove meter proved proof
 check 0 "proved 14" "" check meter proved proof
 check 8 "" "no 0" check meter meter proof
+check 0 "" "" names smallest cert
+check 8 "" "no 1" names smallest empty
 check 0 "exit 7" "" run smallest empty $machine
 check 0 "exit 7" "" watch smallest empty $machine
 check 0 "exit 0" "" run usual-link empty $machine
@@ -77,6 +79,7 @@ check 0 "exit 7" "" run smallest empty $machine $many
 # 1: words without a form, many of them, and one that is no text
 check 1 "" "words"
 check 1 "" "words" pack smallest
+check 1 "" "words" names smallest
 check 1 "" "words" pack smallest out more
 check 1 "" "words" prove smallest out out
 check 1 "" "words" size smallest out

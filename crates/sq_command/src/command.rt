@@ -2,7 +2,7 @@
 
 ghost use Rattle.std.specs.Prelude.{◌≡◌, ◌↔◌, ℕ, List, drop};
 ghost use Rattle.std.specs.Option.{option_map};
-ghost use Rattle.sq_command.specs.Commands.{Form, PackForm, RunForm, WatchForm, HexForm, HexcheckForm, SizeForm, TrialForm, CheckForm, ProveForm, RunRequest, form, form_of, pair_form, single_form, triple_form, prove_form, trial_of, trial_form, trial_asked, run_request, run_of, request_of, IsPack, IsRun, IsWatch, IsHex, IsHexcheck, IsSize, IsTrial, IsCheck, IsProve};
+ghost use Rattle.sq_command.specs.Commands.{Form, PackForm, RunForm, WatchForm, HexForm, HexcheckForm, SizeForm, TrialForm, CheckForm, ProveForm, NamesForm, RunRequest, form, form_of, pair_form, single_form, triple_form, prove_form, trial_of, trial_form, trial_asked, run_request, run_of, request_of, IsPack, IsRun, IsWatch, IsHex, IsHexcheck, IsSize, IsTrial, IsCheck, IsProve, IsNames};
 
 use crate::number::number_of;
 use crate::run_words::RunWords;
@@ -48,6 +48,11 @@ pub enum Command<'w> {
     Prove {
         input: &'w str,
         output: &'w str,
+        cert: &'w str,
+    },
+    /// `names IN CERT`
+    Names {
+        input: &'w str,
         cert: &'w str,
     },
 }
@@ -167,6 +172,18 @@ fn prove_words(words: &WordList) -> Option<Command<'_>>
     })
 }
 
+/// `names` with the words behind it.
+fn names_words(words: &WordList) -> Option<Command<'_>>
+    ensures { option_map (form words.now) result ≡ pair_form NamesForm (drop 1 words.now) }
+{
+    if words.len() != 3 {
+        return None;
+    }
+    let input = words.get(1)?;
+    let cert = words.get(2)?;
+    Some(Command::Names { input, cert })
+}
+
 /// A run with these numbers, where the words have them and they are in their ranges.
 fn run_of<'w>(
     file: &'w str,
@@ -248,6 +265,8 @@ fn named_command(words: &WordList) -> Option<Command<'_>>
         check_words(words)
     } else if verb == "prove" {
         prove_words(words)
+    } else if verb == "names" {
+        names_words(words)
     } else {
         None
     }
@@ -265,6 +284,7 @@ pub fn command_of(words: &WordList) -> Option<Command<'_>>
     ensures trial { (first blocks : ℕ) → (form_of words.now ≡ Some (TrialForm first blocks)) ↔ IsTrial words.now first blocks }
     ensures check { (input output cert : List ℕ) → (form_of words.now ≡ Some (CheckForm input output cert)) ↔ IsCheck words.now input output cert }
     ensures prove { (input output cert : List ℕ) → (form_of words.now ≡ Some (ProveForm input output cert)) ↔ IsProve words.now input output cert }
+    ensures names { (input cert : List ℕ) → (form_of words.now ≡ Some (NamesForm input cert)) ↔ IsNames words.now input cert }
 {
     named_command(words)
 }

@@ -4,8 +4,8 @@ ghost use Rattle.std.specs.Prelude.{◌≡◌, ◌<◌, ◌^◌, length, slice_g
 
 use std::marker::Model;
 
-/// Where a function is once the code of its file was rewritten.
-#[derive(Clone, Copy, Debug, PartialEq, Eq)]
+/// Where a function is once the code of its file was rewritten, in the order in which they are listed.
+#[derive(Clone, Copy, Debug, PartialEq, Eq, PartialOrd, Ord)]
 pub enum Track {
     /// A block is still there that does what it begins with, and this is its address.
     At(u32),

@@ -1,5 +1,5 @@
 -- How the ending of `check` keeps each promise.
-use Rattle.std.proofs.Common.{◌≡◌, ℕ, ◌⊎◌, inl, inr, List, length, Some, refl, arith}
+use Rattle.std.proofs.Common.{◌≡◌, ℕ, ◌⊎◌, inl, inr, List, Some, refl, arith}
 use Rattle.sq_num.specs.declared.refusal.Refusal.{Refusal}
 use Rattle.sq_command.specs.Commands.{CheckForm, form_of}
 use Rattle.sq_desk.specs.Outside.{Outside, Files, content_of, KeepsFiles}

@@ -6,7 +6,7 @@ use Rattle.sq_desk.specs.Outside.{Outside, Place, Rose, NoneFall, Complaining, K
 use Rattle.sq_top.specs.declared.ending.Ending.{Ending}
 use Rattle.sq_top.specs.declared.ending.Ending.TheVariants.{Done, Words, Desk, Refused, Memory, Break, Limit, BadStart, Differs}
 use Rattle.sq_top.specs.declared.ending.DeskCall.TheVariants.{Load, Store, Print}
-use Rattle.sq_command.specs.Commands.{RunRequest, Form, PackForm, RunForm, WatchForm, HexForm, HexcheckForm, SizeForm, TrialForm, CheckForm, ProveForm, form_of}
+use Rattle.sq_command.specs.Commands.{RunRequest, Form, PackForm, RunForm, WatchForm, HexForm, HexcheckForm, SizeForm, TrialForm, CheckForm, ProveForm, NamesForm, form_of}
 use Rattle.sq_top.specs.Statuses.{complaint_of}
 use Rattle.sq_top.specs.Endings.{StoresPacked, LeavesPack, SizeLeft, Leaves, ComplainsLine}
 use Rattle.sq_top.specs.RunEndings.{FailsToLoad, IsReadable, RunLeft}
@@ -21,6 +21,8 @@ use Rattle.sq_top.specs.CertEndings.{FailsToCertify, CertLeft}
 use Rattle.sq_top.proofs.CertCases.{cert_by_case}
 use Rattle.sq_top.specs.ProveEndings.{SetsBoth, FailsToStore, LeavesProve}
 use Rattle.sq_top.proofs.ProveCases.{prove_by_case}
+use Rattle.sq_top.specs.NamesEndings.{FailsToName, NamesLeft}
+use Rattle.sq_top.proofs.NamesCases.{names_by_case}
 
 -- a complaint: files and what is printed stay, and no faults fall
 pub record OnlyComplains (before after : Outside) : Type 0 where
@@ -182,6 +184,20 @@ module _ (before middle after : Outside) (first : NoneFall before middle) (quiet
     );
   })
 
+  name_fails_on : (input cert : List ℕ) → FailsToName input cert before middle → FailsToName input cert before after
+  name_fails_on input cert (inl given) = inl (rose_on _ before middle after first quiet.faults given)
+  name_fails_on input cert (inr text) = inr (text.0, rose_on _ before middle after first quiet.faults text.1)
+
+  names_on : (input cert : List ℕ) (ending : Ending) → NamesLeft input cert ending before middle → NamesLeft input cert ending before after
+  names_on input cert = names_by_case input cert before middle (λ e. NamesLeft input cert e before after) (record {
+    done = λ left. (left.0, left.1, quiet.printed ∙ left.2);
+    load = λ left. (quiet.printed ∙ left.0, name_fails_on input cert left.1);
+    print = λ left. (rose_on _ before middle after first quiet.faults left.0, left.1, left.2, (left.3.0, quiet.printed ∙ left.3.1));
+    refused = λ refusal left. (quiet.printed ∙ left.0, left.1);
+    memory = λ left. quiet.printed ∙ left;
+    differs = λ line left. (quiet.printed ∙ left.0, left.1);
+  })
+
   leaves_on : (form : Option Form) (ending : Ending) → Leaves form ending before middle → Leaves form ending before after
   leaves_on None ending left = (left.0, quiet.files ∙ left.1, quiet.printed ∙ left.2)
   leaves_on (Some (PackForm input output)) ending left = pack_on input output ending left
@@ -193,6 +209,7 @@ module _ (before middle after : Outside) (first : NoneFall before middle) (quiet
   leaves_on (Some (TrialForm number blocks)) ending left = (quiet.files ∙ left.0, trial_on number blocks ending left.1)
   leaves_on (Some (CheckForm input output cert)) ending left = (quiet.files ∙ left.0, cert_on input output cert ending left.1)
   leaves_on (Some (ProveForm input output cert)) ending left = prove_on input output cert ending left
+  leaves_on (Some (NamesForm input cert)) ending left = (quiet.files ∙ left.0, names_on input cert ending left.1)
 
   complains_on : (line : Option (List ℕ)) → KeepsComplained before middle → ComplainsLine line middle after → ComplainsLine line before after
   complains_on None silent said = said ∙ silent

@@ -14,6 +14,9 @@ pub mod Fetches
 pub mod Later
 pub mod LighterFile
 pub mod SettledFiles
+pub mod NamesCases
+pub mod NamesLoaded
+pub mod NamesPromised
 pub mod PackedFile
 pub mod Promised
 pub mod ProveCases
@@ -27,6 +30,7 @@ pub mod SizeCases
 pub mod SizePromised
 pub mod SizeReported
 pub mod StatusesPromised
+pub mod TrackedFile
 pub mod TrialCases
 pub mod TrialPromised
 pub mod TrialTold

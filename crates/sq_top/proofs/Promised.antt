@@ -6,7 +6,7 @@ use Rattle.sq_desk.specs.Outside.{Outside, Files, content_of, with_file}
 use Rattle.sq_top.specs.declared.ending.Ending.{Ending}
 use Rattle.sq_top.specs.declared.ending.Ending.TheVariants.{Done, Words, Desk, Refused, Memory, Break, Limit, BadStart, Differs}
 use Rattle.sq_top.specs.declared.ending.DeskCall.TheVariants.{Load, Store, Print}
-use Rattle.sq_command.specs.Commands.{Form, PackForm, RunForm, WatchForm, HexForm, HexcheckForm, SizeForm, TrialForm, CheckForm, ProveForm, form_of}
+use Rattle.sq_command.specs.Commands.{Form, PackForm, RunForm, WatchForm, HexForm, HexcheckForm, SizeForm, TrialForm, CheckForm, ProveForm, NamesForm, form_of}
 use Rattle.sq_top.specs.Packing.{Packs, Headline, packed_text, sizes_text}
 use Rattle.sq_top.specs.Statuses.{status_of, complaint_of}
 use Rattle.sq_top.specs.Endings.{StoresPacked, LeavesPack, Leaves, ComplainsLine}
@@ -141,3 +141,4 @@ files_promised words ending before after ends = by_form (form_of words) refl end
     by_form (Some (TrialForm first blocks)) form gone = inl gone.0
     by_form (Some (CheckForm input output cert)) form gone = inl gone.0
     by_form (Some (ProveForm input output cert)) form gone = proof_case input output cert form ending gone
+    by_form (Some (NamesForm input cert)) form gone = inl gone.0

@@ -2,7 +2,7 @@
 use Rattle.std.proofs.Common.{◌≡◌, ℕ, ◌⊎◌, inl, inr, List, Option, Some, refl, ap, ◌∙◌}
 use Rattle.std.specs.Option.{option_map}
 use Rattle.sq_num.specs.declared.packed.Packed.{Packed}
-use Rattle.sq_desk.specs.Outside.{Outside, Files, with_file, KeepsFiles, SetsFile}
+use Rattle.sq_desk.specs.Outside.{Outside, Files, with_file, SetsFile}
 use Rattle.sq_top.specs.ProveEndings.{ProvesFile, SetsBoth, FailsToStore}
 use Rattle.sq_top.specs.Promises.{HoldsOutput, HoldsBoth, IsProof, HoldProof}
 

@@ -1,5 +1,5 @@
 -- What each part of `prove` leaves of it: the load and the packing, and the two stores with the printing of the line.
-use Rattle.std.proofs.Common.{◌≡◌, ◌⊎◌, ℕ, inl, inr, List, take, Option, Some, ap, ◌∙◌}
+use Rattle.std.proofs.Common.{◌⊎◌, ℕ, inl, inr, List, take, Option, Some, ap, ◌∙◌}
 use Rattle.std.specs.Option.{option_map}
 use Rattle.sq_num.specs.declared.packed.Packed.{Packed}
 use Rattle.sq_desk.specs.Outside.{Outside, with_file, NoneFall, KeepsFiles, SetsFile, KeepsPrinted, extended_text}

@@ -2,7 +2,7 @@
 use Rattle.std.proofs.Common.{◌≡◌, ◌≢◌, ◌↔◌, ℕ, ◌≤◌, ◌⊎◌, inl, inr, List, Option, Some, None, refl, ap, arith}
 use Rattle.std.specs.Prelude.{⊤}
 use Rattle.sq_num.specs.declared.packed.Packed.{Packed}
-use Rattle.sq_command.specs.Commands.{RunRequest, Form, PackForm, RunForm, WatchForm, HexForm, HexcheckForm, SizeForm, TrialForm, CheckForm, ProveForm, form_of}
+use Rattle.sq_command.specs.Commands.{RunRequest, Form, PackForm, RunForm, WatchForm, HexForm, HexcheckForm, SizeForm, TrialForm, CheckForm, ProveForm, NamesForm, form_of}
 use Rattle.sq_desk.specs.Outside.{Outside, Place, ForFiles, content_of, Loading, Storing, Printing, Rose}
 use Rattle.sq_top.specs.declared.ending.Ending.{Ending}
 use Rattle.sq_top.specs.declared.ending.Ending.TheVariants.{Done, Words, Desk, Refused, Memory, Break, Limit, BadStart, Differs}
@@ -25,6 +25,8 @@ use Rattle.sq_top.specs.CertEndings.{FailsToCertify, CertLeft}
 use Rattle.sq_top.proofs.CertCases.{cert_by_case}
 use Rattle.sq_top.specs.ProveEndings.{FailsToStore, LeavesProve}
 use Rattle.sq_top.proofs.ProveCases.{prove_by_case}
+use Rattle.sq_top.specs.NamesEndings.{FailsToName, NamesLeft}
+use Rattle.sq_top.proofs.NamesCases.{names_by_case}
 
 -- where no faults are counted none rose
 none_rose : (place : Place) (before after : Outside) → after.faults place ≡ 0 → Rose place before after → ⊥
@@ -130,6 +132,16 @@ module _ (words : List (List ℕ)) (ending : Ending) (before after : Outside) (e
         memory = λ gone one. absurd (cc one);
       })
 
+      names_else : (input cert : List ℕ) (e : Ending) → NamesLeft input cert e before after → status_of e ≡ 1 → ⊥
+      names_else input cert = names_by_case input cert before after (λ e. status_of e ≡ 1 → ⊥) (record {
+        done = λ gone one. absurd (cc one);
+        load = λ gone one. absurd (cc one);
+        print = λ gone one. absurd (cc one);
+        refused = λ refusal gone one. absurd (cc one);
+        memory = λ gone one. absurd (cc one);
+        differs = λ line gone one. absurd (cc one);
+      })
+
       only : (form : Option Form) → form_of words ≡ form → Leaves form ending before after → status_of ending ≡ 1 → form_of words ≡ None
       only None is gone one = is
       only (Some (PackForm input output)) is gone one = absurd (pack_else input output ending gone one)
@@ -141,6 +153,7 @@ module _ (words : List (List ℕ)) (ending : Ending) (before after : Outside) (e
       only (Some (TrialForm first blocks)) is gone one = absurd (trial_else first blocks ending gone.1 one)
       only (Some (CheckForm input output cert)) is gone one = absurd (cert_else input output cert ending gone.1 one)
       only (Some (ProveForm input output cert)) is gone one = absurd (prove_else input output cert ending gone one)
+      only (Some (NamesForm input cert)) is gone one = absurd (names_else input cert ending gone.1 one)
 
   -- each form has its statuses
   pub statuses_promised : IsStatusOf (form_of words) (status_of ending)
@@ -237,6 +250,16 @@ module _ (words : List (List ℕ)) (ending : Ending) (before after : Outside) (e
         memory = λ gone. omega arith;
       })
 
+      names_status : (input cert : List ℕ) (e : Ending) → NamesLeft input cert e before after → (status_of e ≤ 4) ⊎ (status_of e ≡ 8)
+      names_status input cert = names_by_case input cert before after (λ e. (status_of e ≤ 4) ⊎ (status_of e ≡ 8)) (record {
+        done = λ gone. inl (omega arith);
+        load = λ gone. inl (omega arith);
+        print = λ gone. inl (omega arith);
+        refused = λ refusal gone. inl (omega arith);
+        memory = λ gone. inl (omega arith);
+        differs = λ line gone. inr refl;
+      })
+
       by_form : (form : Option Form) → Leaves form ending before after → IsStatusOf form (status_of ending)
       by_form None gone = ap status_of gone.0
       by_form (Some (PackForm input output)) gone = pack_status input output ending gone
@@ -248,6 +271,7 @@ module _ (words : List (List ℕ)) (ending : Ending) (before after : Outside) (e
       by_form (Some (TrialForm first blocks)) gone = trial_status first blocks ending gone.1
       by_form (Some (CheckForm input output cert)) gone = cert_status input output cert ending gone.1
       by_form (Some (ProveForm input output cert)) gone = prove_status input output cert ending gone
+      by_form (Some (NamesForm input cert)) gone = names_status input cert ending gone.1
 
   -- without faults the status is not 2
   pub sound_promised : ((place : Place) → after.faults place ≡ 0) → status_of ending ≢ 2
@@ -366,6 +390,20 @@ module _ (words : List (List ℕ)) (ending : Ending) (before after : Outside) (e
         memory = λ gone is. absurd (cc is);
       })
 
+      name_loads : (input cert : List ℕ) → FailsToName input cert before after → ⊥
+      name_loads input cert (inl given) = none_rose (Loading input) before after (none (Loading input)) given
+      name_loads input cert (inr text) = none_rose (Loading cert) before after (none (Loading cert)) text.1
+
+      names_sound : (input cert : List ℕ) (e : Ending) → NamesLeft input cert e before after → status_of e ≡ 2 → ⊥
+      names_sound input cert = names_by_case input cert before after (λ e. status_of e ≡ 2 → ⊥) (record {
+        done = λ gone is. absurd (cc is);
+        load = λ gone is. name_loads input cert gone.1;
+        print = λ gone is. none_rose Printing before after (none Printing) gone.0;
+        refused = λ refusal gone is. absurd (cc is);
+        memory = λ gone is. absurd (cc is);
+        differs = λ line gone is. absurd (cc is);
+      })
+
       by_form : (form : Option Form) → Leaves form ending before after → ⊥
       by_form None gone = absurd (cc (gone.0, two))
       by_form (Some (PackForm input output)) gone = pack_sound input output ending gone two
@@ -377,6 +415,7 @@ module _ (words : List (List ℕ)) (ending : Ending) (before after : Outside) (e
       by_form (Some (TrialForm first blocks)) gone = trial_sound first blocks ending gone.1 two
       by_form (Some (CheckForm input output cert)) gone = cert_sound input output cert ending gone.1 two
       by_form (Some (ProveForm input output cert)) gone = prove_sound input output cert ending gone two
+      by_form (Some (NamesForm input cert)) gone = names_sound input cert ending gone.1 two
 
   left : (input output : List ℕ) → form_of words ≡ Some (PackForm input output) → LeavesPack input output ending before after
   left input output form = rw form at ends.leaves
@@ -516,12 +555,22 @@ module _ (words : List (List ℕ)) (ending : Ending) (before after : Outside) (e
 
       prove_printed : (input output cert : List ℕ) → form_of words ≡ Some (ProveForm input output cert) → (e : Ending) → LeavesProve input output cert e before after → PrintsAsSaid words (status_of e) before after
       prove_printed input output cert form = prove_by_case input output cert before after (λ e. PrintsAsSaid words (status_of e) before after) (record {
-        done = λ gone. inr (inr (inr (inr (inr (inr (inr (inr (inr (input, output, cert, form, gone.0, gone.1, gone.2, inl (refl, gone.4))))))))));
+        done = λ gone. inr (inr (inr (inr (inr (inr (inr (inr (inr (inl (input, output, cert, form, gone.0, gone.1, gone.2, inl (refl, gone.4)))))))))));
         load = λ gone. inl ((λ is. cc is), (λ is. cc is), (λ is. cc is), gone.2);
         store = λ gone. inl ((λ is. cc is), (λ is. cc is), (λ is. cc is), gone.0);
-        print = λ gone. inr (inr (inr (inr (inr (inr (inr (inr (inr (input, output, cert, form, gone.1, gone.2, gone.3, inr (refl, gone.0, gone.5))))))))));
+        print = λ gone. inr (inr (inr (inr (inr (inr (inr (inr (inr (inl (input, output, cert, form, gone.1, gone.2, gone.3, inr (refl, gone.0, gone.5)))))))))));
         refused = λ refusal gone. inl ((λ is. cc is), (λ is. cc is), (λ is. cc is), gone.2);
         memory = λ gone. inl ((λ is. cc is), (λ is. cc is), (λ is. cc is), gone.0);
+      })
+
+      names_printed : (input cert : List ℕ) → form_of words ≡ Some (NamesForm input cert) → (e : Ending) → NamesLeft input cert e before after → PrintsAsSaid words (status_of e) before after
+      names_printed input cert form = names_by_case input cert before after (λ e. PrintsAsSaid words (status_of e) before after) (record {
+        done = λ gone. inr (inr (inr (inr (inr (inr (inr (inr (inr (inr (input, cert, form, gone.0, gone.1, inl (refl, gone.2)))))))))));
+        load = λ gone. inl ((λ is. cc is), (λ is. cc is), (λ is. cc is), gone.0);
+        print = λ gone. inr (inr (inr (inr (inr (inr (inr (inr (inr (inr (input, cert, form, gone.1, gone.2, inr (refl, gone.0, gone.3)))))))))));
+        refused = λ refusal gone. inl ((λ is. cc is), (λ is. cc is), (λ is. cc is), gone.0);
+        memory = λ gone. inl ((λ is. cc is), (λ is. cc is), (λ is. cc is), gone);
+        differs = λ line gone. inl ((λ is. cc is), (λ is. cc is), (λ is. cc is), gone.0);
       })
 
       by_form : (form : Option Form) → form_of words ≡ form → Leaves form ending before after → PrintsAsSaid words (status_of ending) before after
@@ -535,3 +584,4 @@ module _ (words : List (List ℕ)) (ending : Ending) (before after : Outside) (e
       by_form (Some (TrialForm first blocks)) is gone = trial_printed first blocks is ending gone.1
       by_form (Some (CheckForm input output cert)) is gone = cert_printed input output cert is ending gone.1
       by_form (Some (ProveForm input output cert)) is gone = prove_printed input output cert is ending gone
+      by_form (Some (NamesForm input cert)) is gone = names_printed input cert is ending gone.1

@@ -5,7 +5,7 @@ use Rattle.sq_desk.specs.Outside.{Outside, content_of, Rose, Loading, Storing, P
 use Rattle.sq_top.specs.declared.ending.Ending.{Ending}
 use Rattle.sq_top.specs.declared.ending.Ending.TheVariants.{Done, Words, Desk, Refused, Memory, Break, Limit, BadStart, Differs}
 use Rattle.sq_top.specs.declared.ending.DeskCall.TheVariants.{Load, Store, Print}
-use Rattle.sq_command.specs.Commands.{Form, PackForm, RunForm, WatchForm, HexForm, HexcheckForm, SizeForm, TrialForm, CheckForm, ProveForm}
+use Rattle.sq_command.specs.Commands.{Form, PackForm, RunForm, WatchForm, HexForm, HexcheckForm, SizeForm, TrialForm, CheckForm, ProveForm, NamesForm}
 use Rattle.sq_top.specs.Packing.{Packs, packed_text}
 use Rattle.sq_program.specs.FilePrograms.{IsRefusalOf}
 use Rattle.sq_report.specs.Report.{report_text}
@@ -15,6 +15,7 @@ use Rattle.sq_top.specs.HexEndings.{LeavesHex, LeavesCheck}
 use Rattle.sq_top.specs.Trials.{LeavesTrial}
 use Rattle.sq_top.specs.CertEndings.{LeavesCert}
 use Rattle.sq_top.specs.ProveEndings.{LeavesProve}
+use Rattle.sq_top.specs.NamesEndings.{LeavesNames}
 
 -- what the named file holds was packed so
 abbrev pub PacksFile : List ℕ → Packed → Outside → Type 0
@@ -104,6 +105,7 @@ Leaves (Some (SizeForm input)) ending before after = LeavesSize input ending bef
 Leaves (Some (TrialForm first blocks)) ending before after = LeavesTrial first blocks ending before after
 Leaves (Some (CheckForm input output cert)) ending before after = LeavesCert input output cert ending before after
 Leaves (Some (ProveForm input output cert)) ending before after = LeavesProve input output cert ending before after
+Leaves (Some (NamesForm input cert)) ending before after = LeavesNames input cert ending before after
 
 -- the line was complained, or a prefix of it where complaining failed, or nothing for want of memory
 abbrev pub ComplainsLine : Option (List ℕ) → Outside → Outside → Type 0

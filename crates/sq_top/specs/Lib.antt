@@ -6,6 +6,8 @@ pub mod Endings
 pub mod HexEndings
 pub mod HexPromises
 pub mod Hexing
+pub mod NamesEndings
+pub mod NamesPromises
 pub mod Packing
 pub mod Promises
 pub mod ProveEndings
@@ -19,6 +21,8 @@ pub mod SizePromises
 pub mod Trials
 pub mod TrialPromises
 pub mod Statuses
+pub mod Tracking
+pub mod Tracks
 pub mod WatchEndings
 pub mod WatchPromises
 pub mod Watching

@@ -76,7 +76,7 @@ pub record GoodOutput (given output : List ℕ) : Type 0 where
   pub rewritten : IsRewritten IsCandidate described NONE savings first graph
   -- its blocks are named by their positions
   pub slotted : IsSlotted graph
-  -- Nothing is left over: whatever graph the output is read back as, named by positions, no row that is built has a
+  -- Nothing is left over: whatever graph the output is read back as, named by positions, no row has a
   -- candidate in it, and no move of a chain of its blocks saves a word
   pub left : (reading : Graph) → IsLiftedFile output reading → IsSlotted reading → IsLeftoverFree reading
   pub still : (reading : Graph) → IsLiftedFile output reading → IsSlotted reading → IsStill reading
@@ -104,7 +104,7 @@ pub record Packs (given : List ℕ) (packed : Packed) : Type 0 where
 abbrev pub TellsSizes : List ℕ → List ℕ → List ℕ → Type 0
 TellsSizes given output line = line ≡ sizes_text (text_size given) (text_size output) (loaded_of given) (loaded_of output)
 
--- the headline, as far as it is built: of what IN held, what OUT holds, and what was printed
+-- the headline: of what IN held, what OUT holds, and what was printed
 pub record Headline (given output printed : List ℕ) : Type 0 where
   pub good : GoodOutput given output
   pub printed_line : TellsSizes given output printed

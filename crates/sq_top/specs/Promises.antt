@@ -7,7 +7,7 @@ use Rattle.sq_desk.specs.Outside.{Outside, Place, Loading, Storing, Printing, co
 use Rattle.sq_top.specs.declared.ending.Ending.{Ending}
 use Rattle.sq_top.specs.declared.ending.DeskCall.{DeskCall}
 use Rattle.sq_top.specs.declared.ending.DeskCall.TheVariants.{Load, Store, Print}
-use Rattle.sq_command.specs.Commands.{RunRequest, PackForm, RunForm, WatchForm, HexForm, HexcheckForm, SizeForm, TrialForm, CheckForm, ProveForm, form_of}
+use Rattle.sq_command.specs.Commands.{RunRequest, PackForm, RunForm, WatchForm, HexForm, HexcheckForm, SizeForm, TrialForm, CheckForm, ProveForm, NamesForm, form_of}
 use Rattle.sq_top.specs.Packing.{GoodOutput, Headline, packed_text}
 use Rattle.sq_program.specs.FilePrograms.{IsRefusalOf}
 use Rattle.sq_top.specs.Statuses.{call_text, complaint_of}
@@ -18,6 +18,7 @@ use Rattle.sq_top.specs.Trials.{TellsTrial}
 use Rattle.sq_top.specs.CertEndings.{proved_line, Certifies}
 use Rattle.sq_top.specs.Proving.{Proves}
 use Rattle.sq_top.specs.ProveEndings.{ProvesFile}
+use Rattle.sq_top.specs.NamesEndings.{TellsNames}
 use Rattle.sq_top.specs.Hexing.{HasHexText, hex_line, same_line, IsSame}
 
 -- the call ended so: with what the form leaves, and with the ending's complaint
@@ -139,8 +140,14 @@ PrintsProvedSizes words status before after =
     (input : List ℕ) × (output : List ℕ) × (cert : List ℕ) × (form_of words ≡ Some (ProveForm input output cert)) × (packed : Packed) × (text : List ℕ) × ProvesFile input packed text before
     × (((status ≡ 0) × Prints (packed_text packed) before after) ⊎ ((status ≡ 2) × Rose Printing before after × PrintsPrefix (packed_text packed) before after))
 
+-- what was printed of functions: exactly their lines with status 0, or a prefix of them where printing failed
+abbrev pub PrintsNames : List (List ℕ) → ℕ → Outside → Outside → Type 0
+PrintsNames words status before after =
+    (input : List ℕ) × (cert : List ℕ) × (form_of words ≡ Some (NamesForm input cert)) × (lines : List ℕ) × TellsNames input cert lines before
+    × (((status ≡ 0) × Prints lines before after) ⊎ ((status ≡ 2) × Rose Printing before after × PrintsPrefix lines before after))
+
 -- nothing was printed, but with status 0, 5 or 6; or what a packing, a run, a watch, a text, a comparison, a report, a trial, a
--- proof or a proved packing prints
+-- proof, a proved packing or functions print
 abbrev pub PrintsAsSaid : List (List ℕ) → ℕ → Outside → Outside → Type 0
 PrintsAsSaid words status before after =
     ((status ≢ 0) × (status ≢ 5) × (status ≢ 6) × KeepsPrinted before after)
@@ -153,6 +160,7 @@ PrintsAsSaid words status before after =
     ⊎ PrintsTrial words status before after
     ⊎ PrintsProof words status before after
     ⊎ PrintsProvedSizes words status before after
+    ⊎ PrintsNames words status before after
 
 -- status 2 has its cause, and its line names it
 abbrev pub HasFault : List ℕ → List ℕ → Outside → Outside → Type 0

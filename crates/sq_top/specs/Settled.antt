@@ -8,7 +8,7 @@ use Rattle.sq_write.specs.Written.{written}
 use Rattle.sq_lifted.specs.LiftedFiles.{IsLiftedFile}
 
 -- a file that is settled: nothing of it is refused, it is the file that is written of its own data and its own graph, with
--- the blocks named by their positions, and no row that is built has a candidate in this graph. No move of a chain in it
+-- the blocks named by their positions, and no row has a candidate in this graph. No move of a chain in it
 -- saves a word.
 pub record IsSettledFile (bytes : List ℕ) : Type 0 where
   pub graph : Graph

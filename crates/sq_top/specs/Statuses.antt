@@ -1,7 +1,7 @@
 -- The statuses and the complaints of endings.
 use Rattle.std.specs.Prelude.{◌≡◌, ℕ, ◌≤◌, ◌⊎◌, List, ◌++◌, codes, decimal, Option, Some, None}
 use Rattle.sq_num.specs.RefusalTexts.{refusal_text}
-use Rattle.sq_command.specs.Commands.{Form, PackForm, RunForm, WatchForm, HexForm, HexcheckForm, SizeForm, TrialForm, CheckForm, ProveForm}
+use Rattle.sq_command.specs.Commands.{Form, PackForm, RunForm, WatchForm, HexForm, HexcheckForm, SizeForm, TrialForm, CheckForm, ProveForm, NamesForm}
 use Rattle.sq_top.specs.declared.ending.Ending.{Ending}
 use Rattle.sq_top.specs.declared.ending.Ending.TheVariants.{Done, Words, Desk, Refused, Memory, Break, Limit, BadStart, Differs}
 use Rattle.sq_top.specs.declared.ending.DeskCall.{DeskCall}
@@ -35,7 +35,7 @@ complaint_of Limit = None
 complaint_of BadStart = Some (codes "bad start\n")
 complaint_of (Differs line) = Some (codes "no " ++ decimal line ++ codes "\n")
 
--- the statuses that a form can have: 0 to 4, and of a run 6 and 7 too, of a watch 5 to 7, of `hexcheck` and `check` 8; a trial is never refused
+-- the statuses that a form can have: 0 to 4, and of a run 6 and 7 too, of a watch 5 to 7, of `hexcheck`, `check` and `names` 8; a trial is never refused
 abbrev pub IsStatusOf : Option Form → ℕ → Type 0
 IsStatusOf None status = status ≡ 1
 IsStatusOf (Some (PackForm input output)) status = status ≤ 4
@@ -47,3 +47,4 @@ IsStatusOf (Some (SizeForm input)) status = status ≤ 4
 IsStatusOf (Some (TrialForm first blocks)) status = (status ≡ 0) ⊎ (status ≡ 2) ⊎ (status ≡ 4)
 IsStatusOf (Some (CheckForm input output cert)) status = (status ≤ 4) ⊎ (status ≡ 8)
 IsStatusOf (Some (ProveForm input output cert)) status = status ≤ 4
+IsStatusOf (Some (NamesForm input cert)) status = (status ≤ 4) ⊎ (status ≡ 8)

@@ -20,7 +20,7 @@ use sq_num::Denied;
 use std::alloc::Global;
 
 /// The most bytes of a certificate.
-const LONGEST_CERT: u32 = 134_217_728;
+pub(crate) const LONGEST_CERT: u32 = 134_217_728;
 
 /// Checks whether the certificate proves the file of `output` of that of `input`.
 pub fn check<D: Desk>(alloc: Global, desk: &mut D, input: &str, output: &str, cert: &str) -> Ending
@@ -63,7 +63,11 @@ fn load_and_check<D: Desk>(
 }
 
 /// The file of `name`, of which nothing is refused, or how the command ends without it.
-fn load_accepted<D: Desk>(alloc: Global, desk: &mut D, name: &str) -> Result<Vec<u8>, Ending>
+pub(crate) fn load_accepted<D: Desk>(
+    alloc: Global,
+    desk: &mut D,
+    name: &str,
+) -> Result<Vec<u8>, Ending>
     ensures told { IfOk result (λ bytes. ForFiles (D.outside desk.old) (λ files. bytes.items ≡ content_of files name.now)) }
     ensures accepted { IfOk result (λ bytes. IsAcceptedFile bytes.items) }
     ensures fails { IfErr result (λ ending. LeavesUnpacked name.now ending (D.outside desk.old) (D.outside desk.new)) }

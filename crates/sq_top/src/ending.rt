@@ -3,6 +3,7 @@
 ghost use Rattle.std.specs.Prelude.{◌≡◌};
 ghost use Rattle.sq_top.specs.Statuses.{status_of};
 
+use crate::tracks::TrackFault;
 use sq_hex::HexFault;
 use sq_monitor::WatchFault;
 use sq_num::{Denied, Memory, Refusal};
@@ -35,7 +36,8 @@ pub enum Ending {
     Limit,
     /// The program cannot be started so.
     BadStart,
-    /// A text of Intel HEX is at fault in this line, or (0) does not mean what is in flash.
+    /// A text of Intel HEX is at fault in this line, or (0) does not mean what is in flash; or a certificate is at fault in
+    /// this line, or (0) leads to another file.
     Differs(u32),
 }
 
@@ -121,6 +123,20 @@ impl From<HexFault> for Ending {
         match fault {
             HexFault::Line(line) => Ending::Differs(line),
             HexFault::Memory => Ending::Memory,
+        }
+    }
+}
+
+impl From<TrackFault> for Ending {
+    ghost use Rattle.std.specs.Prelude.{◌≡◌};
+    ghost use Rattle.sq_top.specs.Denials.{track_fault_ending};
+
+    ghost from_gives = { λ fault ending. ending ≡ track_fault_ending fault };
+
+    fn from(fault: TrackFault) -> Ending {
+        match fault {
+            TrackFault::Denied(denied) => Ending::from(denied),
+            TrackFault::Line(line) => Ending::Differs(line),
         }
     }
 }

@@ -17,14 +17,15 @@ ghost use Rattle.sq_top.specs.SizePromises.{ForSize, IsSizeDone, HasSizeFault, I
 ghost use Rattle.sq_top.specs.TrialPromises.{ForTrial, IsTrialDone, HasTrialFault, IsTrialComplete};
 ghost use Rattle.sq_top.specs.CertPromises.{ForCheck, IsCertDone, HasNoProof, HasCertFault, HasCertRefusal, CertifiesExactly, IsCertComplete};
 ghost use Rattle.sq_top.specs.ProvePromises.{ForProve, IsProveDone, HasProveFault, IsProveComplete};
+ghost use Rattle.sq_top.specs.NamesPromises.{ForNames, IsNamesDone, HasStepFault, HasNamesFault, HasNamesRefusal, NamesExactly, IsNamesComplete};
 ghost use Rattle.sq_top.specs.RunEndings.{PrintsRun};
 ghost use Rattle.sq_top.specs.RunPromises.{ForRun, HasRunFault, HasRunRefusal, IsBadRun, RunsExactly, IsRunComplete};
 
 use crate::complaint::complain;
 use crate::ending::Ending;
 use crate::{
-    check_command, hex_command, hexcheck_command, pack_command, prove_command, run_command,
-    size_command, trial_command, watch_command,
+    check_command, hex_command, hexcheck_command, names_command, pack_command, prove_command,
+    run_command, size_command, trial_command, watch_command,
 };
 use sq_command::{Command, command_of};
 use sq_desk::Desk;
@@ -41,7 +42,8 @@ use std::alloc::Global;
 /// `size IN` loads IN, packs it, stores nothing, and prints the report; `trial FIRST BLOCKS` generates a file, packs it,
 /// packs the result, stores nothing, and prints how many bytes of text each has;
 /// `check IN OUT CERT` prints `proved N` where the N steps of CERT lead from IN to OUT; `prove IN OUT CERT` loads IN, packs
-/// it, stores OUT, stores CERT, which proves OUT of IN, and prints the sizes.
+/// it, stores OUT, stores CERT, which proves OUT of IN, and prints the sizes; `names IN CERT` prints where each function of IN
+/// goes by the steps of CERT.
 pub fn squeeze<D: Desk>(alloc: Global, desk: &mut D, words: &WordList) -> u8
     // Status 0: the headline.
     ensures done { ForPack words.now (λ input output. result ≡ 0 → IsDone input output (D.outside desk.old) (D.outside desk.new)) }
@@ -119,6 +121,15 @@ pub fn squeeze<D: Desk>(alloc: Global, desk: &mut D, words: &WordList) -> u8
     ensures prove_exact { ForProve words.now (λ input _ _. RefusesExactly input result (D.outside desk.old) (D.outside desk.new)) }
     ensures prove_complete { ForProve words.now (λ input output cert. IsProveComplete input output cert result (D.outside desk.old) (D.outside desk.new)) }
 
+    // `names`: with 0 the lines of the functions of IN were printed, 8 where CERT is at fault.
+    ensures names_done { ForNames words.now (λ input cert. result ≡ 0 → IsNamesDone input cert (D.outside desk.old) (D.outside desk.new)) }
+    ensures names_differs { ForNames words.now (λ input cert. result ≡ 8 → HasStepFault input cert (D.outside desk.old) (D.outside desk.new)) }
+    ensures names_fault { ForNames words.now (λ input cert. result ≡ 2 → HasNamesFault input cert (D.outside desk.old) (D.outside desk.new)) }
+    ensures names_refused { ForNames words.now (λ input cert. result ≡ 3 → HasNamesRefusal input cert (D.outside desk.old) (D.outside desk.new)) }
+    ensures names_exact { ForNames words.now (λ input cert. NamesExactly input cert result (D.outside desk.old) (D.outside desk.new)) }
+    ensures names_complete { ForNames words.now (λ input cert. IsNamesComplete input cert result (D.outside desk.old) (D.outside desk.new)) }
+    ensures names_files { ForNames words.now (λ _ _. KeepsFiles (D.outside desk.old) (D.outside desk.new)) }
+
     // Words without a form, and statuses.
     ensures words { (result ≡ 1) ↔ (form_of words.now ≡ None) }
     ensures sound { ((place : Place) → (D.outside desk.new).faults place ≡ 0) → result ≢ 2 }
@@ -174,5 +185,6 @@ fn run<D: Desk>(alloc: Global, desk: &mut D, words: &WordList) -> Ending
                 cert,
             },
         ) => prove_command::prove(alloc, desk, input, output, cert),
+        Some(Command::Names { input, cert }) => names_command::names(alloc, desk, input, cert),
     }
 }

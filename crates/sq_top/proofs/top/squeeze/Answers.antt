@@ -20,6 +20,8 @@ use Rattle.sq_top.specs.CertPromises.{ForCheck, CertifiesExactly, IsCertComplete
 use Rattle.sq_top.proofs.CertPromised.{cert_done_promised, cert_differs_promised, cert_fault_promised, cert_refused_promised, cert_exact_promised, cert_complete_promised, cert_files_promised}
 use Rattle.sq_top.specs.ProvePromises.{ForProve, IsProveComplete}
 use Rattle.sq_top.proofs.ProvePromised.{prove_done_promised, prove_fault_promised, prove_refused_promised, prove_exact_promised, prove_complete_promised}
+use Rattle.sq_top.specs.NamesPromises.{ForNames, NamesExactly, IsNamesComplete}
+use Rattle.sq_top.proofs.NamesPromised.{names_done_promised, names_differs_promised, names_fault_promised, names_refused_promised, names_exact_promised, names_complete_promised, names_files_promised}
 use Rattle.sq_top.proofs.top.squeeze.Goals as goal
 
 pub returns-clause-done : goal.returns-clause-done
@@ -290,6 +292,39 @@ returns-clause-prove_complete g c =
     let after : Outside = g.D.Desk.outside c.run_and_complain-ending.new.desk in
     let P : ℕ → Type 0 = λ status. ForProve c.args.words.now (λ input output cert. IsProveComplete input output cert status before after) in
     subst P (sym c.status.ensures) (prove_complete_promised c.args.words.now c.run_and_complain-ending.result before after c.run_and_complain-ending.ensures)
+
+pub returns-clause-names_done : goal.returns-clause-names_done
+returns-clause-names_done g c = λ input cert form status.
+    names_done_promised c.args.words.now c.run_and_complain-ending.result _ _ c.run_and_complain-ending.ensures input cert form (sym c.status.ensures ∙ status)
+
+pub returns-clause-names_differs : goal.returns-clause-names_differs
+returns-clause-names_differs g c = λ input cert form status.
+    names_differs_promised c.args.words.now c.run_and_complain-ending.result _ _ c.run_and_complain-ending.ensures input cert form (sym c.status.ensures ∙ status)
+
+pub returns-clause-names_fault : goal.returns-clause-names_fault
+returns-clause-names_fault g c = λ input cert form status.
+    names_fault_promised c.args.words.now c.run_and_complain-ending.result _ _ c.run_and_complain-ending.ensures input cert form (sym c.status.ensures ∙ status)
+
+pub returns-clause-names_refused : goal.returns-clause-names_refused
+returns-clause-names_refused g c = λ input cert form status.
+    names_refused_promised c.args.words.now c.run_and_complain-ending.result _ _ c.run_and_complain-ending.ensures input cert form (sym c.status.ensures ∙ status)
+
+pub returns-clause-names_exact : goal.returns-clause-names_exact
+returns-clause-names_exact g c =
+    let before : Outside = g.D.Desk.outside c.args.desk.now in
+    let after : Outside = g.D.Desk.outside c.run_and_complain-ending.new.desk in
+    let P : ℕ → Type 0 = λ status. ForNames c.args.words.now (λ input cert. NamesExactly input cert status before after) in
+    subst P (sym c.status.ensures) (names_exact_promised c.args.words.now c.run_and_complain-ending.result before after c.run_and_complain-ending.ensures)
+
+pub returns-clause-names_complete : goal.returns-clause-names_complete
+returns-clause-names_complete g c =
+    let before : Outside = g.D.Desk.outside c.args.desk.now in
+    let after : Outside = g.D.Desk.outside c.run_and_complain-ending.new.desk in
+    let P : ℕ → Type 0 = λ status. ForNames c.args.words.now (λ input cert. IsNamesComplete input cert status before after) in
+    subst P (sym c.status.ensures) (names_complete_promised c.args.words.now c.run_and_complain-ending.result before after c.run_and_complain-ending.ensures)
+
+pub returns-clause-names_files : goal.returns-clause-names_files
+returns-clause-names_files g c = names_files_promised c.args.words.now c.run_and_complain-ending.result _ _ c.run_and_complain-ending.ensures
 
 pub returns-clause-words : goal.returns-clause-words
 returns-clause-words g c =
