@@ -90,3 +90,6 @@ fn main(rt: HostRuntime) -> ExitCode {
         Err(fault) => complain(alloc, &mut desk, fault),
     })
 }
+
+#[cfg(test)]
+mod tests;
