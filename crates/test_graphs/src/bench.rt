@@ -6,6 +6,7 @@ use crate::certificates::{checked, lines_of, noted};
 use crate::chains::{chain_text, tried};
 use crate::changes::{change, reserve};
 use crate::drafts::{graph_of, is_part, parts_ahead};
+use crate::folds::{difference_text, folded};
 use crate::passes::{pass_step, settled, settled_with};
 use crate::places::{liveness_text, told};
 use crate::terms::{fields, register_of};
@@ -161,6 +162,12 @@ fn expect_given(
     if let ("try_move", &[from, to]) = (step.verb, operands.as_slice()) {
         return expect(wanted, tried(alloc, graph, from, to).map_err(memory)?);
     }
+    if let ("difference", &[x, y]) = (step.verb, operands.as_slice()) {
+        return expect(
+            wanted,
+            &difference_text(alloc, graph, x, y).map_err(memory)?,
+        );
+    }
     let found = body_text(alloc, words, graph, step.verb, &operands);
     expect(wanted, &found.map_err(memory)?)
 }
@@ -186,6 +193,7 @@ fn graph_step(
         | "matches_body"
         | "rename"
         | "try_move"
+        | "difference"
         | "check" => expect_given(alloc, words, graph, step)?,
         "live" | "dead" => expect_liveness(alloc, graph, step)?,
         "jumps" => pass_step(alloc, graph, &Jumps, step.words)?,
@@ -201,6 +209,7 @@ fn graph_step(
             let found = chain_text(alloc, graph, step.verb).map_err(memory)?;
             expect(step.words, &found)?;
         }
+        "fold" => expect(step.words, folded(alloc, graph).map_err(memory)?)?,
         "settle" => expect(step.words, &settled(alloc, graph).map_err(memory)?)?,
         "settle_with" => {
             let (count, wanted) = step.words.split_once(" saves ").context("no savings")?;

@@ -13,6 +13,7 @@ mod chains;
 mod changes;
 mod cuts;
 mod drafts;
+mod folds;
 mod passes;
 mod places;
 mod rules;

@@ -4,6 +4,7 @@ ghost use Rattle.sq_live.specs.Liveness.{IsLivenessOf};
 
 use crate::bodies::classes_text;
 use crate::changes::is_block;
+use crate::folds::partition_text;
 use crate::texts::names_of;
 use sq_graph::Graph;
 use sq_isa::Reg;
@@ -90,6 +91,7 @@ pub fn told(alloc: Global, graph: &Graph, verb: &str) -> Result<Option<String>, 
         "reached" => reached_text(alloc, graph)?,
         "places" => places_text(alloc, graph)?,
         "classes" => classes_text(alloc, graph)?,
+        "partition" => partition_text(alloc, graph)?,
         _ => return Ok(None),
     }))
 }
