@@ -16,7 +16,6 @@ ghost use Rattle.sq_chain.specs.Moves.{IsMovable, JumpsToNext, carried, fallen};
 
 use crate::chain::end_of_chain;
 use sq_graph::{Graph, Term};
-use sq_layout::learn;
 
 /// Whether the block ends in a Jump to the next slot.
 fn jumps_to_next(graph: &Graph, block: u32) -> bool
@@ -36,7 +35,7 @@ fn fall_each(graph: &mut Graph) -> u32
     ensures follows { Follows graph.old.graph graph.new.graph }
     ensures sound { IsSound graph.old.graph → IsSound graph.new.graph }
 {
-    learn(graph);
+    graph.learn();
     let mut falls = 0;
     let mut place = Some(graph.first());
     while let Some(block) = place {
@@ -57,7 +56,7 @@ pub(crate) fn carry(graph: &mut Graph, from: u32, to: u32) -> u32
     ensures follows { Follows graph.old.graph graph.new.graph }
     ensures sound { IsSound graph.old.graph → IsSound graph.new.graph }
 {
-    learn(graph);
+    graph.learn();
     let Some(end) = end_of_chain(graph, to, from) else {
         unreachable!()
     };

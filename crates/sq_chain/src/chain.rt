@@ -7,14 +7,13 @@ ghost use Rattle.sq_patch.specs.LoneJumps.{IsApart};
 ghost use Rattle.sq_chain.specs.Moves.{chain_end, IsInChain, IsMovable};
 
 use sq_graph::{Graph, Term};
-use sq_layout::learn;
 
 /// Whether no block goes on into this one.
 fn is_apart(graph: &Graph, block: u32) -> bool
     requires block { HasBlock graph.now.graph block }
     ensures { IsTrue result ↔ IsApart graph.now.graph block }
 {
-    learn(graph);
+    graph.learn();
     match graph.links().previous(block) {
         Some(before) => !graph.term(before).goes_on(),
         None => true,
@@ -50,7 +49,7 @@ pub fn movable(graph: &Graph, from: u32, to: u32) -> bool
     requires to { HasBlock graph.now.graph to }
     ensures { IsTrue result ↔ IsMovable graph.now.graph from to }
 {
-    learn(graph);
+    graph.learn();
     let Term::Jump { to: target } = graph.term(from) else {
         return false;
     };

@@ -7,7 +7,6 @@ ghost use Rattle.sq_chain.specs.Least.{grown, least};
 
 use crate::short::{falls_short, swollen_addresses};
 use sq_graph::Graph;
-use sq_layout::learn;
 use sq_lookup::Names;
 use sq_num::Memory;
 use std::alloc::Global;
@@ -18,7 +17,7 @@ fn add_short(alloc: Global, graph: &Graph, names: &[u32], wide: &mut Names) -> R
     ensures grown { OnOk result ((n : ℕ) → is_listed wide.new n ≡ grown graph.now.graph (is_listed wide.old) n) }
     ensures same { result ≡ Ok false → (n : ℕ) → is_listed wide.new n ≡ is_listed wide.old n }
 {
-    learn(graph);
+    graph.learn();
     let addresses = swollen_addresses(alloc, graph, names, wide)?;
     let mut more = false;
     for name in names {
@@ -36,7 +35,7 @@ pub(crate) fn least_widening(alloc: Global, graph: &Graph, names: &[u32]) -> Res
     requires { names.now ≡ names_of graph.now.graph }
     ensures { IfOk result (λ wide. (n : ℕ) → is_listed wide n ≡ least graph.now.graph n) }
 {
-    learn(graph);
+    graph.learn();
     let mut wide = Names::new(alloc);
     for _round in names {
         if !add_short(alloc, graph, names, &mut wide)? {

@@ -3,7 +3,7 @@
 ghost use Rattle.std.specs.Prelude.{◌≡◌, ℕ, ◌≤◌, true, false, length, None, Ok, IfOk, IfSome, OnErr};
 ghost use Rattle.sq_graph.specs.Leaders.{IsCanonical};
 ghost use Rattle.sq_graph.specs.Parts.{names_of};
-ghost use Rattle.sq_graph.specs.Words.{words_of};
+ghost use Rattle.sq_graph.specs.Words.{words_of, most_words};
 ghost use Rattle.sq_pass.specs.Applied.{IsApplied};
 ghost use Rattle.sq_pass.specs.declared.cut.Cut.{Cut as Told};
 ghost use Rattle.sq_pass.specs.Rewrites.{IsRewrite, IsLighter};
@@ -15,7 +15,7 @@ use crate::chain::movable;
 use crate::outlook::{Outlook, outlook_of};
 use crate::widening::widen;
 use sq_graph::{Graph, Term};
-use sq_layout::{learn, words_of};
+use sq_layout::words_of;
 use sq_live::block_names;
 use sq_lookup::is_block;
 use sq_num::Memory;
@@ -36,7 +36,7 @@ pub(crate) fn move_near(
     ensures same { result ≡ Ok None → graph.new ≡ graph.old }
     ensures kept { OnErr result (graph.new ≡ graph.old) }
 {
-    learn(graph);
+    graph.learn();
     match outlook_of(alloc, graph, from, to)? {
         Outlook::Near => Ok(Some(carry(graph, from, to))),
         Outlook::Still => Ok(None),
@@ -54,11 +54,11 @@ fn move_wide(alloc: Global, graph: &mut Graph, from: u32, to: u32) -> Result<boo
     ensures same { result ≡ Ok false → graph.new ≡ graph.old }
     ensures kept { OnErr result (graph.new ≡ graph.old) }
 {
-    learn(graph);
+    graph.learn();
     let mut trial = graph.copy(alloc)?;
     carry(&mut trial, from, to);
     widen(alloc, &mut trial)?;
-    learn(&trial);
+    trial.learn();
     if words_of(&trial) < words_of(graph) {
         *graph = trial;
         return Ok(true);
@@ -77,7 +77,7 @@ pub fn try_move(alloc: Global, graph: &mut Graph, from: u32, to: u32) -> Result<
     ensures same { result ≡ Ok false → graph.new ≡ graph.old }
     ensures kept { OnErr result (graph.new ≡ graph.old) }
 {
-    learn(graph);
+    graph.learn();
     match outlook_of(alloc, graph, from, to)? {
         Outlook::Near => {
             carry(graph, from, to);
@@ -93,7 +93,7 @@ pub(crate) fn movable_target(graph: &Graph, from: u32) -> Option<u32>
     ensures some { IfSome result (λ to. IsMovable graph.now.graph from to) }
     ensures none { result ≡ None → (to : ℕ) → ¬ IsMovable graph.now.graph from to }
 {
-    learn(graph);
+    graph.learn();
     if !is_block(graph, from) {
         return None;
     }
@@ -130,7 +130,7 @@ fn move_first(alloc: Global, graph: &mut Graph, names: &[u32]) -> Result<bool, M
     ensures same { result ≡ Ok false → graph.new ≡ graph.old }
     ensures kept { OnErr result (graph.new ≡ graph.old) }
 {
-    learn(graph);
+    graph.learn();
     for name in names {
         if move_behind(alloc, graph, *name)? {
             return Ok(true);
@@ -143,7 +143,7 @@ fn move_first(alloc: Global, graph: &mut Graph, names: &[u32]) -> Result<bool, M
 /// tries the blocks that end in a Jump in layout order.
 pub fn move_once(alloc: Global, graph: &mut Graph) -> Result<Option<Rewrite>, Memory>
     requires canonical { IsCanonical graph.old.graph }
-    requires words { words_of graph.old.graph ≤ 1048576 }
+    requires words { words_of graph.old.graph ≤ most_words }
     ensures some { IfOk result (λ done. IfSome done (λ rewrite. IsRewrite IsCandidate described rewrite graph.old.graph graph.new.graph)) }
     ensures lighter { IfOk result (λ done. IfSome done (λ rewrite. IsLighter rewrite.saving graph.old.graph graph.new.graph)) }
     ensures saves { IfOk result (λ done. IfSome done (λ rewrite. 1 ≤ rewrite.saving)) }
@@ -152,13 +152,13 @@ pub fn move_once(alloc: Global, graph: &mut Graph) -> Result<Option<Rewrite>, Me
     ensures left { result ≡ Ok None → (cut : Told) → ¬ IsCandidate graph.old.graph cut }
     ensures kept { OnErr result (graph.new.graph ≡ graph.old.graph) }
 {
-    learn(graph);
+    graph.learn();
     let before = words_of(graph);
     let names = block_names(alloc, graph)?;
     if !move_first(alloc, graph, &names)? {
         return Ok(None);
     }
-    learn(graph);
+    graph.learn();
     graph.canonical();
     let saving = before - words_of(graph);
     Ok(Some(Rewrite {

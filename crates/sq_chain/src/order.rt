@@ -8,7 +8,6 @@ ghost use Rattle.sq_chain.specs.Moves.{IsMovable, carried};
 
 use crate::chain::end_of_chain;
 use sq_graph::Graph;
-use sq_layout::learn;
 use sq_live::block_names;
 use sq_num::Memory;
 use std::alloc::Global;
@@ -58,7 +57,7 @@ pub(crate) fn carried_names(
     requires { IsMovable graph.now.graph from to }
     ensures { IfOk result (λ names. names.items ≡ names_of (carried graph.now.graph from to)) }
 {
-    learn(graph);
+    graph.learn();
     let Some(end) = end_of_chain(graph, to, from) else {
         unreachable!()
     };

@@ -16,7 +16,7 @@ ghost use Rattle.sq_chain.specs.declared.outlook.Outlook.TheVariants.{Near, Stil
 use crate::order::carried_names;
 use crate::short::falls_short;
 use sq_graph::{Graph, Term};
-use sq_layout::{block_words, learn};
+use sq_layout::block_words;
 use sq_lookup::Table;
 use sq_num::Memory;
 use std::alloc::Global;
@@ -76,7 +76,7 @@ fn fallen_addresses(alloc: Global, graph: &Graph, names: &[u32]) -> Result<Falle
     ensures small { IfOk result (λ they. (n : ℕ) → address_at (number_at they.addresses) n < 2 ^ 34) }
     ensures falls { IfOk result (λ they. (h : Parts) → IsOrder graph.now.graph h names.now → words_of (fallen h) + they.falls ≡ words_of h) }
 {
-    learn(graph);
+    graph.learn();
     let mut addresses = Table::new(alloc);
     let mut falls = 0;
     let mut at = 0;
@@ -110,8 +110,7 @@ fn count_short(graph: &Graph, addresses: &Table, names: &[u32]) -> u32
     requires small { (n : ℕ) → address_at (number_at addresses.now) n < 2 ^ 34 }
     ensures { (h : Parts) → IsOrder graph.now.graph h names.now → result ≡ size_of h (λ n. is_short (address_at (number_at addresses.now)) graph.now.graph n (term_of graph.now.graph n)) }
 {
-    learn(graph);
-    let _room = graph.spare();
+    graph.learn();
     let mut short = 0;
     for name in names {
         short += one_if_short(graph, addresses, *name);
@@ -126,7 +125,7 @@ fn ordered_outlook(alloc: Global, graph: &Graph, names: &[u32]) -> Result<Outloo
     ensures near { result ≡ Ok Near → (h : Parts) → IsOrder graph.now.graph h names.now → IsInReach (fallen h) }
     ensures still { result ≡ Ok Still → (h : Parts) → IsOrder graph.now.graph h names.now → words_of h ≤ words_of (least_widened (fallen h)) }
 {
-    learn(graph);
+    graph.learn();
     let they = fallen_addresses(alloc, graph, names)?;
     let short = count_short(graph, &they.addresses, names);
     if short == 0 {
@@ -149,7 +148,7 @@ pub(crate) fn outlook_of(
     ensures near { result ≡ Ok Near → IsInReach (fallen (carried graph.now.graph from to)) }
     ensures still { result ≡ Ok Still → words_of graph.now.graph ≤ words_of (moved graph.now.graph from to) }
 {
-    learn(graph);
+    graph.learn();
     let names = carried_names(alloc, graph, from, to)?;
     ordered_outlook(alloc, graph, &names)
 }

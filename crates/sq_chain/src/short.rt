@@ -11,7 +11,7 @@ ghost use Rattle.sq_chain.specs.Widening.{swollen};
 ghost use Rattle.sq_chain.specs.Least.{is_short};
 
 use sq_graph::{Graph, Term};
-use sq_layout::{block_words, distance, learn, reaches};
+use sq_layout::{block_words, distance, reaches};
 use sq_lookup::{Names, Table, address};
 use sq_num::Memory;
 use std::alloc::Global;
@@ -35,8 +35,7 @@ pub(crate) fn swollen_addresses(
     ensures addresses { IfOk result (λ addresses. (n : ℕ) → number_at addresses n ≡ address_by (swollen (is_listed wide.now)) graph.now.graph.blocks 0 n) }
     ensures small { IfOk result (λ addresses. (n : ℕ) → address_at (number_at addresses) n < 2 ^ 34) }
 {
-    learn(graph);
-    let _room = graph.spare();
+    graph.learn();
     let mut addresses = Table::new(alloc);
     let mut at = 0;
     for name in names {
@@ -53,7 +52,7 @@ pub(crate) fn falls_short(graph: &Graph, addresses: &Table, block: u32) -> bool
     requires small { (n : ℕ) → address_at (number_at addresses.now) n < 2 ^ 34 }
     ensures { result ≡ is_short (address_at (number_at addresses.now)) graph.now.graph block (term_of graph.now.graph block) }
 {
-    learn(graph);
+    graph.learn();
     let Term::Branch { to, .. } = graph.term(block) else {
         return false;
     };

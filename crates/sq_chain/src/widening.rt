@@ -22,7 +22,6 @@ use crate::least::least_widening;
 use crate::short::one_for;
 use sq_graph::{Graph, Room, Term};
 use sq_isa::inverse;
-use sq_layout::learn;
 use sq_live::block_names;
 use sq_lookup::Names;
 use sq_num::Memory;
@@ -33,8 +32,7 @@ fn size_of(graph: &Graph, names: &[u32], wide: &Names) -> u32
     requires { names.now ≡ names_of graph.now.graph }
     ensures { result ≡ size_of graph.now.graph (is_listed wide.now) }
 {
-    learn(graph);
-    let _room = graph.spare();
+    graph.learn();
     let mut size = 0;
     for name in names {
         size += one_for(wide, *name);
@@ -49,7 +47,7 @@ fn widen_one(graph: &mut Graph, block: u32)
     ensures wider { IsOneWider graph.old.graph graph.new.graph block }
     ensures spare { graph.new.spare.blocks + 1 ≡ graph.old.spare.blocks }
 {
-    learn(graph);
+    graph.learn();
     let Term::Branch { cond, a, b, to } = graph.term(block) else {
         unreachable!()
     };
@@ -78,7 +76,7 @@ fn widen_each(graph: &mut Graph, names: &[u32], wide: &Names)
     ensures follows { Follows graph.old.graph graph.new.graph }
     ensures sound { IsSound graph.old.graph → IsSound graph.new.graph }
 {
-    learn(graph);
+    graph.learn();
     for name in names {
         if wide.has(*name) {
             widen_one(graph, *name);
@@ -98,8 +96,7 @@ pub fn widen(alloc: Global, graph: &mut Graph) -> Result<u32, Memory>
     ensures reach { OnOk result (IsInReach graph.new.graph) }
     ensures kept { OnErr result (graph.new.graph ≡ graph.old.graph) }
 {
-    learn(graph);
-    let _room = graph.spare();
+    graph.learn();
     let names = block_names(alloc, graph)?;
     let wide = least_widening(alloc, graph, &names)?;
     let size = size_of(graph, &names, &wide);

@@ -16,7 +16,7 @@ use Rattle.sq_graph.specs.Places.{IsInReach}
 use Rattle.sq_graph.specs.Room.{IsSmall, sum_of, count_of}
 use Rattle.sq_graph.specs.Rules.{IsGraph}
 use Rattle.sq_graph.specs.Soundness.{IsSound}
-use Rattle.sq_graph.specs.Words.{block_words, procedure_words, words_of}
+use Rattle.sq_graph.specs.Words.{block_words, procedure_words, words_of, most_words}
 use Rattle.sq_follow.specs.Follows.{Follows}
 use Rattle.sq_patch.proofs.Joining.{canonical_follows, canonical_sound}
 use Rattle.sq_pass.specs.Applied.{IsWithin}
@@ -50,7 +50,7 @@ few_bodies [] = omega arith
 few_bodies (p ∷ ps) = omega (arith, few_bodies ps, sum_by-cons procedure_words p ps, length-append p.body (items_of_bodies ps))
 
 -- room for as much as a canonical graph has words is small
-pub small_room : (g : Graph) (room : Room) → IsCanonical g → words_of g ≤ 1048576 → IsWithin (words_of g) room → IsSmall (sum_of (count_of g) room)
+pub small_room : (g : Graph) (room : Room) → IsCanonical g → words_of g ≤ most_words → IsWithin (words_of g) room → IsSmall (sum_of (count_of g) room)
 small_room g room canonical few within =
     let blocks = few_blocks g.blocks (recursion_from_All (λ b. is_bare b ≡ false) g.blocks canonical.no_bare) in
     let items = few_items g.blocks in

@@ -4,7 +4,7 @@ ghost use Rattle.std.specs.Prelude.{◌≡◌, ℕ, ◌≤◌, length, Ok};
 ghost use Rattle.sq_graph.specs.Graph.{Graph as Parts};
 ghost use Rattle.sq_graph.specs.Leaders.{IsCanonical};
 ghost use Rattle.sq_graph.specs.Slotted.{IsSlotted};
-ghost use Rattle.sq_graph.specs.Words.{words_of};
+ghost use Rattle.sq_graph.specs.Words.{words_of, most_words};
 ghost use Rattle.sq_follow.specs.Follows.{Follows};
 ghost use Rattle.sq_drive.specs.Checking.{Leads, IsFirstFault};
 ghost use Rattle.sq_drive.specs.Replaying.{IsLess};
@@ -20,7 +20,7 @@ use std::alloc::Global;
 pub fn check_graph(alloc: Global, graph: &mut Graph, text: &[u8]) -> Result<Verdict, Memory>
     requires canonical { IsCanonical graph.old.graph }
     requires slotted { IsSlotted graph.old.graph }
-    requires words { words_of graph.old.graph ≤ 1048576 }
+    requires words { words_of graph.old.graph ≤ most_words }
     requires text { length text.now ≤ 134217728 }
     ensures yes { (count : ℕ) → result ≡ Ok (Verdict.Yes count) → Leads text.now graph.old.graph graph.new.graph count }
     ensures lighter { (count : ℕ) → result ≡ Ok (Verdict.Yes count) → IsLess graph.old.graph graph.new.graph }

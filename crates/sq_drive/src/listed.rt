@@ -3,7 +3,7 @@
 ghost use Rattle.std.specs.Prelude.{◌≡◌, ◌≤◌, ◌+◌, IfOk, OnOk};
 ghost use Rattle.std.specs.List.{All};
 ghost use Rattle.sq_graph.specs.Leaders.{IsCanonical};
-ghost use Rattle.sq_graph.specs.Words.{words_of};
+ghost use Rattle.sq_graph.specs.Words.{words_of, most_words};
 ghost use Rattle.sq_follow.specs.Follows.{Follows};
 ghost use Rattle.sq_pass.specs.declared.cut.Cut.{Cut as Told};
 ghost use Rattle.sq_pass.specs.Rewrites.{IsRewrittenByAll, IsRewritten};
@@ -25,7 +25,7 @@ pub fn settle_with(
     passes: &[Box<dyn Pass>],
 ) -> Result<Savings, Memory>
     requires canonical { IsCanonical graph.old.graph }
-    requires words { words_of graph.old.graph ≤ 1048576 }
+    requires words { words_of graph.old.graph ≤ most_words }
     ensures rewritten { IfOk result (λ savings. IsRewrittenByAll (λ pass. is_candidate pass) (λ pass. described pass) passes.now Savings.NONE savings graph.old.graph graph.new.graph) }
     ensures left { OnOk result (All (λ pass. (cut : Told) → ¬ is_candidate pass graph.new.graph cut) passes.now) }
     ensures follows { Follows graph.old.graph graph.new.graph }
@@ -40,7 +40,7 @@ fn settle_by_each<P: Pass>(
     passes: &[P],
 ) -> Result<Savings, Memory>
     requires canonical { IsCanonical graph.old.graph }
-    requires words { words_of graph.old.graph ≤ 1048576 }
+    requires words { words_of graph.old.graph ≤ most_words }
     ensures rewritten { IfOk result (λ savings. IsRewrittenByAll P.is_candidate P.described passes.now Savings.NONE savings graph.old.graph graph.new.graph) }
     ensures left { OnOk result (All (λ pass. (cut : Told) → ¬ P.is_candidate pass graph.new.graph cut) passes.now) }
     ensures follows { Follows graph.old.graph graph.new.graph }
@@ -64,7 +64,7 @@ fn rewrite_by_first<P: Pass>(
     savings: Savings,
 ) -> Result<Savings, Memory>
     requires canonical { IsCanonical graph.old.graph }
-    requires words { words_of graph.old.graph + words_saved savings ≤ 1048576 }
+    requires words { words_of graph.old.graph + words_saved savings ≤ most_words }
     ensures rewritten { IfOk result (λ after. IsRewrittenByAll P.is_candidate P.described passes.now savings after graph.old.graph graph.new.graph) }
     ensures left { OnOk result (words_of graph.new.graph ≡ words_of graph.old.graph → All (λ pass. (cut : Told) → ¬ P.is_candidate pass graph.new.graph cut) passes.now) }
     ensures follows { Follows graph.old.graph graph.new.graph }
@@ -88,7 +88,7 @@ fn rewrite_by<P: Pass>(
     savings: Savings,
 ) -> Result<Savings, Memory>
     requires canonical { IsCanonical graph.old.graph }
-    requires words { words_of graph.old.graph + words_saved savings ≤ 1048576 }
+    requires words { words_of graph.old.graph + words_saved savings ≤ most_words }
     ensures rewritten { IfOk result (λ after. IsRewritten (P.is_candidate pass.now) (P.described pass.now) savings after graph.old.graph graph.new.graph) }
     ensures same { OnOk result (words_of graph.old.graph ≤ words_of graph.new.graph → graph.new.graph ≡ graph.old.graph) }
     ensures left { OnOk result (words_of graph.old.graph ≤ words_of graph.new.graph → (cut : Told) → ¬ P.is_candidate pass.now graph.new.graph cut) }

@@ -5,7 +5,7 @@ ghost use Rattle.std.specs.List.{All};
 ghost use Rattle.sq_graph.specs.Parts.{names_of};
 ghost use Rattle.sq_graph.specs.Leaders.{IsCanonical};
 ghost use Rattle.sq_graph.specs.Slotted.{IsSlotted};
-ghost use Rattle.sq_graph.specs.Words.{words_of};
+ghost use Rattle.sq_graph.specs.Words.{words_of, most_words};
 ghost use Rattle.sq_follow.specs.Follows.{Follows};
 ghost use Rattle.sq_pass.specs.declared.cut.Cut.{Cut as Told};
 ghost use Rattle.sq_pass.specs.Rewrites.{IsRewrite, IsRewritten, IsLighter};
@@ -23,7 +23,7 @@ use crate::rows::AllRows;
 use sq_cert::{Cert, Step};
 use sq_chain::{movable, try_move};
 use sq_graph::{Graph, Term};
-use sq_layout::{learn, words_of};
+use sq_layout::words_of;
 use sq_live::block_names;
 use sq_lookup::is_block;
 use sq_num::{Memory, Savings};
@@ -88,7 +88,7 @@ fn step_of(cut: Cut) -> Step
 /// Rewrites the graph by this candidate, and tidies it: the step and what it saved.
 fn note_cut(alloc: Global, graph: &mut Graph, cut: Cut) -> Result<(Step, Rewrite), Memory>
     requires canonical { IsCanonical graph.old.graph }
-    requires words { words_of graph.old.graph ≤ 1048576 }
+    requires words { words_of graph.old.graph ≤ most_words }
     requires candidate { IsRowCandidate graph.old.graph cut }
     ensures step { IfOk result (λ taken. IsStep taken.0 graph.old.graph graph.new.graph) }
     ensures rewrite { IfOk result (λ taken. IsRewrite IsCandidate described taken.1 graph.old.graph graph.new.graph) }
@@ -115,7 +115,7 @@ fn note_row(
     hints: &mut Vec<Cut>,
 ) -> Result<Option<(Step, Rewrite)>, Memory>
     requires canonical { IsCanonical graph.old.graph }
-    requires words { words_of graph.old.graph ≤ 1048576 }
+    requires words { words_of graph.old.graph ≤ most_words }
     ensures step { IfOk result (λ noted. IfSome noted (λ taken. IsStep taken.0 graph.old.graph graph.new.graph)) }
     ensures rewrite { IfOk result (λ noted. IfSome noted (λ taken. IsRewrite IsCandidate described taken.1 graph.old.graph graph.new.graph)) }
     ensures lighter { IfOk result (λ noted. IfSome noted (λ taken. IsLighter taken.1.saving graph.old.graph graph.new.graph)) }
@@ -139,7 +139,7 @@ fn move_behind(alloc: Global, graph: &mut Graph, from: u32) -> Result<Option<u32
     ensures same { result ≡ Ok None → graph.new ≡ graph.old }
     ensures kept { OnErr result (graph.new ≡ graph.old) }
 {
-    learn(graph);
+    graph.learn();
     if !is_block(graph, from) {
         return Ok(None);
     }
@@ -175,7 +175,7 @@ fn move_first(alloc: Global, graph: &mut Graph, names: &[u32]) -> Result<Option<
 /// Moves a chain where that saves words, and tidies the graph: the step and what it saved, or None where there is none.
 fn note_move(alloc: Global, graph: &mut Graph) -> Result<Option<(Step, Rewrite)>, Memory>
     requires canonical { IsCanonical graph.old.graph }
-    requires words { words_of graph.old.graph ≤ 1048576 }
+    requires words { words_of graph.old.graph ≤ most_words }
     ensures step { IfOk result (λ noted. IfSome noted (λ taken. IsStep taken.0 graph.old.graph graph.new.graph)) }
     ensures rewrite { IfOk result (λ noted. IfSome noted (λ taken. IsRewrite IsCandidate described taken.1 graph.old.graph graph.new.graph)) }
     ensures lighter { IfOk result (λ noted. IfSome noted (λ taken. IsLighter taken.1.saving graph.old.graph graph.new.graph)) }
@@ -185,7 +185,7 @@ fn note_move(alloc: Global, graph: &mut Graph) -> Result<Option<(Step, Rewrite)>
     ensures same { result ≡ Ok None → graph.new.graph ≡ graph.old.graph }
     ensures follows { Follows graph.old.graph graph.new.graph }
 {
-    learn(graph);
+    graph.learn();
     let before = words_of(graph);
     let names = block_names(alloc, graph)?;
     let Some((from, to)) = move_first(alloc, graph, &names)? else {
@@ -207,7 +207,7 @@ fn note_step(
     hints: &mut Vec<Cut>,
 ) -> Result<Option<(Step, Rewrite)>, Memory>
     requires canonical { IsCanonical graph.old.graph }
-    requires words { words_of graph.old.graph ≤ 1048576 }
+    requires words { words_of graph.old.graph ≤ most_words }
     ensures step { IfOk result (λ noted. IfSome noted (λ taken. IsStep taken.0 graph.old.graph graph.new.graph)) }
     ensures rewrite { IfOk result (λ noted. IfSome noted (λ taken. IsRewrite IsCandidate described taken.1 graph.old.graph graph.new.graph)) }
     ensures lighter { IfOk result (λ noted. IfSome noted (λ taken. IsLighter taken.1.saving graph.old.graph graph.new.graph)) }
@@ -262,7 +262,7 @@ fn learn_step(step: &Step)
 pub fn settle_noting(alloc: Global, graph: &mut Graph) -> Result<Noted, Memory>
     requires canonical { IsCanonical graph.old.graph }
     requires slotted { IsSlotted graph.old.graph }
-    requires words { words_of graph.old.graph ≤ 1048576 }
+    requires words { words_of graph.old.graph ≤ most_words }
     ensures replay { IfOk result (λ noted. IsReplay noted.cert graph.old.graph graph.new.graph) }
     ensures form { IfOk result (λ noted. All HasForm noted.cert) }
     ensures rewritten { IfOk result (λ noted. IsRewritten IsCandidate described Savings.NONE noted.savings graph.old.graph graph.new.graph) }

@@ -2,12 +2,11 @@
 
 ghost use Rattle.std.specs.Prelude.{◌≡◌, ◌≤◌, None, Ok, IfOk, IfSome, OnErr};
 ghost use Rattle.sq_graph.specs.Leaders.{IsCanonical};
-ghost use Rattle.sq_graph.specs.Words.{words_of};
+ghost use Rattle.sq_graph.specs.Words.{words_of, most_words};
 ghost use Rattle.sq_pass.specs.declared.cut.Cut.{Cut as Told};
 ghost use Rattle.sq_pass.specs.Rewrites.{IsRewrite, IsLighter};
 
 use sq_graph::Graph;
-use sq_layout::learn;
 use sq_live::live;
 use sq_num::Memory;
 use sq_pass::{Pass, Rewrite};
@@ -21,7 +20,7 @@ pub fn rewrite_once<P: Pass>(
     pass: &P,
 ) -> Result<Option<Rewrite>, Memory>
     requires canonical { IsCanonical graph.old.graph }
-    requires words { words_of graph.old.graph ≤ 1048576 }
+    requires words { words_of graph.old.graph ≤ most_words }
     ensures some { IfOk result (λ done. IfSome done (λ rewrite. IsRewrite (P.is_candidate pass.now) (P.described pass.now) rewrite graph.old.graph graph.new.graph)) }
     ensures lighter { IfOk result (λ done. IfSome done (λ rewrite. IsLighter rewrite.saving graph.old.graph graph.new.graph)) }
     ensures saves { IfOk result (λ done. IfSome done (λ rewrite. 1 ≤ rewrite.saving)) }
@@ -35,7 +34,7 @@ pub fn rewrite_once<P: Pass>(
     };
     graph.reserve(pass.room(graph, &cut))?;
     pass.apply(graph, &cut);
-    learn(graph);
+    graph.learn();
     graph.canonical();
     Ok(Some(Rewrite {
         row: cut.row,

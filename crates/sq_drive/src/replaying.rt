@@ -5,7 +5,7 @@ ghost use Rattle.sq_graph.specs.Blocks.{body_of};
 ghost use Rattle.sq_graph.specs.Leaders.{IsCanonical};
 ghost use Rattle.sq_graph.specs.Slotted.{slotted, IsSlotted};
 ghost use Rattle.sq_graph.specs.Canonical.{canonical_of};
-ghost use Rattle.sq_graph.specs.Words.{words_of};
+ghost use Rattle.sq_graph.specs.Words.{words_of, most_words};
 ghost use Rattle.sq_follow.specs.Follows.{Follows};
 ghost use Rattle.sq_pass.specs.Rewrites.{IsLighter};
 ghost use Rattle.sq_cert.specs.Steps.{row_of};
@@ -17,7 +17,6 @@ use sq_cert::Step;
 use sq_chain::{movable, try_move};
 use sq_graph::Graph;
 use sq_isa::Reg;
-use sq_layout::learn;
 use sq_live::live;
 use sq_lookup::is_block;
 use sq_num::Memory;
@@ -103,7 +102,7 @@ fn other_of(step: &Step) -> u32
 fn body_length(graph: &Graph, procedure: u32) -> u32
     ensures { result ≡ length (body_of graph.now.graph procedure) }
 {
-    learn(graph);
+    graph.learn();
     if procedure < graph.procedures() {
         graph.body(procedure).len() as u32
     } else {
@@ -145,9 +144,9 @@ pub(crate) fn tidy(alloc: Global, graph: &mut Graph) -> Result<(), Memory>
     ensures slotted { OnOk result (IsSlotted graph.new.graph) }
     ensures follows { Follows graph.old.graph graph.new.graph }
 {
-    learn(graph);
+    graph.learn();
     graph.canonical();
-    learn(graph);
+    graph.learn();
     graph.name_by_slots(alloc)?;
     Ok(())
 }
@@ -155,7 +154,7 @@ pub(crate) fn tidy(alloc: Global, graph: &mut Graph) -> Result<(), Memory>
 /// Applies the cut of a row that passes have with what its row determines, where it is a candidate then, and tidies the graph.
 fn take_row(alloc: Global, graph: &mut Graph, cut: Cut) -> Result<bool, Memory>
     requires canonical { IsCanonical graph.old.graph }
-    requires words { words_of graph.old.graph ≤ 1048576 }
+    requires words { words_of graph.old.graph ≤ most_words }
     requires row { cut.row ≢ Row.L }
     ensures taken { result ≡ Ok true → IsTaken cut graph.old.graph graph.new.graph }
     ensures less { result ≡ Ok true → IsLess graph.old.graph graph.new.graph }
@@ -176,14 +175,14 @@ fn take_row(alloc: Global, graph: &mut Graph, cut: Cut) -> Result<bool, Memory>
 /// The same for the move of the chain of `to` behind `from`.
 fn take_move(alloc: Global, graph: &mut Graph, from: u32, to: u32) -> Result<bool, Memory>
     requires canonical { IsCanonical graph.old.graph }
-    requires words { words_of graph.old.graph ≤ 1048576 }
+    requires words { words_of graph.old.graph ≤ most_words }
     ensures taken { result ≡ Ok true → IsTaken (move_cut from to) graph.old.graph graph.new.graph }
     ensures less { result ≡ Ok true → IsLess graph.old.graph graph.new.graph }
     ensures none { result ≡ Ok false → ¬ IsGiven graph.old.graph (move_cut from to) }
     ensures same { result ≡ Ok false → graph.new.graph ≡ graph.old.graph }
     ensures follows { Follows graph.old.graph graph.new.graph }
 {
-    learn(graph);
+    graph.learn();
     if !is_block(graph, from) || !is_block(graph, to) {
         return Ok(false);
     }
@@ -200,7 +199,7 @@ fn take_move(alloc: Global, graph: &mut Graph, from: u32, to: u32) -> Result<boo
 /// Takes a step, where it is a candidate, and tidies the graph; else the graph stays as it was. It looks at the whole graph.
 pub fn take_step(alloc: Global, graph: &mut Graph, step: &Step) -> Result<bool, Memory>
     requires canonical { IsCanonical graph.old.graph }
-    requires words { words_of graph.old.graph ≤ 1048576 }
+    requires words { words_of graph.old.graph ≤ most_words }
     ensures taken { result ≡ Ok true → IsStep step.now graph.old.graph graph.new.graph }
     ensures less { result ≡ Ok true → IsLess graph.old.graph graph.new.graph }
     ensures none { result ≡ Ok false → ¬ MayStep graph.old.graph step.now }
@@ -218,7 +217,7 @@ pub fn take_step(alloc: Global, graph: &mut Graph, step: &Step) -> Result<bool, 
 pub fn replay(alloc: Global, graph: &mut Graph, steps: &[Step]) -> Result<Option<usize>, Memory>
     requires canonical { IsCanonical graph.old.graph }
     requires slotted { IsSlotted graph.old.graph }
-    requires words { words_of graph.old.graph ≤ 1048576 }
+    requires words { words_of graph.old.graph ≤ most_words }
     ensures replay { result ≡ Ok None → IsReplay steps.now graph.old.graph graph.new.graph }
     ensures fault { (number : ℕ) → result ≡ Ok (Some number) → FailsAt steps.now graph.old.graph number }
     ensures lighter { OnOk result (IsLess graph.old.graph graph.new.graph) }

@@ -4,7 +4,7 @@ ghost use Rattle.std.specs.Prelude.{◌≤◌, ◌+◌, IfOk, OnOk};
 ghost use Rattle.sq_num.specs.Saved.{words_saved};
 ghost use Rattle.sq_graph.specs.Leaders.{IsCanonical};
 ghost use Rattle.sq_graph.specs.Slotted.{IsSlotted};
-ghost use Rattle.sq_graph.specs.Words.{words_of};
+ghost use Rattle.sq_graph.specs.Words.{words_of, most_words};
 ghost use Rattle.sq_follow.specs.Follows.{Follows};
 ghost use Rattle.sq_pass.specs.declared.cut.Cut.{Cut as Told};
 ghost use Rattle.sq_pass.specs.Rewrites.{IsRewritten};
@@ -15,7 +15,7 @@ use crate::once::rewrite_once;
 use crate::rows::AllRows;
 use sq_chain::{move_once, sweep_moves};
 use sq_graph::Graph;
-use sq_layout::{learn, words_of};
+use sq_layout::words_of;
 use sq_num::{Memory, Savings};
 use sq_pass::Pass;
 use std::alloc::Global;
@@ -30,7 +30,7 @@ pub fn settle_by<P: Pass>(
     savings: Savings,
 ) -> Result<Savings, Memory>
     requires canonical { IsCanonical graph.old.graph }
-    requires words { words_of graph.old.graph + words_saved savings ≤ 1048576 }
+    requires words { words_of graph.old.graph + words_saved savings ≤ most_words }
     ensures rewritten { IfOk result (λ after. IsRewritten (P.is_candidate pass.now) (P.described pass.now) savings after graph.old.graph graph.new.graph) }
     ensures left { OnOk result ((cut : Told) → ¬ P.is_candidate pass.now graph.new.graph cut) }
     ensures follows { Follows graph.old.graph graph.new.graph }
@@ -50,7 +50,7 @@ pub fn settle_by<P: Pass>(
 /// the other rows are asked again. Where it finds no memory, the graph is left as the rewrites made it so far.
 fn settle_from(alloc: Global, graph: &mut Graph, savings: Savings) -> Result<Savings, Memory>
     requires canonical { IsCanonical graph.old.graph }
-    requires words { words_of graph.old.graph + words_saved savings ≤ 1048576 }
+    requires words { words_of graph.old.graph + words_saved savings ≤ most_words }
     ensures rewritten { IfOk result (λ after. IsRewritten IsCandidate described savings after graph.old.graph graph.new.graph) }
     ensures left { OnOk result (IsLeftoverFree graph.new.graph) }
     ensures follows { Follows graph.old.graph graph.new.graph }
@@ -69,7 +69,7 @@ fn settle_from(alloc: Global, graph: &mut Graph, savings: Savings) -> Result<Sav
 #[tactic(auto, using(crate::proofs::Moves::leftover_free_is_still))]
 pub fn settle(alloc: Global, graph: &mut Graph) -> Result<Savings, Memory>
     requires canonical { IsCanonical graph.old.graph }
-    requires words { words_of graph.old.graph ≤ 1048576 }
+    requires words { words_of graph.old.graph ≤ most_words }
     ensures rewritten { IfOk result (λ savings. IsRewritten IsCandidate described Savings.NONE savings graph.old.graph graph.new.graph) }
     ensures left { OnOk result (IsLeftoverFree graph.new.graph) }
     ensures still { OnOk result (IsStill graph.new.graph) }
@@ -83,7 +83,7 @@ pub fn settle(alloc: Global, graph: &mut Graph) -> Result<Savings, Memory>
 pub fn settle_slotted(alloc: Global, graph: &mut Graph) -> Result<Savings, Memory>
     requires canonical { IsCanonical graph.old.graph }
     requires slotted { IsSlotted graph.old.graph }
-    requires words { words_of graph.old.graph ≤ 1048576 }
+    requires words { words_of graph.old.graph ≤ most_words }
     ensures rewritten { IfOk result (λ savings. IsRewritten IsCandidate described Savings.NONE savings graph.old.graph graph.new.graph) }
     ensures slotted { OnOk result (IsSlotted graph.new.graph) }
     ensures left { OnOk result (IsLeftoverFree graph.new.graph) }
@@ -97,7 +97,7 @@ pub fn settle_slotted(alloc: Global, graph: &mut Graph) -> Result<Savings, Memor
         if words_of(graph) == before {
             return Ok(savings);
         }
-        learn(graph);
+        graph.learn();
         graph.name_by_slots(alloc)?;
     }
 }

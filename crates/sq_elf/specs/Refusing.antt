@@ -103,9 +103,13 @@ text_moved bytes =
 abbrev pub text_size : List ℕ → ℕ
 text_size bytes = (text_of bytes).hi - (text_of bytes).lo
 
--- 13: more than 1,048,576 bytes of text
+-- the most bytes of text, 2^20: as far as a JAL reaches
+abbrev pub largest_text : ℕ
+largest_text = 1048576
+
+-- 13: more bytes of text
 abbrev pub text_too_large : List ℕ → Row
-text_too_large bytes = single (nat_lt 1048576 (text_size bytes)) (TextTooLarge (text_size bytes))
+text_too_large bytes = single (nat_lt largest_text (text_size bytes)) (TextTooLarge (text_size bytes))
 
 -- 28: more than 64 pieces (kind 1), or more than 16,777,216 loaded bytes (kind 2)
 abbrev pub too_many_pieces : List ℕ → Row

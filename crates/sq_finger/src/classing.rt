@@ -38,8 +38,7 @@ pub fn classes(alloc: Global, graph: &Graph) -> Result<Classing, Memory>
     ensures value { IfOk result (λ classes. classes ≡ classes_of graph.now.graph) }
     ensures classes { IfOk result (λ classes. AreClasses (block_kind graph.now.graph) (HasBlock graph.now.graph) classes) }
 {
-    let _entry = graph.entry();
-    let _room = graph.spare();
+    graph.learn();
     let names = block_names(alloc, graph)?;
     let kinds = kinds(alloc, graph, &names)?;
     let numbers = number_all(alloc, &kinds)?;

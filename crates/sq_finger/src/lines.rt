@@ -31,8 +31,7 @@ fn push_line(line: &mut Vec<WindowAt>, block: u32, count: u32) -> Result<(), Mem
 pub fn all_places(alloc: Global, graph: &Graph) -> Result<Vec<WindowAt>, Memory>
     ensures { IfOk result (λ line. line.items ≡ line_of graph.now.graph) }
 {
-    let _entry = graph.entry();
-    let _room = graph.spare();
+    graph.learn();
     let names = block_names(alloc, graph)?;
     let mut line = Vec::new(alloc);
     for name in &names {
@@ -62,8 +61,7 @@ pub fn number_items(
     requires { line.now ≡ line_of graph.now.graph }
     ensures { IfOk result (λ numbers. AreNumbersOf (map (item_at graph.now.graph) line.now) numbers.items) }
 {
-    let _entry = graph.entry();
-    let _room = graph.spare();
+    graph.learn();
     let mut keys = Vec::new(alloc);
     for place in line {
         keys.push(key_at(graph, *place))?;

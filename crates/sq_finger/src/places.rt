@@ -66,7 +66,7 @@ fn places(alloc: Global, graph: &Graph, n: usize, names: &[u32]) -> Result<Vec<W
     requires names { names.now ≡ names_of graph.now.graph }
     ensures { IfOk result (λ places. places.items ≡ places_of graph.now.graph n) }
 {
-    let _room = graph.spare();
+    graph.learn();
     let mut places = Vec::new(alloc);
     for name in names {
         push_places(&mut places, n, *name, graph.items(*name))?;
@@ -109,8 +109,7 @@ pub fn windows(alloc: Global, graph: &Graph, n: u32) -> Result<WindowClasses, Me
     ensures value { IfOk result (λ classes. classes ≡ windows_of graph.now.graph n) }
     ensures classes { IfOk result (λ classes. AreClasses (window_print graph.now.graph n) (IsWindow graph.now.graph n) classes) }
 {
-    let _entry = graph.entry();
-    let _room = graph.spare();
+    graph.learn();
     let n = n as usize;
     let names = block_names(alloc, graph)?;
     let places = places(alloc, graph, n, &names)?;

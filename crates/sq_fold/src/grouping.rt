@@ -53,8 +53,7 @@ pub fn partition(alloc: Global, graph: &Graph) -> Result<Grouping, Memory>
     ensures coarsest { IfOk result (λ grouping. IsCoarsestPartition graph.now.graph (class_in grouping)) }
     ensures blocks { IfOk result (λ grouping. (block : ℕ) → IsSome (class_in grouping block) ↔ HasBlock graph.now.graph block) }
 {
-    let _entry = graph.entry();
-    let _room = graph.spare();
+    graph.learn();
     let line = all_places(alloc, graph)?;
     let labels = labels(alloc, graph, &line)?;
     let index = index_places(alloc, &line)?;

@@ -55,8 +55,7 @@ pub fn labels(alloc: Global, graph: &Graph, line: &[WindowAt]) -> Result<Vec<Opt
     requires { line.now ≡ line_of graph.now.graph }
     ensures { IfOk result (λ labels. AreNumbersOf (map (λ place. Some (bare_at graph.now.graph place)) line.now) labels.items) }
 {
-    let _entry = graph.entry();
-    let _room = graph.spare();
+    graph.learn();
     let mut keys = Vec::new(alloc);
     for place in line {
         keys.push(Some(key_at(graph, *place)))?;

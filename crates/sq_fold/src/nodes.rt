@@ -78,7 +78,7 @@ fn leads_at(graph: &Graph, place: WindowAt) -> (Option<At>, Option<At>)
     requires { HasBlock graph.now.graph place.block }
     ensures { result ≡ leads_at graph.now.graph place }
 {
-    let _room = graph.spare();
+    graph.learn();
     match graph.items(place.block).get(place.at as usize) {
         Some(item) => (
             Some((place.block, place.at + 1)),
@@ -111,7 +111,7 @@ pub(crate) fn nodes(
     requires labels { length labels.now ≡ length line.now }
     ensures { IfOk result (λ nodes. AreNodes graph.now.graph line.now labels.now (get is_same_kind index.now) nodes.items) }
 {
-    let _entry = graph.entry();
+    graph.learn();
     let mut nodes = Vec::new(alloc);
     for (i, place) in line.iter().enumerate() {
         let (next, target) = leads_at(graph, *place);

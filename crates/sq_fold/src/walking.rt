@@ -42,7 +42,7 @@ fn has_same_items(alloc: Global, graph: &Graph, x: u32, y: u32) -> Result<bool, 
     requires second { HasBlock graph.now.graph y }
     ensures { IfOk result (λ same. IsTrue same ↔ (map bare_item (items_of graph.now.graph x) ≡ map bare_item (items_of graph.now.graph y))) }
 {
-    let _entry = graph.entry();
+    graph.learn();
     let ours = bare_keys(alloc, graph.items(x))?;
     let theirs = bare_keys(alloc, graph.items(y))?;
     Ok(ours == theirs)
@@ -82,7 +82,7 @@ fn parting(
     requires second { HasBlock graph.now.graph pair.1 }
     ensures { IfOk result (λ found. MatchOption found (ReferAlike graph.now.graph (class_by (get is_same_kind index.now) classes.now) pair.0 pair.1) (λ at. Parts graph.now.graph (class_by (get is_same_kind index.now) classes.now) pair.0 pair.1 at.0 at.1 at.2)) }
 {
-    let _room = graph.spare();
+    graph.learn();
     let ours = references(alloc, graph, pair.0)?;
     let theirs = references(alloc, graph, pair.1)?;
     for (number, m) in ours.iter().enumerate() {
@@ -100,8 +100,7 @@ fn parting(
 fn survey(alloc: Global, graph: &Graph) -> Result<(HashMap<At, u32>, History), Memory>
     ensures { IfOk result (λ survey. IsSurveyed graph.now.graph (get is_same_kind survey.0) survey.1) }
 {
-    let _entry = graph.entry();
-    let _room = graph.spare();
+    graph.learn();
     let line = all_places(alloc, graph)?;
     let labels = labels(alloc, graph, &line)?;
     let index = index_places(alloc, &line)?;
@@ -125,7 +124,7 @@ fn walk_apart(
     requires apart { ArePartedAt (get is_same_kind index.now) rounds.now (length rounds.now - 1) x y }
     ensures { IfOk result (λ walk. TellsApart graph.now.graph x y walk.items) }
 {
-    let _entry = graph.entry();
+    graph.learn();
     let mut walk = Vec::new(alloc);
     let mut pair = (x, y);
     let mut level = rounds.len() - 1;
@@ -152,7 +151,7 @@ pub fn difference(alloc: Global, graph: &Graph, x: u32, y: u32) -> Result<Option
     ensures walk { IfOk result (λ walk. MatchOption walk (AreOfOneClass graph.now.graph x y) (λ walk. TellsApart graph.now.graph x y walk.items)) }
     ensures apart { IfOk result (λ walk. IfSome walk (λ walk. ¬ AreOfOneClass graph.now.graph x y)) }
 {
-    let _entry = graph.entry();
+    graph.learn();
     let (index, rounds) = survey(alloc, graph)?;
     let last = rounds.round(rounds.len() - 1);
     if class_by(&index, last, x) == class_by(&index, last, y) {

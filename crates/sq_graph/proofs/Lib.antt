@@ -49,3 +49,4 @@ pub mod SlotNames
 pub mod RenamedLives
 pub mod RenamedReach
 pub mod RenamedSound
+pub mod FewWords

@@ -24,3 +24,7 @@ procedure_words p = length p.body + 1
 
 abbrev pub words_of : Graph → ℕ
 words_of g = sum_by block_words g.blocks + sum_by procedure_words g.procedures
+
+-- the most words of a graph for which a rewriting is asked: those that fit a text of 2^20 bytes are fewer
+abbrev pub most_words : ℕ
+most_words = 1048576

@@ -1,10 +1,11 @@
 //! A graph and what it has.
 
-ghost use Rattle.std.specs.Prelude.{◌≡◌, ℕ, ◌+◌, ◌<◌, ◌≤◌, Some, None, length, OnOk, IfOk};
+ghost use Rattle.std.specs.Prelude.{◌≡◌, ℕ, ◌+◌, ◌<◌, ◌≤◌, ◌^◌, Some, None, length, OnOk, IfOk};
 ghost use Rattle.sq_graph.specs.Blocks.{HasBlock, HasProcedure, first_of, next_of, items_of, term_of, body_of, link_of};
 ghost use Rattle.sq_graph.specs.Rules.{IsGraph};
 ghost use Rattle.sq_graph.specs.Room.{IsSmall, sum_of, count_of, total_of, Covers};
 ghost use Rattle.sq_graph.specs.Slots.{slots_from};
+ghost use Rattle.sq_graph.specs.Words.{words_of};
 
 use crate::item::{Item, Term};
 use crate::parts::{CodeRef, Room};
@@ -48,6 +49,17 @@ impl Model for Graph {
 }
 
 impl Graph {
+    /// It does nothing. The rules of a graph hold, and there is room for few blocks, items and procedures, so its words are few.
+    #[tactic(auto, using(crate::proofs::FewWords::few_words))]
+    pub fn learn(&self)
+        ensures rules { IsGraph self.now.graph }
+        ensures small { IsSmall (total_of self.now) }
+        ensures few { words_of self.now.graph < 2 ^ 31 }
+    {
+        let _entry = self.entry();
+        let _room = self.spare();
+    }
+
     /// The block in the first slot.
     pub fn first(&self) -> u32
         ensures { first_of self.now.graph ≡ Some result }

@@ -13,14 +13,13 @@ ghost use Rattle.sq_graph.specs.Room.{KeepsTotal};
 ghost use Rattle.sq_jumps.specs.Candidates.{IsCandidate, described};
 ghost use Rattle.sq_num.specs.Saved.{words_saved};
 ghost use Rattle.sq_graph.specs.Leaders.{IsCanonical};
-ghost use Rattle.sq_graph.specs.Words.{words_of};
+ghost use Rattle.sq_graph.specs.Words.{words_of, most_words};
 ghost use Rattle.sq_follow.specs.Follows.{Follows};
 ghost use Rattle.sq_pass.specs.Rewrites.{IsRewritten};
 ghost use Rattle.sq_jumps.specs.Detour.{IsDetour, without_detour, GoTogether, GoesToo, AreChosen};
 
 use crate::survey::{Survey, survey_of};
 use sq_graph::Graph;
-use sq_layout::learn;
 use sq_live::block_names;
 use sq_lookup::{Names, jump_from};
 use sq_num::{Memory, Savings};
@@ -33,7 +32,7 @@ pub(crate) fn is_detour(graph: &Graph, survey: &Survey, block: u32) -> bool
     requires survey { IsSurvey graph.now.graph (number_at survey.now.addresses) survey.now.used survey.now.needed }
     ensures { IsTrue result ↔ IsDetour graph.now.graph block }
 {
-    learn(graph);
+    graph.learn();
     let Some(to) = jump_from(graph, block) else {
         return false;
     };
@@ -46,7 +45,7 @@ pub(crate) fn remove_detour(graph: &mut Graph, block: u32)
     ensures graph { graph.new.graph ≡ without_detour graph.old.graph block }
     ensures total { KeepsTotal graph.old graph.new }
 {
-    learn(graph);
+    graph.learn();
     let Some(to) = jump_from(graph, block) else {
         unreachable!()
     };
@@ -60,7 +59,7 @@ fn goes_too(graph: &Graph, survey: &Survey, gone: &Names, aims: &Names, block: u
     requires survey { IsSurvey graph.now.graph (number_at survey.now.addresses) survey.now.used survey.now.needed }
     ensures { IfSome result (GoesToo graph.now.graph gone.now aims.now block) }
 {
-    learn(graph);
+    graph.learn();
     if gone.has(block) || aims.has(block) || !survey.used.has(block) {
         return None;
     }
@@ -98,7 +97,7 @@ fn choose(chosen: &mut Chosen, graph: &Graph, survey: &Survey, block: u32) -> Re
 fn detours_together(alloc: Global, graph: &Graph) -> Result<Vec<u32>, Memory>
     ensures { IfOk result (λ blocks. GoTogether graph.now.graph blocks.items) }
 {
-    learn(graph);
+    graph.learn();
     let names = block_names(alloc, graph)?;
     let survey = survey_of(alloc, graph, &names)?;
     let mut chosen = Chosen {
@@ -117,7 +116,7 @@ fn detours_together(alloc: Global, graph: &Graph) -> Result<Vec<u32>, Memory>
 fn remove_detours(graph: &mut Graph, blocks: &[u32], savings: Savings) -> Savings
     requires canonical { IsCanonical graph.old.graph }
     requires detours { GoTogether graph.old.graph blocks.now }
-    requires words { words_of graph.old.graph + words_saved savings ≤ 1048576 }
+    requires words { words_of graph.old.graph + words_saved savings ≤ most_words }
     ensures { IsRewritten IsCandidate described savings result graph.old.graph graph.new.graph }
 {
     let done = Rewrite {
@@ -126,7 +125,7 @@ fn remove_detours(graph: &mut Graph, blocks: &[u32], savings: Savings) -> Saving
     };
     let mut after = savings;
     for block in blocks {
-        learn(graph);
+        graph.learn();
         remove_detour(graph, *block);
         after = done.count(after);
     }
@@ -144,7 +143,7 @@ pub(crate) fn sweep_detours(
     savings: Savings,
 ) -> Result<Savings, Memory>
     requires canonical { IsCanonical graph.old.graph }
-    requires words { words_of graph.old.graph + words_saved savings ≤ 1048576 }
+    requires words { words_of graph.old.graph + words_saved savings ≤ most_words }
     ensures rewritten { IfOk result (λ after. IsRewritten IsCandidate described savings after graph.old.graph graph.new.graph) }
     ensures follows { Follows graph.old.graph graph.new.graph }
 {

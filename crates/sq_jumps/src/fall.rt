@@ -12,13 +12,12 @@ ghost use Rattle.sq_num.specs.Saved.{words_saved};
 ghost use Rattle.sq_graph.specs.Canonical.{canonical_of};
 ghost use Rattle.sq_graph.specs.Leaders.{IsCanonical};
 ghost use Rattle.sq_graph.specs.Parts.{names_of};
-ghost use Rattle.sq_graph.specs.Words.{words_of};
+ghost use Rattle.sq_graph.specs.Words.{words_of, most_words};
 ghost use Rattle.sq_follow.specs.Follows.{Follows};
 ghost use Rattle.sq_pass.specs.Rewrites.{IsRewritten};
 ghost use Rattle.sq_jumps.specs.Fall.{JumpsToNext, falling, IsPlainFall, IsCanonicalTo};
 
 use sq_graph::{Graph, Term};
-use sq_layout::learn;
 use sq_live::block_names;
 use sq_num::{Memory, Savings};
 use sq_pass::{Rewrite, Row};
@@ -41,7 +40,7 @@ pub(crate) fn fall(graph: &mut Graph, block: u32)
     ensures graph { graph.new.graph ≡ falling graph.old.graph block }
     ensures total { KeepsTotal graph.old graph.new }
 {
-    learn(graph);
+    graph.learn();
     graph.set_term(block, Term::Fall);
 }
 
@@ -62,13 +61,13 @@ fn fall_one(graph: &mut Graph, names: &[u32], place: usize, savings: Savings) ->
     requires names { names.now ≡ names_of graph.old.graph }
     requires place { place < length names.now }
     requires canonical { IsCanonicalTo (place + 1) graph.old.graph }
-    requires words { words_of graph.old.graph + words_saved savings ≤ 1048576 }
+    requires words { words_of graph.old.graph + words_saved savings ≤ most_words }
     ensures rewritten { IsRewritten IsCandidate described savings result (canonical_of graph.old.graph) (canonical_of graph.new.graph) }
     ensures canonical { IsCanonicalTo place graph.new.graph }
     ensures words { words_of graph.new.graph + words_saved result ≡ words_of graph.old.graph + words_saved savings }
     ensures names { names_of graph.new.graph ≡ names_of graph.old.graph }
 {
-    learn(graph);
+    graph.learn();
     let block = names[place];
     if !is_plain_fall(graph, block) {
         return savings;
@@ -86,10 +85,10 @@ fn fall_one(graph: &mut Graph, names: &[u32], place: usize, savings: Savings) ->
 fn fall_each(graph: &mut Graph, names: &[u32], savings: Savings) -> Savings
     requires canonical { IsCanonical graph.old.graph }
     requires names { names.now ≡ names_of graph.old.graph }
-    requires words { words_of graph.old.graph + words_saved savings ≤ 1048576 }
+    requires words { words_of graph.old.graph + words_saved savings ≤ most_words }
     ensures { IsRewritten IsCandidate described savings result graph.old.graph (canonical_of graph.new.graph) }
 {
-    learn(graph);
+    graph.learn();
     let mut after = savings;
     for place in (0..names.len()).rev() {
         after = fall_one(graph, names, place, after);
@@ -105,11 +104,11 @@ pub(crate) fn sweep_falls(
     savings: Savings,
 ) -> Result<Savings, Memory>
     requires canonical { IsCanonical graph.old.graph }
-    requires words { words_of graph.old.graph + words_saved savings ≤ 1048576 }
+    requires words { words_of graph.old.graph + words_saved savings ≤ most_words }
     ensures rewritten { IfOk result (λ after. IsRewritten IsCandidate described savings after graph.old.graph graph.new.graph) }
     ensures follows { Follows graph.old.graph graph.new.graph }
 {
-    learn(graph);
+    graph.learn();
     let names = block_names(alloc, graph)?;
     let after = fall_each(graph, &names, savings);
     graph.canonical();

@@ -13,7 +13,7 @@ ghost use Rattle.sq_graph.specs.Room.{KeepsTotal};
 ghost use Rattle.sq_jumps.specs.Candidates.{IsCandidate, described};
 ghost use Rattle.sq_num.specs.Saved.{words_saved};
 ghost use Rattle.sq_graph.specs.Leaders.{IsCanonical};
-ghost use Rattle.sq_graph.specs.Words.{words_of};
+ghost use Rattle.sq_graph.specs.Words.{words_of, most_words};
 ghost use Rattle.sq_follow.specs.Follows.{Follows};
 ghost use Rattle.sq_pass.specs.Rewrites.{IsRewritten};
 ghost use Rattle.sq_jumps.specs.Invert.{BranchesOverJump, inverted, IsStillSafe};
@@ -21,7 +21,6 @@ ghost use Rattle.sq_jumps.specs.Invert.{BranchesOverJump, inverted, IsStillSafe}
 use crate::survey::{Survey, reaches_without, survey_of};
 use sq_graph::{Graph, Term};
 use sq_isa::inverse;
-use sq_layout::learn;
 use sq_live::block_names;
 use sq_lookup::{is_block, jump_from};
 use sq_num::{Memory, Savings};
@@ -36,7 +35,7 @@ pub(crate) fn branches_over_jump(graph: &Graph, survey: &Survey, block: u32) -> 
     ensures some { IsTrue result → BranchesOverJump graph.now.graph block }
     ensures all { IsSurvey graph.now.graph (number_at survey.now.addresses) survey.now.used survey.now.needed → BranchesOverJump graph.now.graph block → IsTrue result }
 {
-    learn(graph);
+    graph.learn();
     let Term::Branch { to: behind, .. } = graph.term(block) else {
         return false;
     };
@@ -61,7 +60,7 @@ pub(crate) fn invert(graph: &mut Graph, block: u32)
     ensures graph { graph.new.graph ≡ inverted graph.old.graph block }
     ensures total { KeepsTotal graph.old graph.new }
 {
-    learn(graph);
+    graph.learn();
     let Term::Branch { cond, a, b, .. } = graph.term(block) else {
         unreachable!()
     };
@@ -81,11 +80,11 @@ pub(crate) fn invert(graph: &mut Graph, block: u32)
 fn invert_one(graph: &mut Graph, survey: &Survey, block: u32, savings: Savings) -> Savings
     requires canonical { IsCanonical graph.old.graph }
     requires survey { IsStillSafe (number_at survey.now.addresses) survey.now.used graph.old.graph }
-    requires words { words_of graph.old.graph + words_saved savings ≤ 1048576 }
+    requires words { words_of graph.old.graph + words_saved savings ≤ most_words }
     ensures rewritten { IsRewritten IsCandidate described savings result graph.old.graph graph.new.graph }
     ensures survey { IsStillSafe (number_at survey.now.addresses) survey.now.used graph.new.graph }
 {
-    learn(graph);
+    graph.learn();
     if !is_block(graph, block) {
         return savings;
     }
@@ -104,7 +103,7 @@ fn invert_one(graph: &mut Graph, survey: &Survey, block: u32, savings: Savings) 
 fn invert_each(graph: &mut Graph, survey: &Survey, names: &[u32], savings: Savings) -> Savings
     requires canonical { IsCanonical graph.old.graph }
     requires survey { IsStillSafe (number_at survey.now.addresses) survey.now.used graph.old.graph }
-    requires words { words_of graph.old.graph + words_saved savings ≤ 1048576 }
+    requires words { words_of graph.old.graph + words_saved savings ≤ most_words }
     ensures { IsRewritten IsCandidate described savings result graph.old.graph graph.new.graph }
 {
     let mut after = savings;
@@ -122,11 +121,11 @@ pub(crate) fn sweep_branches(
     savings: Savings,
 ) -> Result<Savings, Memory>
     requires canonical { IsCanonical graph.old.graph }
-    requires words { words_of graph.old.graph + words_saved savings ≤ 1048576 }
+    requires words { words_of graph.old.graph + words_saved savings ≤ most_words }
     ensures rewritten { IfOk result (λ after. IsRewritten IsCandidate described savings after graph.old.graph graph.new.graph) }
     ensures follows { Follows graph.old.graph graph.new.graph }
 {
-    learn(graph);
+    graph.learn();
     let names = block_names(alloc, graph)?;
     let survey = survey_of(alloc, graph, &names)?;
     Ok(invert_each(graph, &survey, &names, savings))

@@ -29,7 +29,6 @@ use crate::survey::{Survey, survey_of};
 use crate::sweep::sweep_jumps;
 use crate::unreached::{admit_unreached, drop_unreached, find_unreached};
 use sq_graph::{Graph, Room};
-use sq_layout::learn;
 use sq_live::{Liveness, block_names};
 use sq_lookup::is_block;
 use sq_num::{Memory, Savings};
@@ -43,7 +42,7 @@ pub(crate) fn jump_row(graph: &Graph, survey: &Survey, block: u32) -> Option<Row
     ensures some { IfSome result (λ row. HasRow row graph.now.graph block) }
     ensures none { result ≡ None → ¬ JumpsToNext graph.now.graph block × ¬ IsDetour graph.now.graph block × ¬ BranchesOverJump graph.now.graph block }
 {
-    learn(graph);
+    graph.learn();
     if jumps_to_next(graph, block) {
         return Some(Row::J1);
     }
@@ -123,7 +122,7 @@ fn has_row(
     requires live { IsLivenessOf graph.now.graph live.now }
     ensures { IfOk result (λ has. IsTrue has ↔ HasRow row graph.now.graph block) }
 {
-    learn(graph);
+    graph.learn();
     match row {
         Row::J1 => Ok(jumps_to_next(graph, block)),
         Row::J2 => {
@@ -172,7 +171,7 @@ pub(crate) fn apply_row(graph: &mut Graph, row: Row, block: u32)
     ensures applied { IsApplied 1 (rewritten row graph.old.graph (block ∷ [])) graph.old.graph graph.new.graph }
     ensures total { KeepsTotal graph.old graph.new }
 {
-    learn(graph);
+    graph.learn();
     match row {
         Row::J1 => fall(graph, block),
         Row::J2 => remove_detour(graph, block),
@@ -206,7 +205,7 @@ impl Pass for Jumps {
         live: &Liveness,
         cut: Cut,
     ) -> Result<Option<Cut>, Memory> {
-        learn(graph);
+        graph.learn();
         match cut.row {
             Row::U => admit_unreached(alloc, graph, &cut),
             _ => admit_block(alloc, graph, live, cut),
@@ -215,7 +214,7 @@ impl Pass for Jumps {
 
     /// It looks at each word a few times.
     fn find(&self, alloc: Global, graph: &Graph, live: &Liveness) -> Result<Option<Cut>, Memory> {
-        learn(graph);
+        graph.learn();
         let names = block_names(alloc, graph)?;
         match find_block(alloc, graph, live, &names)? {
             Some(cut) => Ok(Some(cut)),
@@ -234,7 +233,7 @@ impl Pass for Jumps {
 
     /// A few calls of the graph; of U one look at the blocks for each procedure besides.
     fn apply(&self, graph: &mut Graph, cut: &Cut) {
-        learn(graph);
+        graph.learn();
         let blocks = cut.blocks.as_slice();
         match cut.row {
             Row::U => drop_unreached(graph, blocks),

@@ -9,7 +9,6 @@ use crate::cut::cut_at;
 use crate::jumps::row_at;
 use crate::survey::survey_of;
 use sq_graph::Graph;
-use sq_layout::learn;
 use sq_live::{Liveness, block_names};
 use sq_num::Memory;
 use sq_pass::Cut;
@@ -21,7 +20,7 @@ pub fn propose(alloc: Global, graph: &Graph, live: &Liveness) -> Result<Vec<Cut>
     requires { IsLivenessOf graph.now.graph live.now }
     ensures { IfOk result (λ cuts. All (IsCandidate graph.now.graph) cuts.items) }
 {
-    learn(graph);
+    graph.learn();
     let names = block_names(alloc, graph)?;
     let survey = survey_of(alloc, graph, &names)?;
     let mut cuts = Vec::new(alloc);

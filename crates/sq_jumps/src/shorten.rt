@@ -13,14 +13,13 @@ ghost use Rattle.sq_jumps.specs.Candidates.{IsCandidate, described};
 ghost use Rattle.sq_num.specs.Saved.{words_saved};
 ghost use Rattle.sq_graph.specs.Leaders.{IsCanonical};
 ghost use Rattle.sq_graph.specs.Parts.{names_of};
-ghost use Rattle.sq_graph.specs.Words.{words_of};
+ghost use Rattle.sq_graph.specs.Words.{words_of, most_words};
 ghost use Rattle.sq_follow.specs.Follows.{Follows};
 ghost use Rattle.sq_pass.specs.Rewrites.{IsRewritten};
 ghost use Rattle.sq_jumps.specs.Shorten.{JumpsByDeadPart, shortened_at, IsStillDead};
 
 use sq_graph::{Graph, Item, Term};
 use sq_isa::Reg;
-use sq_layout::learn;
 use sq_live::{Liveness, block_names, live};
 use sq_num::{Memory, Savings};
 use sq_pass::{Rewrite, Row};
@@ -34,7 +33,7 @@ pub(crate) fn jumps_by_dead_part(graph: &Graph, live: &Liveness, block: u32) -> 
     ensures some { IsTrue result → JumpsByDeadPart graph.now.graph block }
     ensures all { IsLivenessOf graph.now.graph live.now → JumpsByDeadPart graph.now.graph block → IsTrue result }
 {
-    learn(graph);
+    graph.learn();
     let Term::PartJump { link, part, to } = graph.term(block) else {
         return false;
     };
@@ -64,7 +63,7 @@ pub(crate) fn shorten(graph: &mut Graph, block: u32)
     ensures graph { graph.new.graph ≡ shortened_at graph.old.graph block }
     ensures total { KeepsTotal graph.old graph.new }
 {
-    learn(graph);
+    graph.learn();
     let Term::PartJump { link, to, .. } = graph.term(block) else {
         unreachable!()
     };
@@ -78,12 +77,12 @@ fn shorten_one(graph: &mut Graph, live: &Liveness, block: u32, savings: Savings)
     requires canonical { IsCanonical graph.old.graph }
     requires block { HasBlock graph.old.graph block }
     requires live { IsStillDead live.now graph.old.graph }
-    requires words { words_of graph.old.graph + words_saved savings ≤ 1048576 }
+    requires words { words_of graph.old.graph + words_saved savings ≤ most_words }
     ensures rewritten { IsRewritten IsCandidate described savings result graph.old.graph graph.new.graph }
     ensures live { IsStillDead live.now graph.new.graph }
     ensures names { names_of graph.new.graph ≡ names_of graph.old.graph }
 {
-    learn(graph);
+    graph.learn();
     if !jumps_by_dead_part(graph, live, block) {
         return savings;
     }
@@ -101,10 +100,10 @@ fn shorten_each(graph: &mut Graph, live: &Liveness, names: &[u32], savings: Savi
     requires canonical { IsCanonical graph.old.graph }
     requires live { IsStillDead live.now graph.old.graph }
     requires names { names.now ≡ names_of graph.old.graph }
-    requires words { words_of graph.old.graph + words_saved savings ≤ 1048576 }
+    requires words { words_of graph.old.graph + words_saved savings ≤ most_words }
     ensures { IsRewritten IsCandidate described savings result graph.old.graph graph.new.graph }
 {
-    learn(graph);
+    graph.learn();
     let mut after = savings;
     for name in names {
         after = shorten_one(graph, live, *name, after);
@@ -120,11 +119,11 @@ pub(crate) fn sweep_calls(
     savings: Savings,
 ) -> Result<Savings, Memory>
     requires canonical { IsCanonical graph.old.graph }
-    requires words { words_of graph.old.graph + words_saved savings ≤ 1048576 }
+    requires words { words_of graph.old.graph + words_saved savings ≤ most_words }
     ensures rewritten { IfOk result (λ after. IsRewritten IsCandidate described savings after graph.old.graph graph.new.graph) }
     ensures follows { Follows graph.old.graph graph.new.graph }
 {
-    learn(graph);
+    graph.learn();
     let live = live(alloc, graph)?;
     let names = block_names(alloc, graph)?;
     Ok(shorten_each(graph, &live, &names, savings))

@@ -14,7 +14,7 @@ ghost use Rattle.sq_lookup.specs.Tables.{number_at};
 
 use crate::uses::used_names;
 use sq_graph::{Graph, Term};
-use sq_layout::{distance, learn, reaches};
+use sq_layout::{distance, reaches};
 use sq_lookup::{Names, Table, address, block_addresses, jump_from};
 use sq_num::Memory;
 use std::alloc::Global;
@@ -116,7 +116,7 @@ pub(crate) fn survey_of(alloc: Global, graph: &Graph, names: &[u32]) -> Result<S
     requires { names.now ≡ names_of graph.now.graph }
     ensures { IfOk result (λ survey. IsSurvey graph.now.graph (number_at survey.addresses) survey.used survey.needed) }
 {
-    learn(graph);
+    graph.learn();
     let addresses = block_addresses(alloc, graph, names)?;
     let used = used_names(alloc, graph, names)?;
     let needed = needed_names(alloc, graph, names, &addresses)?;

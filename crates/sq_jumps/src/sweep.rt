@@ -6,7 +6,7 @@ ghost use Rattle.sq_jumps.specs.Candidates.{HasRow, IsCandidate, described};
 ghost use Rattle.std.specs.List.{All};
 ghost use Rattle.sq_num.specs.Saved.{words_saved};
 ghost use Rattle.sq_graph.specs.Leaders.{IsCanonical};
-ghost use Rattle.sq_graph.specs.Words.{words_of};
+ghost use Rattle.sq_graph.specs.Words.{words_of, most_words};
 ghost use Rattle.sq_follow.specs.Follows.{Follows};
 ghost use Rattle.sq_pass.specs.declared.cut.Row.{Row as RowName};
 ghost use Rattle.sq_pass.specs.Rewrites.{IsRewritten};
@@ -15,7 +15,6 @@ use crate::fall::jumps_to_next;
 use crate::jumps::{apply_row, jump_row};
 use crate::survey::survey_of;
 use sq_graph::Graph;
-use sq_layout::learn;
 use sq_live::block_names;
 use sq_lookup::is_block;
 use sq_num::{Memory, Savings};
@@ -26,7 +25,7 @@ use std::alloc::Global;
 fn jump_blocks(alloc: Global, graph: &Graph) -> Result<Vec<u32>, Memory>
     ensures { IfOk result (λ blocks. All (λ block. (row : RowName) × HasRow row graph.now.graph block) blocks.items) }
 {
-    learn(graph);
+    graph.learn();
     let names = block_names(alloc, graph)?;
     let survey = survey_of(alloc, graph, &names)?;
     let mut blocks = Vec::new(alloc);
@@ -43,7 +42,7 @@ fn jump_row_now(alloc: Global, graph: &Graph, block: u32) -> Result<Option<Row>,
     requires { HasBlock graph.now.graph block }
     ensures { IfOk result (λ found. IfSome found (λ row. HasRow row graph.now.graph block)) }
 {
-    learn(graph);
+    graph.learn();
     if jumps_to_next(graph, block) {
         return Ok(Some(Row::J1));
     }
@@ -60,7 +59,7 @@ fn rewrite_one(
     savings: Savings,
 ) -> Result<Savings, Memory>
     requires canonical { IsCanonical graph.old.graph }
-    requires words { words_of graph.old.graph + words_saved savings ≤ 1048576 }
+    requires words { words_of graph.old.graph + words_saved savings ≤ most_words }
     ensures rewritten { IfOk result (λ after. IsRewritten IsCandidate described savings after graph.old.graph graph.new.graph) }
     ensures follows { Follows graph.old.graph graph.new.graph }
 {
@@ -71,7 +70,7 @@ fn rewrite_one(
         return Ok(savings);
     };
     apply_row(graph, row, block);
-    learn(graph);
+    graph.learn();
     graph.canonical();
     let done = Rewrite { row, saving: 1 };
     Ok(done.count(savings))
@@ -85,7 +84,7 @@ fn rewrite_each(
     savings: Savings,
 ) -> Result<Savings, Memory>
     requires canonical { IsCanonical graph.old.graph }
-    requires words { words_of graph.old.graph + words_saved savings ≤ 1048576 }
+    requires words { words_of graph.old.graph + words_saved savings ≤ most_words }
     ensures rewritten { IfOk result (λ after. IsRewritten IsCandidate described savings after graph.old.graph graph.new.graph) }
     ensures follows { Follows graph.old.graph graph.new.graph }
 {
@@ -104,7 +103,7 @@ pub(crate) fn sweep_jumps(
     savings: Savings,
 ) -> Result<Savings, Memory>
     requires canonical { IsCanonical graph.old.graph }
-    requires words { words_of graph.old.graph + words_saved savings ≤ 1048576 }
+    requires words { words_of graph.old.graph + words_saved savings ≤ most_words }
     ensures rewritten { IfOk result (λ after. IsRewritten IsCandidate described savings after graph.old.graph graph.new.graph) }
     ensures follows { Follows graph.old.graph graph.new.graph }
 {

@@ -26,7 +26,7 @@ ghost use Rattle.sq_pass.specs.Cuts.{IsCompleted};
 use crate::cut::no_register;
 pub(crate) use clear::drop_unreached;
 use sq_graph::{Graph, Item};
-use sq_layout::{block_words, learn};
+use sq_layout::block_words;
 use sq_live::block_names;
 use sq_lookup::Names;
 use sq_num::Memory;
@@ -122,7 +122,7 @@ pub(crate) fn find_unreached(
     ensures some { IfOk result (λ found. IfSome found (IsUnreachedCut graph.now.graph)) }
     ensures none { result ≡ Ok None → (cut : Told) → ¬ IsUnreachedCut graph.now.graph cut }
 {
-    learn(graph);
+    graph.learn();
     let marks = reachable(alloc, graph)?;
     let blocks = unmarked(alloc, &marks, names)?;
     let called = called_procedures(alloc, graph, &marks, names)?;

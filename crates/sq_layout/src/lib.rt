@@ -5,13 +5,11 @@
 //! branch; and that a graph in reach stays so where blocks go, lose words or are split in two.
 #![tactic(auto)]
 
-mod facts;
 pub mod laws;
 mod places;
 mod reach;
 mod words;
 
-pub use facts::learn;
 pub use places::{Places, place};
 pub use reach::{distance, reaches};
 pub use words::{block_words, words_of};

@@ -7,7 +7,6 @@ ghost use Rattle.sq_graph.specs.Words.{block_words, procedure_words, words_of};
 ghost use Rattle.sq_graph.specs.Places.{block_address, procedure_addresses};
 ghost use Rattle.sq_layout.specs.Addresses.{address_of, procedure_at, ArePlaces};
 
-use crate::facts::learn;
 use crate::words::{block_words, words_of_blocks};
 use sq_graph::Graph;
 use sq_num::Memory;
@@ -66,7 +65,7 @@ pub fn place(alloc: Global, g: &Graph, lo: u32) -> Result<Places, Memory>
     requires { lo + 4 * words_of g.now.graph ≤ 2 ^ 32 }
     ensures { IfOk result (λ places. ArePlaces g.now.graph lo places) }
 {
-    learn(g);
+    g.learn();
     let blocks = block_addresses(alloc, g, lo)?;
     let start = u64::from(lo) + 4 * u64::from(words_of_blocks(g));
     let procedures = procedure_addresses(alloc, g, start)?;

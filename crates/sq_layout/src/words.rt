@@ -5,7 +5,6 @@ ghost use Rattle.sq_graph.specs.Blocks.{HasBlock, block_of};
 ghost use Rattle.sq_graph.specs.Rules.{IsGraph};
 ghost use Rattle.sq_graph.specs.Words.{term_words, block_words, procedure_words, words_of};
 
-use crate::facts::learn;
 use sq_graph::{Graph, Term};
 
 /// A Fall takes no word, and each other term one.
@@ -28,7 +27,7 @@ pub fn block_words(g: &Graph, block: u32) -> u32
     requires { HasBlock g.now.graph block }
     ensures { option_map block_words (block_of g.now.graph block) ≡ Some result }
 {
-    learn(g);
+    g.learn();
     g.items(block).len() as u32 + term_words(g.term(block))
 }
 
@@ -63,6 +62,6 @@ fn words_of_procedures(g: &Graph) -> u32
 pub fn words_of(g: &Graph) -> u32
     ensures { result ≡ words_of g.now.graph }
 {
-    learn(g);
+    g.learn();
     words_of_blocks(g) + words_of_procedures(g)
 }

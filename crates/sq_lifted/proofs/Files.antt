@@ -12,7 +12,7 @@ use Rattle.sq_elf.specs.Headers.{entry_of, phnum_of, segment_of}
 use Rattle.sq_elf.specs.Reading.{word_in, word_of, has_word}
 use Rattle.sq_num.specs.Refusals.{first_from}
 use Rattle.sq_elf.specs.Text.{text_of as text_range, is_in_text as range_has, is_text_word}
-use Rattle.sq_elf.specs.Refusing.{too_many_pieces, too_many_bytes, bad_entry, without_text, bad_text_section, text_split, text_moved, text_too_large, text_size}
+use Rattle.sq_elf.specs.Refusing.{too_many_pieces, too_many_bytes, bad_entry, without_text, bad_text_section, text_split, text_moved, text_too_large, text_size, largest_text}
 use Rattle.sq_elf.proofs.Accepted.{single_passes, text_accepted, sizes_accepted}
 use Rattle.sq_elf.proofs.Passing.{behind_row}
 use Rattle.sq_elf.proofs.TextFacts.{both_true, TextFacts, text_facts, text_has_words}
@@ -244,13 +244,13 @@ module _ (bytes : List ℕ) (is : ℕ → Bool) (p : Program) (read : IsReadAs b
       let at : code_word_at bytes a.0 ≡ Some x = sym (read.program.code_words.exactly a.0) ∙ a.1 in
       text_word_is x (is_code_word bytes read.relocs a.0 x at).to_text
 
-  small_text : text_size bytes ≤ 1048576
+  small_text : text_size bytes ≤ largest_text
   small_text = not_more (text_size bytes) row
     where
-      not_more : (n : ℕ) → nat_lt 1048576 n ≡ false → n ≤ 1048576
+      not_more : (n : ℕ) → nat_lt largest_text n ≡ false → n ≤ largest_text
       not_more n e = grind (arith, nat_tests)
 
-      row : nat_lt 1048576 (text_size bytes) ≡ false
+      row : nat_lt largest_text (text_size bytes) ≡ false
       row =
           single_passes _ _ []
           (behind_row (text_moved bytes) (text_too_large bytes ∷ [])

@@ -15,16 +15,9 @@ use crate::live_links::first_live;
 use sq_elf::Elf;
 use sq_graph::{Graph, Room};
 use sq_lift::{NotedProgram, Text, parts_of, read_noted};
-use sq_num::{Denied, Memory, Refusal};
+use sq_num::{Denied, Memory, Refusal, bytes_fit};
 use sq_reloc::Relocs;
 use std::alloc::Global;
-
-/// Each number of a slice of bytes is below 256.
-fn bytes_fit(bytes: &[u8])
-    ensures { AllByRecursion (λ b. b < 256) bytes.now }
-{
-    let _count = bytes.len();
-}
 
 /// The graph of a file that its text doesn't refuse, nor its note but for what is asked of the graph.
 fn early_graph(

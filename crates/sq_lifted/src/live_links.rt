@@ -40,8 +40,7 @@ fn mark_block(flags: &mut Vec<bool>, g: &Graph, live: &Liveness, block: u32)
     requires flags { length flags.old.items ≡ length g.now.graph.procedures }
     ensures { Marks (BlockDies g.now.graph block) flags.old.items flags.new.items }
 {
-    // Its contract has that the graph is small.
-    let _spare = g.spare();
+    g.learn();
     for (place, item) in g.items(block).iter().enumerate() {
         mark_item(flags, g, live, block, place as u32, item);
     }
@@ -52,8 +51,7 @@ fn live_links(alloc: Global, g: &Graph, live: &Liveness) -> Result<Vec<bool>, Me
     requires { IsLivenessOf g.now.graph live.now }
     ensures { IfOk result (λ flags. AreLiveLinks g.now.graph flags.items) }
 {
-    // Its contract has the rules of the graph.
-    let _entry = g.entry();
+    g.learn();
     let names = block_names(alloc, g)?;
     let mut flags = vec![in alloc; false; g.procedures() as usize]?;
     for name in &names {

@@ -64,8 +64,7 @@ impl Liveness {
 pub fn live(alloc: Global, g: &Graph) -> Result<Liveness, Memory>
     ensures { IfOk result (IsLivenessOf g.now.graph) }
 {
-    // Its contract has the rules of the graph.
-    let _entry = g.entry();
+    g.learn();
     let names = block_names(alloc, g)?;
     let positions = positions(alloc, &names)?;
     let calls = call_effects(alloc, g)?;

@@ -8,7 +8,7 @@ ghost use Rattle.sq_lookup.specs.Tables.{number_at};
 
 use crate::table::Table;
 use sq_graph::Graph;
-use sq_layout::{block_words, learn};
+use sq_layout::block_words;
 use sq_num::Memory;
 use std::alloc::Global;
 
@@ -17,7 +17,7 @@ pub fn block_addresses(alloc: Global, graph: &Graph, names: &[u32]) -> Result<Ta
     requires { names.now ≡ names_of graph.now.graph }
     ensures { IfOk result (λ addresses. (n : ℕ) → number_at addresses n ≡ block_address graph.now.graph 0 n) }
 {
-    learn(graph);
+    graph.learn();
     let mut addresses = Table::new(alloc);
     let mut at = 0;
     for name in names {

@@ -6,7 +6,6 @@ ghost use Rattle.sq_graph.specs.Resolve.{jump_from, is_on_cycle, resolved};
 ghost use Rattle.sq_graph.specs.Rules.{IsGraph};
 
 use sq_graph::{Graph, Term};
-use sq_layout::learn;
 
 /// Where a block jumps to that is a Jump and nothing else.
 pub fn jump_from(graph: &Graph, block: u32) -> Option<u32>
@@ -45,7 +44,7 @@ pub fn resolve(graph: &Graph, block: u32) -> u32
     requires { HasBlock graph.now.graph block }
     ensures { result ≡ resolved graph.now.graph block }
 {
-    learn(graph);
+    graph.learn();
     let mut at = block;
     for _hop in 0..graph.links().len() {
         if is_on_cycle(graph, at) {

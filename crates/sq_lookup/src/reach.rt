@@ -13,7 +13,7 @@ ghost use Rattle.sq_lookup.specs.Tables.{number_at};
 use crate::addresses::{address, block_addresses};
 use crate::table::Table;
 use sq_graph::{Graph, Term};
-use sq_layout::{distance, learn, reaches};
+use sq_layout::{distance, reaches};
 use sq_live::block_names;
 use sq_num::Memory;
 use std::alloc::Global;
@@ -53,7 +53,7 @@ fn all_have_reach(graph: &Graph, addresses: &Table, names: &[u32]) -> bool
 pub fn in_reach(alloc: Global, graph: &Graph) -> Result<bool, Memory>
     ensures { IfOk result (λ near. IsTrue near ↔ IsInReach graph.now.graph) }
 {
-    learn(graph);
+    graph.learn();
     let names = block_names(alloc, graph)?;
     let addresses = block_addresses(alloc, graph, &names)?;
     Ok(all_have_reach(graph, &addresses, &names))

@@ -1,6 +1,7 @@
 //! A list of bytes that contracts see as a list of numbers.
 
-ghost use Rattle.std.specs.Prelude.{◌≡◌, [], ◌∷◌, ◌++◌, IfOk, OnOk, OnErr, vec_len};
+ghost use Rattle.std.specs.Prelude.{◌≡◌, ◌<◌, [], ◌∷◌, ◌++◌, IfOk, OnOk, OnErr, vec_len};
+ghost use Rattle.std.specs.List.{AllByRecursion};
 
 use crate::memory::Memory;
 use std::alloc::Global;
@@ -60,4 +61,11 @@ impl Bytes {
     {
         self.held.as_slice()
     }
+}
+
+/// It does nothing. Each number of a slice of bytes is below 256.
+pub fn bytes_fit(bytes: &[u8])
+    ensures { AllByRecursion (λ b. b < 256) bytes.now }
+{
+    let _count = bytes.len();
 }

@@ -14,7 +14,7 @@ mod packed;
 mod refusal;
 mod word_list;
 
-pub use bytes::Bytes;
+pub use bytes::{Bytes, bytes_fit};
 pub use fields::{u16_at, u32_at};
 pub use halves::{hi20, lo12};
 pub use line::Line;

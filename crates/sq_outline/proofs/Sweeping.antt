@@ -8,7 +8,7 @@ use Rattle.sq_graph.specs.Leaders.{IsCanonical}
 use Rattle.sq_graph.specs.Operations.{outlined}
 use Rattle.sq_graph.specs.Room.{IsSmall, sum_of, count_of}
 use Rattle.sq_graph.specs.Rules.{IsGraph}
-use Rattle.sq_graph.specs.Words.{block_words, procedure_words, words_of}
+use Rattle.sq_graph.specs.Words.{block_words, procedure_words, words_of, most_words}
 use Rattle.sq_graph.proofs.CanonicalLaws.{canonical_again}
 use Rattle.sq_pass.specs.declared.cut.Cut.{Cut}
 use Rattle.sq_pass.specs.declared.cut.Row.TheVariants.{O1, O2}
@@ -38,7 +38,7 @@ few_bodies [] = omega arith
 few_bodies (p ∷ ps) = omega (arith, few_bodies ps, sum_by-cons procedure_words p ps, length-append p.body (items_of_bodies ps))
 
 -- a graph of few words, and of blocks that are few anyway, has room for one more procedure of few items
-pub room_for_procedure : (g : Graph) (items : ℕ) → length g.blocks < 2 ^ 29 → words_of g ≤ 1048576 → items ≤ 1048576 → IsSmall (sum_of (count_of g) (record { blocks = 0; items = items; procedures = 1 }))
+pub room_for_procedure : (g : Graph) (items : ℕ) → length g.blocks < 2 ^ 29 → words_of g ≤ most_words → items ≤ most_words → IsSmall (sum_of (count_of g) (record { blocks = 0; items = items; procedures = 1 }))
 room_for_procedure g items blocks few short =
     let all = length-append (items_of_blocks g.blocks) (items_of_bodies g.procedures) in
     let own = few_items g.blocks in

@@ -22,7 +22,6 @@ use crate::groups::{has_print, procedure_prints};
 use crate::plain::are_plain;
 use sq_graph::{Graph, Item};
 use sq_isa::Reg;
-use sq_layout::learn;
 use sq_live::Liveness;
 use sq_lookup::is_block;
 use sq_num::Memory;
@@ -38,7 +37,7 @@ pub(crate) fn call(graph: &mut Graph, block: u32, at: u32, procedure: u32)
     ensures graph { graph.new.graph ≡ called_there graph.old.graph block at procedure }
     ensures total { KeepsTotal graph.old graph.new }
 {
-    learn(graph);
+    graph.learn();
     let count = graph.body(procedure).len() as u32;
     graph.replace(block, at, count, &[Item::Out { procedure }]);
 }
@@ -50,7 +49,7 @@ pub(crate) fn may_call(graph: &Graph, live: &Liveness, block: u32, procedure: u3
     requires live { IsLivenessOf graph.now.graph live.now }
     ensures { IsTrue result ↔ MayCall graph.now.graph block procedure }
 {
-    learn(graph);
+    graph.learn();
     let items = graph.items(block);
     let count = graph.body(procedure).len();
     if count < 2 {
@@ -115,7 +114,7 @@ fn find_call(
     ensures some { IfSome result (λ found. HasProcedure graph.now.graph found.1 × MayCall graph.now.graph found.0 found.1) }
     ensures none { result ≡ None → All (λ block. (procedure : ℕ) → HasProcedure graph.now.graph procedure → ¬ MayCall graph.now.graph block procedure) names.now }
 {
-    learn(graph);
+    graph.learn();
     for name in names {
         if let Some(procedure) = procedure_by_print(graph, live, prints, *name) {
             return Some((*name, procedure));
@@ -130,7 +129,7 @@ pub(crate) fn call_saving(graph: &Graph, block: u32, procedure: u32) -> u32
     requires may { MayCall graph.now.graph block procedure }
     ensures { result ≡ call_saving graph.now.graph procedure }
 {
-    learn(graph);
+    graph.learn();
     graph.body(procedure).len() as u32 - 1
 }
 

@@ -13,7 +13,6 @@ use crate::plain::are_plain;
 use crate::sets::{fewest_calls, pays};
 use sq_graph::{Graph, Item};
 use sq_isa::{Reg, RegSet};
-use sq_layout::learn;
 use sq_live::{Liveness, live};
 use sq_lookup::is_block;
 use sq_num::Memory;
@@ -34,7 +33,7 @@ pub(crate) fn body_of(graph: &Graph, live: &Liveness, block: u32) -> Option<Body
     requires live { IsStillDead live.now graph.now.graph }
     ensures { IfSome result (IsDying graph.now.graph) }
 {
-    learn(graph);
+    graph.learn();
     let items = graph.items(block);
     if items.len() < 2 || !are_plain(items) {
         return None;
@@ -147,9 +146,7 @@ fn is_surely_link(alloc: Global, graph: &Graph, blocks: &[u32], r: Reg) -> Resul
     requires callers { All (MayCallThrough graph.now.graph (items_of graph.now.graph (slice_index blocks.now 0)) r) blocks.now }
     ensures { IfOk result (λ sure. IsTrue sure → AreMade graph.now.graph blocks.now r) }
 {
-    learn(graph);
-    // Its contract says that a graph's blocks are few.
-    let _room = graph.spare();
+    graph.learn();
     let items = graph.items(blocks[0]);
     if !is_first_free(items, r) {
         return Ok(false);
@@ -264,7 +261,7 @@ fn may_still_call(graph: &Graph, body: &Body, procedure: u32) -> bool
     requires body { IsDying graph.now.graph body.now }
     ensures { IsTrue result → MayCall graph.now.graph body.now.block procedure }
 {
-    learn(graph);
+    graph.learn();
     let items = graph.body(procedure);
     if items.len() < 2 {
         return false;

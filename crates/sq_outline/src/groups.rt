@@ -15,7 +15,6 @@ use sq_encode::encode;
 use sq_finger::number_all;
 use sq_graph::{Graph, Item};
 use sq_isa::Insn;
-use sq_layout::learn;
 use sq_live::block_names;
 use sq_num::Memory;
 use sq_rename::shape;
@@ -99,7 +98,7 @@ fn block_print(graph: &Graph, block: u32) -> u64
     requires { HasBlock graph.now.graph block }
     ensures { result ≡ print_of graph.now.graph block }
 {
-    learn(graph);
+    graph.learn();
     print(graph.items(block))
 }
 
@@ -107,7 +106,7 @@ fn block_print(graph: &Graph, block: u32) -> u64
 pub(crate) fn procedure_prints(alloc: Global, graph: &Graph) -> Result<HashMap<u64, u32>, Memory>
     ensures { IfOk result (λ prints. HasPrints graph.now.graph (get nat_eq prints)) }
 {
-    learn(graph);
+    graph.learn();
     let mut prints = HashMap::new(alloc);
     for procedure in 0..graph.procedures() {
         prints.insert(print(graph.body(procedure)), procedure)?;
@@ -128,7 +127,7 @@ fn prints(alloc: Global, graph: &Graph, names: &[u32]) -> Result<Vec<Option<u64>
     requires { names.now ≡ names_of graph.now.graph }
     ensures { IfOk result (λ prints. prints.items ≡ map (λ name. Some (print_of graph.now.graph name)) names.now) }
 {
-    learn(graph);
+    graph.learn();
     let mut prints = Vec::new(alloc);
     for name in names {
         prints.push(Some(block_print(graph, *name)))?;
@@ -215,8 +214,7 @@ pub(crate) fn body_groups(alloc: Global, graph: &Graph) -> Result<Groups, Memory
     ensures value { IfOk result (λ groups. groups ≡ print_groups graph.now.graph) }
     ensures classes { IfOk result (λ groups. AreClasses (print_of graph.now.graph) (HasBlock graph.now.graph) groups) }
 {
-    learn(graph);
-    let _room = graph.spare();
+    graph.learn();
     let names = block_names(alloc, graph)?;
     let prints = prints(alloc, graph, &names)?;
     let numbers = number_all(alloc, &prints)?;

@@ -17,7 +17,7 @@ ghost use Rattle.sq_outline.specs.InlineSteps.{inlined_if, spread_at, HasRoom, i
 
 use sq_graph::{Graph, Item, Room};
 use sq_isa::Reg;
-use sq_layout::{learn, words_of};
+use sq_layout::words_of;
 use sq_lookup::{Table, in_reach};
 use sq_num::Memory;
 use sq_pass::{Blocks, Cut, Row};
@@ -42,7 +42,7 @@ fn inline_at(graph: &mut Graph, procedure: u32, block: u32, at: u32)
     ensures room { HasRoom procedure graph.new }
     ensures total { KeepsTotal graph.old graph.new }
 {
-    learn(graph);
+    graph.learn();
     if is_call(&graph.items(block)[at as usize], procedure) {
         graph.inline(block, at);
     }
@@ -56,7 +56,7 @@ fn inline_block(graph: &mut Graph, procedure: u32, block: u32)
     ensures room { HasRoom procedure graph.new }
     ensures total { KeepsTotal graph.old graph.new }
 {
-    learn(graph);
+    graph.learn();
     let count = graph.items(block).len() as u32;
     for at in (0..count).rev() {
         inline_at(graph, procedure, block, at);
@@ -70,11 +70,11 @@ fn inline_blocks(graph: &mut Graph, procedure: u32)
     ensures none { call_count graph.new.graph procedure ≡ 0 }
     ensures total { KeepsTotal graph.old graph.new }
 {
-    learn(graph);
+    graph.learn();
     let mut place = Some(graph.first());
     while let Some(block) = place {
         inline_block(graph, procedure, block);
-        learn(graph);
+        graph.learn();
         place = graph.next(block);
     }
 }
@@ -87,9 +87,9 @@ pub(crate) fn apply_inline(graph: &mut Graph, procedure: u32)
     ensures applied { (saving : ℕ) → IsInlinable graph.old.graph procedure saving → IsApplied saving (inlined_all graph.old.graph procedure) graph.old.graph graph.new.graph }
     ensures total { KeepsTotal graph.old graph.new }
 {
-    learn(graph);
+    graph.learn();
     inline_blocks(graph, procedure);
-    learn(graph);
+    graph.learn();
     graph.remove_procedure(procedure);
 }
 
@@ -111,7 +111,7 @@ fn add_calls(calls: &mut Table, items: &[Item]) -> Result<(), Memory>
 fn count_calls(alloc: Global, graph: &Graph) -> Result<Table, Memory>
     ensures { IfOk result (λ calls. (p : ℕ) → counted calls p ≡ call_count graph.now.graph p) }
 {
-    learn(graph);
+    graph.learn();
     let mut calls = Table::new(alloc);
     let mut place = Some(graph.first());
     while let Some(block) = place {
@@ -126,7 +126,7 @@ pub(crate) fn inline_room(graph: &Graph, procedure: u32) -> Room
     requires there { HasProcedure graph.now.graph procedure }
     ensures { result ≡ inline_room graph.now.graph procedure }
 {
-    learn(graph);
+    graph.learn();
     Room {
         blocks: 0,
         items: graph.body(procedure).len() as u32 + 1,
@@ -143,7 +143,7 @@ fn is_near(alloc: Global, graph: &Graph, procedure: u32) -> Result<bool, Memory>
     requires few { call_count graph.now.graph procedure * length (body_of graph.now.graph procedure) ≤ call_count graph.now.graph procedure + length (body_of graph.now.graph procedure) }
     ensures { IfOk result (λ near. IsTrue near ↔ IsInReach (inlined_all graph.now.graph procedure)) }
 {
-    let _room = graph.spare();
+    graph.learn();
     if words_of(graph) >= MANY {
         return Err(Memory);
     }
@@ -166,7 +166,7 @@ fn inline_saving(
     ensures some { IfOk result (λ found. IfSome found (IsInlinable graph.now.graph procedure)) }
     ensures none { result ≡ Ok None → (saving : ℕ) → ¬ IsInlinable graph.now.graph procedure saving }
 {
-    learn(graph);
+    graph.learn();
     let count = calls.get(procedure).unwrap_or(0);
     let size = graph.body(procedure).len() as u64;
     let gone = count + size + 1;

@@ -22,7 +22,6 @@ use crate::sets::{find_set, has_body, pays};
 use crate::sites::Site;
 use sq_graph::Graph;
 use sq_isa::Reg;
-use sq_layout::learn;
 use sq_live::Liveness;
 use sq_lookup::is_block;
 use sq_num::Memory;
@@ -37,7 +36,7 @@ fn call_each(graph: &mut Graph, blocks: &[u32], procedure: u32)
     ensures total { KeepsTotal graph.old graph.new }
 {
     for block in blocks {
-        learn(graph);
+        graph.learn();
         call(graph, *block, 0, procedure);
     }
 }
@@ -49,7 +48,7 @@ pub(crate) fn make(graph: &mut Graph, blocks: &[u32], link: Reg)
     ensures graph { graph.new.graph ≡ made graph.old.graph (first_block blocks.now) blocks.now link }
     ensures total { KeepsTotal graph.old graph.new }
 {
-    learn(graph);
+    graph.learn();
     let first = blocks[0];
     let count = graph.items(first).len() as u32;
     let procedure = graph.outline(first, 0, count, link);
@@ -61,7 +60,7 @@ fn end_of(graph: &Graph, block: u32) -> Site
     requires { HasBlock graph.now.graph block }
     ensures { result ≡ record { block = block; at = length (items_of graph.now.graph block) } }
 {
-    learn(graph);
+    graph.learn();
     Site {
         block,
         at: graph.items(block).len() as u32,
@@ -117,9 +116,7 @@ fn link_of(
     ensures some { IfOk result (λ found. IfSome found (AreMade graph.now.graph blocks.now)) }
     ensures none { result ≡ Ok None → (link : ℕ) → ¬ AreMade graph.now.graph blocks.now link }
 {
-    learn(graph);
-    // Its contract says that a graph's blocks are few.
-    let _room = graph.spare();
+    graph.learn();
     if blocks.is_empty() || !is_block(graph, blocks[0]) {
         return Ok(None);
     }
@@ -144,7 +141,7 @@ pub(crate) fn completed(graph: &Graph, cut: Cut, link: Reg) -> Cut
     ensures made { IsMadeCut graph.now.graph result }
     ensures completed { IsCompleted cut result }
 {
-    learn(graph);
+    graph.learn();
     let blocks = cut.blocks.as_slice();
     let calls = blocks.len() as u64;
     let items = graph.items(blocks[0]).len() as u64;

@@ -6,7 +6,6 @@ use crate::make::{admit_make, find_made, make};
 use crate::recall::{admit_recall, apply_recall, find_recall};
 use crate::sweep::sweep;
 use sq_graph::{Graph, Room};
-use sq_layout::learn;
 use sq_live::{Liveness, block_names};
 use sq_num::{Memory, Savings};
 use sq_pass::{Cut, Pass, Row};
@@ -49,7 +48,7 @@ impl Pass for Outlines {
     /// where one has their print; for O3 and O4 it looks at each word once, and a few times more for a procedure that would save
     /// words.
     fn find(&self, alloc: Global, graph: &Graph, live: &Liveness) -> Result<Option<Cut>, Memory> {
-        learn(graph);
+        graph.learn();
         if let Some(cut) = find_made(alloc, graph, live)? {
             return Ok(Some(cut));
         }
@@ -65,7 +64,7 @@ impl Pass for Outlines {
 
     /// It looks at one block or procedure.
     fn room(&self, graph: &Graph, cut: &Cut) -> Room {
-        learn(graph);
+        graph.learn();
         match cut.row {
             Row::O1 => Room {
                 blocks: 0,
@@ -83,7 +82,7 @@ impl Pass for Outlines {
 
     /// A few calls of the graph for each block of the cut; for O3 and O4 one look at all items.
     fn apply(&self, graph: &mut Graph, cut: &Cut) {
-        learn(graph);
+        graph.learn();
         let blocks = cut.blocks.as_slice();
         match cut.row {
             Row::O1 => make(graph, blocks, cut.link),

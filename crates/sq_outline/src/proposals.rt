@@ -11,7 +11,6 @@ use crate::call::{call_cut, procedure_by_print};
 use crate::callers::{Body, bodies_of, proposal};
 use crate::groups::{Groups, body_groups, procedure_prints};
 use sq_graph::Graph;
-use sq_layout::learn;
 use sq_live::{Liveness, block_names};
 use sq_num::Memory;
 use sq_pass::Cut;
@@ -61,7 +60,7 @@ pub fn propose(alloc: Global, graph: &Graph, live: &Liveness) -> Result<Vec<Cut>
 {
     let groups = body_groups(alloc, graph)?;
     let mut cuts = propose_made(alloc, graph, live, &groups)?;
-    learn(graph);
+    graph.learn();
     let names = block_names(alloc, graph)?;
     let prints = procedure_prints(alloc, graph)?;
     for name in &names {

@@ -22,7 +22,6 @@ use indexmap::IndexSet;
 use sq_finger::{ItemKey, first_double, item_key};
 use sq_graph::{Graph, Item};
 use sq_isa::Reg;
-use sq_layout::learn;
 use sq_num::Memory;
 use sq_pass::{Blocks, Cut, Row};
 use std::alloc::Global;
@@ -66,7 +65,7 @@ fn body_numbers(alloc: Global, graph: &Graph) -> Result<Vec<Option<u32>>, Memory
     requires rules { IsGraph graph.now.graph }
     ensures { IfOk result (λ numbers. AreBodyNumbers graph.now.graph numbers.items) }
 {
-    let _room = graph.spare();
+    graph.learn();
     let mut pairs = IndexSet::new(alloc);
     let mut numbers = Vec::new(alloc);
     for procedure in 0..graph.procedures() {
@@ -81,7 +80,7 @@ fn recall_cut(alloc: Global, graph: &Graph, stays: u32, goes: u32) -> Cut
     requires there { HasProcedure graph.now.graph goes }
     ensures { result ≡ recall_cut graph.now.graph stays goes }
 {
-    learn(graph);
+    graph.learn();
     Cut {
         row: Row::O3,
         blocks: Blocks::new(alloc),
@@ -98,7 +97,7 @@ pub(crate) fn find_recall(alloc: Global, graph: &Graph) -> Result<Option<Cut>, M
     ensures some { IfOk result (λ found. IfSome found (IsRecalled graph.now.graph)) }
     ensures none { result ≡ Ok None → (cut : Told) → ¬ IsRecalled graph.now.graph cut }
 {
-    learn(graph);
+    graph.learn();
     let numbers = body_numbers(alloc, graph)?;
     let Some((stays, goes)) = first_double(alloc, &numbers)? else {
         return Ok(None);
@@ -112,7 +111,7 @@ pub(crate) fn admit_recall(alloc: Global, graph: &Graph, cut: &Cut) -> Result<Op
     ensures some { IfOk result (λ found. IfSome found (λ given. IsRecalled graph.now.graph given × IsCompleted cut.now given)) }
     ensures none { result ≡ Ok None → (given : Told) → IsCompleted cut.now given → ¬ IsRecalled graph.now.graph given }
 {
-    learn(graph);
+    graph.learn();
     if !cut.blocks.as_slice().is_empty() || cut.length != 0 || cut.procedure == cut.other {
         return Ok(None);
     }
@@ -132,7 +131,7 @@ pub(crate) fn apply_recall(graph: &mut Graph, stays: u32, goes: u32)
     ensures applied { IsApplied (length (body_of graph.old.graph goes) + 1) (without_double graph.old.graph stays goes) graph.old.graph graph.new.graph }
     ensures total { KeepsTotal graph.old graph.new }
 {
-    learn(graph);
+    graph.learn();
     graph.redirect_calls(goes, stays);
     graph.remove_procedure(goes);
 }

@@ -15,7 +15,6 @@ use crate::link::{ORDER, is_unmentioned};
 use crate::plain::are_plain;
 use sq_graph::Graph;
 use sq_isa::{Reg, RegSet};
-use sq_layout::learn;
 use sq_live::Liveness;
 use sq_num::Memory;
 use sq_rename::{dead_registers, match_items, matches};
@@ -70,7 +69,7 @@ fn dead_set(graph: &Graph, live: &Liveness, block: u32) -> RegSet
     requires block { HasBlock graph.now.graph block }
     ensures { AreDeadBehind result graph.now.graph block }
 {
-    learn(graph);
+    graph.learn();
     dead_registers(live, block, graph.items(block).len() as u32)
 }
 
@@ -121,7 +120,7 @@ fn is_dead_behind(graph: &Graph, live: &Liveness, block: u32, r: Reg) -> bool
     requires live { IsLivenessOf graph.now.graph live.now }
     ensures { IsTrue result ↔ IsDeadBehind graph.now.graph r block }
 {
-    learn(graph);
+    graph.learn();
     live.dead_at(block, graph.items(block).len() as u32, r)
 }
 
@@ -184,9 +183,7 @@ fn chosen_by(
     ensures some { IfOk result (λ found. IfSome found (λ chosen. CanMake graph.now.graph first chosen.items)) }
     ensures none { result ≡ Ok None → (rest : List ℕ) → (can : CanMake graph.now.graph first rest) → ¬ (can.register ≡ r) }
 {
-    learn(graph);
-    // Its contract says that a graph's blocks are few.
-    let _room = graph.spare();
+    graph.learn();
     let items = graph.items(first);
     if !is_unmentioned(items, r) {
         return Ok(None);
@@ -293,7 +290,7 @@ fn find_among(
     ensures some { IfOk result (λ found. IfSome found (λ set. CanMake graph.now.graph set.0 set.1.items)) }
     ensures none { result ≡ Ok None → (first : ℕ) (rest : List ℕ) → ¬ CanMake graph.now.graph first rest }
 {
-    learn(graph);
+    graph.learn();
     for number in 0..groups.len() {
         if let Some(set) = find_in(alloc, graph, live, groups.members(number))? {
             return Ok(Some(set));

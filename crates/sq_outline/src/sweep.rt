@@ -5,7 +5,7 @@ ghost use Rattle.std.specs.List.{All};
 ghost use Rattle.sq_num.specs.Saved.{words_saved};
 ghost use Rattle.sq_graph.specs.Blocks.{HasProcedure};
 ghost use Rattle.sq_graph.specs.Leaders.{IsCanonical};
-ghost use Rattle.sq_graph.specs.Words.{words_of};
+ghost use Rattle.sq_graph.specs.Words.{words_of, most_words};
 ghost use Rattle.sq_follow.specs.Follows.{Follows};
 ghost use Rattle.sq_pass.specs.Rewrites.{IsRewritten};
 ghost use Rattle.sq_outline.specs.Candidates.{IsCandidate, described};
@@ -18,7 +18,6 @@ use crate::callers::{Body, bodies_of, body_of, callee_of, proposal};
 use crate::groups::{Groups, body_groups, has_print, procedure_prints};
 use crate::make::make;
 use sq_graph::{Graph, Room};
-use sq_layout::learn;
 use sq_live::{Liveness, block_names, live};
 use sq_lookup::is_block;
 use sq_num::{Memory, Savings};
@@ -32,14 +31,13 @@ const TRIED: usize = 64;
 /// Rewrites the graph by a cut of row O1, which leaves it canonical.
 fn rewrite_made(graph: &mut Graph, cut: &Cut, savings: Savings) -> Result<Savings, Memory>
     requires canonical { IsCanonical graph.old.graph }
-    requires words { words_of graph.old.graph + words_saved savings ≤ 1048576 }
+    requires words { words_of graph.old.graph + words_saved savings ≤ most_words }
     requires candidate { IsMadeCut graph.old.graph cut.now }
     ensures rewritten { IfOk result (λ after. IsRewritten IsCandidate described savings after graph.old.graph graph.new.graph) }
     ensures follows { Follows graph.old.graph graph.new.graph }
     ensures still { IsStill graph.old.graph graph.new.graph }
 {
-    learn(graph);
-    let _room = graph.spare();
+    graph.learn();
     let blocks = cut.blocks.as_slice();
     let items = graph.items(blocks[0]).len() as u32;
     graph.reserve(Room {
@@ -65,7 +63,7 @@ fn make_for(
     savings: Savings,
 ) -> Result<Savings, Memory>
     requires canonical { IsCanonical graph.old.graph }
-    requires words { words_of graph.old.graph + words_saved savings ≤ 1048576 }
+    requires words { words_of graph.old.graph + words_saved savings ≤ most_words }
     requires bodies { All (IsDying graph.old.graph) bodies.now }
     requires first { IsDying graph.old.graph first.now }
     ensures rewritten { IfOk result (λ after. IsRewritten IsCandidate described savings after graph.old.graph graph.new.graph) }
@@ -87,7 +85,7 @@ fn make_each(
     savings: Savings,
 ) -> Result<Savings, Memory>
     requires canonical { IsCanonical graph.old.graph }
-    requires words { words_of graph.old.graph + words_saved savings ≤ 1048576 }
+    requires words { words_of graph.old.graph + words_saved savings ≤ most_words }
     requires bodies { All (IsDying graph.old.graph) bodies.now }
     ensures rewritten { IfOk result (λ after. IsRewritten IsCandidate described savings after graph.old.graph graph.new.graph) }
     ensures follows { Follows graph.old.graph graph.new.graph }
@@ -110,7 +108,7 @@ fn make_groups(
     savings: Savings,
 ) -> Result<Savings, Memory>
     requires canonical { IsCanonical graph.old.graph }
-    requires words { words_of graph.old.graph + words_saved savings ≤ 1048576 }
+    requires words { words_of graph.old.graph + words_saved savings ≤ most_words }
     requires live { IsStillDead live.now graph.old.graph }
     ensures rewritten { IfOk result (λ after. IsRewritten IsCandidate described savings after graph.old.graph graph.new.graph) }
     ensures follows { Follows graph.old.graph graph.new.graph }
@@ -127,13 +125,13 @@ fn make_groups(
 /// Makes the body of a block a call, by row O2, which leaves the graph canonical.
 fn rewrite_called(graph: &mut Graph, block: u32, procedure: u32, savings: Savings) -> Savings
     requires canonical { IsCanonical graph.old.graph }
-    requires words { words_of graph.old.graph + words_saved savings ≤ 1048576 }
+    requires words { words_of graph.old.graph + words_saved savings ≤ most_words }
     requires procedure { HasProcedure graph.old.graph procedure }
     requires may { MayCall graph.old.graph block procedure }
     ensures rewritten { IsRewritten IsCandidate described savings result graph.old.graph graph.new.graph }
     ensures still { IsStill graph.old.graph graph.new.graph }
 {
-    learn(graph);
+    graph.learn();
     let saving = call_saving(graph, block, procedure);
     call(graph, block, 0, procedure);
     let done = Rewrite {
@@ -153,7 +151,7 @@ fn call_for(
     savings: Savings,
 ) -> Savings
     requires canonical { IsCanonical graph.old.graph }
-    requires words { words_of graph.old.graph + words_saved savings ≤ 1048576 }
+    requires words { words_of graph.old.graph + words_saved savings ≤ most_words }
     requires live { IsStillDead live.now graph.old.graph }
     ensures rewritten { IsRewritten IsCandidate described savings result graph.old.graph graph.new.graph }
     ensures still { IsStill graph.old.graph graph.new.graph }
@@ -179,7 +177,7 @@ fn call_each(
     savings: Savings,
 ) -> Savings
     requires canonical { IsCanonical graph.old.graph }
-    requires words { words_of graph.old.graph + words_saved savings ≤ 1048576 }
+    requires words { words_of graph.old.graph + words_saved savings ≤ most_words }
     requires live { IsStillDead live.now graph.old.graph }
     ensures { IsRewritten IsCandidate described savings result graph.old.graph graph.new.graph }
 {
@@ -194,15 +192,15 @@ fn call_each(
 /// without them; of each group of blocks it compares all bodies with the first ones. It may leave candidates.
 pub(crate) fn sweep(alloc: Global, graph: &mut Graph, savings: Savings) -> Result<Savings, Memory>
     requires canonical { IsCanonical graph.old.graph }
-    requires words { words_of graph.old.graph + words_saved savings ≤ 1048576 }
+    requires words { words_of graph.old.graph + words_saved savings ≤ most_words }
     ensures rewritten { IfOk result (λ after. IsRewritten IsCandidate described savings after graph.old.graph graph.new.graph) }
     ensures follows { Follows graph.old.graph graph.new.graph }
 {
-    learn(graph);
+    graph.learn();
     let live = live(alloc, graph)?;
     let groups = body_groups(alloc, graph)?;
     let made = make_groups(alloc, graph, &live, &groups, savings)?;
-    learn(graph);
+    graph.learn();
     let names = block_names(alloc, graph)?;
     let prints = procedure_prints(alloc, graph)?;
     Ok(call_each(graph, &live, &prints, &names, made))

@@ -13,7 +13,7 @@ use Rattle.sq_elf.specs.declared.text.Text.{Text}
 use Rattle.sq_elf.specs.Fields.{u16_field, u32_field}
 use Rattle.sq_elf.specs.Headers.{entry_of, phoff_of, phnum_of, shoff_of, shnum_of, flags_of, kind_of, is_load, segment_of, section_of}
 use Rattle.sq_elf.specs.Ranges.{leaves, meets}
-use Rattle.sq_elf.specs.Refusing.{identification, is_not_elf_at, is_refused_field, text_size as read_text_size, header_rows, table_rows, segment_rows, text_rows, size_rows, file_rows, file_refusal_of}
+use Rattle.sq_elf.specs.Refusing.{identification, is_not_elf_at, is_refused_field, text_size as read_text_size, header_rows, table_rows, segment_rows, text_rows, size_rows, file_rows, file_refusal_of, largest_text}
 use Rattle.sq_elf.specs.Segments.{is_outside, is_misshapen, is_bad_segment, is_refused_kind, meets_copy, overlaps, overlaps_at, is_overlapping}
 use Rattle.sq_elf.specs.Sizes.{total, loaded_of, parts_of, pieces_at, piece_count_of}
 use Rattle.sq_elf.specs.Text.{is_executable, is_executable_at, is_allocated, text_of, holds, holds_at, holder_of, is_bad_text_section, first_executable, text_segment_of, splits, is_text_word}
@@ -386,8 +386,8 @@ module _ (o : Output) (can : IsAcceptable o) where
   text_high : (text_of (output_file o)).hi ≡ o.start + text_size o
   text_high = ap (λ (t : Text). t.hi) (text_is_read o can.fits)
 
-  small_text : nat_lt 1048576 (read_text_size (output_file o)) ≡ false
-  small_text = less_not 1048576 (read_text_size (output_file o)) (omega (arith, text_low, text_high, can.text))
+  small_text : nat_lt largest_text (read_text_size (output_file o)) ≡ false
+  small_text = less_not largest_text (read_text_size (output_file o)) (omega (arith, text_low, text_high, can.text))
 
   -- sizes, and the entry
 

@@ -1,7 +1,7 @@
 -- Output files that the reader accepts.
 use Rattle.std.specs.Prelude.{◌≡◌, ◌<◌, ◌≤◌, ℕ, ◌+◌, ◌%◌, length, List, None}
 use Rattle.std.specs.List.{AllByRecursion}
-use Rattle.sq_elf.specs.Refusing.{file_refusal_of}
+use Rattle.sq_elf.specs.Refusing.{file_refusal_of, largest_text}
 use Rattle.sq_graph.specs.Graph.{Graph}
 use Rattle.sq_write.specs.Output.{Piece, Output, pieces_of, text_size, loaded_size, output_file}
 use Rattle.sq_write.specs.Written.{written}
@@ -22,7 +22,7 @@ pub record IsAcceptable (o : Output) : Type 0 where
   pub short : length (output_file o) ≤ 134217728
   pub pieces : length (pieces_of o) ≤ 64
   pub loaded : loaded_size o ≤ 16777216
-  pub text : text_size o ≤ 1048576
+  pub text : text_size o ≤ largest_text
   pub start : o.start % 4 ≡ 0
   pub entry : o.entry % 4 ≡ 0
   pub low : o.start ≤ o.entry

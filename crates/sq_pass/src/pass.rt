@@ -5,7 +5,7 @@ ghost use Rattle.sq_graph.specs.declared.parts.Room.{Room as Spare};
 ghost use Rattle.sq_graph.specs.Graph.{Graph as Parts};
 ghost use Rattle.sq_graph.specs.Room.{Covers, KeepsTotal};
 ghost use Rattle.sq_graph.specs.Leaders.{IsCanonical};
-ghost use Rattle.sq_graph.specs.Words.{words_of};
+ghost use Rattle.sq_graph.specs.Words.{words_of, most_words};
 ghost use Rattle.sq_follow.specs.Follows.{Follows};
 ghost use Rattle.sq_live.specs.Liveness.{IsLivenessOf};
 ghost use Rattle.sq_pass.specs.declared.cut.Cut.{Cut as Told};
@@ -71,7 +71,7 @@ pub trait Pass: Drop {
     /// rewrites made it so far.
     fn sweep(&self, alloc: Global, graph: &mut Graph, savings: Savings) -> Result<Savings, Memory>
         requires canonical { IsCanonical graph.old.graph }
-        requires words { words_of graph.old.graph + words_saved savings ≤ 1048576 }
+        requires words { words_of graph.old.graph + words_saved savings ≤ most_words }
         ensures rewritten { IfOk result (λ after. IsRewritten (is_candidate self.now) (described self.now) savings after graph.old.graph graph.new.graph) }
         ensures follows { Follows graph.old.graph graph.new.graph };
 }

@@ -17,6 +17,7 @@ use Rattle.sq_graph.specs.Room.{IsSmall, count_of}
 use Rattle.sq_graph.specs.Rules.{IsGraph}
 use Rattle.sq_graph.specs.Slotted.{position_in, slotted}
 use Rattle.sq_graph.specs.Uses.{code_word_uses, terms_uses, items_uses}
+use Rattle.sq_graph.specs.Words.{most_words}
 use Rattle.sq_graph.proofs.Renamed.{renamed_rules}
 use Rattle.sq_graph.proofs.RetargetRules.{all_items-other}
 use Rattle.sq_graph.proofs.Slotting.{positions_apart}
@@ -41,7 +42,7 @@ pub record IsMade (g : Graph) (parts : List BlockPart) (items : List Item) (entr
   pub small : IsSmall (count_of (graph_of_parts parts items entry words procedures))
   pub is : IsMerged g (graph_of_parts parts items entry words procedures)
 
-module _ (g : Graph) (folding : Folding) (rules : IsGraph g) (few : length g.blocks ≤ 1048576) (spare : Room) (small_items : length (all_items g) + spare.items < 2 ^ 29) (small_procedures : length g.procedures + spare.procedures < 2 ^ 29)
+module _ (g : Graph) (folding : Folding) (rules : IsGraph g) (few : length g.blocks ≤ most_words) (spare : Room) (small_items : length (all_items g) + spare.items < 2 ^ 29) (small_procedures : length g.procedures + spare.procedures < 2 ^ 29)
     (t : TellsStaying g folding.staying) (positions : ArePositions (stays_in folding.staying) g (get nat_eq folding.positions)) where
   abbrev f : ℕ → ℕ
   f = stays_for g t.class

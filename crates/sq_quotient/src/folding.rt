@@ -5,11 +5,11 @@ ghost use Rattle.std.specs.HashMap.{get};
 ghost use Rattle.sq_graph.specs.Blocks.{HasBlock, items_of_bodies};
 ghost use Rattle.sq_graph.specs.Parts.{names_of};
 ghost use Rattle.sq_graph.specs.Renames.{retargeted_procedure, retargeted_words};
+ghost use Rattle.sq_graph.specs.Words.{most_words};
 ghost use Rattle.sq_quotient.specs.Staying.{stays_in, slots_of, place_in, ArePositions, parts_of, items_left, procedure_part, IsMerged};
 
 use crate::staying::Staying;
 use sq_graph::{BlockPart, CodeRef, Graph, Item, Parts, ProcedurePart, Term};
-use sq_layout::learn;
 use sq_live::block_names;
 use sq_num::Memory;
 use std::alloc::Global;
@@ -45,8 +45,7 @@ fn positions(
     requires { names.now ≡ names_of graph.now.graph }
     ensures { IfOk result (λ positions. ArePositions (stays_in staying.now) graph.now.graph (get nat_eq positions)) }
 {
-    learn(graph);
-    let _room = graph.spare();
+    graph.learn();
     let mut positions = HashMap::new(alloc);
     let mut position = 0;
     for name in names {
@@ -170,7 +169,7 @@ fn blocks(
     ensures parts { IfOk result (λ made. made.0.items ≡ parts_of (place_in folding.now) (stays_in folding.now.staying) graph.now.graph.blocks) }
     ensures items { IfOk result (λ made. made.1.items ≡ items_left (place_in folding.now) (stays_in folding.now.staying) graph.now.graph.blocks) }
 {
-    learn(graph);
+    graph.learn();
     let mut parts = Vec::new(alloc);
     let mut items = Vec::new(alloc);
     for name in names {
@@ -194,7 +193,7 @@ fn procedures(
     ensures parts { IfOk result (λ parts. parts.items ≡ map procedure_part graph.now.graph.procedures) }
     ensures items { OnOk result (items.new.items ≡ items.old.items ++ items_of_bodies (map (retargeted_procedure (place_in folding.now)) graph.now.graph.procedures)) }
 {
-    learn(graph);
+    graph.learn();
     let mut parts = Vec::new(alloc);
     for procedure in 0..graph.procedures() {
         let body = graph.body(procedure);
@@ -223,11 +222,10 @@ fn code_words(alloc: Global, graph: &Graph, folding: &Folding) -> Result<Vec<Cod
 /// The graph in which of each class of the coarsest stable partition the first block stays, and each block is named by its
 /// position.
 pub(crate) fn merged(alloc: Global, graph: &Graph) -> Result<Graph, Memory>
-    requires { length graph.now.graph.blocks ≤ 1048576 }
+    requires { length graph.now.graph.blocks ≤ most_words }
     ensures { IfOk result (λ made. IsMerged graph.now.graph made.graph) }
 {
-    learn(graph);
-    let _room = graph.spare();
+    graph.learn();
     let names = block_names(alloc, graph)?;
     let staying = Staying::tell(alloc, graph, &names)?;
     let positions = positions(alloc, graph, &names, &staying)?;

@@ -4,14 +4,14 @@ ghost use Rattle.std.specs.Prelude.{◌≡◌, ◌≤◌, ◌<◌, true, false, 
 ghost use Rattle.sq_graph.specs.Leaders.{IsCanonical};
 ghost use Rattle.sq_graph.specs.Places.{IsInReach};
 ghost use Rattle.sq_graph.specs.Soundness.{IsSound};
-ghost use Rattle.sq_graph.specs.Words.{words_of};
+ghost use Rattle.sq_graph.specs.Words.{words_of, most_words};
 ghost use Rattle.sq_follow.specs.Follows.{Follows};
 ghost use Rattle.sq_quotient.specs.Folded.{IsFolded, FoldSavesNothing};
 
 use crate::folding::merged;
 use sq_chain::widen;
 use sq_graph::Graph;
-use sq_layout::{learn, words_of};
+use sq_layout::words_of;
 use sq_num::Memory;
 use std::alloc::Global;
 
@@ -21,7 +21,7 @@ use std::alloc::Global;
 /// the partition it takes a few looks at each block.
 pub fn fold(alloc: Global, graph: &mut Graph) -> Result<bool, Memory>
     requires canonical { IsCanonical graph.old.graph }
-    requires words { words_of graph.old.graph ≤ 1048576 }
+    requires words { words_of graph.old.graph ≤ most_words }
     ensures folded { result ≡ Ok true → IsFolded graph.old.graph graph.new.graph }
     ensures fewer { result ≡ Ok true → words_of graph.new.graph < words_of graph.old.graph }
     ensures left { result ≡ Ok false → FoldSavesNothing graph.old.graph }
@@ -32,10 +32,10 @@ pub fn fold(alloc: Global, graph: &mut Graph) -> Result<bool, Memory>
     ensures reach { IsInReach graph.old.graph → IsInReach graph.new.graph }
     ensures canonical { IsCanonical graph.new.graph }
 {
-    learn(graph);
+    graph.learn();
     let mut trial = merged(alloc, graph)?;
     widen(alloc, &mut trial)?;
-    learn(&trial);
+    trial.learn();
     trial.canonical();
     if words_of(&trial) < words_of(graph) {
         *graph = trial;

@@ -64,7 +64,7 @@ fn match_block(g: &Graph, live: &Liveness, block: u32, others: &[Item]) -> Optio
     ensures { MatchOption result (¬ IsBodyMatch g.now.graph.procedures (items_of g.now.graph block) others.now (IsLiveBehind g.now.graph block)) (IsMatchBy g.now.graph.procedures (items_of g.now.graph block) others.now (IsLiveBehind g.now.graph block)) }
 {
     // Its contract says that a graph's items are few.
-    let _room = g.spare();
+    g.learn();
     let items = g.items(block);
     let dead = dead_registers(live, block, items.len() as u32);
     match_items(g, items, others, dead)

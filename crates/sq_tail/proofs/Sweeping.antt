@@ -18,7 +18,7 @@ use Rattle.sq_graph.specs.Resolve.{resolved_term_of}
 use Rattle.sq_graph.specs.Room.{GraphAndRoom, IsSmall, sum_of, count_of, total_of}
 use Rattle.sq_graph.specs.Rules.{IsGraph}
 use Rattle.sq_graph.specs.Soundness.{IsSound}
-use Rattle.sq_graph.specs.Words.{block_words, words_of}
+use Rattle.sq_graph.specs.Words.{block_words, words_of, most_words}
 use Rattle.sq_graph.proofs.CanonicalLaws.{canonical_keeps_words}
 use Rattle.sq_graph.proofs.CanonicalReach.{canonical_in_reach}
 use Rattle.sq_follow.specs.Follows.{Follows}
@@ -57,7 +57,7 @@ few_blocks [] all = omega arith
 few_blocks (b ∷ bs) all = omega (arith, few_blocks bs all.1, some_word b all.0, sum_by-cons block_words b bs)
 
 -- a canonical graph of few words has room for a block more
-pub room_for_one : (v : GraphAndRoom) → IsSmall (total_of v) → IsCanonical v.graph → words_of v.graph ≤ 1048576 → IsSmall (sum_of (count_of v.graph) one_block)
+pub room_for_one : (v : GraphAndRoom) → IsSmall (total_of v) → IsCanonical v.graph → words_of v.graph ≤ most_words → IsSmall (sum_of (count_of v.graph) one_block)
 room_for_one v small canonical few =
     let blocks = few_blocks v.graph.blocks (recursion_from_All (λ b. is_bare b ≡ false) v.graph.blocks canonical.no_bare) in
     let items = small.items in

@@ -25,7 +25,6 @@ pub(crate) use earlier::earlier_places;
 pub(crate) use prints::prints;
 use sq_graph::Graph;
 use sq_isa::RegSet;
-use sq_layout::learn;
 use sq_live::{Liveness, block_names};
 use sq_num::Memory;
 use sq_rename::{dead_registers, has_no_reservations, match_items};
@@ -43,7 +42,7 @@ pub(crate) fn may_drop(graph: &Graph, block: u32) -> bool
     requires { HasBlock graph.now.graph block }
     ensures { IsTrue result ↔ MayDrop graph.now.graph block }
 {
-    learn(graph);
+    graph.learn();
     let items = graph.items(block);
     let words = items.len() as u32 + end_words(graph, block);
     !items.is_empty() && words >= 2 && has_no_reservations(items)
@@ -64,7 +63,7 @@ fn dead_behind(graph: &Graph, live: &Liveness, block: u32) -> RegSet
     requires block { HasBlock graph.now.graph block }
     ensures { AreDeadBehind result graph.now.graph block }
 {
-    learn(graph);
+    graph.learn();
     dead_registers(live, block, graph.items(block).len() as u32)
 }
 
@@ -190,7 +189,7 @@ pub fn find_bodies(
     ensures some { IfOk result (λ found. IfSome found (λ pair. IsBodyPair graph.now.graph pair.dropped pair.kept)) }
     ensures none { result ≡ Ok None → (dropped kept : ℕ) → ¬ IsBodyPair graph.now.graph dropped kept }
 {
-    learn(graph);
+    graph.learn();
     let mut names = block_names(alloc, graph)?;
     let mut prints = prints(alloc, graph, &names)?;
     if let Some(pair) = find_ahead(alloc, graph, live, &names, &prints)? {

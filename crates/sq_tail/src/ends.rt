@@ -42,6 +42,6 @@ pub(crate) fn common_items(graph: &Graph, block: u32, other: u32) -> u32
     ensures { IsLongestEnd (items_of graph.now.graph block) (items_of graph.now.graph other) result }
 {
     // Its contract says that a graph's items are few.
-    let _room = graph.spare();
+    graph.learn();
     common_end(graph.items(block), graph.items(other))
 }

@@ -13,7 +13,6 @@ use crate::ends::{common_items, end_words};
 use crate::search::find_tails;
 use sq_graph::Graph;
 use sq_isa::Reg;
-use sq_layout::learn;
 use sq_live::{Liveness, block_names};
 use sq_num::Memory;
 use sq_pass::{Blocks, Cut, Row};
@@ -57,7 +56,7 @@ fn find_tail_cut(alloc: Global, graph: &Graph) -> Result<Option<Cut>, Memory>
     ensures some { IfOk result (λ found. IfSome found (IsTailCut graph.now.graph)) }
     ensures none { result ≡ Ok None → (cut : Told) → ¬ IsTailCut graph.now.graph cut }
 {
-    learn(graph);
+    graph.learn();
     let names = block_names(alloc, graph)?;
     let Some((dropped, kept)) = find_tails(alloc, graph, &names)? else {
         return Ok(None);
@@ -72,7 +71,7 @@ pub(crate) fn body_cut(alloc: Global, graph: &Graph, pair: BodyPair) -> Result<C
     requires { IsBodyPair graph.now.graph pair.dropped pair.kept }
     ensures { IfOk result (IsBodyCut graph.now.graph) }
 {
-    let _room = graph.spare();
+    graph.learn();
     let length = graph.items(pair.kept).len() as u32;
     tail_cut(alloc, graph, pair.dropped, pair.kept, length)
 }

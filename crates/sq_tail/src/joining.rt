@@ -14,7 +14,6 @@ ghost use Rattle.sq_patch.specs.Merges.{merged};
 ghost use Rattle.sq_tail.specs.Tails.{AreTails, IsJoined};
 
 use sq_graph::{Graph, Term};
-use sq_layout::learn;
 
 /// Puts a Jump in place of the block's term and of as many items, from a place on, as the target has.
 fn end_in_jump(graph: &mut Graph, block: u32, at: u32, to: u32)
@@ -24,8 +23,7 @@ fn end_in_jump(graph: &mut Graph, block: u32, at: u32, to: u32)
     ensures graph { graph.new.graph ≡ merged graph.old.graph block at to }
     ensures total { KeepsTotal graph.old graph.new }
 {
-    learn(graph);
-    let _room = graph.spare();
+    graph.learn();
     let count = graph.items(to).len() as u32;
     graph.replace(block, at, count, &[]);
     graph.set_term(block, Term::Jump { to });
@@ -38,8 +36,7 @@ pub(crate) fn join(graph: &mut Graph, dropped: u32, kept: u32, length: u32)
     ensures graph { IsJoined graph.old.graph dropped kept length graph.new.graph }
     ensures total { KeepsTotal graph.old graph.new }
 {
-    learn(graph);
-    let _room = graph.spare();
+    graph.learn();
     let at = graph.items(dropped).len() as u32 - length;
     let from = graph.items(kept).len() as u32 - length;
     if from == 0 {

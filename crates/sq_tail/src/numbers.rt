@@ -14,7 +14,6 @@ ghost use Rattle.sq_tail.specs.Numbers.{AreEndNumbers, zipped};
 use crate::resolved::resolved_term;
 use sq_finger::{ItemKey, TermKey, item_key, number_all, term_key};
 use sq_graph::Graph;
-use sq_layout::learn;
 use sq_num::Memory;
 use sq_rename::has_no_reservations;
 use std::alloc::Global;
@@ -39,7 +38,7 @@ fn key_back(graph: &Graph, block: u32, behind: usize) -> Option<ItemKey>
     requires { HasBlock graph.now.graph block }
     ensures { result ≡ option_map key_of (item_back behind (items_of graph.now.graph block)) }
 {
-    learn(graph);
+    graph.learn();
     let items = graph.items(block);
     if behind >= items.len() {
         return None;
@@ -94,8 +93,7 @@ pub(crate) fn number_terms(
     requires { names.now ≡ names_of graph.now.graph }
     ensures { IfOk result (λ numbers. AreEndNumbers graph.now.graph 0 names.now numbers.items) }
 {
-    learn(graph);
-    let _room = graph.spare();
+    graph.learn();
     let keys = term_keys(alloc, graph, names)?;
     number_all(alloc, &keys)
 }
@@ -112,8 +110,7 @@ pub(crate) fn number_longer(
     requires numbers { AreEndNumbers graph.now.graph count names.now numbers.now }
     ensures { IfOk result (λ longer. AreEndNumbers graph.now.graph (count + 1) names.now longer.items) }
 {
-    learn(graph);
-    let _room = graph.spare();
+    graph.learn();
     let keys = keys_back(alloc, graph, names, count)?;
     let pairs = numbered(alloc, numbers, &keys)?;
     number_all(alloc, &pairs)

@@ -9,7 +9,6 @@ use crate::bodies::{earlier_places, pair_at, prints};
 use crate::find::{body_cut, tail_cut};
 use crate::sweep::ends::{end_numbers, joinable};
 use sq_graph::Graph;
-use sq_layout::learn;
 use sq_live::{Liveness, block_names};
 use sq_num::Memory;
 use sq_pass::Cut;
@@ -77,7 +76,7 @@ fn propose_bodies(alloc: Global, graph: &Graph, live: &Liveness) -> Result<Vec<C
     requires { IsLivenessOf graph.now.graph live.now }
     ensures { IfOk result (λ cuts. All (IsCandidate graph.now.graph) cuts.items) }
 {
-    learn(graph);
+    graph.learn();
     let names = block_names(alloc, graph)?;
     let prints = prints(alloc, graph, &names)?;
     let earlier = earlier_places(alloc, &prints)?;
@@ -97,7 +96,7 @@ pub fn propose(alloc: Global, graph: &Graph, live: &Liveness) -> Result<Vec<Cut>
     ensures { IfOk result (λ cuts. All (IsCandidate graph.now.graph) cuts.items) }
 {
     let mut cuts = propose_bodies(alloc, graph, live)?;
-    learn(graph);
+    graph.learn();
     let names = block_names(alloc, graph)?;
     let all = end_numbers(alloc, graph, &names)?;
     push_all_ends(alloc, graph, &names, &all, &mut cuts)?;

@@ -6,7 +6,6 @@ ghost use Rattle.sq_graph.specs.Resolve.{resolved, resolved_term_of};
 ghost use Rattle.sq_tail.specs.Resolved.{meaning_of};
 
 use sq_graph::{Graph, Term};
-use sq_layout::learn;
 use sq_lookup::resolve;
 
 /// A resolved term, and the resolved slot in which what follows goes on, if it does.
@@ -21,7 +20,7 @@ fn resolved_next(graph: &Graph, block: u32) -> Option<u32>
     requires { HasBlock graph.now.graph block }
     ensures { result ≡ option_map (resolved graph.now.graph) (next_of graph.now.graph block) }
 {
-    learn(graph);
+    graph.learn();
     match graph.next(block) {
         Some(next) => Some(resolve(graph, next)),
         None => None,
@@ -33,7 +32,7 @@ pub fn resolved_term(graph: &Graph, block: u32) -> Resolved
     requires { HasBlock graph.now.graph block }
     ensures { resolved_term_of graph.now.graph block ≡ Some (meaning_of result) }
 {
-    learn(graph);
+    graph.learn();
     let next = resolved_next(graph, block);
     let term = graph.term(block);
     match term {

@@ -10,7 +10,6 @@ use crate::ends::end_words;
 use crate::numbers::{number_longer, number_terms};
 use sq_finger::first_double;
 use sq_graph::Graph;
-use sq_layout::learn;
 use sq_lookup::Table;
 use sq_num::Memory;
 use std::alloc::Global;
@@ -26,7 +25,7 @@ fn word_places(
     requires many { length numbers.now ≡ length names.now }
     ensures { IfOk result (λ places. AreWords graph.now.graph names.now numbers.now (length names.now) (number_at places)) }
 {
-    learn(graph);
+    graph.learn();
     let mut places = Table::new(alloc);
     for (i, name) in names.iter().enumerate() {
         if let Some(number) = numbers[i] {
@@ -64,8 +63,7 @@ pub(crate) fn find_tails(
     ensures some { IfOk result (λ found. IfSome found (λ pair. IsTailPair graph.now.graph pair.0 pair.1)) }
     ensures none { result ≡ Ok None → (dropped kept : ℕ) → ¬ IsTailPair graph.now.graph dropped kept }
 {
-    learn(graph);
-    let _room = graph.spare();
+    graph.learn();
     let terms = number_terms(alloc, graph, names)?;
     let ones = number_longer(alloc, graph, names, &terms, 0)?;
     let twos = number_longer(alloc, graph, names, &ones, 1)?;

@@ -5,7 +5,6 @@ use crate::find::find_cut;
 use crate::joining::join;
 use crate::sweep::sweep;
 use sq_graph::{Graph, Room};
-use sq_layout::learn;
 use sq_live::Liveness;
 use sq_num::{Memory, Savings};
 use sq_pass::{Cut, Pass};
@@ -44,7 +43,7 @@ impl Pass for Tails {
 
     /// It looks at nothing.
     fn room(&self, graph: &Graph, _cut: &Cut) -> Room {
-        learn(graph);
+        graph.learn();
         Room {
             blocks: 1,
             items: 0,
@@ -54,7 +53,7 @@ impl Pass for Tails {
 
     /// A few calls of the graph.
     fn apply(&self, graph: &mut Graph, cut: &Cut) {
-        learn(graph);
+        graph.learn();
         let blocks = cut.blocks.as_slice();
         join(graph, blocks[0], blocks[1], cut.length);
     }

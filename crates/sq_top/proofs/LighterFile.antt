@@ -10,7 +10,7 @@ use Rattle.sq_reloc.specs.Outside.{code_word_at}
 use Rattle.sq_graph.specs.declared.parts.CodeRef.{CodeRef}
 use Rattle.sq_graph.specs.Graph.{Graph}
 use Rattle.sq_graph.specs.Rules.{IsGraph}
-use Rattle.sq_graph.specs.Words.{words_of}
+use Rattle.sq_graph.specs.Words.{words_of, most_words}
 use Rattle.sq_follow.specs.Follows.{word_address}
 use Rattle.sq_program.specs.FilePrograms.{IsAcceptedFile}
 use Rattle.sq_program.specs.Lifted.{code_ref, lifted}
@@ -53,7 +53,7 @@ module _ (bytes : List ℕ) (first g : Graph) (saved : ℕ) (f : FitsFile bytes 
         (recursion_from_All (λ word. IsSome (code_word_at bytes word.at)) first.code_words f.code_words));
   }
 
-pub small_text : (bytes : List ℕ) (g : Graph) → file_refusal_of bytes ≡ None → FitsFile bytes g → words_of g ≤ 1048576
+pub small_text : (bytes : List ℕ) (g : Graph) → file_refusal_of bytes ≡ None → FitsFile bytes g → words_of g ≤ most_words
 small_text bytes g accepted f = omega (arith, f.words, few_text bytes accepted)
 
 pub lifted_is_accepted : (bytes : List ℕ) (g : Graph) → IsLiftedFile bytes g → IsAcceptedFile bytes

@@ -4,7 +4,7 @@ use Rattle.std.specs.List.{AllByRecursion}
 use Rattle.sq_num.specs.declared.packed.Packed.{Packed}
 use Rattle.sq_num.specs.declared.packed.Savings.{Savings}
 use Rattle.sq_num.specs.Saved.{words_saved}
-use Rattle.sq_elf.specs.Refusing.{text_size, file_refusal_of}
+use Rattle.sq_elf.specs.Refusing.{text_size, file_refusal_of, largest_text}
 use Rattle.sq_elf.specs.Sizes.{loaded_of}
 use Rattle.sq_elf.specs.Text.{text_of}
 use Rattle.sq_graph.specs.Graph.{Graph}
@@ -91,5 +91,5 @@ module _ (bytes : List ℕ) (first g : Graph) (savings : Savings) (fit : AllByRe
         })
 
 -- what is asked of the sizes before a packing is made
-pub few_bytes : (bytes : List ℕ) → file_refusal_of bytes ≡ None → (text_of bytes).hi ≤ (text_of bytes).lo + 1048576
+pub few_bytes : (bytes : List ℕ) → file_refusal_of bytes ≡ None → (text_of bytes).hi ≤ (text_of bytes).lo + largest_text
 few_bytes bytes accepted = few_text bytes accepted

@@ -5,11 +5,11 @@ ghost use Rattle.sq_num.specs.declared.refusal.Refusal.{Refusal};
 ghost use Rattle.sq_program.specs.FilePrograms.{IsRefusalOf};
 ghost use Rattle.sq_top.specs.Proving.{PacksProved};
 
-use crate::packing::{bytes_fit, packed_of, write_graph};
+use crate::packing::{packed_of, write_graph};
 use crate::reading::{FileGraph, read_graph};
 use sq_drive::settle_noting;
 use sq_layout::words_of;
-use sq_num::{Denied, Packed};
+use sq_num::{Denied, Packed, bytes_fit};
 use std::alloc::Global;
 
 /// A packing, and the text of the certificate that proves it.

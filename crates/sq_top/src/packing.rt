@@ -1,10 +1,9 @@
 //! From the bytes of a file to those of the packed file.
 
 ghost use Rattle.std.specs.Prelude.{◌≡◌, ◌⊎◌, ◌+◌, ◌*◌, ◌<◌, ◌≤◌, length, IfOk, OnOk};
-ghost use Rattle.std.specs.List.{AllByRecursion};
 ghost use Rattle.sq_num.specs.declared.refusal.Refusal.{Refusal};
 ghost use Rattle.sq_num.specs.Saved.{words_saved};
-ghost use Rattle.sq_elf.specs.Refusing.{text_size};
+ghost use Rattle.sq_elf.specs.Refusing.{text_size, largest_text};
 ghost use Rattle.sq_elf.specs.Sizes.{loaded_of};
 ghost use Rattle.sq_elf.specs.Text.{text_of};
 ghost use Rattle.sq_graph.specs.Rules.{IsGraph};
@@ -19,7 +18,7 @@ use sq_drive::settle_slotted;
 use sq_elf::Elf;
 use sq_graph::Graph;
 use sq_layout::{place, words_of};
-use sq_num::{Bytes, Denied, Memory, Packed, Savings};
+use sq_num::{Bytes, Denied, Memory, Packed, Savings, bytes_fit};
 use sq_reloc::Relocs;
 use sq_write::write_elf;
 use std::alloc::Global;
@@ -47,13 +46,6 @@ pub fn pack_bytes(alloc: Global, bytes: &[u8]) -> Result<Packed, Denied>
     Ok(packed_of(&elf, &graph, reached, savings, file))
 }
 
-/// Each number of a slice of bytes is below 256.
-pub(crate) fn bytes_fit(bytes: &[u8])
-    ensures { AllByRecursion (λ b. b < 256) bytes.now }
-{
-    let _count = bytes.len();
-}
-
 /// Writes the graph of the file in the place of its text.
 pub(crate) fn write_graph(
     alloc: Global,
@@ -66,8 +58,7 @@ pub(crate) fn write_graph(
     ensures file { IfOk result (λ file. file.items ≡ written elf.now graph.now.graph) }
     ensures rules { OnOk result (IsGraph graph.now.graph) }
 {
-    // Its contract has that a graph keeps the rules.
-    let _entry = graph.entry();
+    graph.learn();
     let places = place(alloc, graph, elf.text().lo)?;
     write_elf(alloc, elf, relocs, graph, &places)
 }
@@ -83,7 +74,7 @@ pub(crate) fn packed_of(
 ) -> Packed
     requires words { (text_of elf.now).lo + 4 * reached ≤ (text_of elf.now).hi }
     requires saved { words_of graph.now.graph + words_saved savings ≡ reached }
-    requires short { (text_of elf.now).hi ≤ (text_of elf.now).lo + 1048576 }
+    requires short { (text_of elf.now).hi ≤ (text_of elf.now).lo + largest_text }
     requires loads { text_size elf.now ≤ loaded_of elf.now + 4 * words_of graph.now.graph }
     ensures output { result.bytes ≡ file.items }
     ensures text_before { result.text_before ≡ text_size elf.now }

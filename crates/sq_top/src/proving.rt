@@ -8,13 +8,13 @@ ghost use Rattle.sq_write.specs.Written.{written};
 ghost use Rattle.sq_top.specs.Packing.{CanBeWritten};
 ghost use Rattle.sq_top.specs.Proving.{Proves, FailsToProve, IsProved, IsRefusalOfEither};
 
-use crate::packing::{bytes_fit, write_graph};
+use crate::packing::write_graph;
 use crate::reading::{FileGraph, read_graph};
 use sq_cert::Verdict;
 use sq_drive::check_graph;
 use sq_elf::Elf;
 use sq_graph::Graph;
-use sq_num::{Denied, Memory};
+use sq_num::{Denied, Memory, bytes_fit};
 use sq_reloc::Relocs;
 use std::alloc::Global;
 

@@ -15,7 +15,6 @@ ghost use Rattle.sq_program.specs.FilePrograms.{IsRefusalOf};
 ghost use Rattle.sq_top.specs.Tracking.{begun_by, placed_at};
 ghost use Rattle.sq_top.specs.Tracks.{AreTracksOf, FailsToTrack};
 
-use crate::packing::bytes_fit;
 use crate::reading::{FileGraph, read_graph};
 use sq_drive::track_graph;
 use sq_elf::Elf;
@@ -23,7 +22,7 @@ use sq_graph::Graph;
 use sq_layout::{Places, place};
 use sq_lift::{BlockStarts, starts};
 use sq_names::{Function, Names, Track, Tracks, function_names};
-use sq_num::{Denied, Memory};
+use sq_num::{Denied, Memory, bytes_fit};
 use sq_reloc::Relocs;
 use std::alloc::Global;
 

@@ -16,7 +16,6 @@ ghost use Rattle.sq_top.specs.WatchEndings.{IsWatchTranscript, LeavesUnwatched, 
 
 use crate::ending::{DeskCall, Ending};
 use crate::loading::load;
-use crate::packing::bytes_fit;
 use crate::run_command::{FIRST_ARGUMENT, LONGEST_INPUT};
 use sq_command::RunWords;
 use sq_desk::{Desk, DeskFault};
@@ -24,7 +23,7 @@ use sq_elf::{Elf, LONGEST_FILE, read_elf};
 use sq_lift::read_text;
 use sq_lifted::lift;
 use sq_monitor::{WatchFault, WatchOutcome, WatchTranscript, watch_file};
-use sq_num::{Denied, WordList};
+use sq_num::{Denied, WordList, bytes_fit};
 use sq_reloc::{Relocs, read_relocs};
 use sq_system::Start;
 use std::alloc::Global;

@@ -12,7 +12,7 @@ use Rattle.sq_elf.specs.Segments.{is_misshapen}
 use Rattle.sq_elf.specs.Text.{text_of}
 use Rattle.sq_elf.specs.Sizes.{total, loaded_at}
 use Rattle.sq_elf.specs.Memory.{has_memory, segments_before, segments_of, AreSegments}
-use Rattle.sq_elf.specs.Refusing.{file_too_long, not_elf, short_header, header_field, flags, is_refused_field, bad_segment, segment_kind, segment_overlap, without_text, bad_text_section, text_split, text_moved, text_too_large, text_size, file_refusal_of}
+use Rattle.sq_elf.specs.Refusing.{file_too_long, not_elf, short_header, header_field, flags, is_refused_field, bad_segment, segment_kind, segment_overlap, without_text, bad_text_section, text_split, text_moved, text_too_large, text_size, file_refusal_of, largest_text}
 use Rattle.sq_elf.proofs.Accepted.{header_accepted, segments_accepted, text_accepted, few_loaded}
 use Rattle.sq_elf.proofs.Passing.{row_passes, behind_row}
 use Rattle.sq_elf.proofs.TextFacts.{both_true, neither, second_false}
@@ -98,9 +98,9 @@ pub few_ordered_bytes : (bytes : List ℕ) → file_refusal_of bytes ≡ None �
 few_ordered_bytes bytes accepted =
     omega (arith, sum_by-IsPermutation (λ (s : Segment). s.filesz) (segments_of bytes) (by_address (segments_of bytes)) (by_address_moves (segments_of bytes)), few_file_bytes bytes accepted)
 
-pub few_text : (bytes : List ℕ) → file_refusal_of bytes ≡ None → (text_of bytes).hi ≤ (text_of bytes).lo + 1048576
+pub few_text : (bytes : List ℕ) → file_refusal_of bytes ≡ None → (text_of bytes).hi ≤ (text_of bytes).lo + largest_text
 few_text bytes accepted =
     let rows = behind_row (text_moved bytes) (text_too_large bytes ∷ []) (behind_row (text_split bytes) (text_moved bytes ∷ text_too_large bytes ∷ []) (behind_row (bad_text_section bytes) (text_split bytes ∷ text_moved bytes ∷ text_too_large bytes ∷ []) (behind_row (without_text bytes) (bad_text_section bytes ∷ text_split bytes ∷ text_moved bytes ∷ text_too_large bytes ∷ []) (text_accepted bytes accepted)))) in
     let small = row_passes (text_too_large bytes) [] rows 0 (omega arith) in
-    let size = ltb-false 1048576 (text_size bytes) small in
+    let size = ltb-false largest_text (text_size bytes) small in
     omega (arith, size)

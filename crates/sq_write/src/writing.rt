@@ -2,7 +2,7 @@
 
 ghost use Rattle.std.specs.Prelude.{◌≡◌, ℕ, ◌+◌, ◌*◌, ◌≤◌, ◌^◌, Some, None, IsSome, IfOk};
 ghost use Rattle.std.specs.List.{All};
-ghost use Rattle.sq_elf.specs.Refusing.{file_refusal_of};
+ghost use Rattle.sq_elf.specs.Refusing.{file_refusal_of, largest_text};
 ghost use Rattle.sq_elf.specs.Text.{text_of};
 ghost use Rattle.sq_reloc.specs.CodeWords.{IsCodeWord};
 ghost use Rattle.sq_reloc.specs.Outside.{code_word_at};
@@ -31,7 +31,7 @@ use std::alloc::Global;
 fn facts(elf: &Elf<'_>, relocs: &Relocs<'_>)
     requires { relocs.now ≡ elf.now }
     ensures accepted { file_refusal_of elf.now ≡ None }
-    ensures text { (text_of elf.now).hi ≤ (text_of elf.now).lo + 1048576 }
+    ensures text { (text_of elf.now).hi ≤ (text_of elf.now).lo + largest_text }
     ensures high { (text_of elf.now).hi ≤ 2 ^ 32 }
     ensures code_words { (address target : ℕ) → code_word_at elf.now address ≡ Some target → IsCodeWord elf.now address target }
 {

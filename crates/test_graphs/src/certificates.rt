@@ -3,7 +3,7 @@
 ghost use Rattle.std.specs.Prelude.{◌≤◌, IsTrue, IfOk, OnOk};
 ghost use Rattle.sq_graph.specs.Leaders.{IsCanonical};
 ghost use Rattle.sq_graph.specs.Slotted.{IsSlotted};
-ghost use Rattle.sq_graph.specs.Words.{words_of};
+ghost use Rattle.sq_graph.specs.Words.{words_of, most_words};
 
 use sq_cert::Verdict;
 use sq_drive::{check_graph, settle_noting};
@@ -17,7 +17,7 @@ use std::alloc::Global;
 fn is_tidy(alloc: Global, graph: &mut Graph) -> Result<bool, Memory>
     ensures canonical { OnOk result (IsCanonical graph.new.graph) }
     ensures slotted { OnOk result (IsSlotted graph.new.graph) }
-    ensures words { IfOk result (λ few. IsTrue few → words_of graph.new.graph ≤ 1048576) }
+    ensures words { IfOk result (λ few. IsTrue few → words_of graph.new.graph ≤ most_words) }
 {
     graph.canonical();
     graph.name_by_slots(alloc)?;

@@ -39,7 +39,7 @@ fn set_jump(graph: &mut Graph, block: u32, to: u32) -> Option<()> {
     if !is_block(graph, to) {
         return None;
     }
-    let _entry = graph.entry();
+    graph.learn();
     graph.set_term(block, Term::Jump { to });
     Some(())
 }
@@ -55,7 +55,7 @@ fn insert_jump(graph: &mut Graph, block: u32, to: u32) -> Option<()> {
     if !is_block(graph, to) {
         return None;
     }
-    let _entry = graph.entry();
+    graph.learn();
     graph.insert_after(block, Term::Jump { to });
     Some(())
 }
@@ -70,7 +70,7 @@ fn redirect(graph: &mut Graph, from: u32, to: u32) -> Option<()>
     if !is_block(graph, to) {
         return None;
     }
-    let _entry = graph.entry();
+    graph.learn();
     graph.redirect(from, to);
     Some(())
 }
@@ -82,7 +82,7 @@ fn remove(graph: &mut Graph, block: u32, to: u32) -> Option<()> {
         return None;
     }
     let _next = graph.next(block)?;
-    let _entry = graph.entry();
+    graph.learn();
     graph.remove(block);
     Some(())
 }
@@ -97,7 +97,7 @@ fn move_on(graph: &mut Graph, block: u32) -> Option<()> {
         return None;
     }
     let _last = graph.next(after)?;
-    let _entry = graph.entry();
+    graph.learn();
     graph.move_after(block, block, after);
     Some(())
 }
@@ -113,7 +113,7 @@ fn put_call(graph: &mut Graph, block: u32, at: u32, procedure: u32) -> Option<()
     if graph.procedures() <= procedure {
         return None;
     }
-    let _entry = graph.entry();
+    graph.learn();
     let items = [Item::Op(Insn::Ecall), Item::Out { procedure }];
     graph.replace(block, at, 1, &items);
     Some(())
@@ -142,7 +142,7 @@ fn inline(graph: &mut Graph, block: u32, at: u32) -> Option<()> {
     if (graph.spare().items as usize) < graph.body(procedure).len() {
         return None;
     }
-    let _entry = graph.entry();
+    graph.learn();
     graph.inline(block, at);
     Some(())
 }
@@ -164,7 +164,7 @@ fn outline(graph: &mut Graph, block: u32, at: u32, count: u32, link: u32) -> Opt
     if !body_fits(link, &items[at as usize..at as usize + count as usize]) {
         return None;
     }
-    let _entry = graph.entry();
+    graph.learn();
     graph.outline(block, at, count, link);
     Some(())
 }
@@ -176,7 +176,7 @@ fn redirect_calls(graph: &mut Graph, from: u32, to: u32) -> Option<()>
     if from == to || graph.procedures() <= to {
         return None;
     }
-    let _entry = graph.entry();
+    graph.learn();
     graph.redirect_calls(from, to);
     Some(())
 }
@@ -187,7 +187,7 @@ fn remove_procedure(graph: &mut Graph, procedure: u32, to: u32) -> Option<()> {
     if graph.procedures() <= procedure {
         return None;
     }
-    let _entry = graph.entry();
+    graph.learn();
     graph.remove_procedure(procedure);
     Some(())
 }

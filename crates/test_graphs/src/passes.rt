@@ -2,7 +2,7 @@
 
 ghost use Rattle.std.specs.Prelude.{◌≤◌, IsTrue};
 ghost use Rattle.sq_graph.specs.Leaders.{IsCanonical};
-ghost use Rattle.sq_graph.specs.Words.{words_of};
+ghost use Rattle.sq_graph.specs.Words.{words_of, most_words};
 
 use crate::cuts::{cut_of, cut_text, savings_text};
 use crate::texts::{memory, names_of};
@@ -72,7 +72,7 @@ fn applied<P: Pass>(alloc: Global, graph: &mut Graph, pass: &P) -> Result<String
 /// Makes the graph canonical, and tells whether it has few enough words to be settled.
 pub fn is_ready(graph: &mut Graph) -> bool
     ensures canonical { IsCanonical graph.new.graph }
-    ensures words { IsTrue result → words_of graph.new.graph ≤ 1048576 }
+    ensures words { IsTrue result → words_of graph.new.graph ≤ most_words }
 {
     graph.canonical();
     words_of(graph) <= 1_048_576

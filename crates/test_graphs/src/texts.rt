@@ -18,7 +18,7 @@ pub fn memory(_error: Memory) -> Error {
 
 /// The names of the blocks, by their positions.
 pub fn names_of(alloc: Global, graph: &Graph) -> Result<Vec<u32>, Memory> {
-    let _entry = graph.entry();
+    graph.learn();
     block_names(alloc, graph)
 }
 

@@ -13,7 +13,6 @@ ghost use Rattle.sq_drive.specs.Landing.{landing_before, landing_of};
 ghost use Rattle.sq_drive.specs.Tracking.{carried, standing};
 
 use sq_graph::{Graph, Term};
-use sq_layout::learn;
 use sq_live::block_names;
 use sq_names::Track;
 use sq_num::Memory;
@@ -46,7 +45,7 @@ fn landing(graph: &Graph, block: u32, ahead: Option<u32>) -> u32
 pub(crate) fn landings(alloc: Global, graph: &Graph) -> Result<HashMap<u32, u32>, Memory>
     ensures { IfOk result (λ landings. (x : ℕ) → unwrap_or (get nat_eq landings x) x ≡ passed graph.now.graph.blocks x) }
 {
-    learn(graph);
+    graph.learn();
     let names = block_names(alloc, graph)?;
     let mut landings = HashMap::new(alloc);
     let mut ahead = None;
@@ -63,9 +62,9 @@ pub(crate) fn landings(alloc: Global, graph: &Graph) -> Result<HashMap<u32, u32>
 pub(crate) fn slots(alloc: Global, graph: &Graph) -> Result<HashMap<u32, u32>, Memory>
     ensures { IfOk result (λ slots. (x : ℕ) → get nat_eq slots x ≡ number_in (names_of graph.now.graph) 0 x) }
 {
-    learn(graph);
+    graph.learn();
     let names = block_names(alloc, graph)?;
-    let _room = graph.spare();
+    graph.learn();
     let mut slots = HashMap::new(alloc);
     for k in (0..names.len()).rev() {
         slots.insert(names[k], k as u32)?;

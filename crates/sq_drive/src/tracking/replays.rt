@@ -5,7 +5,7 @@ ghost use Rattle.sq_graph.specs.Canonical.{canonical_of};
 ghost use Rattle.sq_graph.specs.Graph.{Graph as Parts};
 ghost use Rattle.sq_graph.specs.Leaders.{IsCanonical};
 ghost use Rattle.sq_graph.specs.Slotted.{slotted};
-ghost use Rattle.sq_graph.specs.Words.{words_of};
+ghost use Rattle.sq_graph.specs.Words.{words_of, most_words};
 ghost use Rattle.sq_drive.specs.Checking.{Leads, IsFirstFault};
 ghost use Rattle.sq_drive.specs.Replay.{cut_of, MayStep, FailsAt};
 ghost use Rattle.sq_drive.specs.Replaying.{IsLess};
@@ -16,7 +16,6 @@ use crate::tracking::landing::{landings, slots, stand_all};
 use crate::tracking::making::make;
 use sq_cert::{Step, read_cert};
 use sq_graph::Graph;
-use sq_layout::learn;
 use sq_names::Track;
 use sq_num::Memory;
 use std::alloc::Global;
@@ -29,7 +28,7 @@ fn track_step(
     tracks: &[Track],
 ) -> Result<Option<Vec<Track>>, Memory>
     requires canonical { IsCanonical graph.old.graph }
-    requires words { words_of graph.old.graph ≤ 1048576 }
+    requires words { words_of graph.old.graph ≤ most_words }
     ensures carried { IfOk result (λ done. IfSome done (λ after. (made : Parts) × IsMade (cut_of graph.old.graph step.now) graph.old.graph made × (graph.new.graph ≡ slotted (canonical_of made)) × (after.items ≡ map (by_step step.now graph.old.graph made) tracks.now))) }
     ensures less { IfOk result (λ done. IfSome done (λ _. IsLess graph.old.graph graph.new.graph)) }
     ensures none { result ≡ Ok None → ¬ MayStep graph.old.graph step.now }
@@ -40,10 +39,10 @@ fn track_step(
     }
     let left = tracks_by_row(alloc, step, &old, graph, tracks)?;
     let landings = landings(alloc, graph)?;
-    learn(graph);
+    graph.learn();
     graph.canonical();
     let slots = slots(alloc, graph)?;
-    learn(graph);
+    graph.learn();
     graph.name_by_slots(alloc)?;
     Ok(Some(stand_all(alloc, &landings, &slots, &left)?))
 }
@@ -57,7 +56,7 @@ fn track_steps(
     tracks: &mut Vec<Track>,
 ) -> Result<Option<usize>, Memory>
     requires canonical { IsCanonical graph.old.graph }
-    requires words { words_of graph.old.graph ≤ 1048576 }
+    requires words { words_of graph.old.graph ≤ most_words }
     ensures carried { result ≡ Ok None → AreCarried steps.now graph.old.graph graph.new.graph tracks.old.items tracks.new.items }
     ensures less { result ≡ Ok None → IsLess graph.old.graph graph.new.graph }
     ensures fault { (number : ℕ) → result ≡ Ok (Some number) → FailsAt steps.now graph.old.graph number }
@@ -80,7 +79,7 @@ pub fn track_graph(
     tracks: &mut Vec<Track>,
 ) -> Result<Option<u32>, Memory>
     requires canonical { IsCanonical graph.old.graph }
-    requires words { words_of graph.old.graph ≤ 1048576 }
+    requires words { words_of graph.old.graph ≤ most_words }
     requires text { length text.now ≤ 134217728 }
     ensures tracked { result ≡ Ok None → AreTracked text.now graph.old.graph graph.new.graph tracks.old.items tracks.new.items }
     ensures less { result ≡ Ok None → IsLess graph.old.graph graph.new.graph }

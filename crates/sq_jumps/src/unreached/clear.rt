@@ -11,7 +11,6 @@ ghost use Rattle.sq_jumps.specs.Unreached.{AreUnreached, without_all};
 ghost use Rattle.sq_jumps.specs.UnreachedClear.{cleared, cleared_each, is_called, without_uncalled, without_each, MayGo};
 
 use sq_graph::{Graph, Item, Term};
-use sq_layout::learn;
 
 /// Takes the items of a block away, and makes it stop, so that it names nothing.
 fn clear(graph: &mut Graph, block: u32)
@@ -20,7 +19,7 @@ fn clear(graph: &mut Graph, block: u32)
     ensures blocks { (n : ℕ) → HasBlock graph.old.graph n → HasBlock graph.new.graph n }
     ensures total { KeepsTotal graph.old graph.new }
 {
-    learn(graph);
+    graph.learn();
     let count = graph.items(block).len() as u32;
     graph.replace(block, 0, count, &[]);
     graph.set_term(block, Term::Stop { word: 0 });
@@ -72,7 +71,7 @@ fn remove_uncalled(graph: &mut Graph)
     ensures total { KeepsTotal graph.old graph.new }
 {
     for number in (0..graph.procedures()).rev() {
-        learn(graph);
+        graph.learn();
         if !is_called(graph, number) {
             graph.remove_procedure(number);
         }
@@ -86,7 +85,7 @@ fn remove_each(graph: &mut Graph, blocks: &[u32])
     ensures total { KeepsTotal graph.old graph.new }
 {
     for block in blocks {
-        learn(graph);
+        graph.learn();
         graph.remove(*block);
     }
 }
@@ -98,10 +97,10 @@ pub(crate) fn drop_unreached(graph: &mut Graph, blocks: &[u32])
     ensures rules { IsGraph graph.new.graph }
     ensures total { KeepsTotal graph.old graph.new }
 {
-    learn(graph);
+    graph.learn();
     clear_each(graph, blocks);
     remove_uncalled(graph);
-    learn(graph);
+    graph.learn();
     remove_each(graph, blocks);
-    learn(graph);
+    graph.learn();
 }

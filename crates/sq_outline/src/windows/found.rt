@@ -17,7 +17,6 @@ use crate::windows::past::{Shift, dead_link};
 use sq_finger::WindowAt;
 use sq_graph::{Graph, Item};
 use sq_isa::Reg;
-use sq_layout::learn;
 use sq_live::{Liveness, live};
 use sq_num::Memory;
 use std::alloc::Global;
@@ -45,7 +44,7 @@ fn link_for(
     ensures some { IfOk result (λ found. IfSome found (λ link. (block at n : ℕ) → window.now ≡ items_at graph.now.graph block at n → n ≡ length window.now → MayBeMade graph.now.graph block at n link)) }
     ensures none { result ≡ Ok None → (block at n link : ℕ) → window.now ≡ items_at graph.now.graph block at n → n ≡ length window.now → ¬ MayBeMade graph.now.graph block at n link }
 {
-    learn(graph);
+    graph.learn();
     let n = window.len() as u32;
     if !are_plain(window) {
         return Ok(None);
@@ -72,7 +71,7 @@ fn link_still(
     requires few { length items.now ≤ 16 }
     ensures { IfOk result (λ found. IfSome found (λ link. (block at n : ℕ) → items.now ≡ items_at graph.now.graph block at n → n ≡ length items.now → MayBeMade graph.now.graph block at n link)) }
 {
-    learn(graph);
+    graph.learn();
     let n = items.len() as u32;
     if !are_plain(items) {
         return Ok(None);
@@ -115,7 +114,7 @@ pub(crate) fn found_at(
     ensures first { IfOk result (λ found. IfSome found (λ made. thinned n None places.now ≡ occurrences graph.now.graph (items_at graph.now.graph made.first.block made.first.at n))) }
     ensures none { result ≡ Ok None → (block at link saving : ℕ) → places.now ≡ standing graph.now.graph (items_at graph.now.graph block at n) → ¬ IsWindowMade graph.now.graph block at n link saving }
 {
-    learn(graph);
+    graph.learn();
     if places.len() < 2 {
         return Ok(None);
     }
@@ -155,7 +154,7 @@ pub(crate) fn found_still(
     ensures some { IfOk result (λ found. IfSome found (λ made. IsWindowMade graph.now.graph made.0.first.block made.0.first.at n made.0.link made.0.saving)) }
     ensures sites { IfOk result (λ found. IfSome found (λ made. made.1.items ≡ occurrences graph.now.graph (items_at graph.now.graph made.0.first.block made.0.first.at n))) }
 {
-    learn(graph);
+    graph.learn();
     let occurrences = occurrences_of(alloc, n, places)?;
     let sites = occurrences.as_slice();
     let gone = sites.len() as u64 * u64::from(n - 1);

@@ -11,7 +11,6 @@ ghost use Rattle.sq_outline.specs.WindowsHeads.{print_of, head_of, HasHeads};
 
 use sq_finger::{ItemKey, WindowAt, item_key};
 use sq_graph::{Graph, Item};
-use sq_layout::learn;
 use sq_num::Memory;
 use std::alloc::Global;
 use std::collections::HashSet;
@@ -46,7 +45,7 @@ fn head(items: &[Item]) -> Option<u64>
 pub(crate) fn heads(alloc: Global, graph: &Graph) -> Result<HashSet<u64>, Memory>
     ensures { IfOk result (HasHeads graph.now.graph) }
 {
-    learn(graph);
+    graph.learn();
     let mut heads = HashSet::new(alloc);
     for procedure in 0..graph.procedures() {
         if let Some(head) = head(graph.body(procedure)) {
@@ -62,7 +61,7 @@ pub(crate) fn may_begin(graph: &Graph, heads: &HashSet<u64>, place: WindowAt) ->
     requires heads { HasHeads graph.now.graph heads.now }
     ensures { result ≡ false → (procedure : ℕ) → HasProcedure graph.now.graph procedure → ¬ MayCallInside graph.now.graph place.block place.at procedure }
 {
-    learn(graph);
+    graph.learn();
     let items = graph.items(place.block);
     if items.len() < place.at as usize {
         return false;

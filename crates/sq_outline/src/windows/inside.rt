@@ -23,7 +23,6 @@ use crate::windows::stands::stand_at;
 use sq_finger::{WindowAt, all_places};
 use sq_graph::Graph;
 use sq_isa::Reg;
-use sq_layout::learn;
 use sq_live::Liveness;
 use sq_lookup::is_block;
 use sq_num::Memory;
@@ -65,7 +64,7 @@ pub(crate) fn may_call_inside(
     requires live { IsLivenessOf graph.now.graph live.now }
     ensures { IsTrue result ↔ MayCallInside graph.now.graph block at procedure }
 {
-    learn(graph);
+    graph.learn();
     if !stands_inside(graph, block, at, procedure) {
         return false;
     }
@@ -84,7 +83,7 @@ pub(crate) fn may_call_still(
     requires past { IsPast graph.now.graph live.now shifts.now }
     ensures { IsTrue result → HasProcedure graph.now.graph procedure × MayCallInside graph.now.graph place.block place.at procedure }
 {
-    learn(graph);
+    graph.learn();
     let WindowAt { block, at } = place;
     if !is_block(graph, block) || procedure >= graph.procedures() {
         return false;
@@ -137,7 +136,7 @@ fn find_place(
     ensures some { IfSome result (λ found. HasProcedure graph.now.graph found.1 × MayCallInside graph.now.graph found.0.block found.0.at found.1) }
     ensures none { result ≡ None → (block at procedure : ℕ) → ¬ MayCallInside graph.now.graph block at procedure }
 {
-    learn(graph);
+    graph.learn();
     for place in line {
         if let Some(procedure) = procedure_inside(graph, live, heads, *place) {
             return Some((*place, procedure));
@@ -157,7 +156,7 @@ pub(crate) fn inside_cut(
     requires may { MayCallInside graph.now.graph place.block place.at procedure }
     ensures { IfOk result (IsInsideCut graph.now.graph) }
 {
-    learn(graph);
+    graph.learn();
     let length = graph.body(procedure).len() as u32;
     let mut blocks = Blocks::new(alloc);
     blocks.push(place.block)?;
@@ -197,7 +196,7 @@ pub(crate) fn admit_inside(graph: &Graph, live: &Liveness, cut: Cut) -> Option<C
     ensures some { IfSome result (λ given. IsInsideCut graph.now.graph given × IsCompleted cut given) }
     ensures none { result ≡ None → (given : Told) → IsCompleted cut given → ¬ IsInsideCut graph.now.graph given }
 {
-    learn(graph);
+    graph.learn();
     if cut.procedure >= graph.procedures() {
         return None;
     }

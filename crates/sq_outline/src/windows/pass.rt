@@ -6,7 +6,6 @@ use crate::windows::search::{admit_window, find_window};
 use crate::windows::sweep::sweep;
 use crate::windows::window::make_window;
 use sq_graph::{Graph, Room};
-use sq_layout::learn;
 use sq_live::Liveness;
 use sq_num::{Memory, Savings};
 use sq_pass::{Cut, Pass, Row};
@@ -53,7 +52,7 @@ impl Pass for Windows {
 
     /// It looks at nothing.
     fn room(&self, graph: &Graph, cut: &Cut) -> Room {
-        learn(graph);
+        graph.learn();
         match cut.row {
             Row::W => Room {
                 blocks: 0,
@@ -70,7 +69,7 @@ impl Pass for Windows {
 
     /// A few calls of the graph; for W it looks at each place.
     fn apply(&self, graph: &mut Graph, cut: &Cut) {
-        learn(graph);
+        graph.learn();
         let blocks = cut.blocks.as_slice();
         match cut.row {
             Row::W => make_window(graph, blocks[0], cut.other, cut.length, cut.link),

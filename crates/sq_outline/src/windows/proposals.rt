@@ -14,7 +14,6 @@ use crate::windows::search::{classes_in_line, window_cut};
 use crate::windows::sweep::sixteenths;
 use sq_finger::{Groups, WindowAt, all_places, number_items, number_longer_runs, window_laws};
 use sq_graph::Graph;
-use sq_layout::learn;
 use sq_live::Liveness;
 use sq_num::Memory;
 use sq_pass::Cut;
@@ -56,8 +55,7 @@ fn found_windows(alloc: Global, graph: &Graph, live: &Liveness) -> Result<Vec<Fo
     requires live { IsLivenessOf graph.now.graph live.now }
     ensures { IfOk result (λ windows. All (IsFoundWindow graph.now.graph) windows.items) }
 {
-    learn(graph);
-    let _room = graph.spare();
+    graph.learn();
     window_laws();
     let line = all_places(alloc, graph)?;
     let items = number_items(alloc, graph, &line)?;
@@ -103,7 +101,7 @@ fn push_calls(
     requires cuts { All (IsWindowsCandidate graph.now.graph) cuts.old.items }
     ensures { OnOk result (All (IsWindowsCandidate graph.now.graph) cuts.new.items) }
 {
-    learn(graph);
+    graph.learn();
     let heads = heads(alloc, graph)?;
     let line = all_places(alloc, graph)?;
     for place in &line {

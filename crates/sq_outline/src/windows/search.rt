@@ -15,7 +15,6 @@ use crate::windows::found::{Found, found_at, items_at};
 use crate::windows::stands::stand_at;
 use sq_finger::{Groups, WindowAt, all_places, number_items, number_longer_runs, window_laws};
 use sq_graph::Graph;
-use sq_layout::learn;
 use sq_live::Liveness;
 use sq_lookup::is_block;
 use sq_num::Memory;
@@ -70,7 +69,7 @@ pub(crate) fn classes_in_line(
     requires numbers { AreWindowNumbers graph.now.graph n line.now numbers.now }
     ensures { IfOk result (AreWindowClasses graph.now.graph n) }
 {
-    learn(graph);
+    graph.learn();
     if !are_few(numbers) {
         return Err(Memory);
     }
@@ -105,8 +104,7 @@ pub(crate) fn find_window(
     ensures some { IfOk result (λ found. IfSome found (IsWindowCut graph.now.graph)) }
     ensures none { result ≡ Ok None → (cut : Told) → ¬ IsWindowCut graph.now.graph cut }
 {
-    learn(graph);
-    let _room = graph.spare();
+    graph.learn();
     window_laws();
     let line = all_places(alloc, graph)?;
     let items = number_items(alloc, graph, &line)?;
@@ -134,7 +132,7 @@ pub(crate) fn standing(
     requires some { 1 ≤ n }
     ensures { IfOk result (λ places. places.items ≡ standing graph.now.graph (items_at graph.now.graph block at n)) }
 {
-    learn(graph);
+    graph.learn();
     let line = all_places(alloc, graph)?;
     let window = items_at(graph, block, at, n);
     let mut places = Vec::new(alloc);
@@ -158,7 +156,7 @@ pub(crate) fn admit_window(
     ensures some { IfOk result (λ found. IfSome found (λ given. IsWindowCut graph.now.graph given × IsCompleted cut given)) }
     ensures none { result ≡ Ok None → (given : Told) → IsCompleted cut given → ¬ IsWindowCut graph.now.graph given }
 {
-    learn(graph);
+    graph.learn();
     let n = cut.length;
     if cut.procedure != 0 || n < 3 || n > 16 {
         return Ok(None);

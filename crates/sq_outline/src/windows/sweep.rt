@@ -4,7 +4,7 @@ ghost use Rattle.std.specs.Prelude.{◌≡◌, ◌≤◌, ◌+◌, IfOk, IfSome,
 ghost use Rattle.sq_num.specs.Saved.{words_saved};
 ghost use Rattle.sq_graph.specs.Blocks.{HasProcedure};
 ghost use Rattle.sq_graph.specs.Leaders.{IsCanonical};
-ghost use Rattle.sq_graph.specs.Words.{words_of};
+ghost use Rattle.sq_graph.specs.Words.{words_of, most_words};
 ghost use Rattle.sq_follow.specs.Follows.{Follows};
 ghost use Rattle.sq_live.specs.Liveness.{IsLivenessOf};
 ghost use Rattle.sq_pass.specs.Rewrites.{IsRewritten};
@@ -25,7 +25,6 @@ use crate::windows::search::{classes_in_line, standing};
 use crate::windows::window::make_window;
 use sq_finger::{Groups, WindowAt, all_places, number_items, number_longer_runs, window_laws};
 use sq_graph::{Graph, Room};
-use sq_layout::learn;
 use sq_live::{Liveness, live};
 use sq_lookup::is_block;
 use sq_num::{Memory, Savings};
@@ -43,7 +42,7 @@ struct Call {
 fn calls_to_try(alloc: Global, graph: &Graph, live: &Liveness) -> Result<Vec<Call>, Memory>
     requires { IsLivenessOf graph.now.graph live.now }
 {
-    learn(graph);
+    graph.learn();
     let heads = heads(alloc, graph)?;
     let line = all_places(alloc, graph)?;
     let mut calls = Vec::new(alloc);
@@ -67,14 +66,14 @@ fn rewrite_inside(
     savings: Savings,
 ) -> Result<Savings, Memory>
     requires canonical { IsCanonical graph.old.graph }
-    requires words { words_of graph.old.graph + words_saved savings ≤ 1048576 }
+    requires words { words_of graph.old.graph + words_saved savings ≤ most_words }
     requires procedure { HasProcedure graph.old.graph procedure }
     requires may { MayCallInside graph.old.graph place.block place.at procedure }
     ensures rewritten { IfOk result (λ after. IsRewritten IsWindowsCandidate windows_described savings after graph.old.graph graph.new.graph) }
     ensures follows { Follows graph.old.graph graph.new.graph }
     ensures past { OnOk result (KeepsPast graph.old.graph shifts.old.items graph.new.graph shifts.new.items) }
 {
-    learn(graph);
+    graph.learn();
     let saving = graph.body(procedure).len() as u32 - 1;
     shifts.push(Shift {
         block: place.block,
@@ -99,7 +98,7 @@ fn call_if_may(
     savings: Savings,
 ) -> Result<Savings, Memory>
     requires canonical { IsCanonical graph.old.graph }
-    requires words { words_of graph.old.graph + words_saved savings ≤ 1048576 }
+    requires words { words_of graph.old.graph + words_saved savings ≤ most_words }
     requires past { IsPast graph.old.graph before.now shifts.old.items }
     ensures rewritten { IfOk result (λ after. IsRewritten IsWindowsCandidate windows_described savings after graph.old.graph graph.new.graph) }
     ensures follows { Follows graph.old.graph graph.new.graph }
@@ -122,7 +121,7 @@ fn call_each(
     savings: Savings,
 ) -> Result<Savings, Memory>
     requires canonical { IsCanonical graph.old.graph }
-    requires words { words_of graph.old.graph + words_saved savings ≤ 1048576 }
+    requires words { words_of graph.old.graph + words_saved savings ≤ most_words }
     requires past { IsPast graph.old.graph before.now shifts.old.items }
     ensures rewritten { IfOk result (λ after. IsRewritten IsWindowsCandidate windows_described savings after graph.old.graph graph.new.graph) }
     ensures follows { Follows graph.old.graph graph.new.graph }
@@ -140,7 +139,7 @@ fn call_each(
 #[tactic(auto, using(sq_follow::proofs::Following::graph_follows_itself))]
 fn sweep_calls(alloc: Global, graph: &mut Graph, savings: Savings) -> Result<Savings, Memory>
     requires canonical { IsCanonical graph.old.graph }
-    requires words { words_of graph.old.graph + words_saved savings ≤ 1048576 }
+    requires words { words_of graph.old.graph + words_saved savings ≤ most_words }
     ensures rewritten { IfOk result (λ after. IsRewritten IsWindowsCandidate windows_described savings after graph.old.graph graph.new.graph) }
     ensures follows { Follows graph.old.graph graph.new.graph }
 {
@@ -200,8 +199,7 @@ fn push_hints(
 fn windows_to_try(alloc: Global, graph: &Graph, live: &Liveness) -> Result<Vec<Hint>, Memory>
     requires { IsLivenessOf graph.now.graph live.now }
 {
-    learn(graph);
-    let _room = graph.spare();
+    graph.learn();
     window_laws();
     let line = all_places(alloc, graph)?;
     let items = number_items(alloc, graph, &line)?;
@@ -222,7 +220,7 @@ fn places_of(alloc: Global, graph: &Graph, hint: Hint) -> Result<Option<Vec<Wind
     ensures most { IfOk result (λ found. IfSome found (λ places. hint.n ≤ 16)) }
     ensures places { IfOk result (λ found. IfSome found (λ places. AreStanding graph.now.graph hint.n places.items)) }
 {
-    learn(graph);
+    graph.learn();
     let Site { block, at } = hint.first;
     let n = hint.n;
     if n < 3 || n > 16 || !is_block(graph, block) {
@@ -249,15 +247,14 @@ fn rewrite_window(
     savings: Savings,
 ) -> Result<Savings, Memory>
     requires canonical { IsCanonical graph.old.graph }
-    requires words { words_of graph.old.graph + words_saved savings ≤ 1048576 }
+    requires words { words_of graph.old.graph + words_saved savings ≤ most_words }
     requires made { IsWindowMade graph.old.graph found.first.block found.first.at n found.link found.saving }
     requires sites { sites.now ≡ occurrences graph.old.graph (items_at graph.old.graph found.first.block found.first.at n) }
     ensures rewritten { IfOk result (λ after. IsRewritten IsWindowsCandidate windows_described savings after graph.old.graph graph.new.graph) }
     ensures follows { Follows graph.old.graph graph.new.graph }
     ensures past { OnOk result (KeepsPast graph.old.graph shifts.old.items graph.new.graph shifts.new.items) }
 {
-    learn(graph);
-    let _room = graph.spare();
+    graph.learn();
     note_calls(shifts, n, sites)?;
     graph.reserve(Room {
         blocks: 0,
@@ -285,7 +282,7 @@ fn make_if_may(
     savings: Savings,
 ) -> Result<Savings, Memory>
     requires canonical { IsCanonical graph.old.graph }
-    requires words { words_of graph.old.graph + words_saved savings ≤ 1048576 }
+    requires words { words_of graph.old.graph + words_saved savings ≤ most_words }
     requires past { IsPast graph.old.graph before.now shifts.old.items }
     ensures rewritten { IfOk result (λ after. IsRewritten IsWindowsCandidate windows_described savings after graph.old.graph graph.new.graph) }
     ensures follows { Follows graph.old.graph graph.new.graph }
@@ -315,7 +312,7 @@ fn make_each(
     savings: Savings,
 ) -> Result<Savings, Memory>
     requires canonical { IsCanonical graph.old.graph }
-    requires words { words_of graph.old.graph + words_saved savings ≤ 1048576 }
+    requires words { words_of graph.old.graph + words_saved savings ≤ most_words }
     requires past { IsPast graph.old.graph before.now shifts.old.items }
     ensures rewritten { IfOk result (λ after. IsRewritten IsWindowsCandidate windows_described savings after graph.old.graph graph.new.graph) }
     ensures follows { Follows graph.old.graph graph.new.graph }
@@ -340,7 +337,7 @@ fn make_all(
     savings: Savings,
 ) -> Result<Savings, Memory>
     requires canonical { IsCanonical graph.old.graph }
-    requires words { words_of graph.old.graph + words_saved savings ≤ 1048576 }
+    requires words { words_of graph.old.graph + words_saved savings ≤ most_words }
     requires past { IsPast graph.old.graph before.now shifts.old.items }
     ensures rewritten { IfOk result (λ after. IsRewritten IsWindowsCandidate windows_described savings after graph.old.graph graph.new.graph) }
     ensures follows { Follows graph.old.graph graph.new.graph }
@@ -357,7 +354,7 @@ fn make_all(
 #[tactic(auto, using(sq_follow::proofs::Following::graph_follows_itself))]
 fn sweep_windows(alloc: Global, graph: &mut Graph, savings: Savings) -> Result<Savings, Memory>
     requires canonical { IsCanonical graph.old.graph }
-    requires words { words_of graph.old.graph + words_saved savings ≤ 1048576 }
+    requires words { words_of graph.old.graph + words_saved savings ≤ most_words }
     ensures rewritten { IfOk result (λ after. IsRewritten IsWindowsCandidate windows_described savings after graph.old.graph graph.new.graph) }
     ensures follows { Follows graph.old.graph graph.new.graph }
 {
@@ -371,7 +368,7 @@ fn sweep_windows(alloc: Global, graph: &mut Graph, savings: Savings) -> Result<S
 /// candidates.
 pub(crate) fn sweep(alloc: Global, graph: &mut Graph, savings: Savings) -> Result<Savings, Memory>
     requires canonical { IsCanonical graph.old.graph }
-    requires words { words_of graph.old.graph + words_saved savings ≤ 1048576 }
+    requires words { words_of graph.old.graph + words_saved savings ≤ most_words }
     ensures rewritten { IfOk result (λ after. IsRewritten IsWindowsCandidate windows_described savings after graph.old.graph graph.new.graph) }
     ensures follows { Follows graph.old.graph graph.new.graph }
 {

@@ -15,7 +15,6 @@ use crate::call::call;
 use crate::windows::stands::begins;
 use sq_graph::{Graph, Item};
 use sq_isa::Reg;
-use sq_layout::learn;
 
 /// The last occurrence of the window among these items.
 fn last_occurrence(window: &[Item], items: &[Item]) -> Option<usize>
@@ -39,12 +38,12 @@ fn call_in_block(graph: &mut Graph, block: u32, procedure: u32)
     ensures graph { graph.new.graph ≡ called_each (map (in_block block) (reverse (occurrences_in (body_of graph.old.graph procedure) (items_of graph.old.graph block)))) procedure graph.old.graph }
     ensures total { KeepsTotal graph.old graph.new }
 {
-    learn(graph);
+    graph.learn();
     let mut end = graph.items(block).len();
     while let Some(at) = last_occurrence(graph.body(procedure), &graph.items(block)[..end]) {
-        learn(graph);
+        graph.learn();
         call(graph, block, at as u32, procedure);
-        learn(graph);
+        graph.learn();
         end = at;
     }
 }
@@ -55,11 +54,11 @@ fn call_in_blocks(graph: &mut Graph, procedure: u32)
     ensures graph { graph.new.graph ≡ called_each (calls_for graph.old.graph (body_of graph.old.graph procedure)) procedure graph.old.graph }
     ensures total { KeepsTotal graph.old graph.new }
 {
-    learn(graph);
+    graph.learn();
     let mut place = Some(graph.first());
     while let Some(block) = place {
         call_in_block(graph, block, procedure);
-        learn(graph);
+        graph.learn();
         place = graph.next(block);
     }
 }
@@ -71,7 +70,7 @@ pub(crate) fn make_window(graph: &mut Graph, block: u32, at: u32, n: u32, link: 
     ensures graph { graph.new.graph ≡ window_made graph.old.graph block at n link }
     ensures total { KeepsTotal graph.old graph.new }
 {
-    learn(graph);
+    graph.learn();
     let procedure = graph.outline(block, at, n, link);
     call_in_blocks(graph, procedure);
 }

@@ -11,7 +11,6 @@ ghost use Rattle.sq_tail.specs.BodiesPrints.{item_number, mixed, number_of_uses,
 use crate::resolved::resolved_term;
 use sq_encode::encode;
 use sq_graph::{Graph, Item, Term};
-use sq_layout::learn;
 use sq_num::Memory;
 use sq_rename::shape;
 use std::alloc::Global;
@@ -56,7 +55,7 @@ fn print(graph: &Graph, block: u32) -> u64
     requires { HasBlock graph.now.graph block }
     ensures { result ≡ print_of graph.now.graph block }
 {
-    learn(graph);
+    graph.learn();
     let mut print = target_number(resolved_term(graph, block).term);
     let items = graph.items(block);
     for item in items {

@@ -6,7 +6,7 @@ ghost use Rattle.sq_num.specs.Saved.{words_saved};
 ghost use Rattle.sq_graph.specs.Blocks.{HasBlock, items_of};
 ghost use Rattle.sq_graph.specs.Leaders.{IsCanonical};
 ghost use Rattle.sq_graph.specs.Parts.{names_of};
-ghost use Rattle.sq_graph.specs.Words.{words_of};
+ghost use Rattle.sq_graph.specs.Words.{words_of, most_words};
 ghost use Rattle.sq_follow.specs.Follows.{Follows};
 ghost use Rattle.sq_live.specs.Liveness.{IsLivenessOf};
 ghost use Rattle.sq_pass.specs.Rewrites.{IsRewritten};
@@ -18,7 +18,6 @@ use super::rewriting::rewrite_pair;
 use crate::bodies::{earlier_places, go_on_alike, may_drop, prints};
 use sq_graph::Graph;
 use sq_isa::RegSet;
-use sq_layout::learn;
 use sq_live::{Liveness, block_names, live};
 use sq_lookup::is_block;
 use sq_num::{Memory, Savings};
@@ -38,7 +37,7 @@ fn behind_block(graph: &Graph, live: &Liveness, block: u32) -> Behind
     requires block { HasBlock graph.now.graph block }
     ensures { IsStillDead graph.now.graph block result.items result.dead }
 {
-    learn(graph);
+    graph.learn();
     let items = graph.items(block).len() as u32;
     Behind {
         items,
@@ -148,14 +147,14 @@ fn drop_one(
     savings: Savings,
 ) -> Result<Savings, Memory>
     requires canonical { IsCanonical graph.old.graph }
-    requires words { words_of graph.old.graph + words_saved savings ≤ 1048576 }
+    requires words { words_of graph.old.graph + words_saved savings ≤ most_words }
     requires place { place < length names.now }
     requires dead { IsStillDead graph.old.graph (slice_index names.now place) behind.items behind.dead }
     ensures rewritten { IfOk result (λ after. IsRewritten IsCandidate described savings after graph.old.graph graph.new.graph) }
     ensures follows { Follows graph.old.graph graph.new.graph }
     ensures dead { IfOk result (λ after. KeepsDeadElsewhere graph.old.graph graph.new.graph (slice_index names.now place)) }
 {
-    learn(graph);
+    graph.learn();
     let Behind { items, dead } = behind;
     let dropped = names[place];
     if !may_drop_still(graph, dropped, items) {
@@ -164,7 +163,7 @@ fn drop_one(
     let Some(kept) = kept_near(graph, names, earlier, place, dead) else {
         return Ok(savings);
     };
-    let _room = graph.spare();
+    graph.learn();
     let length = graph.items(kept).len() as u32;
     rewrite_pair(graph, dropped, kept, length, savings)
 }
@@ -178,13 +177,13 @@ fn drop_each(
     savings: Savings,
 ) -> Result<Savings, Memory>
     requires canonical { IsCanonical graph.old.graph }
-    requires words { words_of graph.old.graph + words_saved savings ≤ 1048576 }
+    requires words { words_of graph.old.graph + words_saved savings ≤ most_words }
     requires names { names.now ≡ names_of graph.old.graph }
     requires told { AreStillDead graph.old.graph names.now told.now (length names.now) }
     ensures rewritten { IfOk result (λ after. IsRewritten IsCandidate described savings after graph.old.graph graph.new.graph) }
     ensures follows { Follows graph.old.graph graph.new.graph }
 {
-    learn(graph);
+    graph.learn();
     let mut after = savings;
     for place in (0..names.len()).rev() {
         if let Some(behind) = told[place] {
@@ -202,11 +201,11 @@ pub(crate) fn sweep_bodies(
     savings: Savings,
 ) -> Result<Savings, Memory>
     requires canonical { IsCanonical graph.old.graph }
-    requires words { words_of graph.old.graph + words_saved savings ≤ 1048576 }
+    requires words { words_of graph.old.graph + words_saved savings ≤ most_words }
     ensures rewritten { IfOk result (λ after. IsRewritten IsCandidate described savings after graph.old.graph graph.new.graph) }
     ensures follows { Follows graph.old.graph graph.new.graph }
 {
-    learn(graph);
+    graph.learn();
     let names = block_names(alloc, graph)?;
     let prints = prints(alloc, graph, &names)?;
     let earlier = earlier_places(alloc, &prints)?;

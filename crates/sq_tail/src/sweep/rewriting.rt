@@ -5,7 +5,7 @@ ghost use Rattle.sq_num.specs.Saved.{words_saved};
 ghost use Rattle.sq_isa.specs.Registers.{is_among};
 ghost use Rattle.sq_graph.specs.Blocks.{HasBlock, term_of};
 ghost use Rattle.sq_graph.specs.Leaders.{IsCanonical};
-ghost use Rattle.sq_graph.specs.Words.{words_of};
+ghost use Rattle.sq_graph.specs.Words.{words_of, most_words};
 ghost use Rattle.sq_follow.specs.Follows.{Follows};
 ghost use Rattle.sq_pass.specs.Rewrites.{IsRewritten};
 ghost use Rattle.sq_tail.specs.Candidates.{IsCandidate, described};
@@ -16,7 +16,6 @@ ghost use Rattle.sq_tail.specs.Tails.{tail_cut};
 use crate::ends::end_words;
 use crate::joining::join;
 use sq_graph::{Graph, Room, Term};
-use sq_layout::learn;
 use sq_num::{Memory, Savings};
 use sq_pass::{Rewrite, Row};
 
@@ -46,7 +45,7 @@ fn is_named_by(graph: &Graph, block: u32, name: u32) -> bool
 fn is_named_beside(graph: &Graph, gone: u32, name: u32) -> bool
     ensures { IsTrue result → (w : ℕ) × ((w ≢ gone) × (is_among (end_uses (term_of graph.now.graph w)) name ≡ true)) }
 {
-    learn(graph);
+    graph.learn();
     let mut place = Some(graph.first());
     while let Some(block) = place {
         if block != gone && is_named_by(graph, block, name) {
@@ -98,14 +97,13 @@ pub(crate) fn rewrite_pair(
     savings: Savings,
 ) -> Result<Savings, Memory>
     requires canonical { IsCanonical graph.old.graph }
-    requires words { words_of graph.old.graph + words_saved savings ≤ 1048576 }
+    requires words { words_of graph.old.graph + words_saved savings ≤ most_words }
     requires candidate { IsCandidate graph.old.graph (tail_cut graph.old.graph dropped kept length) }
     ensures rewritten { IfOk result (λ after. IsRewritten IsCandidate described savings after graph.old.graph graph.new.graph) }
     ensures made { IfOk result (λ after. IsJoinedWhole graph.old.graph dropped kept length graph.new.graph) }
     ensures follows { Follows graph.old.graph graph.new.graph }
 {
-    learn(graph);
-    let _room = graph.spare();
+    graph.learn();
     let saving = length - 1 + end_words(graph, dropped);
     graph.reserve(Room {
         blocks: 1,

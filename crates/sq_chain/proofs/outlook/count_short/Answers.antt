@@ -30,7 +30,7 @@ overflow_add-short c =
     let one = came_one S h o.rules c.loop-name.name-index (get_or c.args.names.now c.loop-name.name-index 0) b in
     let all = sum_by-take-le (λ (x : Block). if S x.name then 1 else 0) h.blocks (c.loop-name.name-index + 1) in
     let few = count_few S h.blocks in
-    let small = c.spare-room.ensures.small.blocks in
+    let small = c.learn.ensures.small.blocks in
     let now = c.loop-name.invariant h o in
     let is = c.one_if_short-short.ensures in
     omega (arith, one, all, few, now, is, small, o.many)

@@ -23,7 +23,7 @@ overflow_add-at-in-loop-name c =
     let placed = subst (λ bs. IsPlacedBy (swollen (is_listed c.args.wide.now)) g.blocks (number_at c.loop-name.addresses) bs c.loop-name.at) b.rest c.loop-name.invariant.placed in
     let behind = behind_by (swollen (is_listed c.args.wide.now)) g.blocks c.loop-name.at (number_at c.loop-name.addresses) b.block (drop (c.loop-name.name-index + 1) g.blocks) placed in
     let few = c.learn.ensures.few in
-    let few' = c.spare-room.ensures.small.blocks in
+    let few' = c.learn.ensures.small.blocks in
     let all = swollen_few (is_listed c.args.wide.now) g.blocks in
     omega (arith, words, one, behind, few, few', all, c.from.ensures, c.from-in-loop-name.ensures)
 
@@ -60,7 +60,7 @@ pub returns-clause-small : goal.returns-clause-small
 returns-clause-small c =
     let g = c.args.graph.now.graph in
     let all = drop_all c.loop-name.name-index g.blocks (omega (arith, length-names g c.args.names.now c.requires)) in
-    let few' : length c.args.graph.now.graph.blocks < 2 ^ 29 = let s = c.spare-room.ensures.small.blocks in omega (arith, s) in
+    let few' : length c.args.graph.now.graph.blocks < 2 ^ 29 = let s = c.learn.ensures.small.blocks in omega (arith, s) in
     swollen_small g (is_listed c.args.wide.now) (number_at c.loop-name.addresses)
     (all_placed_by (swollen (is_listed c.args.wide.now)) g.blocks c.loop-name.at (number_at c.loop-name.addresses)
     (subst (λ bs. IsPlacedBy (swollen (is_listed c.args.wide.now)) g.blocks (number_at c.loop-name.addresses) bs c.loop-name.at) all c.loop-name.invariant.placed))

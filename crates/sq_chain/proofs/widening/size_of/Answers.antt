@@ -15,7 +15,7 @@ overflow_add-size c =
     let one = came_one (is_listed c.args.wide.now) g c.learn.ensures.rules c.loop-name.name-index (get_or c.args.names.now c.loop-name.name-index 0) b in
     let all = sum_by-take-le (λ (x : Block). if is_listed c.args.wide.now x.name then 1 else 0) g.blocks (c.loop-name.name-index + 1) in
     let few = count_few (is_listed c.args.wide.now) g.blocks in
-    let small = c.spare-room.ensures.small.blocks in
+    let small = c.learn.ensures.small.blocks in
     let now = c.loop-name.invariant in
     let is = c.one_for-size.ensures in
     omega (arith, one, all, few, small, now, is)

@@ -2,7 +2,7 @@ use Rattle.std.proofs.Common.{◌≤◌}
 use Rattle.std.specs.List.{All}
 use Rattle.sq_cert.specs.Steps.{HasForm}
 use Rattle.sq_graph.specs.Leaders.{IsCanonical}
-use Rattle.sq_graph.specs.Words.{words_of}
+use Rattle.sq_graph.specs.Words.{words_of, most_words}
 use Rattle.sq_drive.specs.Replay.{IsReplay}
 use Rattle.sq_num.specs.declared.packed.TheConstants.Savings.{NONE}
 use Rattle.sq_pass.specs.Rewrites.{IsRewritten}
@@ -17,7 +17,7 @@ invariant-loop-hints l = record {
   less : IsLess l.fn.graph.graph l.graph.graph;
   rewritten : IsRewritten IsCandidate described NONE l.savings l.fn.graph.graph l.graph.graph;
   canonical : IsCanonical l.graph.graph;
-  words : words_of l.graph.graph ≤ 1048576;
+  words : words_of l.graph.graph ≤ most_words;
 }
 
 abbrev pub decreases-loop-hints : goal.decreases-loop-hints

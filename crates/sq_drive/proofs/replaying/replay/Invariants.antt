@@ -1,6 +1,6 @@
 use Rattle.std.proofs.Common.{◌≤◌, take}
 use Rattle.sq_graph.specs.Leaders.{IsCanonical}
-use Rattle.sq_graph.specs.Words.{words_of}
+use Rattle.sq_graph.specs.Words.{words_of, most_words}
 use Rattle.sq_drive.specs.Replay.{IsReplay}
 use Rattle.sq_drive.specs.Replaying.{IsLess}
 use Rattle.sq_drive.proofs.replaying.replay.Given as goal
@@ -10,5 +10,5 @@ invariant-loop-number l = record {
   replayed : IsReplay (take l.number l.steps) l.fn.graph.graph l.graph.graph;
   less : IsLess l.fn.graph.graph l.graph.graph;
   canonical : IsCanonical l.graph.graph;
-  words : words_of l.graph.graph ≤ 1048576;
+  words : words_of l.graph.graph ≤ most_words;
 }

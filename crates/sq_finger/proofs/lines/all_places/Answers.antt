@@ -12,5 +12,5 @@ overflow_cast-items c =
     let g = c.args.graph.now.graph in
     let names = c.deref-name-items.result.now in
     let there = name_there g names c.loop-name.name-index (c.deref-name-items.ensures.value ∙ c.in_ok-names.ensures) c.loop-name-test.true in
-    let few = few_items g (get_or names c.loop-name.name-index 0) c.args.graph.now.spare.items there c.spare-room.ensures.small.items in
+    let few = few_items g (get_or names c.loop-name.name-index 0) c.args.graph.now.spare.items there c.learn.ensures.small.items in
     rw c.items.ensures (omega arith)

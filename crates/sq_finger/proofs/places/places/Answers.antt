@@ -13,7 +13,7 @@ push_places-requires c =
     let g = c.args.graph.now.graph in
     let names = c.args.names.now in
     let there = name_there g names c.loop-name.name-index c.requires.names c.loop-name-test.true in
-    let few = few_items g (get_or names c.loop-name.name-index 0) c.args.graph.now.spare.items there c.spare-room.ensures.small.items in
+    let few = few_items g (get_or names c.loop-name.name-index 0) c.args.graph.now.spare.items there c.learn.ensures.small.items in
     rw c.items.ensures (omega arith)
 
 pub loop-name-preserved : goal.loop-name-preserved

@@ -15,7 +15,7 @@ number_all-requires c =
     let n = c.args.n in
     let print : WindowAt → Option ℕ = λ place. Some (window_print g n place) in
     let keys = c.deref-3.ensures.value ∙ c.in_ok-prints.ensures ∙ ap (map print) (c.deref-2.ensures.value ∙ c.in_ok-places.ensures) in
-    record { few = few_keys g n c.deref-3.result.now print c.args.graph.now.spare.items c.entry-entry.ensures.rules c.spare-room.ensures.small.items keys }
+    record { few = few_keys g n c.deref-3.result.now print c.args.graph.now.spare.items c.learn.ensures.rules c.learn.ensures.small.items keys }
 
 pub by_number-requires-clause-few : goal.by_number-requires-clause-few
 by_number-requires-clause-few c =
@@ -27,7 +27,7 @@ by_number-requires-clause-few c =
     let k = counts nat_eq number_laws (window_print g n) (places_of g n) c.in_ok-prints.prints.items c.in_ok-numbers.numbers.items keys numbers in
     let few = k.few in
     let many = k.key_count in
-    let small = few_keys g n c.in_ok-prints.prints.items print c.args.graph.now.spare.items c.entry-entry.ensures.rules c.spare-room.ensures.small.items keys in
+    let small = few_keys g n c.in_ok-prints.prints.items print c.args.graph.now.spare.items c.learn.ensures.rules c.learn.ensures.small.items keys in
     rw c.deref-5.ensures.value (omega arith)
 
 pub returns-clause-classes : goal.returns-clause-classes
@@ -41,6 +41,6 @@ returns-clause-classes c =
     let least = c.requires.least in
     IfOk-weaker c.by_number.result (λ classes. classes ≡ groups_of c.deref-5.result.now c.deref-4.result.now) (AreClasses (window_print g n) (IsWindow g n))
     (λ classes e. subst (AreClasses (window_print g n) (IsWindow g n)) (sym (rw (sym numbers, sym places) e))
-    (classes_of_members (window_print g n) (λ place. Contains (places_of g n) place) (IsWindow g n) (windows_of g n) (places_are g n c.entry-entry.ensures.rules (omega arith))
+    (classes_of_members (window_print g n) (λ place. Contains (places_of g n) place) (IsWindow g n) (windows_of g n) (places_are g n c.learn.ensures.rules (omega arith))
     (classes_are nat_eq number_laws same_number (window_print g n) (places_of g n))))
     c.by_number.ensures

@@ -13,16 +13,16 @@ use Rattle.sq_fold.proofs.grouping.partition.Goals as goal
 pub index_places-requires : goal.index_places-requires
 index_places-requires c =
     let g = c.args.graph.now.graph in
-    let small = c.spare-room.ensures.small in
-    let few = few_line g c.args.graph.now.spare.items c.args.graph.now.spare.blocks c.entry-entry.ensures.rules small.items small.blocks in
+    let small = c.learn.ensures.small in
+    let few = few_line g c.args.graph.now.spare.items c.args.graph.now.spare.blocks c.learn.ensures.rules small.items small.blocks in
     let many = ap length (c.deref-2.ensures.value ∙ c.in_ok-line.ensures) in
     omega arith
 
 pub coarsest-requires : goal.coarsest-requires
 coarsest-requires c =
     let g = c.args.graph.now.graph in
-    let small = c.spare-room.ensures.small in
-    let few = few_line g c.args.graph.now.spare.items c.args.graph.now.spare.blocks c.entry-entry.ensures.rules small.items small.blocks in
+    let small = c.learn.ensures.small in
+    let few = few_line g c.args.graph.now.spare.items c.args.graph.now.spare.blocks c.learn.ensures.rules small.items small.blocks in
     let many = ap length (c.deref-3.ensures.value ∙ c.in_ok-line.ensures) in
     let nodes = c.in_ok-nodes.ensures.many in
     let same = ap length c.deref-5.ensures.value in
@@ -39,7 +39,7 @@ returns-clause-coarsest c =
     let are = subst (λ ps. AreNodes g ps labels find c.in_ok-nodes.nodes.items) c.deref-3.ensures.value (subst (λ ls. AreNodes g c.deref-3.result.now ls find c.in_ok-nodes.nodes.items) c.deref-4.ensures.value c.in_ok-nodes.ensures) in
     let coarsest = subst (λ ns. IsCoarsest ns (member_at c.in_ok-classes.classes.items)) c.deref-5.ensures.value c.in_ok-classes.ensures.coarsest in
     let some = subst (λ ns. (i : ℕ) → i < length ns → IsSome (member_at c.in_ok-classes.classes.items i)) c.deref-5.ensures.value c.in_ok-classes.ensures.some in
-    coarsest_blocks g c.entry-entry.ensures.rules line c.in_ok-line.ensures find index labels labelled c.in_ok-nodes.nodes.items are c.in_ok-classes.classes.items coarsest some
+    coarsest_blocks g c.learn.ensures.rules line c.in_ok-line.ensures find index labels labelled c.in_ok-nodes.nodes.items are c.in_ok-classes.classes.items coarsest some
 
 pub returns-clause-blocks : goal.returns-clause-blocks
 returns-clause-blocks c =
@@ -52,4 +52,4 @@ returns-clause-blocks c =
     let are = subst (λ ps. AreNodes g ps labels find c.in_ok-nodes.nodes.items) c.deref-3.ensures.value (subst (λ ls. AreNodes g c.deref-3.result.now ls find c.in_ok-nodes.nodes.items) c.deref-4.ensures.value c.in_ok-nodes.ensures) in
     let coarsest = subst (λ ns. IsCoarsest ns (member_at c.in_ok-classes.classes.items)) c.deref-5.ensures.value c.in_ok-classes.ensures.coarsest in
     let some = subst (λ ns. (i : ℕ) → i < length ns → IsSome (member_at c.in_ok-classes.classes.items i)) c.deref-5.ensures.value c.in_ok-classes.ensures.some in
-    class_there g c.entry-entry.ensures.rules line c.in_ok-line.ensures find index labels labelled c.in_ok-nodes.nodes.items are c.in_ok-classes.classes.items coarsest some
+    class_there g c.learn.ensures.rules line c.in_ok-line.ensures find index labels labelled c.in_ok-nodes.nodes.items are c.in_ok-classes.classes.items coarsest some

@@ -12,15 +12,15 @@ use Rattle.sq_fold.proofs.Bareness.{is_same_bare, labelled, line_blocks}
 use Rattle.sq_fold.proofs.labelling.labels.Goals as goal
 
 pub key_at-requires-clause-block : goal.key_at-requires-clause-block
-key_at-requires-clause-block c = place_block c.args.graph.now.graph c.entry-entry.ensures.rules c.args.line.now c.loop-place.place-index (record { block = 0; at = 0 }) c.requires c.loop-place-test.true
+key_at-requires-clause-block c = place_block c.args.graph.now.graph c.learn.ensures.rules c.args.line.now c.loop-place.place-index (record { block = 0; at = 0 }) c.requires c.loop-place-test.true
 
 pub number_all-requires : goal.number_all-requires
 number_all-requires c =
     let g = c.args.graph.now.graph in
     let line = c.args.line.now in
     let key : WindowAt → Option (Option ItemKey × Option TermKey) = λ place. Some (key_of_bare (bare_at g place)) in
-    let small = c.spare-room.ensures.small in
-    let few = few_line g c.args.graph.now.spare.items c.args.graph.now.spare.blocks c.entry-entry.ensures.rules small.items small.blocks in
+    let small = c.learn.ensures.small in
+    let few = few_line g c.args.graph.now.spare.items c.args.graph.now.spare.blocks c.learn.ensures.rules small.items small.blocks in
     let keys = c.deref.ensures.value ∙ mapped_end key c.loop-place.keys.items (map key line) line c.loop-place.place-index c.loop-place-test.false c.loop-place.invariant in
     let many = ap length keys ∙ length-map line key ∙ ap length c.requires in
     record { few = omega arith }
@@ -29,7 +29,7 @@ pub returns : goal.returns
 returns c =
     let g = c.args.graph.now.graph in
     let line = c.args.line.now in
-    let rules = c.entry-entry.ensures.rules in
+    let rules = c.learn.ensures.rules in
     let key : WindowAt → Option (Option ItemKey × Option TermKey) = λ place. Some (key_of_bare (bare_at g place)) in
     let keys = c.deref.ensures.value ∙ mapped_end key c.loop-place.keys.items (map key line) line c.loop-place.place-index c.loop-place-test.false c.loop-place.invariant in
     IfOk-weaker c.number_all.result (λ numbers. AreNumbers is_same_bare c.deref.result.now numbers.items) (λ labels. AreNumbersOf (map (λ place. Some (bare_at g place)) line) labels.items)

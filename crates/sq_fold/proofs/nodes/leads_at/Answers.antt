@@ -5,7 +5,7 @@ use Rattle.sq_fold.proofs.nodes.leads_at.Goals as goal
 
 pub overflow_add-result : goal.overflow_add-result
 overflow_add-result c =
-    let small = c.spare-room.ensures.small in
+    let small = c.learn.ensures.small in
     let few = few_at c.args.graph.now.graph c.args.place.block c.args.place.at c.args.graph.now.spare.items c.items.result.now c.requires c.items.ensures c.in-Some.ensures.lookup.0 small.items in
     omega (arith, few)
 

@@ -8,7 +8,7 @@ use Rattle.sq_fold.proofs.Leading.{NodesTo, nodes_next, nodes_end, label_at, nod
 use Rattle.sq_fold.proofs.nodes.nodes.Goals as goal
 
 pub leads_at-next-requires : goal.leads_at-next-requires
-leads_at-next-requires c = place_block c.args.graph.now.graph c.entry-entry.ensures.rules c.args.line.now c.loop-i.i (record { block = 0; at = 0 }) c.requires.line c.loop-i-test.true
+leads_at-next-requires c = place_block c.args.graph.now.graph c.learn.ensures.rules c.args.line.now c.loop-i.i (record { block = 0; at = 0 }) c.requires.line c.loop-i-test.true
 
 pub loop-i-preserved : goal.loop-i-preserved
 loop-i-preserved c =

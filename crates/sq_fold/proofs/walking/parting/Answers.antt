@@ -16,7 +16,7 @@ returns-in_default c =
 pub overflow_cast-result : goal.overflow_cast-result
 overflow_cast-result c =
     let g = c.args.graph.now.graph in
-    let few = few_references g c.args.pair.0 c.args.graph.now.spare.items c.requires.first c.spare-room.ensures.small.items in
+    let few = few_references g c.args.pair.0 c.args.graph.now.spare.items c.requires.first c.learn.ensures.small.items in
     let same = ap length (c.deref-m-items.ensures.value ∙ c.in_ok-ours.ensures) in
     let l = c.loop-number-test.true in
     omega (arith, few)

@@ -11,15 +11,15 @@ use Rattle.sq_fold.proofs.walking.survey.Goals as goal
 
 pub index_places-requires : goal.index_places-requires
 index_places-requires c =
-    let small = c.spare-room.ensures.small in
-    let few = few_line c.args.graph.now.graph c.args.graph.now.spare.items c.args.graph.now.spare.blocks c.entry-entry.ensures.rules small.items small.blocks in
+    let small = c.learn.ensures.small in
+    let few = few_line c.args.graph.now.graph c.args.graph.now.spare.items c.args.graph.now.spare.blocks c.learn.ensures.rules small.items small.blocks in
     let many = ap length (c.deref-2.ensures.value ∙ c.in_ok-line.ensures) in
     omega arith
 
 pub all_rounds-requires : goal.all_rounds-requires
 all_rounds-requires c =
-    let small = c.spare-room.ensures.small in
-    let few = few_line c.args.graph.now.graph c.args.graph.now.spare.items c.args.graph.now.spare.blocks c.entry-entry.ensures.rules small.items small.blocks in
+    let small = c.learn.ensures.small in
+    let few = few_line c.args.graph.now.graph c.args.graph.now.spare.items c.args.graph.now.spare.blocks c.learn.ensures.rules small.items small.blocks in
     let many = ap length (c.deref-3.ensures.value ∙ c.in_ok-line.ensures) in
     let nodes = c.in_ok-nodes.ensures.many in
     let same = ap length c.deref-5.ensures.value in

@@ -16,29 +16,29 @@ loop-level-init c rules s =
     (walking_first g rules find rounds s c.args.x c.args.y c.requires.first c.requires.second (some_rounds g find rounds s) c.requires.apart))
 
 pub is_same_shape-requires-clause-first : goal.is_same_shape-requires-clause-first
-is_same_shape-requires-clause-first c = let w = c.loop-level.invariant c.entry-entry.ensures.rules c.requires.surveyed in w.first
+is_same_shape-requires-clause-first c = let w = c.loop-level.invariant c.learn.ensures.rules c.requires.surveyed in w.first
 
 pub is_same_shape-requires-clause-second : goal.is_same_shape-requires-clause-second
-is_same_shape-requires-clause-second c = let w = c.loop-level.invariant c.entry-entry.ensures.rules c.requires.surveyed in w.second
+is_same_shape-requires-clause-second c = let w = c.loop-level.invariant c.learn.ensures.rules c.requires.surveyed in w.second
 
 pub returns-then-not-same : goal.returns-then-not-same
 returns-then-not-same c =
-    walking_end c.args.graph.now.graph c.entry-entry.ensures.rules (get is_same_kind c.args.index.now) c.args.rounds.now c.requires.surveyed c.args.x c.args.y c.loop-level.pair.0 c.loop-level.pair.1 c.loop-level.level c.loop-level.walk.items
-    (c.loop-level.invariant c.entry-entry.ensures.rules c.requires.surveyed) (λ e. let t = c.in_ok-same.ensures.1 e in let f = c.if-not-same.true in absurd (cc))
+    walking_end c.args.graph.now.graph c.learn.ensures.rules (get is_same_kind c.args.index.now) c.args.rounds.now c.requires.surveyed c.args.x c.args.y c.loop-level.pair.0 c.loop-level.pair.1 c.loop-level.level c.loop-level.walk.items
+    (c.loop-level.invariant c.learn.ensures.rules c.requires.surveyed) (λ e. let t = c.in_ok-same.ensures.1 e in let f = c.if-not-same.true in absurd (cc))
 
 pub round-requires : goal.round-requires
-round-requires c = let w = c.loop-level.invariant c.entry-entry.ensures.rules c.requires.surveyed in let l = w.below in omega arith
+round-requires c = let w = c.loop-level.invariant c.learn.ensures.rules c.requires.surveyed in let l = w.below in omega arith
 
 pub parting-requires-clause-first : goal.parting-requires-clause-first
-parting-requires-clause-first c = let w = c.loop-level.invariant c.entry-entry.ensures.rules c.requires.surveyed in w.first
+parting-requires-clause-first c = let w = c.loop-level.invariant c.learn.ensures.rules c.requires.surveyed in w.first
 
 pub parting-requires-clause-second : goal.parting-requires-clause-second
-parting-requires-clause-second c = let w = c.loop-level.invariant c.entry-entry.ensures.rules c.requires.surveyed in w.second
+parting-requires-clause-second c = let w = c.loop-level.invariant c.learn.ensures.rules c.requires.surveyed in w.second
 
 pub unreachable-requires : goal.unreachable-requires
 unreachable-requires c =
     let g = c.args.graph.now.graph in
-    let rules = c.entry-entry.ensures.rules in
+    let rules = c.learn.ensures.rules in
     let s = c.requires.surveyed in
     let find = get is_same_kind c.args.index.now in
     let level = c.loop-level.level in
@@ -61,7 +61,7 @@ loop-level-preserved c rules s =
 pub unreachable-requires-2 : goal.unreachable-requires-2
 unreachable-requires-2 c =
     let g = c.args.graph.now.graph in
-    let rules = c.entry-entry.ensures.rules in
+    let rules = c.learn.ensures.rules in
     let s = c.requires.surveyed in
     let find = get is_same_kind c.args.index.now in
     let none : c.loop-level.level ≡ 0 = let l = c.loop-level-test.false in omega arith in

@@ -1,6 +1,6 @@
 use Rattle.std.proofs.Common.{List, ap, length, arith}
 use Rattle.sq_graph.specs.declared.item.Item.{Item}
-use Rattle.sq_layout.proofs.Counts.{term_at_most}
+use Rattle.sq_graph.proofs.FewWords.{term_at_most}
 use Rattle.sq_layout.proofs.Walks.{items_few}
 use Rattle.sq_layout.proofs.words.block_words.Goals as goal
 

@@ -7,7 +7,7 @@ use Rattle.sq_lifted.proofs.live_links.live_links.Goals as goal
 
 pub mark_block-requires-clause-block : goal.mark_block-requires-clause-block
 mark_block-requires-clause-block c =
-    has_name c.args.g.now.graph c.entry-entry.ensures.rules c.deref-name-items.result.now c.loop-name.name-index (get_or c.deref-name-items.result.now c.loop-name.name-index 0) (c.deref-name-items.ensures.value ∙ c.in_ok-names.ensures) c.loop-name-test.true refl
+    has_name c.args.g.now.graph c.learn.ensures.rules c.deref-name-items.result.now c.loop-name.name-index (get_or c.deref-name-items.result.now c.loop-name.name-index 0) (c.deref-name-items.ensures.value ∙ c.in_ok-names.ensures) c.loop-name-test.true refl
 
 pub loop-name-preserved : goal.loop-name-preserved
 loop-name-preserved c =
@@ -33,6 +33,6 @@ returns c =
     let marks : Marks (BlocksDie c.args.g.now.graph (names_of c.args.g.now.graph) (length (names_of c.args.g.now.graph))) c.in_ok-flags.flags.items c.loop-name.flags.items =
     subst (λ index. Marks (BlocksDie c.args.g.now.graph (names_of c.args.g.now.graph) index) c.in_ok-flags.flags.items c.loop-name.flags.items) end c.loop-name.invariant
     in
-    links_are g c.entry-entry.ensures.rules c.in_ok-flags.flags.items c.loop-name.flags.items
+    links_are g c.learn.ensures.rules c.in_ok-flags.flags.items c.loop-name.flags.items
     (c.in_ok-flags.ensures.items_if_clones_equal (λ y same. same) ∙ ap (λ n. replicate n false) c.procedures.ensures)
     marks

@@ -9,7 +9,7 @@ pub overflow_cast-place : goal.overflow_cast-place
 overflow_cast-place c =
     let few = items_few c.args.g.now.graph c.args.block in
     let same : length c.items-item-items.result.now ≡ length (items_of c.args.g.now.graph c.args.block) = ap length c.items-item-items.ensures in
-    let small = c.spare-spare.ensures.small.items in
+    let small = c.learn.ensures.small.items in
     let below = c.loop-place-test.true in
     omega (arith, few, same, small, below)
 
@@ -21,7 +21,7 @@ pub mark_item-requires-clause-small : goal.mark_item-requires-clause-small
 mark_item-requires-clause-small c =
     let few = items_few c.args.g.now.graph c.args.block in
     let same : length c.items-item-items.result.now ≡ length (items_of c.args.g.now.graph c.args.block) = ap length c.items-item-items.ensures in
-    let small = c.spare-spare.ensures.small.items in
+    let small = c.learn.ensures.small.items in
     let below = c.loop-place-test.true in
     omega (arith, few, same, small, below)
 

@@ -18,7 +18,7 @@ by_number-requires-clause-few c =
     let k = counts nat_eq number_laws (print_of g) (names_of g) c.in_ok-prints.prints.items c.in_ok-numbers.numbers.items keys numbers in
     let few = k.few in
     let names = length-names g.blocks in
-    let small = c.spare-room.ensures.small.blocks in
+    let small = c.learn.ensures.small.blocks in
     rw c.deref-4.ensures.value (omega arith)
 
 pub returns-clause-classes : goal.returns-clause-classes

@@ -15,7 +15,7 @@ reserve-requires c =
     let copied : c.in_ok-copy.copy ≡ c.args.graph.now = c.in_ok-copy.ensures in
     let few : words_of c.args.graph.now.graph < 2 ^ 28 = let l = c.if-words_of-ge-MANY.false in omega (arith, l, c.words_of.ensures) in
     subst (λ (r : Room). IsSmall (sum_of (count_of c.in_ok-copy.copy.graph) r)) (sym c.inline_room.ensures)
-    (subst (λ (v : GraphAndRoom). IsSmall (sum_of (count_of v.graph) (inline_room c.args.graph.now.graph c.args.procedure))) (sym copied) (still_small c.args.graph.now c.args.procedure c.requires.there c.spare-room.ensures.small few))
+    (subst (λ (v : GraphAndRoom). IsSmall (sum_of (count_of v.graph) (inline_room c.args.graph.now.graph c.args.procedure))) (sym copied) (still_small c.args.graph.now c.args.procedure c.requires.there c.learn.ensures.small few))
 
 pub returns : goal.returns
 returns c =

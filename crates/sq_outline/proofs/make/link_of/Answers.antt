@@ -21,7 +21,7 @@ pays-requires-clause-calls c =
     let g = c.args.graph.now.graph in
     let distinct = IsDistinct-from_AllPairs Decides-eqb c.args.blocks.now (c.in_ok-are_distinct.ensures.0 c.if-not-branch.false) in
     let fewer = blocks_few g c.args.blocks.now (c.have_body.ensures.0 c.if-not-have_body.false) distinct in
-    let small = c.spare-room.ensures.small.blocks in
+    let small = c.learn.ensures.small.blocks in
     omega arith
 
 pub pays-requires-clause-items : goal.pays-requires-clause-items

@@ -15,7 +15,7 @@ body_number-requires-clause-few c =
     let g = c.args.graph.now.graph in
     let q = c.loop-procedure.procedure in
     let here = ap length c.body.ensures in
-    let small = c.spare-room.ensures.small in
+    let small = c.learn.ensures.small in
     omega (arith, here, small.items, c.loop-procedure.invariant.few, bodies_step g.procedures q (omega arith), bodies_few g.procedures (q + 1), length-append (items_of_blocks g.blocks) (items_of_bodies g.procedures))
 
 pub loop-procedure-preserved : goal.loop-procedure-preserved

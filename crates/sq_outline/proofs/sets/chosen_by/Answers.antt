@@ -21,7 +21,7 @@ pub pays-requires-clause-calls : goal.pays-requires-clause-calls
 pays-requires-clause-calls c =
     let g = c.args.graph.now.graph in
     let fewer = chosen_fewer g c.args.first c.args.others.now c.learn.ensures.rules c.requires.others c.args.r c.in_ok-chosen.chosen.items c.in_ok-chosen.ensures in
-    let small = c.spare-room.ensures.small.blocks in
+    let small = c.learn.ensures.small.blocks in
     let is = c.len.ensures in
     let counted = c.in_ok-chosen.chosen.ok.0 in
     omega arith

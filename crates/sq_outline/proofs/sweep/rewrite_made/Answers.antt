@@ -17,7 +17,7 @@ overflow_cast-items c =
 pub reserve-requires : goal.reserve-requires
 reserve-requires c =
     let g = c.args.graph.now.graph in
-    let small = c.spare-room.ensures.small.blocks in
+    let small = c.learn.ensures.small.blocks in
     let is = ap length c.items.ensures in
     let own = items_are_words g (get_or c.as_slice-blocks.result.now 0 0) in
     let few = c.requires.words in

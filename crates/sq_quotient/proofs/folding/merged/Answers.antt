@@ -13,7 +13,7 @@ pub from_parts-requires-clause-lengths : goal.from_parts-requires-clause-lengths
 from_parts-requires-clause-lengths c =
     let g = c.args.graph.now.graph in
     let folding : Folding = record { staying = c.in_ok-staying.staying; positions = c.in_ok-positions.positions } in
-    let small = c.spare-room.ensures.small in
+    let small = c.learn.ensures.small in
     let items = c.deref-5.ensures.value ∙ c.in_ok-procedures.ensures.items ∙ ap (λ (is : List Item). is ++ items_of_bodies (map (retargeted_procedure (place_in folding)) g.procedures)) c.in_ok-blocks.ensures.items in
     let made = all_made g folding c.learn.ensures.rules c.requires c.args.graph.now.spare small.items small.procedures c.in_ok-staying.ensures c.in_ok-positions.ensures
     c.deref-4.result.now c.deref-5.result.now c.place.result c.deref-6.result.now c.deref-7.result.now
@@ -27,7 +27,7 @@ pub from_parts-requires-clause-rules : goal.from_parts-requires-clause-rules
 from_parts-requires-clause-rules c =
     let g = c.args.graph.now.graph in
     let folding : Folding = record { staying = c.in_ok-staying.staying; positions = c.in_ok-positions.positions } in
-    let small = c.spare-room.ensures.small in
+    let small = c.learn.ensures.small in
     let items = c.deref-5.ensures.value ∙ c.in_ok-procedures.ensures.items ∙ ap (λ (is : List Item). is ++ items_of_bodies (map (retargeted_procedure (place_in folding)) g.procedures)) c.in_ok-blocks.ensures.items in
     let made = all_made g folding c.learn.ensures.rules c.requires c.args.graph.now.spare small.items small.procedures c.in_ok-staying.ensures c.in_ok-positions.ensures
     c.deref-4.result.now c.deref-5.result.now c.place.result c.deref-6.result.now c.deref-7.result.now
@@ -41,7 +41,7 @@ pub from_parts-requires-clause-small : goal.from_parts-requires-clause-small
 from_parts-requires-clause-small c =
     let g = c.args.graph.now.graph in
     let folding : Folding = record { staying = c.in_ok-staying.staying; positions = c.in_ok-positions.positions } in
-    let small = c.spare-room.ensures.small in
+    let small = c.learn.ensures.small in
     let items = c.deref-5.ensures.value ∙ c.in_ok-procedures.ensures.items ∙ ap (λ (is : List Item). is ++ items_of_bodies (map (retargeted_procedure (place_in folding)) g.procedures)) c.in_ok-blocks.ensures.items in
     let made = all_made g folding c.learn.ensures.rules c.requires c.args.graph.now.spare small.items small.procedures c.in_ok-staying.ensures c.in_ok-positions.ensures
     c.deref-4.result.now c.deref-5.result.now c.place.result c.deref-6.result.now c.deref-7.result.now
@@ -55,7 +55,7 @@ pub returns : goal.returns
 returns c =
     let g = c.args.graph.now.graph in
     let folding : Folding = record { staying = c.in_ok-staying.staying; positions = c.in_ok-positions.positions } in
-    let small = c.spare-room.ensures.small in
+    let small = c.learn.ensures.small in
     let items = c.deref-5.ensures.value ∙ c.in_ok-procedures.ensures.items ∙ ap (λ (is : List Item). is ++ items_of_bodies (map (retargeted_procedure (place_in folding)) g.procedures)) c.in_ok-blocks.ensures.items in
     let made = all_made g folding c.learn.ensures.rules c.requires c.args.graph.now.spare small.items small.procedures c.in_ok-staying.ensures c.in_ok-positions.ensures
     c.deref-4.result.now c.deref-5.result.now c.place.result c.deref-6.result.now c.deref-7.result.now

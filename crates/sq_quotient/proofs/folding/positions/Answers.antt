@@ -36,7 +36,7 @@ overflow_add-position c =
     c.slots_of-position.ensures ∙ slots_here f g (get_or c.args.names.now i 0) b.block (drop (i + 1) g.blocks) b.found b.behind_is in
     let end = placed_end f new g (are_new g) (get nat_eq c.loop-name.positions) (get nat_eq c.loop-name.positions) b.block (drop (i + 1) g.blocks) c.loop-name.position kept placed in
     let few = folded_length f new g.blocks in
-    let small = c.spare-room.ensures.small.blocks in
+    let small = c.learn.ensures.small.blocks in
     omega (arith, slots, end, few, small)
 
 pub loop-name-preserved : goal.loop-name-preserved

@@ -11,7 +11,7 @@ use Rattle.sq_rename.proofs.matching.match_block.Goals as goal
 
 pub overflow_cast-items : goal.overflow_cast-items
 overflow_cast-items c =
-    let few = few_items c.args.g.now c.args.block c.spare-room.ensures.small in
+    let few = few_items c.args.g.now c.args.block c.learn.ensures.small in
     let is = ap length c.items-items.ensures in
     omega arith
 

@@ -11,7 +11,7 @@ use Rattle.sq_tail.proofs.joining.end_in_jump.Goals as goal
 
 pub overflow_cast-count : goal.overflow_cast-count
 overflow_cast-count c =
-    let few = few_items c.args.graph.now c.args.to c.spare-room.ensures.small in
+    let few = few_items c.args.graph.now c.args.to c.learn.ensures.small in
     let is = ap length c.items.ensures in
     omega arith
 

@@ -10,13 +10,13 @@ use Rattle.sq_tail.proofs.joining.join.Goals as goal
 
 pub overflow_cast-at : goal.overflow_cast-at
 overflow_cast-at c =
-    let few = few_items c.args.graph.now c.args.dropped c.spare-room.ensures.small in
+    let few = few_items c.args.graph.now c.args.dropped c.learn.ensures.small in
     let is = ap length c.items.ensures in
     omega arith
 
 pub overflow_cast-from : goal.overflow_cast-from
 overflow_cast-from c =
-    let few = few_items c.args.graph.now c.args.kept c.spare-room.ensures.small in
+    let few = few_items c.args.graph.now c.args.kept c.learn.ensures.small in
     let is = ap length c.items-2.ensures in
     omega arith
 

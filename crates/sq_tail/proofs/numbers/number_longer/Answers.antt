@@ -24,7 +24,7 @@ number_all-requires c =
     let keys : length c.deref.result.now ≡ length c.args.names.now =
     ap (λ ks. length ks) (c.deref.ensures.value ∙ c.in_ok-keys.ensures) ∙ length-map names (λ name. option_map key_of (item_back c.args.count (items_of c.args.graph.now.graph name))) in
     let pairs : length c.deref-2.result.now ≡ length c.args.numbers.now = ap (λ ks. length ks) (c.deref-2.ensures.value ∙ c.in_ok-pairs.ensures) ∙ zipped_length numbers c.deref.result.now (keys ∙ sym many) in
-    record { few = omega (arith, pairs, many, length-names c.args.graph.now.graph names c.requires.names, c.spare-room.ensures.small.blocks) }
+    record { few = omega (arith, pairs, many, length-names c.args.graph.now.graph names c.requires.names, c.learn.ensures.small.blocks) }
 
 pub returns : goal.returns
 returns c =

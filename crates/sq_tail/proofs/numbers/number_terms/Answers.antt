@@ -17,7 +17,7 @@ use Rattle.sq_tail.proofs.numbers.number_terms.Goals as goal
 pub number_all-requires : goal.number_all-requires
 number_all-requires c =
     let many = ap (λ ks. length ks) (c.deref.ensures.value ∙ c.in_ok-keys.ensures) in
-    record { few = omega (arith, many, length-map c.args.names.now (block_key c.args.graph.now.graph), length-names c.args.graph.now.graph c.args.names.now c.requires, c.spare-room.ensures.small.blocks) }
+    record { few = omega (arith, many, length-map c.args.names.now (block_key c.args.graph.now.graph), length-names c.args.graph.now.graph c.args.names.now c.requires, c.learn.ensures.small.blocks) }
 
 pub returns : goal.returns
 returns c =

@@ -26,7 +26,7 @@ offset_bounds-names-i-in-Some-meeting c =
     let meets : IsMeeting c.in_ok-ones.ones.items (number_at c.in_ok-places.places) c.in-Some-meeting.i c.in-Some-meeting.j =
     subst (λ ns. IsMeeting ns at c.in-Some-meeting.i c.in-Some-meeting.j) c.deref-5.ensures.value (subst (λ o. IfSome o (λ pair. IsMeeting c.deref-5.result.now at pair.0 pair.1)) c.in-Some-meeting.is c.meeting.ensures.some) in
     let places = meeting_places g names c.learn.ensures.rules c.requires ones at (length names) c.in_ok-ones.ensures words c.in-Some-meeting.i c.in-Some-meeting.j meets in
-    omega (arith, places.0, length-names g names c.requires, c.spare-room.ensures.small.blocks)
+    omega (arith, places.0, length-names g names c.requires, c.learn.ensures.small.blocks)
 
 pub bounds-names-i-in-Some-meeting : goal.bounds-names-i-in-Some-meeting
 bounds-names-i-in-Some-meeting c =
@@ -50,7 +50,7 @@ offset_bounds-names-j-in-Some-meeting c =
     let meets : IsMeeting c.in_ok-ones.ones.items (number_at c.in_ok-places.places) c.in-Some-meeting.i c.in-Some-meeting.j =
     subst (λ ns. IsMeeting ns at c.in-Some-meeting.i c.in-Some-meeting.j) c.deref-5.ensures.value (subst (λ o. IfSome o (λ pair. IsMeeting c.deref-5.result.now at pair.0 pair.1)) c.in-Some-meeting.is c.meeting.ensures.some) in
     let places = meeting_places g names c.learn.ensures.rules c.requires ones at (length names) c.in_ok-ones.ensures words c.in-Some-meeting.i c.in-Some-meeting.j meets in
-    omega (arith, places.1, length-names g names c.requires, c.spare-room.ensures.small.blocks)
+    omega (arith, places.1, length-names g names c.requires, c.learn.ensures.small.blocks)
 
 pub bounds-names-j-in-Some-meeting : goal.bounds-names-j-in-Some-meeting
 bounds-names-j-in-Some-meeting c =

@@ -4,4 +4,4 @@ use Rattle.test_graphs.proofs.changes.inline.Goals as goal
 
 pub inline-requires-clause-rules : goal.inline-requires-clause-rules
 inline-requires-clause-rules c =
-    inlined_rules c.args.graph.now.graph c.args.block c.args.at c.entry-entry.ensures.rules (c.called.ensures.block (ap is_some c.in_ok-procedure.was))
+    inlined_rules c.args.graph.now.graph c.args.block c.args.at c.learn.ensures.rules (c.called.ensures.block (ap is_some c.in_ok-procedure.was))

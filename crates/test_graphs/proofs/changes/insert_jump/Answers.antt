@@ -9,6 +9,6 @@ pub insert_after-requires-clause-rules : goal.insert_after-requires-clause-rules
 insert_after-requires-clause-rules c =
     let g = c.args.graph.now.graph in
     λ name fresh.
-    inserted_after_rules g name c.args.block (Jump c.args.to) c.entry-entry.ensures.rules fresh (c.is_block.ensures c.if-not-is_block.false) tt
+    inserted_after_rules g name c.args.block (Jump c.args.to) c.learn.ensures.rules fresh (c.is_block.ensures c.if-not-is_block.false) tt
     (All-cons (HasBlock g) c.args.to [] (c.is_block-2.ensures c.if-not-is_block-2.false) (All-nil (HasBlock g)))
     (λ on. absurd (cc))

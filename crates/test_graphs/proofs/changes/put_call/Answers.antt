@@ -18,5 +18,5 @@ pub replace-requires-clause-rules : goal.replace-requires-clause-rules
 replace-requires-clause-rules c =
     let g = c.args.graph.now.graph in
     let I = ItemStands (HasBlock g) (HasProcedure g) in
-    replaced_rules g c.args.block c.args.at 1 (Op Ecall ∷ Out c.args.procedure ∷ []) c.entry-entry.ensures.rules (c.is_block.ensures c.if-not-is_block.false)
+    replaced_rules g c.args.block c.args.at 1 (Op Ecall ∷ Out c.args.procedure ∷ []) c.learn.ensures.rules (c.is_block.ensures c.if-not-is_block.false)
     (All-cons I (Op Ecall) (Out c.args.procedure ∷ []) (ecall_stands g) (All-cons I (Out c.args.procedure) [] (call_stands g c.args.procedure (omega (arith, c.procedures.ensures, c.if-procedures-procedure.false))) (All-nil I)))

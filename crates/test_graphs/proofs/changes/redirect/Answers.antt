@@ -7,7 +7,7 @@ use Rattle.test_graphs.proofs.changes.redirect.Goals as goal
 
 pub redirect-requires : goal.redirect-requires
 redirect-requires c =
-    record { rules = redirected_rules c.args.graph.now.graph c.args.from c.args.to c.entry-entry.ensures.rules (c.is_block.ensures c.if-not-is_block.false) }
+    record { rules = redirected_rules c.args.graph.now.graph c.args.from c.args.to c.learn.ensures.rules (c.is_block.ensures c.if-not-is_block.false) }
 
 pub returns : goal.returns
 returns c =

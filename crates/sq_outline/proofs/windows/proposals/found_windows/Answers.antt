@@ -11,7 +11,7 @@ use Rattle.sq_outline.proofs.windows.proposals.found_windows.Goals as goal
 
 pub number_longer_runs-requires : goal.number_longer_runs-requires
 number_longer_runs-requires c =
-    let few = few_numbers c.args.graph.now c.deref.result.now c.in_ok-items.items.items c.learn.ensures.rules c.spare-room.ensures.small (c.deref.ensures.value ∙ c.in_ok-line.ensures) c.in_ok-items.ensures in
+    let few = few_numbers c.args.graph.now c.deref.result.now c.in_ok-items.items.items c.learn.ensures.rules c.learn.ensures.small (c.deref.ensures.value ∙ c.in_ok-line.ensures) c.in_ok-items.ensures in
     omega (arith, few, ap (λ (ns : List (Option ℕ)). length ns) c.deref-2.ensures.value)
 
 pub loop-n-init : goal.loop-n-init
@@ -22,7 +22,7 @@ loop-n-init c = record {
 
 pub number_longer_runs-requires-in-loop-n : goal.number_longer_runs-requires-in-loop-n
 number_longer_runs-requires-in-loop-n c =
-    let few = few_numbers c.args.graph.now c.deref.result.now c.in_ok-items.items.items c.learn.ensures.rules c.spare-room.ensures.small (c.deref.ensures.value ∙ c.in_ok-line.ensures) c.in_ok-items.ensures in
+    let few = few_numbers c.args.graph.now c.deref.result.now c.in_ok-items.items.items c.learn.ensures.rules c.learn.ensures.small (c.deref.ensures.value ∙ c.in_ok-line.ensures) c.in_ok-items.ensures in
     omega (arith, few, ap (λ (ns : List (Option ℕ)). length ns) c.deref-in-loop-n.ensures.value)
 
 pub classes_in_line-requires-clause-numbers : goal.classes_in_line-requires-clause-numbers

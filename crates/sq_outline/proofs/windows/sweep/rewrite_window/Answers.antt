@@ -10,7 +10,7 @@ use Rattle.sq_outline.proofs.windows.sweep.rewrite_window.Goals as goal
 
 pub reserve-requires : goal.reserve-requires
 reserve-requires c =
-    let small = c.spare-room.ensures.small.blocks in
+    let small = c.learn.ensures.small.blocks in
     let few = c.requires.words in
     let most = c.requires.made.most in
     room_for_procedure c.args.graph.now.graph c.args.n (omega (arith, small)) (omega (arith, few)) (omega (arith, most))

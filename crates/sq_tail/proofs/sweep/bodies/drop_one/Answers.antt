@@ -21,7 +21,7 @@ returns-in_default-clause-follows c = graph_follows_itself c.args.graph.now.grap
 
 pub overflow_cast-length : goal.overflow_cast-length
 overflow_cast-length c =
-    let few = few_items c.args.graph.now c.in-Some.kept c.spare-room.ensures.small in
+    let few = few_items c.args.graph.now c.in-Some.kept c.learn.ensures.small in
     let is = ap length c.items.ensures in
     omega arith
 

@@ -6,7 +6,7 @@ use Rattle.sq_tail.proofs.Sweeping.{room_for_one, pair_words, whole_rewritten}
 use Rattle.sq_tail.proofs.sweep.rewriting.rewrite_pair.Goals as goal
 
 pub reserve-requires : goal.reserve-requires
-reserve-requires c = room_for_one c.args.graph.now c.spare-room.ensures.small c.requires.canonical (omega (arith, c.requires.words))
+reserve-requires c = room_for_one c.args.graph.now c.learn.ensures.small c.requires.canonical (omega (arith, c.requires.words))
 
 pub returns-in_err-reserve-clause-follows : goal.returns-in_err-reserve-clause-follows
 returns-in_err-reserve-clause-follows c = subst (Follows c.args.graph.now.graph) (sym c.reserve.ensures.graph) (graph_follows_itself c.args.graph.now.graph)
