@@ -1,5 +1,5 @@
 -- Slots that are named by their positions.
-use Rattle.std.proofs.Common.{◌≡◌, ℕ, suc, ◌+◌, ◌<◌, ◌^◌, ◌==◌, List, [], ◌∷◌, ◌++◌, map, length, Option, Some, IsSome, vec_capacity, inl, inr, refl, sym, ap, ◌∙◌, subst, arith, append_assoc}
+use Rattle.std.proofs.Common.{◌≡◌, ℕ, suc, ◌+◌, ◌<◌, ◌↔◌, None, ◌^◌, ◌==◌, List, [], ◌∷◌, ◌++◌, map, drop, length, Option, Some, IsSome, vec_capacity, inl, inr, refl, sym, ap, ◌∙◌, subst, arith, append_assoc}
 use Rattle.std.specs.List.{All, AllByRecursion}
 use Rattle.std.specs.Option.{unwrap_or}
 use Rattle.std.proofs.lemmas.Bool.{cases_Bool, eqb-true}
@@ -18,10 +18,10 @@ use Rattle.sq_graph.specs.Renames.{retargeted_item, retargeted_items, retargeted
 use Rattle.sq_graph.specs.Parts.{names_of}
 use Rattle.sq_graph.specs.Slotted.{number_in, position_in, slotted}
 use Rattle.sq_graph.specs.Cursor.{IsPlace, ahead_of, rest_from, retargeted_slots, slot_uses}
-use Rattle.sq_graph.specs.Numbered.{with_positions}
+use Rattle.sq_graph.specs.Numbered.{AreNumbered, with_positions}
 use Rattle.sq_graph.specs.CanonicalSlots.{start_of}
 use Rattle.sq_graph.specs.Slots.{slots_from}
-use Rattle.sq_graph.specs.Layout.{graph_of, Holds, IsSound}
+use Rattle.sq_graph.specs.Layout.{blocks_of, graph_of, Holds, IsSound}
 use Rattle.sq_graph.proofs.Eachs.{All-left, All-right}
 use Rattle.sq_graph.proofs.CursorLaws.{steps, from_first}
 use Rattle.sq_graph.proofs.SlotWalks.{started}
@@ -30,7 +30,7 @@ use Rattle.sq_graph.proofs.Held.{Shows, shows, limited}
 use Rattle.sq_graph.proofs.MapWrites.{bodies_from-mapped}
 use Rattle.sq_graph.proofs.RetargetRules.{items_of_blocks-other, all_items-other}
 use Rattle.sq_graph.proofs.Renamed.{names_there, renamed_rules}
-use Rattle.sq_graph.proofs.Slotting.{AreNumbered, positions_numbered, positions_apart, renamed_by_same}
+use Rattle.sq_graph.proofs.Slotting.{positions_numbered, positions_apart, renamed_by_same, named_by_positions}
 
 -- THE LOOP OVER THE SLOTS
 
@@ -72,6 +72,21 @@ number_step now goal key v position walk found =
           ∙ walk.is;
     }
 
+-- the place behind a key
+same : (es : List (ℕ × Slot)) (key : ℕ) (v : Slot) → value_of es key ≡ Some v → with_value es key v ≡ es
+same [] key v found = refl
+same (e ∷ es) key v found =
+    elim (cases_Bool (e.0 == key)) [
+      | inl here ↦ let value : e.1 ≡ v = cc (rw here at found) in rw here (λ i. (sym (eqb-true e.0 key here) i, sym value i) ∷ es)
+      | inr apart ↦ rw apart (ap (λ xs. e ∷ xs) (same es key v (rw apart at found)))
+    ]
+
+next_in : (now : List (ℕ × Slot)) (key : ℕ) (v : Slot) → HasDistinctKeys now → value_of now key ≡ Some v → (IsPlace now (next_key now key)) × (rest_from now (next_key now key) ≡ behind now key)
+next_in now key v distinct found =
+    let st = steps now key v v distinct found in
+    let still = same now key v found in
+    (subst (λ es. IsPlace es (next_key es key)) still st.is_place, subst (λ es. rest_from es (next_key es key) ≡ behind now key) still st.rest)
+
 -- one more value is in the list
 pub listed_step : (now : List (ℕ × Slot)) (key : ℕ) (v : Slot) (list : List Slot) → HasDistinctKeys now → value_of now key ≡ Some v → list ++ values (rest_from now (Some key)) ≡ values now → (IsPlace now (next_key now key)) × (((list ++ v ∷ []) ++ values (rest_from now (next_key now key)) ≡ values now) × (length (rest_from now (next_key now key)) < length (rest_from now (Some key))))
 listed_step now key v list distinct found is =
@@ -86,20 +101,50 @@ listed_step now key v list distinct found is =
         omega (arith, ap length st.1, rest_length now key v found),
       ),
     )
-  where
-    same : (es : List (ℕ × Slot)) (key : ℕ) (v : Slot) → value_of es key ≡ Some v → with_value es key v ≡ es
-    same [] key v found = refl
-    same (e ∷ es) key v found =
-        elim (cases_Bool (e.0 == key)) [
-          | inl here ↦ let value : e.1 ≡ v = cc (rw here at found) in rw here (λ i. (sym (eqb-true e.0 key here) i, sym value i) ∷ es)
-          | inr apart ↦ rw apart (ap (λ xs. e ∷ xs) (same es key v (rw apart at found)))
-        ]
 
-    next_in : (now : List (ℕ × Slot)) (key : ℕ) (v : Slot) → HasDistinctKeys now → value_of now key ≡ Some v → (IsPlace now (next_key now key)) × (rest_from now (next_key now key) ≡ behind now key)
-    next_in now key v distinct found =
-        let st = steps now key v v distinct found in
-        let still = same now key v found in
-        (subst (λ es. IsPlace es (next_key es key)) still st.is_place, subst (λ es. rest_from es (next_key es key) ≡ behind now key) still st.rest)
+-- the names from the place on have the numbers from the position on exactly where all have theirs
+pub record Counts (now : List (ℕ × Slot)) (place : Option ℕ) (position : ℕ) : Type 0 where
+  pub is_place : IsPlace now place
+  pub fits : position + length (rest_from now place) < 2 ^ 32
+  pub are : AreNumbered (λ n. n) 0 (keys now) ↔ AreNumbered (λ n. n) position (keys (rest_from now place))
+
+pub counts_first : (now : List (ℕ × Slot)) → length now < 2 ^ 32 → Counts now (first_key now) 0
+counts_first now fits =
+    let first = from_first now in
+    record {
+      is_place = first.0;
+      fits = rw first.1.1 (omega (arith, fits));
+      are = rw first.1.1 (λ h. h, λ h. h);
+    }
+
+some_value : (o : Option Slot) → IsSome o → (v : Slot) × (o ≡ Some v)
+some_value None h = absurd (cc)
+some_value (Some v) h = (v, refl)
+
+-- at a key: the rest is it and what stands behind
+pub record CountsAt (now : List (ℕ × Slot)) (key position : ℕ) : Type 0 where
+  pub fits : position + 1 < 2 ^ 32
+  pub shorter : length (rest_from now (next_key now key)) < length (rest_from now (Some key))
+  pub apart : (key ≡ position → ⊥) → AreNumbered (λ n. n) 0 (keys now) → ⊥
+  pub next : key ≡ position → Counts now (next_key now key) (position + 1)
+
+pub counts_at : (now : List (ℕ × Slot)) (key position : ℕ) → HasDistinctKeys now → Counts now (Some key) position → CountsAt now key position
+counts_at now key position distinct walk =
+    let v = some_value (value_of now key) walk.is_place in
+    let parts = starting_at-behind now key v.0 v.1 in
+    let st = next_in now key v.0 distinct v.1 in
+    let size = rest_length now key v.0 v.1 in
+    let are = rw parts at walk.are in
+    record {
+      fits = omega (arith, walk.fits, size);
+      shorter = omega (arith, ap length st.1, size);
+      apart = λ apart all. apart (are.0 all).0;
+      next = λ same. record {
+        is_place = st.0;
+        fits = omega (arith, walk.fits, size, ap length st.1);
+        are = rw st.1 (λ h. (are.0 h).1, λ h. are.1 (same, h));
+      };
+    }
 
 -- NAMES
 
@@ -133,6 +178,10 @@ slots_named f k start (b ∷ bs) are =
 positions-uses : (k start : ℕ) (bs : List Block) → slot_uses (at_positions k (values (slots_from start bs))) ≡ terms_uses bs
 positions-uses k start [] = refl
 positions-uses k start (b ∷ bs) = ap (λ us. term_uses b.term ++ us) (positions-uses (k + 1) (start + length b.items) bs)
+
+block_names : (es : List (ℕ × Slot)) (items : List Item) → keys es ≡ map (λ b. b.name) (blocks_of es items)
+block_names [] items = refl
+block_names (e ∷ es) items = ap (λ ks. e.0 ∷ ks) (block_names es (drop e.1.length items))
 
 module _ (old : Inside) (sound : IsSound old) where
   -- the slots with their positions
@@ -173,6 +222,11 @@ module _ (old : Inside) (sound : IsSound old) where
   -- a block's new name is its position
   name_is : (n : ℕ) → HasBlock (graph_of old) n → new_name n ≡ position_in (names_of (graph_of old)) n
   name_is n has = ap (λ es. start_of (with_positions 0 es) n) sound.holds.slots ∙ number_start 0 0 n (graph_of old).blocks has
+
+  -- where each slot stands under its position, they show it already
+  pub slotted_already : AreNumbered (λ n. n) 0 (keys old.slots.entries) → slotted (graph_of old) ≡ graph_of old
+  slotted_already are =
+      named_by_positions (graph_of old) sound.rules (subst (AreNumbered (λ n. n) 0) (block_names old.slots.entries old.items.items) are)
 
   -- the fields show the slotted graph
   pub slotted_shows : (new : Inside)

@@ -12,6 +12,7 @@ use Rattle.sq_graph.specs.declared.parts.CodeRef.{CodeRef}
 use Rattle.sq_graph.specs.Graph.{Block, Graph}
 use Rattle.sq_graph.specs.Alike.{IsOneToOne, AreAlike}
 use Rattle.sq_graph.specs.Blocks.{named, HasBlock}
+pub use Rattle.sq_graph.specs.Numbered.{AreNumbered}
 use Rattle.sq_graph.specs.Parts.{names_of, blocks_of_parts, graph_of_parts}
 use Rattle.sq_graph.specs.Renames.{renamed_block, renamed}
 use Rattle.sq_graph.specs.Rules.{IsGraph}
@@ -59,11 +60,6 @@ within (y ∷ xs) (suc i) x e = let h = within xs i x e in omega (arith, h)
 
 pub position_below : (g : Graph) (x : ℕ) → HasBlock g x → position_in (names_of g) x < length (names_of g)
 position_below g x has = within (names_of g) (position_in (names_of g) x) x (at_position g x has)
-
--- these names have the numbers from k on
-abbrev pub AreNumbered : (ℕ → ℕ) → ℕ → List ℕ → Type 0
-AreNumbered f k [] = Unit {0}
-AreNumbered f k (n ∷ names) = (f n ≡ k) × AreNumbered f (k + 1) names
 
 numbered_same : (f g : ℕ → ℕ) (k : ℕ) (names : List ℕ) → AllByRecursion (λ m. f m ≡ g m) names → AreNumbered f k names → AreNumbered g k names
 numbered_same f g k [] same h = tt

@@ -4,6 +4,11 @@ use Rattle.sq_arena.specs.Entries.{first_key}
 use Rattle.sq_graph.specs.declared.slot.Slot.{Slot}
 use Rattle.sq_graph.specs.Cursor.{renumbered, length_of_slots}
 
+-- these names have the numbers from k on
+abbrev pub AreNumbered : (ℕ → ℕ) → ℕ → List ℕ → Type 0
+AreNumbered f k [] = Unit {0}
+AreNumbered f k (n ∷ names) = (f n ≡ k) × AreNumbered f (k + 1) names
+
 -- each slot has its start, the first one here
 abbrev pub IsNumbered : ℕ → List (ℕ × Slot) → Type 0
 IsNumbered start entries = renumbered start entries ≡ entries

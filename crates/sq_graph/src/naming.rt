@@ -1,8 +1,8 @@
 //! Names that are positions.
 
-ghost use Rattle.std.specs.Prelude.{◌≡◌, ◌<◌, ◌^◌, IfOk, OnOk, OnErr, length};
-ghost use Rattle.sq_arena.specs.Entries.{HasDistinctKeys, values, at_positions};
-ghost use Rattle.sq_graph.specs.Numbered.{with_positions};
+ghost use Rattle.std.specs.Prelude.{◌≡◌, ◌↔◌, ◌<◌, ◌^◌, IsTrue, IfOk, OnOk, OnErr, length};
+ghost use Rattle.sq_arena.specs.Entries.{HasDistinctKeys, keys, values, at_positions};
+ghost use Rattle.sq_graph.specs.Numbered.{AreNumbered, with_positions};
 ghost use Rattle.sq_graph.specs.Slotted.{slotted};
 
 use crate::canonical::Aims;
@@ -21,6 +21,9 @@ impl Graph {
         ensures spare { self.new.spare ≡ self.old.spare }
         ensures err { OnErr result (self.new ≡ self.old) }
     {
+        if is_in_order(&self.slots) {
+            return Ok(());
+        }
         let mut slots = in_order(alloc, &self.slots)?;
         number(&mut self.slots);
         let positions = Aims { slots: &self.slots };
@@ -31,6 +34,24 @@ impl Graph {
         self.slots = slots;
         Ok(())
     }
+}
+
+// Whether each slot stands under its position.
+fn is_in_order(slots: &Arena<Slot>) -> bool
+    requires distinct { HasDistinctKeys slots.now.entries }
+    requires count { length slots.now.entries < 2 ^ 32 }
+    ensures { IsTrue result ↔ AreNumbered (λ name. name) 0 (keys slots.now.entries) }
+{
+    let mut position = 0;
+    let mut place = slots.first();
+    while let Some(name) = place {
+        if name != position {
+            return false;
+        }
+        position += 1;
+        place = slots.next(name);
+    }
+    true
 }
 
 // The same slots in their order, each under its position, with as many to spare.

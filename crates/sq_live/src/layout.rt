@@ -32,7 +32,7 @@ pub fn block_names(alloc: Global, g: &Graph) -> Result<Vec<u32>, Memory>
 pub(crate) fn positions(alloc: Global, names: &[u32]) -> Result<HashMap<u32, usize>, Memory>
     ensures { IfOk result (λ positions. (name : ℕ) → get nat_eq positions name ≡ position_in names.now 0 name) }
 {
-    let mut positions = HashMap::new(alloc);
+    let mut positions = HashMap::with_capacity(alloc, names.len())?;
     for k in (0..names.len()).rev() {
         positions.insert(names[k], k)?;
     }

@@ -1,12 +1,23 @@
-use Rattle.std.proofs.Common.{◌∙◌, ap, refl, arith}
+use Rattle.std.proofs.Common.{◌≡◌, ◌∙◌, ap, sym, subst, refl, arith}
 use Rattle.sq_arena.specs.Entries.{values}
 use Rattle.sq_arena.proofs.Positions.{distinct-at_positions}
 use Rattle.sq_graph.specs.declared.graph.Graph.TheInside.{Inside}
 use Rattle.sq_graph.specs.Slotted.{slotted}
 use Rattle.sq_graph.proofs.Changes.{distinct_slots}
 use Rattle.sq_graph.proofs.Held.{limited}
-use Rattle.sq_graph.proofs.SlotNames.{terms_known, items_known, words_known, entry_known, slotted_shows}
+use Rattle.sq_graph.proofs.SlotNames.{terms_known, items_known, words_known, entry_known, slotted_already, slotted_shows}
 use Rattle.sq_graph.proofs.graph.Graph.name_by_slots.Goals as goal
+
+pub is_in_order-requires-clause-distinct : goal.is_in_order-requires-clause-distinct
+is_in_order-requires-clause-distinct c = distinct_slots c.self.inside c.self.invariant
+
+pub is_in_order-requires-clause-count : goal.is_in_order-requires-clause-count
+is_in_order-requires-clause-count c = let h = (limited c.self.inside c.self.invariant).blocks in omega (arith, h)
+
+pub returns-then-is_in_order-clause-graph : goal.returns-then-is_in_order-clause-graph
+returns-then-is_in_order-clause-graph c =
+    subst (λ v. v.graph ≡ slotted v.graph) c.self.view_is
+    (sym (slotted_already c.self.inside c.self.invariant (c.is_in_order.ensures.0 c.if-is_in_order.true)))
 
 pub number-requires-clause-distinct : goal.number-requires-clause-distinct
 number-requires-clause-distinct c = distinct_slots c.self.inside c.self.invariant
