@@ -103,3 +103,18 @@ module _ {T : Type 0} where
         ahead = before-append front back e.0 e.1 apart;
         rest = starting_at-append front back e.0 e.1 apart;
       }
+
+  same_value : (es : List (ℕ × T)) (key : ℕ) (v : T) → value_of es key ≡ Some v → with_value es key v ≡ es
+  same_value [] key v found = refl
+  same_value (e ∷ es) key v found =
+      elim (cases_Bool (e.0 == key)) [
+        | inl here ↦ let value : e.1 ≡ v = cc (rw here at found) in rw here (λ i. (sym (eqb-true e.0 key here) i, sym value i) ∷ es)
+        | inr apart ↦ rw apart (ap (λ xs. e ∷ xs) (same_value es key v (rw apart at found)))
+      ]
+
+  -- the place goes on to the next key
+  pub next_in : (es : List (ℕ × T)) (key : ℕ) (v : T) → HasDistinctKeys es → value_of es key ≡ Some v → (IsPlace es (next_key es key)) × (rest_from es (next_key es key) ≡ behind es key)
+  next_in es key v distinct found =
+      let st = steps es key v v distinct found in
+      let still = same_value es key v found in
+      (subst (λ xs. IsPlace xs (next_key xs key)) still st.is_place, subst (λ xs. rest_from xs (next_key xs key) ≡ behind es key) still st.rest)

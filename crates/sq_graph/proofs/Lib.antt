@@ -22,6 +22,8 @@ pub mod MapWrites
 pub mod SplitRules
 pub mod PieceLaws
 pub mod ItemWrites
+pub mod Packing
+pub mod Trimming
 pub mod BodyLowers
 pub mod BlockRemoval
 pub mod ProcedureWrites

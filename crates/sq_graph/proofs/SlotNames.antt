@@ -2,7 +2,7 @@
 use Rattle.std.proofs.Common.{◌≡◌, ℕ, suc, ◌+◌, ◌<◌, ◌↔◌, None, ◌^◌, ◌==◌, List, [], ◌∷◌, ◌++◌, map, drop, length, Option, Some, IsSome, vec_capacity, inl, inr, refl, sym, ap, ◌∙◌, subst, arith, append_assoc}
 use Rattle.std.specs.List.{All, AllByRecursion}
 use Rattle.std.specs.Option.{unwrap_or}
-use Rattle.std.proofs.lemmas.Bool.{cases_Bool, eqb-true}
+use Rattle.std.proofs.lemmas.Bool.{cases_Bool}
 use Rattle.std.proofs.lemmas.List.{length-map}
 use Rattle.std.proofs.lemmas.List.Elements.{All-head, All-tail, All-weaker}
 use Rattle.sq_arena.specs.Entries.{HasDistinctKeys, ContainsKey, keys, values, at_positions, value_of, before, behind, starting_at, with_value, first_key, next_key}
@@ -23,7 +23,7 @@ use Rattle.sq_graph.specs.CanonicalSlots.{start_of}
 use Rattle.sq_graph.specs.Slots.{slots_from}
 use Rattle.sq_graph.specs.Layout.{blocks_of, graph_of, Holds, IsSound}
 use Rattle.sq_graph.proofs.Eachs.{All-left, All-right}
-use Rattle.sq_graph.proofs.CursorLaws.{steps, from_first}
+use Rattle.sq_graph.proofs.CursorLaws.{steps, from_first, next_in}
 use Rattle.sq_graph.proofs.SlotWalks.{started}
 use Rattle.sq_graph.proofs.SlotReads.{has_slot}
 use Rattle.sq_graph.proofs.Held.{Shows, shows, limited}
@@ -71,21 +71,6 @@ number_step now goal key v position walk found =
           ∙ ap (λ es. before now key ++ with_positions position es) (sym (starting_at-behind now key v found))
           ∙ walk.is;
     }
-
--- the place behind a key
-same : (es : List (ℕ × Slot)) (key : ℕ) (v : Slot) → value_of es key ≡ Some v → with_value es key v ≡ es
-same [] key v found = refl
-same (e ∷ es) key v found =
-    elim (cases_Bool (e.0 == key)) [
-      | inl here ↦ let value : e.1 ≡ v = cc (rw here at found) in rw here (λ i. (sym (eqb-true e.0 key here) i, sym value i) ∷ es)
-      | inr apart ↦ rw apart (ap (λ xs. e ∷ xs) (same es key v (rw apart at found)))
-    ]
-
-next_in : (now : List (ℕ × Slot)) (key : ℕ) (v : Slot) → HasDistinctKeys now → value_of now key ≡ Some v → (IsPlace now (next_key now key)) × (rest_from now (next_key now key) ≡ behind now key)
-next_in now key v distinct found =
-    let st = steps now key v v distinct found in
-    let still = same now key v found in
-    (subst (λ es. IsPlace es (next_key es key)) still st.is_place, subst (λ es. rest_from es (next_key es key) ≡ behind now key) still st.rest)
 
 -- one more value is in the list
 pub listed_step : (now : List (ℕ × Slot)) (key : ℕ) (v : Slot) (list : List Slot) → HasDistinctKeys now → value_of now key ≡ Some v → list ++ values (rest_from now (Some key)) ≡ values now → (IsPlace now (next_key now key)) × (((list ++ v ∷ []) ++ values (rest_from now (next_key now key)) ≡ values now) × (length (rest_from now (next_key now key)) < length (rest_from now (Some key))))

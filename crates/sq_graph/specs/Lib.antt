@@ -7,6 +7,7 @@ pub mod Room
 pub mod Renames
 pub mod Alike
 pub mod Operations
+pub mod Trimmed
 pub mod Words
 pub mod Leaders
 pub mod Canonical
@@ -21,6 +22,7 @@ pub mod CanonicalSlots
 pub mod Slotted
 pub mod PartSlots
 pub mod Pieces
+pub mod Packed
 pub mod Lines
 pub mod Walks
 pub mod Matches

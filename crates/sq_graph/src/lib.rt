@@ -20,6 +20,7 @@ mod pieces;
 mod rename;
 mod slot;
 mod slots;
+mod trim;
 mod vectors;
 
 pub use graph::Graph;

@@ -2,11 +2,12 @@
 use Rattle.std.proofs.Common.{◌≡◌, ◌≢◌, ℕ, ◌<◌, true, false, List, [], ◌∷◌, length, Option, None, Some, inl, inr, refl, sym, ap, ◌∙◌, subst, ◌==◌, map, get_or, IsSome, is_some}
 use Rattle.std.proofs.lemmas.Bool.{cases_Bool, eqb-true}
 use Rattle.sq_isa.specs.declared.instructions.Cond.{Cond}
+use Rattle.sq_graph.specs.declared.item.Item.{Item}
 use Rattle.sq_graph.specs.declared.item.Term.{Term}
 use Rattle.sq_graph.specs.declared.item.Term.TheVariants.{Branch, PartJump, Fall, Jump, Call, Indirect, Stop}
 use Rattle.sq_graph.specs.Graph.{Graph, Block}
 use Rattle.sq_graph.specs.Blocks.{next_of, term_of, named, HasBlock, block_of, block_term}
-use Rattle.sq_graph.specs.Operations.{redirected, with_blocks, with_term, replaced, replaced_items}
+use Rattle.sq_graph.specs.Operations.{redirected, with_blocks, with_term}
 use Rattle.sq_graph.specs.Rules.{IsGraph, last_goes_on}
 use Rattle.sq_graph.specs.Terms.{goes_on}
 use Rattle.sq_lookup.proofs.Targets.{has_term}
@@ -69,9 +70,6 @@ names-retargeted f (b ∷ bs) = ap (λ ks. b.name ∷ ks) (names-retargeted f bs
 pub next-term : (g : Graph) (block n : ℕ) (t : Term) → next_of (with_term g block t) n ≡ next_of g n
 next-term g block n t = next_names (with_blocks (λ b. record b { term = t } ∷ []) g.blocks block) g.blocks n (names-changed (λ b. record b { term = t }) g.blocks block (λ b. refl))
 
-pub next-replaced : (g : Graph) (block at n : ℕ) → next_of (replaced g block at 1 []) n ≡ next_of g n
-next-replaced g block at n = next_names (with_blocks (λ b. record b { items = replaced_items b.items at 1 [] } ∷ []) g.blocks block) g.blocks n (names-changed (λ b. record b { items = replaced_items b.items at 1 [] }) g.blocks block (λ b. refl))
-
 pub next-redirected : (g : Graph) (from to n : ℕ) → next_of (redirected g from to) n ≡ next_of g n
 next-redirected g from to n = next_names (map (retargeted_block (swapped from to)) g.blocks) g.blocks n (names-retargeted (swapped from to) g.blocks)
 
@@ -120,6 +118,15 @@ same_term s t e = cc
 -- the term of another block stays, and a block that went has none
 pub term_elsewhere : (g : Graph) (block n : ℕ) (f : Block → Block) → ((b : Block) → (f b).name ≡ b.name) → n ≢ block → block_term (value_of (named (with_blocks (λ b. f b ∷ []) g.blocks block)) n) ≡ term_of g n
 term_elsewhere g block n f names other = ap block_term (block_of-changed f g.blocks block n names other)
+
+-- the terms of blocks whose items changed
+pub term_with_items : (f : List Item → List Item) (bs : List Block) (m n : ℕ) → block_term (value_of (named (with_blocks (λ b. record b { items = f b.items } ∷ []) bs m)) n) ≡ block_term (value_of (named bs) n)
+term_with_items f [] m n = refl
+term_with_items f (b ∷ bs) m n =
+    elim (cases_Bool (b.name == m)) [
+      | inl here ↦ rw here (elim (cases_Bool (b.name == n)) [ inl there ↦ rw there refl | inr other ↦ rw other refl ])
+      | inr apart ↦ rw apart (elim (cases_Bool (b.name == n)) [ inl there ↦ rw there refl | inr other ↦ rw other (term_with_items f bs m n) ])
+    ]
 
 mapped_term : (o : Option Block) (t : Term) → block_term (option_map (λ (b : Block). record b { term = t }) o) ≡ option_map (λ _. t) (block_term o)
 mapped_term None t = refl

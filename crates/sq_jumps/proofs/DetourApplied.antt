@@ -90,6 +90,7 @@ detour_applied g block rules d =
       reach = λ reach. shrunk_in_reach g (without_jump g block d.to) rules.distinct (detour_rules g block d.to rules d.leads).distinct (detour_shrinks g block d.to) led reach;
       words = detour_saves g block d.to d.leads;
       described = alike_itself (without_jump g block d.to);
+      kept = λ n has. refl;
     })
   where
     f : ℕ → ℕ

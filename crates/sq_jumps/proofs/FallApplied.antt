@@ -39,6 +39,7 @@ fall_applied g block rules j =
       reach = λ reach. shrunk_in_reach g (with_term g block Fall) rules.distinct (fall_rules g block j.to rules j.jump j.next).distinct (fall_shrinks g block j.to j.jump) led reach;
       words = fall_saves g block j.to j.jump;
       described = alike_itself (with_term g block Fall);
+      kept = λ n has. refl;
     }
   where
     led : LedThere g (with_term g block Fall)

@@ -116,6 +116,7 @@ invert_applied g block rules o =
       reach = λ reach. shrunk_in_reach g (inverted_over g block o.cond o.a o.b o.over o.to) rules.distinct (invert_rules g block o.cond o.a o.b o.over o.behind o.to (inverse_of o.cond) rules o.jumped).distinct (invert_shrinks g block o) led reach;
       words = invert_saves g block o.cond o.a o.b o.over o.behind o.to rules o.jumped;
       described = alike_itself (inverted_over g block o.cond o.a o.b o.over o.to);
+      kept = λ n has. refl;
     })
   where
     t : Term

@@ -12,10 +12,10 @@ use Rattle.sq_graph.specs.Terms.{goes_on}
 use Rattle.sq_graph.specs.Uses.{term_uses}
 use Rattle.sq_graph.specs.Words.{term_words}
 use Rattle.sq_jumps.specs.Shorten.{JumpsByDeadPart, shortened_by, shortened_at}
-use Rattle.sq_lookup.proofs.Targets.{targets_are, has_term}
+use Rattle.sq_lookup.proofs.Targets.{part_there, has_term}
 use Rattle.sq_layout.proofs.Shrunk.{shrinks_twice, one_shrinks, term_shrunk, without_item_shrunk}
 use Rattle.std.specs.Prelude.{option_map}
-use Rattle.std.proofs.lemmas.List.Elements.{All-nil, All-cons, All-head}
+use Rattle.std.proofs.lemmas.List.Elements.{All-nil, All-cons}
 use Rattle.sq_graph.specs.declared.parts.Room.{Room}
 use Rattle.sq_graph.specs.Room.{count_of, sum_of}
 use Rattle.sq_graph.proofs.RulesByBlock.{ItemStands}
@@ -30,7 +30,7 @@ use Rattle.sq_pass.specs.Applied.{IsApplied}
 use Rattle.sq_layout.specs.Shrinks.{IsBranch, Shrinks}
 use Rattle.sq_layout.specs.Reach.{LedThere}
 use Rattle.sq_layout.proofs.Shrinking.{shrunk_in_reach}
-use Rattle.sq_jumps.proofs.Blocks.{next-replaced, goes_to_next, same_term, term_elsewhere, term_here}
+use Rattle.sq_jumps.proofs.Blocks.{goes_to_next, same_term, term_elsewhere, term_here, term_with_items}
 use Rattle.sq_jumps.proofs.Totals.{term_total, replaced_total}
 
 -- its parts are known
@@ -54,6 +54,12 @@ shorten_uses P (suc link) to p = All-cons P to [] p (All-nil P)
 shorten_goes_on : (link part to : ℕ) → goes_on (short_jump link to) ≡ true → goes_on (PartJump link part to) ≡ true
 shorten_goes_on zero part to on = absurd (cc)
 shorten_goes_on (suc link) part to on = let apart : (suc link == 0) ≡ false = ne_eqb (suc link) 0 (λ same. omega (arith, same)) in rw apart refl
+
+pub hastened_rules : (g : Graph) (block link part to : ℕ) → IsGraph g → term_of g block ≡ Some (PartJump link part to) → IsGraph (with_term g block (short_jump link to))
+hastened_rules g block link part to rules jump =
+    with_term_rules g block (short_jump link to) rules (has_term g block (PartJump link part to) jump) (hastened_fits link part to (term_fits g block (PartJump link part to) rules jump))
+    (shorten_uses (HasBlock g) link to (part_there g block link part to rules jump))
+    (λ on. goes_to_next g block (PartJump link part to) rules jump (shorten_goes_on link part to on))
 
 module _ (g : Graph) (block at link part to : ℕ) (rules : IsGraph g) (can : IsShortable g block at link part to) where
   abbrev k : Graph
@@ -84,9 +90,7 @@ module _ (g : Graph) (block at link part to : ℕ) (rules : IsGraph g) (can : Is
 
   pub shorten_rules : IsGraph (with_term (replaced g block at 1 []) block (short_jump link to))
   shorten_rules =
-      with_term_rules (replaced g block at 1 []) block (short_jump link to) shorten_dropped (shorten_there block has) (hastened_fits link part to (term_fits g block (PartJump link part to) rules can.jump))
-      (shorten_uses (HasBlock (replaced g block at 1 [])) link to (shorten_there to (All-head (HasBlock g) to [] (targets_are (HasBlock g) g block (PartJump link part to) rules rules.named_all can.jump))))
-      (λ on. subst (λ o. IsSome o) (sym (next-replaced g block at block)) (goes_to_next g block (PartJump link part to) rules can.jump (shorten_goes_on link part to on)))
+      hastened_rules (replaced g block at 1 []) block link part to shorten_dropped (term_with_items (λ is. replaced_items is at 1 []) g.blocks block block ∙ can.jump)
 
   pub shorten_total : (spare : Room) → sum_of (count_of (with_term (replaced g block at 1 []) block (short_jump link to))) (record spare { items = spare.items + 1 - 0 }) ≡ sum_of (count_of g) spare
   shorten_total spare =
@@ -116,17 +120,14 @@ shorten_applied g block rules d =
       reach = λ reach. shrunk_in_reach g (shortened g block d.at d.link d.to) rules.distinct (shorten_rules g block d.at d.link d.part d.to rules d.shortable).distinct shrinks led reach;
       words = omega (arith, drop_saves g block d.at d.part d.to d.shortable.half, hasten_saves (replaced g block d.at 1 []) block d.link d.part d.to still);
       described = alike_itself (shortened g block d.at d.link d.to);
+      kept = λ n has. refl;
     })
   where
     k : Graph
     k = replaced g block d.at 1 []
 
     still : term_of (replaced g block d.at 1 []) block ≡ Some (PartJump d.link d.part d.to)
-    still = ap block_term (block_of-changed_here (λ b. record b { items = replaced_items b.items d.at 1 [] }) g.blocks block (λ b. refl)) ∙ kept_term (block_of g block) ∙ d.shortable.jump
-      where
-        kept_term : (o : Option Block) → block_term (option_map (λ (b : Block). record b { items = replaced_items b.items d.at 1 [] }) o) ≡ block_term o
-        kept_term None = refl
-        kept_term (Some b) = refl
+    still = term_with_items (λ is. replaced_items is d.at 1 []) g.blocks block block ∙ d.shortable.jump
 
     shrinks : Shrinks g.blocks (shortened g block d.at d.link d.to).blocks
     shrinks =

@@ -278,4 +278,5 @@ module _ (g : Graph) (gone : List ℕ) (rules : IsGraph g) (are : AreUnreached g
     reach = λ reach. shrunk_in_reach g (without_all g gone) rules.distinct rules'.distinct shrinks led reach;
     words = words_fall;
     described = alike_itself (without_all g gone);
+    kept = λ n has. refl;
   }

@@ -1,13 +1,11 @@
 -- Row C: a jump by an upper half that nothing else needs becomes one of a single word.
-use Rattle.std.specs.Prelude.{ℕ, Some, ◌-◌, length, Option, List}
+use Rattle.std.specs.Prelude.{ℕ, Some, ◌-◌, length, Option, List, [], ◌∷◌}
 use Rattle.sq_graph.specs.declared.item.Term.TheVariants.{PartJump}
 use Rattle.sq_graph.specs.Graph.{Graph}
-use Rattle.sq_graph.specs.Blocks.{term_of, items_of, HasBlock}
-use Rattle.sq_patch.specs.Operations.{IsShortable, shortened}
+use Rattle.sq_graph.specs.Blocks.{term_of, items_of}
+use Rattle.sq_patch.specs.Operations.{IsShortable, shortened, hastened}
 use Rattle.sq_graph.specs.declared.item.Term.{Term}
-use Rattle.sq_graph.specs.Lines.{block_lines}
-use Rattle.sq_graph.specs.Walks.{IsLive}
-use Rattle.sq_live.specs.Liveness.{IsLivenessOf}
+use Rattle.sq_graph.specs.Operations.{with_term}
 
 -- C: a last item Hi with the part and target of the PartJump that follows, and the part is its link or dead at the
 -- target
@@ -26,10 +24,16 @@ shortened_by g block term = g
 abbrev pub shortened_at : Graph → ℕ → Graph
 shortened_at g block = shortened_by g block (term_of g block)
 
--- These sets are the live registers of a graph before this one, and what was dead there at the start of a block is dead
--- at that block's start still.
-pub record IsStillDead (live : List (ℕ × List ℕ)) (g : Graph) : Type 0 where
-  pub before : Graph
-  pub lives : IsLivenessOf before live
-  pub there : (n : ℕ) → HasBlock g n → HasBlock before n
-  pub dead : (n r : ℕ) → HasBlock g n → ¬ IsLive before r (block_lines before n) → ¬ IsLive g r (block_lines g n)
+-- the PartJump at the end of the block becomes a Call, or a Jump where the link is x0, and its upper half stays. Any other
+-- term stays
+abbrev pub hastened_by : Graph → ℕ → Option Term → Graph
+hastened_by g block (Some (PartJump link part to)) = with_term g block (hastened link to)
+hastened_by g block term = g
+
+abbrev pub hastened_at : Graph → ℕ → Graph
+hastened_at g block = hastened_by g block (term_of g block)
+
+-- the same at each of these blocks, one after another
+abbrev pub hastened_each : List ℕ → Graph → Graph
+hastened_each [] g = g
+hastened_each (block ∷ rest) g = hastened_each rest (hastened_at g block)

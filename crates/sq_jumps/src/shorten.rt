@@ -4,7 +4,8 @@
 //!                 lui p,%hi(t)                    jal l,t
 //!                 jalr l,%lo(t)(p)
 
-ghost use Rattle.std.specs.Prelude.{IsTrue, ◌≡◌, ◌≤◌, ◌+◌, IfOk};
+ghost use Rattle.std.specs.Prelude.{IsTrue, ◌≡◌, ◌≤◌, ◌+◌, IfOk, nat_eq};
+ghost use Rattle.std.specs.List.{All, IsDistinct};
 ghost use Rattle.sq_graph.specs.Blocks.{HasBlock};
 ghost use Rattle.sq_live.specs.Liveness.{IsLivenessOf};
 ghost use Rattle.sq_graph.specs.Room.{KeepsTotal};
@@ -16,7 +17,7 @@ ghost use Rattle.sq_graph.specs.Parts.{names_of};
 ghost use Rattle.sq_graph.specs.Words.{words_of, most_words};
 ghost use Rattle.sq_follow.specs.Follows.{Follows};
 ghost use Rattle.sq_pass.specs.Rewrites.{IsRewritten};
-ghost use Rattle.sq_jumps.specs.Shorten.{JumpsByDeadPart, shortened_at, IsStillDead};
+ghost use Rattle.sq_jumps.specs.Shorten.{JumpsByDeadPart, shortened_at, hastened_at, hastened_each};
 
 use sq_graph::{Graph, Item, Term};
 use sq_isa::Reg;
@@ -25,13 +26,12 @@ use sq_num::{Memory, Savings};
 use sq_pass::{Rewrite, Row};
 use std::alloc::Global;
 
-/// Whether the block jumps by an upper half, its last item, which nothing else needs. The live registers may be those of
-/// a graph before, and then an upper half that was needed there counts as needed.
+/// Whether the block jumps by an upper half, its last item, which nothing else needs.
 pub(crate) fn jumps_by_dead_part(graph: &Graph, live: &Liveness, block: u32) -> bool
     requires block { HasBlock graph.now.graph block }
-    requires live { IsStillDead live.now graph.now.graph }
+    requires live { IsLivenessOf graph.now.graph live.now }
     ensures some { IsTrue result → JumpsByDeadPart graph.now.graph block }
-    ensures all { IsLivenessOf graph.now.graph live.now → JumpsByDeadPart graph.now.graph block → IsTrue result }
+    ensures all { JumpsByDeadPart graph.now.graph block → IsTrue result }
 {
     graph.learn();
     let Term::PartJump { link, part, to } = graph.term(block) else {
@@ -72,47 +72,69 @@ pub(crate) fn shorten(graph: &mut Graph, block: u32)
     graph.set_term(block, short_jump(link, to));
 }
 
-/// Shortens the jump of a block by row C, where its upper half was dead when the registers were looked for.
-fn shorten_one(graph: &mut Graph, live: &Liveness, block: u32, savings: Savings) -> Savings
-    requires canonical { IsCanonical graph.old.graph }
-    requires block { HasBlock graph.old.graph block }
-    requires live { IsStillDead live.now graph.old.graph }
-    requires words { words_of graph.old.graph + words_saved savings ≤ most_words }
-    ensures rewritten { IsRewritten IsCandidate described savings result graph.old.graph graph.new.graph }
-    ensures live { IsStillDead live.now graph.new.graph }
-    ensures names { names_of graph.new.graph ≡ names_of graph.old.graph }
+/// The blocks that jump by an upper half which nothing else needs, in the order of these names.
+fn shortable_blocks(
+    alloc: Global,
+    graph: &Graph,
+    live: &Liveness,
+    names: &[u32],
+) -> Result<Vec<u32>, Memory>
+    requires names { names.now ≡ names_of graph.now.graph }
+    requires live { IsLivenessOf graph.now.graph live.now }
+    ensures jumps { IfOk result (λ blocks. All (JumpsByDeadPart graph.now.graph) blocks.items) }
+    ensures distinct { IfOk result (λ blocks. IsDistinct nat_eq blocks.items) }
 {
     graph.learn();
-    if !jumps_by_dead_part(graph, live, block) {
-        return savings;
+    let mut blocks = Vec::new(alloc);
+    for name in names {
+        if jumps_by_dead_part(graph, live, *name) {
+            blocks.push(*name)?;
+        }
     }
-    shorten(graph, block);
-    let done = Rewrite {
-        row: Row::C,
-        saving: 1,
-    };
-    done.count(savings)
+    Ok(blocks)
 }
 
-/// The same for each block. A rewrite of row C leaves the graph canonical, and what was dead at the start of a block is
-/// dead there still.
-fn shorten_each(graph: &mut Graph, live: &Liveness, names: &[u32], savings: Savings) -> Savings
+/// Makes a PartJump one of a single word, and leaves its upper half. Any other term stays.
+fn hasten(graph: &mut Graph, block: u32)
+    requires { HasBlock graph.old.graph block }
+    ensures { graph.new.graph ≡ hastened_at graph.old.graph block }
+{
+    graph.learn();
+    if let Term::PartJump { link, to, .. } = graph.term(block) {
+        graph.set_term(block, short_jump(link, to));
+    }
+}
+
+/// The same at each of these blocks.
+fn hasten_each(graph: &mut Graph, blocks: &[u32])
+    requires { All (HasBlock graph.old.graph) blocks.now }
+    ensures { graph.new.graph ≡ hastened_each blocks.now graph.old.graph }
+{
+    for block in blocks {
+        hasten(graph, *block);
+    }
+}
+
+/// Rewrites the graph by row C at each of these blocks: their jumps first, and then all upper halves go by one pass over
+/// the graph.
+fn shorten_each(graph: &mut Graph, blocks: &[u32], savings: Savings) -> Savings
     requires canonical { IsCanonical graph.old.graph }
-    requires live { IsStillDead live.now graph.old.graph }
-    requires names { names.now ≡ names_of graph.old.graph }
+    requires jumps { All (JumpsByDeadPart graph.old.graph) blocks.now }
+    requires distinct { IsDistinct nat_eq blocks.now }
     requires words { words_of graph.old.graph + words_saved savings ≤ most_words }
     ensures { IsRewritten IsCandidate described savings result graph.old.graph graph.new.graph }
 {
     graph.learn();
-    let mut after = savings;
-    for name in names {
-        after = shorten_one(graph, live, *name, after);
-    }
-    after
+    hasten_each(graph, blocks);
+    graph.trim_each(blocks, 1);
+    let done = Rewrite {
+        row: Row::C,
+        saving: blocks.len() as u32,
+    };
+    done.count(savings)
 }
 
-/// Rewrites the graph by candidates of row C, in layout order. It looks for live registers once, and then at the end of
-/// each block.
+/// Rewrites the graph by candidates of row C. It looks for live registers once, and then at the end of each block.
 pub(crate) fn sweep_calls(
     alloc: Global,
     graph: &mut Graph,
@@ -126,5 +148,6 @@ pub(crate) fn sweep_calls(
     graph.learn();
     let live = live(alloc, graph)?;
     let names = block_names(alloc, graph)?;
-    Ok(shorten_each(graph, &live, &names, savings))
+    let blocks = shortable_blocks(alloc, graph, &live, &names)?;
+    Ok(shorten_each(graph, &blocks, savings))
 }

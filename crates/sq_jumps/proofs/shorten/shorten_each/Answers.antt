@@ -1,23 +1,18 @@
-use Rattle.std.proofs.Common.{sym, ◌∙◌}
-use Rattle.sq_jumps.specs.Candidates.{IsCandidate, described}
-use Rattle.sq_pass.proofs.Rewriting.{rewritten_itself, rewritten_through}
+use Rattle.std.proofs.Common.{arith}
 use Rattle.sq_jumps.proofs.shorten.shorten_each.Goals as goal
-use Rattle.sq_jumps.proofs.Blocks.{listed_there}
+use Rattle.sq_jumps.proofs.ShortenSwept.{few_jumps, all_rewritten}
 
-pub loop-name-init : goal.loop-name-init
-loop-name-init c = record {
-  rewritten = rewritten_itself IsCandidate described c.args.savings c.args.graph.now.graph c.requires.canonical;
-  live = c.requires.live;
-  names = c.requires.names;
-}
+pub overflow_cast-done : goal.overflow_cast-done
+overflow_cast-done c =
+    let few = few_jumps c.args.graph.now.graph c.args.blocks.now c.args.savings c.learn.ensures.rules c.requires.canonical c.requires.distinct c.requires.jumps in
+    omega (arith, c.requires.words)
 
-pub shorten_one-after-requires-clause-block : goal.shorten_one-after-requires-clause-block
-shorten_one-after-requires-clause-block c =
-    listed_there c.args.graph.now.graph c.loop-name.graph.graph c.args.names.now c.loop-name.name-index c.learn.ensures.rules c.requires.names c.loop-name.invariant.names c.loop-name-test.true
+pub count-requires : goal.count-requires
+count-requires c =
+    let few = few_jumps c.args.graph.now.graph c.args.blocks.now c.args.savings c.learn.ensures.rules c.requires.canonical c.requires.distinct c.requires.jumps in
+    omega (arith, c.requires.words)
 
-pub loop-name-preserved : goal.loop-name-preserved
-loop-name-preserved c = record {
-  rewritten = rewritten_through IsCandidate described c.args.savings c.loop-name.after c.shorten_one-after.result c.args.graph.now.graph c.loop-name.graph.graph c.shorten_one-after.new.graph.graph c.loop-name.invariant.rewritten c.shorten_one-after.ensures.rewritten;
-  live = c.shorten_one-after.ensures.live;
-  names = c.loop-name.invariant.names ∙ sym c.shorten_one-after.ensures.names;
-}
+pub returns : goal.returns
+returns c =
+    all_rewritten c.args.graph.now.graph c.args.blocks.now c.args.savings c.learn.ensures.rules c.requires.canonical c.requires.distinct c.requires.jumps c.hasten_each.new.graph.graph c.trim_each.new.self.graph c.count.result c.hasten_each.ensures
+    c.trim_each.ensures.graph c.count.ensures.value

@@ -6,3 +6,6 @@ returns-in_err-live-clause-follows c = graph_follows_itself c.args.graph.now.gra
 
 pub returns-in_err-names-clause-follows : goal.returns-in_err-names-clause-follows
 returns-in_err-names-clause-follows c = graph_follows_itself c.args.graph.now.graph
+
+pub returns-in_err-blocks-clause-follows : goal.returns-in_err-blocks-clause-follows
+returns-in_err-blocks-clause-follows c = graph_follows_itself c.args.graph.now.graph
