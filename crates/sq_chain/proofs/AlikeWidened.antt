@@ -1,6 +1,6 @@
 -- By other new names a graph in which Branches are widened is the same but for names.
 use Rattle.std.proofs.Common.{◌≡◌, ◌⊎◌, ℕ, ◌+◌, ◌-◌, ◌≤◌, ◌<◌, ◌==◌, nat_lt, Bool, true, false, ◌&&◌, if◌then◌else◌, List, [], ◌∷◌, ◌++◌, map, sum_by, IsSome, inl, inr, refl, sym, ap, ◌∙◌, arith, subst, is_some}
-use Rattle.std.proofs.lemmas.Bool.{cases_Bool, eqb-true, eq-eqb, lt-ltb, le-ltb, and_parts, and_from, both_ways}
+use Rattle.std.proofs.lemmas.Bool.{cases_Bool, eqb-true, eq-eqb, ne_eqb, lt-ltb, le-ltb, and_parts, and_from, both_ways}
 use Rattle.std.proofs.lemmas.List.Sums.{sum_by-cons}
 use Rattle.sq_arena.specs.Entries.{value_of}
 use Rattle.sq_isa.specs.Branches.{inverse_of}
@@ -13,6 +13,8 @@ use Rattle.sq_graph.specs.Renames.{retargeted_term, renamed_block, renamed}
 use Rattle.sq_graph.specs.Rules.{IsGraph}
 use Rattle.sq_graph.proofs.Bypassing.{retargeted_same}
 use Rattle.sq_graph.proofs.Renamed.{renamed_by_same}
+use Rattle.sq_pass.specs.Applied.{KeepsNames}
+use Rattle.sq_pass.proofs.Naming.{renamed_keeps}
 use Rattle.sq_chain.proofs.Over.{not_new}
 use Rattle.sq_chain.specs.Widening.{jumped_over, widened_blocks, fresh, widened, IsWidened}
 
@@ -240,3 +242,17 @@ module _ (g h : Graph) (S : ℕ → Bool) (rules : IsGraph g) (there : (n : ℕ)
 
   pub alike_widened : AreAlike h (widened g S)
   alike_widened = record { name = back; one_to_one = back_apart; is = back_is }
+
+  -- the names of blocks that were there stand for no others
+  back_tests : (n : ℕ) → HasBlock g n → (m : ℕ) → (back m == n) ≡ (m == n)
+  back_tests n has m =
+      elim (cases_Bool (is_some (block_of g m))) [
+        | inl old ↦ ap (λ k. k == n) (back_old m old)
+        | inr new ↦
+            let is : back m ≡ fresh g + owner wide.new S g.blocks m = rw new refl in
+            ne_eqb (back m) n (λ e. absurd (omega (arith, below_fresh g n has, is, e)))
+            ∙ sym (ne_eqb m n (λ e. absurd (both_ways (is_some (block_of g m)) new (subst (HasBlock g) (sym e) has))))
+      ]
+
+  pub widened_keeps : KeepsNames g (widened g S) h
+  widened_keeps = subst (λ (k : Graph). KeepsNames g k h) (sym back_is) (renamed_keeps g h back back_tests)

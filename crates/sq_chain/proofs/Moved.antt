@@ -1,19 +1,23 @@
 -- A chain that moves behind the Jump to it.
-use Rattle.std.proofs.Common.{◌≡◌, ℕ, ◌+◌, ◌-◌, ◌≤◌, ◌<◌, false, List, [], ◌∷◌, length, sum_by, refl, sym, ap, ◌∙◌, subst, arith}
+use Rattle.std.proofs.Common.{◌≡◌, ℕ, ◌+◌, ◌-◌, ◌≤◌, ◌<◌, ◌==◌, false, List, [], ◌∷◌, length, sum_by, IsSome, inl, inr, refl, sym, ap, ◌∙◌, subst, arith}
 use Rattle.std.specs.List.{All, AllByRecursion}
+use Rattle.std.proofs.lemmas.Bool.{cases_Bool}
 use Rattle.std.proofs.lemmas.List.Elements.{recursion_from_All}
 use Rattle.std.proofs.lemmas.List.Sums.{sum_by-cons}
+use Rattle.sq_arena.specs.Entries.{value_of}
 use Rattle.sq_num.specs.declared.packed.Savings.{Savings}
 use Rattle.sq_graph.specs.declared.item.Item.{Item}
 use Rattle.sq_graph.specs.declared.item.Term.{Term}
 use Rattle.sq_graph.specs.declared.item.Term.TheVariants.{Fall, Jump, Branch, Call, PartJump, Indirect, Stop}
 use Rattle.sq_graph.specs.Alike.{AreAlike}
+use Rattle.sq_graph.specs.Blocks.{named, HasBlock}
 use Rattle.sq_graph.specs.Graph.{Block, Graph}
 use Rattle.sq_graph.specs.Canonical.{canonical_of}
 use Rattle.sq_graph.specs.Leaders.{is_bare, IsCanonical}
 use Rattle.sq_graph.specs.Parts.{names_of}
 use Rattle.sq_graph.specs.Places.{IsInReach}
 use Rattle.sq_graph.specs.Rules.{IsGraph}
+use Rattle.sq_graph.specs.Slotted.{number_in}
 use Rattle.sq_graph.specs.Soundness.{IsSound}
 use Rattle.sq_graph.specs.Words.{block_words, words_of}
 use Rattle.sq_graph.proofs.AlikeGraphs.{alike_itself}
@@ -26,7 +30,7 @@ use Rattle.sq_patch.proofs.Joining.{canonical_follows, canonical_sound}
 use Rattle.sq_patch.proofs.Reordering.{reorder_follows, reorder_sound}
 use Rattle.sq_pass.specs.declared.cut.Cut.{Cut}
 use Rattle.sq_pass.specs.declared.cut.Row.TheVariants.{L}
-use Rattle.sq_pass.specs.Applied.{IsApplied}
+use Rattle.sq_pass.specs.Applied.{KeepsNames, IsApplied}
 use Rattle.sq_pass.specs.Counted.{counted}
 use Rattle.sq_pass.specs.Rewrites.{IsRewrite, IsLighter, IsRewritten}
 use Rattle.sq_pass.proofs.Rewriting.{rewrite_made, lighter_made, rewritten_once}
@@ -56,6 +60,20 @@ fallen_length (b ∷ next ∷ rest) = omega (arith, fallen_length (next ∷ rest
 pub carried_length : (g : Graph) (from to : ℕ) → IsGraph g → IsMovable g from to → length (fallen (carried g from to)).blocks ≡ length g.blocks
 carried_length g from to rules movable = fallen_length (carried g from to).blocks ∙ chain_moved_length g from to rules movable
 
+-- no block goes
+fallen_there : (bs : List Block) (n : ℕ) → IsSome (value_of (named bs) n) → IsSome (value_of (named (fallen_blocks bs)) n)
+fallen_there [] n some = some
+fallen_there (b ∷ []) n some = some
+fallen_there (b ∷ next ∷ rest) n some =
+    elim (cases_Bool (b.name == n)) [
+      | inl here ↦ rw here refl
+      | inr apart ↦ rw apart (fallen_there (next ∷ rest) n (rw apart at some))
+    ]
+
+carried_there : (g : Graph) (from to n : ℕ) → IsGraph g → IsMovable g from to → HasBlock g n → HasBlock (fallen (carried g from to)) n
+carried_there g from to n rules movable has =
+    fallen_there (carried g from to).blocks n (subst IsSome (sym ((chain_reordered g from to rules movable).same n)) has)
+
 -- what is left where the words are fewer
 module _ (g h new : Graph) (from to : ℕ) (movable : IsMovable g from to) (is : h ≡ fallen (carried g from to)) (alike : AreAlike new (least_widened h)) where
   pub moved_alike : AreAlike new (moved g from to)
@@ -64,8 +82,13 @@ module _ (g h new : Graph) (from to : ℕ) (movable : IsMovable g from to) (is :
   pub moved_words : words_of (moved g from to) ≡ words_of new
   moved_words = alike_words new (moved g from to) moved_alike
 
-  pub is_moved : IsGraph new → Follows g h → (IsSound g → IsSound h) → Follows h new → (IsSound h → IsSound new) → IsInReach new → words_of new < words_of g → IsMoved from to g new
-  is_moved rules follows sound follows' sound' reach fewer = record {
+  moved_keeps : IsGraph g → KeepsNames h (least_widened h) new → KeepsNames g (moved g from to) new
+  moved_keeps rules kept n has =
+      kept n (subst (λ (k : Graph). HasBlock k n) (sym is) (carried_there g from to n rules movable has))
+      ∙ ap (λ (k : Graph). number_in (names_of (least_widened k)) 0 n) is
+
+  pub is_moved : IsGraph g → KeepsNames h (least_widened h) new → IsGraph new → Follows g h → (IsSound g → IsSound h) → Follows h new → (IsSound h → IsSound new) → IsInReach new → words_of new < words_of g → IsMoved from to g new
+  is_moved was kept rules follows sound follows' sound' reach fewer = record {
     movable = movable;
     saving = words_of g - words_of new;
     some = omega (arith, fewer);
@@ -76,6 +99,7 @@ module _ (g h new : Graph) (from to : ℕ) (movable : IsMovable g from to) (is :
       reach = λ was. reach;
       words = omega (arith, fewer);
       described = moved_alike;
+      kept = moved_keeps was kept;
     };
   }
 
@@ -114,6 +138,7 @@ module _ (g mid : Graph) (from to : ℕ) (rules : IsGraph g) (movable : IsMovabl
           reach = λ was. near_reach;
           words = omega (arith, words, mid_words, ap words_of new_is);
           described = subst (λ (k : Graph). AreAlike narrow k) (sym (stays_narrow narrow near_keeps.rules near_reach)) (alike_itself narrow);
+          kept = λ n has. ap (λ (k : Graph). number_in (names_of k) 0 n) (sym (stays_narrow narrow near_keeps.rules near_reach));
         })
 
 -- ROW L

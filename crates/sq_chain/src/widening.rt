@@ -15,6 +15,7 @@ ghost use Rattle.sq_graph.specs.Soundness.{IsSound};
 ghost use Rattle.sq_graph.specs.Words.{words_of};
 ghost use Rattle.sq_follow.specs.Follows.{Follows};
 ghost use Rattle.sq_lookup.specs.Names.{is_listed};
+ghost use Rattle.sq_pass.specs.Applied.{KeepsNames};
 ghost use Rattle.sq_chain.specs.Widening.{EndsInBranch, IsOneWider, size_of, IsWidened};
 ghost use Rattle.sq_chain.specs.Least.{least, least_widened};
 
@@ -89,6 +90,7 @@ fn widen_each(graph: &mut Graph, names: &[u32], wide: &Names)
 pub fn widen(alloc: Global, graph: &mut Graph) -> Result<u32, Memory>
     requires { length graph.old.graph.blocks ≤ 16777216 }
     ensures widened { OnOk result (AreAlike graph.new.graph (least_widened graph.old.graph)) }
+    ensures names { OnOk result (KeepsNames graph.old.graph (least_widened graph.old.graph) graph.new.graph) }
     ensures size { IfOk result (λ size. size ≡ size_of graph.old.graph (least graph.old.graph)) }
     ensures words { IfOk result (λ size. words_of graph.new.graph ≡ words_of graph.old.graph + size) }
     ensures follows { OnOk result (Follows graph.old.graph graph.new.graph) }

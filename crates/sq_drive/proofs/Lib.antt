@@ -9,5 +9,7 @@ pub mod RowPasses
 pub mod Slots
 pub mod Steps
 pub mod Carrying
+pub mod KeptPlaces
+pub mod KeptStarts
 pub mod Landed
 pub mod Tracked

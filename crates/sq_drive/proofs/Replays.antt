@@ -44,7 +44,7 @@ tidy_lighter old mid new rules kept made canonical words named =
     (lighter_through 0 0 old mid (slotted mid) (made_canonical old mid rules made canonical words) (slotted_lighter mid kept canonical))
 
 -- a graph that differs from another one in names alone leads to the same next graph
-same_next : (mid described : Graph) → IsGraph mid → AreAlike mid described → slotted (canonical_of mid) ≡ slotted (canonical_of described)
+pub same_next : (mid described : Graph) → IsGraph mid → AreAlike mid described → slotted (canonical_of mid) ≡ slotted (canonical_of described)
 same_next mid described rules alike =
     sym (one_slotted (canonical_of mid) (canonical_of described) (canonical_is_graph mid rules) (alike_canonical mid described rules alike))
 

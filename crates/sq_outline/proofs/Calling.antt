@@ -1,5 +1,5 @@
 -- A body that matches a procedure's becomes a call of it.
-use Rattle.std.proofs.Common.{◌≡◌, ℕ, ◌+◌, ◌-◌, ◌<◌, List, length, get_or, sym, ap, ◌∙◌, subst, arith}
+use Rattle.std.proofs.Common.{◌≡◌, ℕ, ◌+◌, ◌-◌, ◌<◌, List, length, get_or, refl, sym, ap, ◌∙◌, subst, arith}
 use Rattle.std.specs.List.{All, slice_range}
 use Rattle.std.proofs.lemmas.List.{take_all}
 use Rattle.sq_graph.specs.declared.item.Item.{Item}
@@ -62,6 +62,7 @@ module _ (g : Graph) (block procedure saving : ℕ) (rules : IsGraph g) (can : I
         reach = one.reach;
         words = omega (arith, one.words, can.saves);
         described = alike_itself (called g block procedure);
+        kept = λ n has. refl;
       }
 
 -- there is one saving

@@ -106,4 +106,5 @@ inline_applied g p saving rules inlinable =
       reach = λ reach. inlinable.near;
       words = omega (arith, words, uncalled_goes_saves (spread_all g p) p inlinable.there, inlinable.saved);
       described = alike_itself (inlined_all g p);
+      kept = λ n has. refl;
     }

@@ -214,6 +214,7 @@ module _ (g : Graph) (first : ℕ) (others : List ℕ) (link saving : ℕ) (rule
     reach = λ reach. calls.reach (outline_reach reach);
     words = words;
     described = alike_itself (made g first blocks link);
+    kept = λ n has. refl;
   }
 
 -- of blocks of which the first is known by its place

@@ -69,4 +69,5 @@ module _ (g : Graph) (stays goes : ℕ) (rules : IsGraph g) (doubles : AreDouble
         (each_shrinks (recalled_block (lowered goes)) (recalled_shrunk (lowered goes)) h.blocks)) led reach;
     words = omega (arith, uncalled_goes_saves h goes still_there, recall_saves g goes stays, recalled_size (swapped goes stays) g.procedures goes);
     described = alike_itself (without_double g stays goes);
+    kept = λ n has. refl;
   }

@@ -65,6 +65,7 @@ inside_applied g block at procedure saving rules can =
       reach = one.reach;
       words = omega (arith, one.words, can.saves);
       described = alike_itself (called_inside g block at procedure);
+      kept = λ n has. refl;
     }
 
 -- there is one saving

@@ -1,5 +1,5 @@
 -- A window becomes a procedure, and its occurrences calls of it.
-use Rattle.std.proofs.Common.{◌≡◌, ℕ, false, ◌+◌, ◌*◌, ◌≤◌, ◌<◌, List, [], ◌∷◌, drop, length, get_or, slice_get, Some, inl, sym, ap, ◌∙◌, subst, arith, length-append}
+use Rattle.std.proofs.Common.{◌≡◌, ℕ, false, ◌+◌, ◌*◌, ◌≤◌, ◌<◌, List, [], ◌∷◌, drop, length, get_or, slice_get, Some, inl, refl, sym, ap, ◌∙◌, subst, arith, length-append}
 use Rattle.std.specs.List.{All, slice_range}
 use Rattle.std.proofs.lemmas.List.{length-take, length-drop}
 use Rattle.std.proofs.lemmas.List.Elements.{All-weaker}
@@ -181,4 +181,5 @@ module _ (g : Graph) (block at n link saving : ℕ) (rules : IsGraph g) (can : I
     reach = λ reach. calls.reach (outline_reach reach);
     words = words;
     described = alike_itself (window_made g block at n link);
+    kept = λ n has. refl;
   }

@@ -25,7 +25,7 @@ use Rattle.sq_patch.proofs.Tailing.{tail_follows, tail_sound, tail_saves}
 use Rattle.sq_tail.specs.Tails.{words_of_end, end_words, fresh, joined, tails_joined}
 use Rattle.sq_tail.proofs.Merging.{merged_rules, merged_in_reach}
 use Rattle.sq_tail.proofs.Splitting.{second_items, other_block}
-use Rattle.sq_tail.proofs.Naming.{fresh_is_new, apart_from_new, tailed_alike}
+use Rattle.sq_tail.proofs.Naming.{fresh_is_new, apart_from_new, tailed_alike, tailed_keeps}
 
 pub some_items : (items : List Item) → items ≢ [] → 1 ≤ length items
 some_items [] some = absurd (some refl)
@@ -60,6 +60,7 @@ merged_applied g dropped at kept rules has there within some follows sound saves
       reach = merged_in_reach g dropped at kept rules has there within some;
       words = omega (arith, saves end.0 end.1, end.2, some);
       described = alike_itself (merged g dropped at kept);
+      kept = λ n has. refl;
     }
 
 -- TAILS
@@ -117,6 +118,7 @@ part_tail g new dropped at kept from rules unused tail =
       reach = λ reach. merged_in_reach s dropped at new s_rules has there within (omega (arith, size, ends.some)) (split_in_reach g new kept from rules unused reach);
       words = omega (arith, tail_saves g new dropped at kept from rules unused tail end.0 end.1, end.2, ends.some);
       described = tailed_alike g new (fresh g) dropped at kept from rules unused (fresh_is_new g) ends.has ends.there;
+      kept = tailed_keeps g new (fresh g) dropped at kept from rules unused (fresh_is_new g) ends.has ends.there;
     }
 
 -- the graph, whatever the name of the new block

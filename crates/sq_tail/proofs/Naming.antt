@@ -15,6 +15,8 @@ use Rattle.sq_graph.specs.Rules.{IsGraph}
 use Rattle.sq_graph.proofs.Bypassing.{retargeted_same}
 use Rattle.sq_graph.proofs.Renamed.{renamed_by_same}
 use Rattle.sq_layout.proofs.Standing.{block_of-changed}
+use Rattle.sq_pass.specs.Applied.{KeepsNames}
+use Rattle.sq_pass.proofs.Naming.{renamed_keeps}
 use Rattle.sq_patch.specs.Merges.{tailed}
 use Rattle.sq_tail.specs.Tails.{fresh}
 use Rattle.sq_tail.proofs.Merging.{ended, merged_blocks}
@@ -137,10 +139,13 @@ module _ (g : Graph) (one two dropped at kept from : ℕ) (rules : IsGraph g) (f
             ]
       ]
 
+  tailed_is : tailed g two dropped at kept from ≡ renamed f (tailed g one dropped at kept from)
+  tailed_is = sym (λ i. record { blocks = tail_named i; entry = (same_graph i).entry; code_words = (same_graph i).code_words; procedures = (same_graph i).procedures })
+
   -- two new names give graphs that are alike
   pub tailed_alike : AreAlike (tailed g one dropped at kept from) (tailed g two dropped at kept from)
-  tailed_alike = record {
-    name = f;
-    one_to_one = apart;
-    is = sym (λ i. record { blocks = tail_named i; entry = (same_graph i).entry; code_words = (same_graph i).code_words; procedures = (same_graph i).procedures });
-  }
+  tailed_alike = record { name = f; one_to_one = apart; is = tailed_is }
+
+  -- and the blocks of the graph keep their names
+  pub tailed_keeps : KeepsNames g (tailed g two dropped at kept from) (tailed g one dropped at kept from)
+  tailed_keeps = subst (λ (k : Graph). KeepsNames g k (tailed g one dropped at kept from)) (sym tailed_is) (renamed_keeps g (tailed g one dropped at kept from) f tests)

@@ -41,7 +41,7 @@ fn term_of(graph: &Graph, block: u32) -> Option<Term>
 fn by_row(step: &Step, old: &Graph, made: &Graph, block: u32) -> Track
     ensures { result ≡ by_row step.now old.now.graph made.now.graph block }
 {
-    if is_block(made, block) {
+    if is_block(old, block) && is_block(made, block) {
         Track::At(block)
     } else {
         removed_by(step, term_of(old, block))

@@ -64,7 +64,6 @@ pub(crate) fn slots(alloc: Global, graph: &Graph) -> Result<HashMap<u32, u32>, M
 {
     graph.learn();
     let names = block_names(alloc, graph)?;
-    graph.learn();
     let mut slots = HashMap::new(alloc);
     for k in (0..names.len()).rev() {
         slots.insert(names[k], k as u32)?;

@@ -4,9 +4,9 @@ ghost use Rattle.std.specs.Prelude.{◌≡◌, ◌≢◌, ◌≤◌, true, false
 ghost use Rattle.sq_graph.specs.Leaders.{IsCanonical};
 ghost use Rattle.sq_graph.specs.Words.{words_of, most_words};
 ghost use Rattle.sq_pass.specs.declared.cut.Row.TheVariants.{L};
+ghost use Rattle.sq_drive.specs.Making.{IsMade};
 ghost use Rattle.sq_drive.specs.Replay.{cut_of, IsGiven, MayStep};
 ghost use Rattle.sq_drive.specs.Replaying.{move_cut};
-ghost use Rattle.sq_drive.specs.Tracking.{IsMade};
 
 use crate::replaying::cut_of;
 use crate::rows::AllRows;

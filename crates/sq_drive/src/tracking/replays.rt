@@ -1,15 +1,17 @@
 //! Certificates that are replayed on a graph, of which the tracks of blocks are told.
 
-ghost use Rattle.std.specs.Prelude.{◌≡◌, ℕ, ◌≤◌, length, map, None, Some, Ok, IfOk, IfSome};
+ghost use Rattle.std.specs.Prelude.{◌≡◌, ℕ, ◌≤◌, List, length, map, None, Some, Ok, IfOk, IfSome};
+ghost use Rattle.std.specs.List.{AllZip};
 ghost use Rattle.sq_graph.specs.Canonical.{canonical_of};
 ghost use Rattle.sq_graph.specs.Graph.{Graph as Parts};
 ghost use Rattle.sq_graph.specs.Leaders.{IsCanonical};
 ghost use Rattle.sq_graph.specs.Slotted.{slotted};
 ghost use Rattle.sq_graph.specs.Words.{words_of, most_words};
+ghost use Rattle.sq_names.specs.declared.track.Track.{Track as Place};
 ghost use Rattle.sq_drive.specs.Checking.{Leads, IsFirstFault};
-ghost use Rattle.sq_drive.specs.Replay.{cut_of, MayStep, FailsAt};
+ghost use Rattle.sq_drive.specs.Replay.{MayStep, FailsAt};
 ghost use Rattle.sq_drive.specs.Replaying.{IsLess};
-ghost use Rattle.sq_drive.specs.Tracking.{by_step, IsMade, AreCarried, AreTracked};
+ghost use Rattle.sq_drive.specs.Tracking.{by_step, made_by, AreCarried, AreTracked, KeepsStarts};
 
 use crate::tracking::carrying::tracks_by_row;
 use crate::tracking::landing::{landings, slots, stand_all};
@@ -29,10 +31,12 @@ fn track_step(
 ) -> Result<Option<Vec<Track>>, Memory>
     requires canonical { IsCanonical graph.old.graph }
     requires words { words_of graph.old.graph ≤ most_words }
-    ensures carried { IfOk result (λ done. IfSome done (λ after. (made : Parts) × IsMade (cut_of graph.old.graph step.now) graph.old.graph made × (graph.new.graph ≡ slotted (canonical_of made)) × (after.items ≡ map (by_step step.now graph.old.graph made) tracks.now))) }
+    ensures carried { IfOk result (λ done. IfSome done (λ after. (given : MayStep graph.old.graph step.now) × (graph.new.graph ≡ slotted (canonical_of (made_by step.now graph.old.graph given))) × (after.items ≡ map (by_step step.now graph.old.graph (made_by step.now graph.old.graph given)) tracks.now))) }
+    ensures starts { IfOk result (λ done. IfSome done (λ after. AllZip (KeepsStarts graph.old.graph graph.new.graph) tracks.now after.items)) }
     ensures less { IfOk result (λ done. IfSome done (λ _. IsLess graph.old.graph graph.new.graph)) }
     ensures none { result ≡ Ok None → ¬ MayStep graph.old.graph step.now }
 {
+    graph.learn();
     let old = graph.copy(alloc)?;
     if !make(alloc, graph, step)? {
         return Ok(None);
@@ -58,6 +62,7 @@ fn track_steps(
     requires canonical { IsCanonical graph.old.graph }
     requires words { words_of graph.old.graph ≤ most_words }
     ensures carried { result ≡ Ok None → AreCarried steps.now graph.old.graph graph.new.graph tracks.old.items tracks.new.items }
+    ensures starts { result ≡ Ok None → AllZip (KeepsStarts graph.old.graph graph.new.graph) tracks.old.items tracks.new.items }
     ensures less { result ≡ Ok None → IsLess graph.old.graph graph.new.graph }
     ensures fault { (number : ℕ) → result ≡ Ok (Some number) → FailsAt steps.now graph.old.graph number }
 {
@@ -82,6 +87,8 @@ pub fn track_graph(
     requires words { words_of graph.old.graph ≤ most_words }
     requires text { length text.now ≤ 134217728 }
     ensures tracked { result ≡ Ok None → AreTracked text.now graph.old.graph graph.new.graph tracks.old.items tracks.new.items }
+    ensures one { result ≡ Ok None → (new : Parts) (after : List Place) → AreTracked text.now graph.old.graph new tracks.old.items after → (new ≡ graph.new.graph) × (after ≡ tracks.new.items) }
+    ensures starts { result ≡ Ok None → AllZip (KeepsStarts graph.old.graph graph.new.graph) tracks.old.items tracks.new.items }
     ensures less { result ≡ Ok None → IsLess graph.old.graph graph.new.graph }
     ensures fault { (line : ℕ) → result ≡ Ok (Some line) → IsFirstFault text.now graph.old.graph line }
     ensures only { (line : ℕ) → result ≡ Ok (Some line) → (new : Parts) (count : ℕ) → ¬ Leads text.now graph.old.graph new count }

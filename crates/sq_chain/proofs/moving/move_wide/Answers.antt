@@ -26,7 +26,7 @@ returns-then-words_of-clause-moved c = λ e.
     let less = c.if-words_of.true in
     let one = c.words_of.ensures in
     let two = c.words_of-2.ensures in
-    is_moved g h new c.args.from c.args.to c.requires.movable is c.in_ok-widen.ensures.widened c.learn-2.ensures.rules follows sound c.in_ok-widen.ensures.follows c.in_ok-widen.ensures.sound c.in_ok-widen.ensures.reach
+    is_moved g h new c.args.from c.args.to c.requires.movable is c.in_ok-widen.ensures.widened c.learn.ensures.rules c.in_ok-widen.ensures.names c.learn-2.ensures.rules follows sound c.in_ok-widen.ensures.follows c.in_ok-widen.ensures.sound c.in_ok-widen.ensures.reach
     (omega (arith, less, one, two))
 
 pub returns-clause-still : goal.returns-clause-still

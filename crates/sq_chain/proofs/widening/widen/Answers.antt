@@ -7,7 +7,7 @@ use Rattle.sq_lookup.proofs.Targets.{has_term}
 use Rattle.sq_chain.specs.Widening.{EndsInBranch, IsWidened, size_of}
 use Rattle.sq_chain.specs.Least.{least}
 use Rattle.sq_chain.proofs.Rounds.{least_is_least}
-use Rattle.sq_chain.proofs.AlikeWidened.{alike_widened}
+use Rattle.sq_chain.proofs.AlikeWidened.{alike_widened, widened_keeps}
 use Rattle.sq_chain.proofs.Widenings.{wide_words, wide_near}
 use Rattle.sq_chain.proofs.widening.widen.Goals as goal
 
@@ -24,6 +24,15 @@ returns-clause-widened c =
     let wide = subst (λ (S : ℕ → Bool). IsWidened g new S) set (subst (λ (k : Graph). IsWidened k new (is_listed c.in_ok-wide.wide)) c.reserve.ensures.graph c.widen_each.ensures.widened) in
     let valid = (least_is_least g c.learn.ensures.rules).valid in
     alike_widened g new (least g) c.learn.ensures.rules (λ n e. let b = valid.branches n e in has_term g n (Branch b.cond b.a b.b b.to) b.is) wide
+
+pub returns-clause-names : goal.returns-clause-names
+returns-clause-names c =
+    let g = c.args.graph.now.graph in
+    let new = c.widen_each.new.graph.graph in
+    let set : is_listed c.in_ok-wide.wide ≡ least c.args.graph.now.graph = λ i n. c.in_ok-wide.ensures n i in
+    let wide = subst (λ (S : ℕ → Bool). IsWidened g new S) set (subst (λ (k : Graph). IsWidened k new (is_listed c.in_ok-wide.wide)) c.reserve.ensures.graph c.widen_each.ensures.widened) in
+    let valid = (least_is_least g c.learn.ensures.rules).valid in
+    widened_keeps g new (least g) c.learn.ensures.rules (λ n e. let b = valid.branches n e in has_term g n (Branch b.cond b.a b.b b.to) b.is) wide
 
 pub returns-clause-words : goal.returns-clause-words
 returns-clause-words c =

@@ -1,8 +1,8 @@
 use Rattle.std.proofs.Common.{sym, subst}
 use Rattle.sq_pass.specs.declared.cut.Cut.{Cut}
 use Rattle.sq_cert.specs.declared.step.Step.{Step}
+use Rattle.sq_drive.specs.Making.{IsMade}
 use Rattle.sq_drive.specs.Replay.{cut_of, IsGiven}
-use Rattle.sq_drive.specs.Tracking.{IsMade}
 use Rattle.sq_drive.proofs.tracking.making.make.Goals as goal
 
 pub returns-in-L-clause-made : goal.returns-in-L-clause-made

@@ -1,7 +1,8 @@
-use Rattle.std.proofs.Common.{◌≡◌, ◌+◌, Ok, Some, ap, subst, arith}
+use Rattle.std.proofs.Common.{◌≡◌, ◌+◌, Ok, Some, None, ap, subst, arith}
 use Rattle.sq_drive.specs.Replay.{IsReplay, FailsAt}
+use Rattle.sq_drive.specs.Tracking.{AreCarried}
 use Rattle.sq_drive.proofs.Checked.{fails_within, no_candidate, no_form, fault_only}
-use Rattle.sq_drive.proofs.Tracked.{replayed}
+use Rattle.sq_drive.proofs.Tracked.{replayed, one_tracked}
 use Rattle.sq_drive.proofs.tracking.replays.track_graph.Goals as goal
 
 pub overflow_cast-result : goal.overflow_cast-result
@@ -41,3 +42,23 @@ returns-clause-fault c = λ line e.
 
 pub returns-clause-only : goal.returns-clause-only
 returns-clause-only c = λ line e. fault_only c.args.text.now c.args.graph.now.graph line (returns-clause-fault c line e)
+
+pub returns-clause-tracked : goal.returns-clause-tracked
+returns-clause-tracked c = λ e.
+    let said = c.in_ok-said.said in
+    let old = c.args.graph.now.graph in
+    let new = c.track_steps.new.graph.graph in
+    let none : said.fault ≡ None = cc e in
+    record {
+      steps = said.cert;
+      form = c.in_ok-said.ensures.form;
+      text_is = c.in_ok-said.ensures.text none;
+      carried = subst (λ steps. AreCarried steps old new c.args.tracks.now.items c.track_steps.new.tracks.items) c.steps.ensures (c.in_ok-number.ensures.carried (ap Ok c.in_default.is));
+    }
+
+pub returns-clause-one : goal.returns-clause-one
+returns-clause-one c = λ e new after other.
+    one_tracked c.args.text.now c.args.graph.now.graph new c.track_steps.new.graph.graph c.args.tracks.now.items after c.track_steps.new.tracks.items other (returns-clause-tracked c e)
+
+pub returns-clause-starts : goal.returns-clause-starts
+returns-clause-starts c = λ e. c.in_ok-number.ensures.starts (ap Ok c.in_default.is)
