@@ -8,7 +8,7 @@ use Rattle.std.specs.Option.{option_map}
 use Rattle.std.specs.Str.{bytes_eq}
 use Rattle.sq_system.specs.Starts.{StartFits}
 use Rattle.sq_command.specs.Numbers.{number_of}
-use Rattle.sq_command.specs.Commands.{RunRequest, Form, PackForm, RunForm, WatchForm, HexForm, HexcheckForm, SizeForm, TrialForm, CheckForm, ProveForm, NamesForm, most_steps, most_blocks, start_fits, run_of, pair_form, single_form, triple_form, prove_form, trial_of, trial_form, run_request, form_of, AsksRun, IsPack, IsRun, IsWatch, IsHex, IsHexcheck, IsSize, IsTrial, IsCheck, IsProve, IsNames}
+use Rattle.sq_command.specs.Commands.{RunRequest, Form, PackForm, RunForm, WatchForm, HexForm, HexcheckForm, SizeForm, TrialForm, CheckForm, ProveForm, NamesForm, FoldForm, most_steps, most_blocks, start_fits, run_of, pair_form, single_form, triple_form, prove_form, trial_of, trial_form, run_request, form_of, AsksRun, IsPack, IsRun, IsWatch, IsHex, IsHexcheck, IsSize, IsTrial, IsCheck, IsProve, IsNames, IsFold}
 use Rattle.sq_command.proofs.NumberTexts.{number_is, number_back}
 use Rattle.sq_command.proofs.Words.{dropped}
 
@@ -72,9 +72,13 @@ pub at_names : (words : List (List ℕ)) (verb : List ℕ) → slice_get words 0
 unfolding form_of
 at_names words verb there one two three four five six seven eight nine is = ap form_of (dropped words 0 verb there) ∙ rw (one, two, three, four, five, six, seven, eight, nine, is) refl
 
-pub at_other : (words : List (List ℕ)) (verb : List ℕ) → slice_get words 0 ≡ Some verb → bytes_eq verb (codes "pack") ≡ false → bytes_eq verb (codes "run") ≡ false → bytes_eq verb (codes "watch") ≡ false → bytes_eq verb (codes "hex") ≡ false → bytes_eq verb (codes "hexcheck") ≡ false → bytes_eq verb (codes "size") ≡ false → bytes_eq verb (codes "trial") ≡ false → bytes_eq verb (codes "check") ≡ false → bytes_eq verb (codes "prove") ≡ false → bytes_eq verb (codes "names") ≡ false → form_of words ≡ None
+pub at_fold : (words : List (List ℕ)) (verb : List ℕ) → slice_get words 0 ≡ Some verb → bytes_eq verb (codes "pack") ≡ false → bytes_eq verb (codes "run") ≡ false → bytes_eq verb (codes "watch") ≡ false → bytes_eq verb (codes "hex") ≡ false → bytes_eq verb (codes "hexcheck") ≡ false → bytes_eq verb (codes "size") ≡ false → bytes_eq verb (codes "trial") ≡ false → bytes_eq verb (codes "check") ≡ false → bytes_eq verb (codes "prove") ≡ false → bytes_eq verb (codes "names") ≡ false → bytes_eq verb (codes "fold") ≡ true → form_of words ≡ pair_form FoldForm (drop 1 words)
 unfolding form_of
-at_other words verb there one two three four five six seven eight nine ten = ap form_of (dropped words 0 verb there) ∙ rw (one, two, three, four, five, six, seven, eight, nine, ten) refl
+at_fold words verb there one two three four five six seven eight nine ten is = ap form_of (dropped words 0 verb there) ∙ rw (one, two, three, four, five, six, seven, eight, nine, ten, is) refl
+
+pub at_other : (words : List (List ℕ)) (verb : List ℕ) → slice_get words 0 ≡ Some verb → bytes_eq verb (codes "pack") ≡ false → bytes_eq verb (codes "run") ≡ false → bytes_eq verb (codes "watch") ≡ false → bytes_eq verb (codes "hex") ≡ false → bytes_eq verb (codes "hexcheck") ≡ false → bytes_eq verb (codes "size") ≡ false → bytes_eq verb (codes "trial") ≡ false → bytes_eq verb (codes "check") ≡ false → bytes_eq verb (codes "prove") ≡ false → bytes_eq verb (codes "names") ≡ false → bytes_eq verb (codes "fold") ≡ false → form_of words ≡ None
+unfolding form_of
+at_other words verb there one two three four five six seven eight nine ten eleven = ap form_of (dropped words 0 verb there) ∙ rw (one, two, three, four, five, six, seven, eight, nine, ten, eleven) refl
 
 pub at_none : (words : List (List ℕ)) → slice_get words 0 ≡ None → form_of words ≡ None
 unfolding form_of
@@ -148,6 +152,7 @@ Spells (HexcheckForm input text) words = IsHexcheck words input text
 Spells (SizeForm input) words = IsSize words input
 Spells (TrialForm first blocks) words = IsTrial words first blocks
 Spells (CheckForm input output cert) words = IsCheck words input output cert
+Spells (FoldForm input output) words = IsFold words input output
 Spells (NamesForm input cert) words = IsNames words input cert
 Spells (ProveForm input output cert) words = IsProve words input output cert
 
@@ -223,27 +228,28 @@ by_prove [] f e = absurd (cc e)
 by_verb : (verb is : List ℕ) (words : List (List ℕ)) (f : Form) → bytes_eq verb is ≡ true → Spells f (is ∷ words) → Spells f (verb ∷ words)
 by_verb verb is words f same spelt = rw ((bytes_eq-Decides verb is).0 same) spelt
 
-by_tests : (verb : List ℕ) (words : List (List ℕ)) (f : Form) (p r w h c s t k v n : Bool) → bytes_eq verb (codes "pack") ≡ p → bytes_eq verb (codes "run") ≡ r → bytes_eq verb (codes "watch") ≡ w → bytes_eq verb (codes "hex") ≡ h → bytes_eq verb (codes "hexcheck") ≡ c → bytes_eq verb (codes "size") ≡ s → bytes_eq verb (codes "trial") ≡ t → bytes_eq verb (codes "check") ≡ k → bytes_eq verb (codes "prove") ≡ v → bytes_eq verb (codes "names") ≡ n →
-    (if p then pair_form PackForm words else if r then option_map RunForm (run_request words) else if w then option_map WatchForm (run_request words) else if h then pair_form HexForm words else if c then pair_form HexcheckForm words else if s then single_form SizeForm words else if t then trial_form words else if k then triple_form CheckForm words else if v then prove_form words else if n then pair_form NamesForm words else None) ≡ Some f →
+by_tests : (verb : List ℕ) (words : List (List ℕ)) (f : Form) (p r w h c s t k v n o : Bool) → bytes_eq verb (codes "pack") ≡ p → bytes_eq verb (codes "run") ≡ r → bytes_eq verb (codes "watch") ≡ w → bytes_eq verb (codes "hex") ≡ h → bytes_eq verb (codes "hexcheck") ≡ c → bytes_eq verb (codes "size") ≡ s → bytes_eq verb (codes "trial") ≡ t → bytes_eq verb (codes "check") ≡ k → bytes_eq verb (codes "prove") ≡ v → bytes_eq verb (codes "names") ≡ n → bytes_eq verb (codes "fold") ≡ o →
+    (if p then pair_form PackForm words else if r then option_map RunForm (run_request words) else if w then option_map WatchForm (run_request words) else if h then pair_form HexForm words else if c then pair_form HexcheckForm words else if s then single_form SizeForm words else if t then trial_form words else if k then triple_form CheckForm words else if v then prove_form words else if n then pair_form NamesForm words else if o then pair_form FoldForm words else None) ≡ Some f →
     Spells f (verb ∷ words)
-by_tests verb words f true r w h c s t k v n one two three four five six seven eight nine ten e = by_verb verb (codes "pack") words f one (by_pair (codes "pack") PackForm (λ first second. refl) words f e)
-by_tests verb words f false true w h c s t k v n one two three four five six seven eight nine ten e = by_verb verb (codes "run") words f two (by_request (codes "run") RunForm words (λ request asks. asks) (run_request words) refl f e)
-by_tests verb words f false false true h c s t k v n one two three four five six seven eight nine ten e = by_verb verb (codes "watch") words f three (by_request (codes "watch") WatchForm words (λ request asks. asks) (run_request words) refl f e)
-by_tests verb words f false false false true c s t k v n one two three four five six seven eight nine ten e = by_verb verb (codes "hex") words f four (by_pair (codes "hex") HexForm (λ first second. refl) words f e)
-by_tests verb words f false false false false true s t k v n one two three four five six seven eight nine ten e = by_verb verb (codes "hexcheck") words f five (by_pair (codes "hexcheck") HexcheckForm (λ first second. refl) words f e)
-by_tests verb words f false false false false false true t k v n one two three four five six seven eight nine ten e = by_verb verb (codes "size") words f six (by_single (codes "size") SizeForm (λ only. refl) words f e)
-by_tests verb words f false false false false false false true k v n one two three four five six seven eight nine ten e = by_verb verb (codes "trial") words f seven (by_trial words f e)
-by_tests verb words f false false false false false false false true v n one two three four five six seven eight nine ten e = by_verb verb (codes "check") words f eight (by_triple (codes "check") CheckForm (λ first second third. refl) words f e)
-by_tests verb words f false false false false false false false false true n one two three four five six seven eight nine ten e = by_verb verb (codes "prove") words f nine (by_prove words f e)
-by_tests verb words f false false false false false false false false false true one two three four five six seven eight nine ten e = by_verb verb (codes "names") words f ten (by_pair (codes "names") NamesForm (λ first second. refl) words f e)
-by_tests verb words f false false false false false false false false false false one two three four five six seven eight nine ten e = absurd (cc e)
+by_tests verb words f true r w h c s t k v n o one two three four five six seven eight nine ten eleven e = by_verb verb (codes "pack") words f one (by_pair (codes "pack") PackForm (λ first second. refl) words f e)
+by_tests verb words f false true w h c s t k v n o one two three four five six seven eight nine ten eleven e = by_verb verb (codes "run") words f two (by_request (codes "run") RunForm words (λ request asks. asks) (run_request words) refl f e)
+by_tests verb words f false false true h c s t k v n o one two three four five six seven eight nine ten eleven e = by_verb verb (codes "watch") words f three (by_request (codes "watch") WatchForm words (λ request asks. asks) (run_request words) refl f e)
+by_tests verb words f false false false true c s t k v n o one two three four five six seven eight nine ten eleven e = by_verb verb (codes "hex") words f four (by_pair (codes "hex") HexForm (λ first second. refl) words f e)
+by_tests verb words f false false false false true s t k v n o one two three four five six seven eight nine ten eleven e = by_verb verb (codes "hexcheck") words f five (by_pair (codes "hexcheck") HexcheckForm (λ first second. refl) words f e)
+by_tests verb words f false false false false false true t k v n o one two three four five six seven eight nine ten eleven e = by_verb verb (codes "size") words f six (by_single (codes "size") SizeForm (λ only. refl) words f e)
+by_tests verb words f false false false false false false true k v n o one two three four five six seven eight nine ten eleven e = by_verb verb (codes "trial") words f seven (by_trial words f e)
+by_tests verb words f false false false false false false false true v n o one two three four five six seven eight nine ten eleven e = by_verb verb (codes "check") words f eight (by_triple (codes "check") CheckForm (λ first second third. refl) words f e)
+by_tests verb words f false false false false false false false false true n o one two three four five six seven eight nine ten eleven e = by_verb verb (codes "prove") words f nine (by_prove words f e)
+by_tests verb words f false false false false false false false false false true o one two three four five six seven eight nine ten eleven e = by_verb verb (codes "names") words f ten (by_pair (codes "names") NamesForm (λ first second. refl) words f e)
+by_tests verb words f false false false false false false false false false false true one two three four five six seven eight nine ten eleven e = by_verb verb (codes "fold") words f eleven (by_pair (codes "fold") FoldForm (λ first second. refl) words f e)
+by_tests verb words f false false false false false false false false false false false one two three four five six seven eight nine ten eleven e = absurd (cc e)
 
 -- words of this form are those of its command
 spelt : (words : List (List ℕ)) (f : Form) → form_of words ≡ Some f → Spells f words
 unfolding form_of
 spelt [] f e = absurd (cc e)
 spelt (verb ∷ words) f e =
-    by_tests verb words f (bytes_eq verb (codes "pack")) (bytes_eq verb (codes "run")) (bytes_eq verb (codes "watch")) (bytes_eq verb (codes "hex")) (bytes_eq verb (codes "hexcheck")) (bytes_eq verb (codes "size")) (bytes_eq verb (codes "trial")) (bytes_eq verb (codes "check")) (bytes_eq verb (codes "prove")) (bytes_eq verb (codes "names")) refl refl refl refl refl refl refl refl refl refl e
+    by_tests verb words f (bytes_eq verb (codes "pack")) (bytes_eq verb (codes "run")) (bytes_eq verb (codes "watch")) (bytes_eq verb (codes "hex")) (bytes_eq verb (codes "hexcheck")) (bytes_eq verb (codes "size")) (bytes_eq verb (codes "trial")) (bytes_eq verb (codes "check")) (bytes_eq verb (codes "prove")) (bytes_eq verb (codes "names")) (bytes_eq verb (codes "fold")) refl refl refl refl refl refl refl refl refl refl refl e
 
 pack_to : (words : List (List ℕ)) (input output : List ℕ) → IsPack words input output → form_of words ≡ Some (PackForm input output)
 unfolding form_of
@@ -268,6 +274,10 @@ check_to words input output cert e = ap form_of e
 names_to : (words : List (List ℕ)) (input cert : List ℕ) → IsNames words input cert → form_of words ≡ Some (NamesForm input cert)
 unfolding form_of
 names_to words input cert e = ap form_of e
+
+fold_to : (words : List (List ℕ)) (input output : List ℕ) → IsFold words input output → form_of words ≡ Some (FoldForm input output)
+unfolding form_of
+fold_to words input output e = ap form_of e
 
 -- names that are different
 not_same : (output cert : List ℕ) (same : Bool) → bytes_eq output cert ≡ same → output ≢ cert → bytes_eq output cert ≡ false
@@ -307,6 +317,9 @@ prove_is words input output cert = (spelt words (ProveForm input output cert), p
 
 pub names_is : (words : List (List ℕ)) (input cert : List ℕ) → (form_of words ≡ Some (NamesForm input cert)) ↔ IsNames words input cert
 names_is words input cert = (spelt words (NamesForm input cert), names_to words input cert)
+
+pub fold_is : (words : List (List ℕ)) (input output : List ℕ) → (form_of words ≡ Some (FoldForm input output)) ↔ IsFold words input output
+fold_is words input output = (spelt words (FoldForm input output), fold_to words input output)
 
 pub trial_is : (words : List (List ℕ)) (first blocks : ℕ) → (form_of words ≡ Some (TrialForm first blocks)) ↔ IsTrial words first blocks
 trial_is words first blocks = (spelt words (TrialForm first blocks), trial_to words first blocks)

@@ -5,7 +5,7 @@ use Rattle.std.specs.Str.{bytes_eq}
 use Rattle.sq_system.specs.Starts.{StartFits}
 use Rattle.sq_command.specs.Numbers.{number_of}
 use Rattle.sq_command.specs.declared.command.Command.{Command}
-use Rattle.sq_command.specs.declared.command.Command.TheVariants.{Pack, Run, Watch, Hex, Hexcheck, Size, Trial, Check, Prove, Names}
+use Rattle.sq_command.specs.declared.command.Command.TheVariants.{Pack, Run, Watch, Hex, Hexcheck, Size, Trial, Check, Prove, Names, Fold}
 use Rattle.sq_command.specs.declared.run_words.RunWords.{RunWords}
 use Rattle.sq_command.specs.declared.trial_words.TrialWords.{TrialWords}
 
@@ -40,6 +40,8 @@ pub data Form : Type 0 where
   ProveForm : List ℕ → List ℕ → List ℕ → Form
   -- names IN CERT
   NamesForm : List ℕ → List ℕ → Form
+  -- fold IN OUT
+  FoldForm : List ℕ → List ℕ → Form
 
 -- at most so many steps
 abbrev pub most_steps : ℕ
@@ -113,6 +115,7 @@ form_of (verb ∷ words) =
     else if bytes_eq verb (codes "check") then triple_form CheckForm words
     else if bytes_eq verb (codes "prove") then prove_form words
     else if bytes_eq verb (codes "names") then pair_form NamesForm words
+    else if bytes_eq verb (codes "fold") then pair_form FoldForm words
     else None
 
 -- the words are `VERB FILE INPUT LIMIT BASE SIZE ARG*`: numbers in decimal, each in its range
@@ -165,6 +168,10 @@ pub record IsTrial (words : List (List ℕ)) (first blocks : ℕ) : Type 0 where
 abbrev pub IsNames : List (List ℕ) → List ℕ → List ℕ → Type 0
 IsNames words input cert = words ≡ codes "names" ∷ input ∷ cert ∷ []
 
+-- the words are `fold IN OUT`
+abbrev pub IsFold : List (List ℕ) → List ℕ → List ℕ → Type 0
+IsFold words input output = words ≡ codes "fold" ∷ input ∷ output ∷ []
+
 -- what the words of a run ask for
 abbrev pub request_of : List (List ℕ) → RunWords → RunRequest
 request_of words run =
@@ -186,3 +193,4 @@ form words (Trial trial) = trial_asked trial
 form words (Check input output cert) = CheckForm input.now output.now cert.now
 form words (Prove input output cert) = ProveForm input.now output.now cert.now
 form words (Names input cert) = NamesForm input.now cert.now
+form words (Fold input output) = FoldForm input.now output.now

@@ -2,7 +2,7 @@
 
 ghost use Rattle.std.specs.Prelude.{◌≡◌, ◌↔◌, ℕ, List, drop};
 ghost use Rattle.std.specs.Option.{option_map};
-ghost use Rattle.sq_command.specs.Commands.{Form, PackForm, RunForm, WatchForm, HexForm, HexcheckForm, SizeForm, TrialForm, CheckForm, ProveForm, NamesForm, RunRequest, form, form_of, pair_form, single_form, triple_form, prove_form, trial_of, trial_form, trial_asked, run_request, run_of, request_of, IsPack, IsRun, IsWatch, IsHex, IsHexcheck, IsSize, IsTrial, IsCheck, IsProve, IsNames};
+ghost use Rattle.sq_command.specs.Commands.{Form, PackForm, RunForm, WatchForm, HexForm, HexcheckForm, SizeForm, TrialForm, CheckForm, ProveForm, NamesForm, FoldForm, RunRequest, form, form_of, pair_form, single_form, triple_form, prove_form, trial_of, trial_form, trial_asked, run_request, run_of, request_of, IsPack, IsRun, IsWatch, IsHex, IsHexcheck, IsSize, IsTrial, IsCheck, IsProve, IsNames, IsFold};
 
 use crate::number::number_of;
 use crate::run_words::RunWords;
@@ -54,6 +54,11 @@ pub enum Command<'w> {
     Names {
         input: &'w str,
         cert: &'w str,
+    },
+    /// `fold IN OUT`
+    Fold {
+        input: &'w str,
+        output: &'w str,
     },
 }
 
@@ -184,6 +189,18 @@ fn names_words(words: &WordList) -> Option<Command<'_>>
     Some(Command::Names { input, cert })
 }
 
+/// `fold` with the words behind it.
+fn fold_words(words: &WordList) -> Option<Command<'_>>
+    ensures { option_map (form words.now) result ≡ pair_form FoldForm (drop 1 words.now) }
+{
+    if words.len() != 3 {
+        return None;
+    }
+    let input = words.get(1)?;
+    let output = words.get(2)?;
+    Some(Command::Fold { input, output })
+}
+
 /// A run with these numbers, where the words have them and they are in their ranges.
 fn run_of<'w>(
     file: &'w str,
@@ -267,6 +284,8 @@ fn named_command(words: &WordList) -> Option<Command<'_>>
         prove_words(words)
     } else if verb == "names" {
         names_words(words)
+    } else if verb == "fold" {
+        fold_words(words)
     } else {
         None
     }
@@ -285,6 +304,7 @@ pub fn command_of(words: &WordList) -> Option<Command<'_>>
     ensures check { (input output cert : List ℕ) → (form_of words.now ≡ Some (CheckForm input output cert)) ↔ IsCheck words.now input output cert }
     ensures prove { (input output cert : List ℕ) → (form_of words.now ≡ Some (ProveForm input output cert)) ↔ IsProve words.now input output cert }
     ensures names { (input cert : List ℕ) → (form_of words.now ≡ Some (NamesForm input cert)) ↔ IsNames words.now input cert }
+    ensures fold { (input output : List ℕ) → (form_of words.now ≡ Some (FoldForm input output)) ↔ IsFold words.now input output }
 {
     named_command(words)
 }

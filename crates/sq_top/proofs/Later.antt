@@ -6,7 +6,7 @@ use Rattle.sq_desk.specs.Outside.{Outside, Place, Rose, NoneFall, Complaining, K
 use Rattle.sq_top.specs.declared.ending.Ending.{Ending}
 use Rattle.sq_top.specs.declared.ending.Ending.TheVariants.{Done, Words, Desk, Refused, Memory, Break, Limit, BadStart, Differs}
 use Rattle.sq_top.specs.declared.ending.DeskCall.TheVariants.{Load, Store, Print}
-use Rattle.sq_command.specs.Commands.{RunRequest, Form, PackForm, RunForm, WatchForm, HexForm, HexcheckForm, SizeForm, TrialForm, CheckForm, ProveForm, NamesForm, form_of}
+use Rattle.sq_command.specs.Commands.{RunRequest, Form, PackForm, RunForm, WatchForm, HexForm, HexcheckForm, SizeForm, TrialForm, CheckForm, ProveForm, NamesForm, FoldForm, form_of}
 use Rattle.sq_top.specs.Statuses.{complaint_of}
 use Rattle.sq_top.specs.Endings.{StoresPacked, LeavesPack, SizeLeft, Leaves, ComplainsLine}
 use Rattle.sq_top.specs.RunEndings.{FailsToLoad, IsReadable, RunLeft}
@@ -23,6 +23,9 @@ use Rattle.sq_top.specs.ProveEndings.{SetsBoth, FailsToStore, LeavesProve}
 use Rattle.sq_top.proofs.ProveCases.{prove_by_case}
 use Rattle.sq_top.specs.NamesEndings.{FailsToName, NamesLeft}
 use Rattle.sq_top.proofs.NamesCases.{names_by_case}
+use Rattle.sq_top.specs.declared.folding.FoldedFile.{FoldedFile}
+use Rattle.sq_top.specs.FoldEndings.{StoresFolded, LeavesFold}
+use Rattle.sq_top.proofs.FoldCases.{fold_by_case}
 
 -- a complaint: files and what is printed stay, and no faults fall
 pub record OnlyComplains (before after : Outside) : Type 0 where
@@ -198,6 +201,19 @@ module _ (before middle after : Outside) (first : NoneFall before middle) (quiet
     differs = λ line left. (quiet.printed ∙ left.0, left.1);
   })
 
+  folded_on : {input output : List ℕ} {folded : FoldedFile} → StoresFolded input output folded before middle → StoresFolded input output folded before after
+  folded_on stored = record { folds = stored.folds; stores = quiet.files ∙ stored.stores }
+
+  fold_on : (input output : List ℕ) (ending : Ending) → LeavesFold input output ending before middle → LeavesFold input output ending before after
+  fold_on input output = fold_by_case input output before middle (λ e. LeavesFold input output e before after) (record {
+    done = λ left. (left.0, folded_on left.1, quiet.printed ∙ left.2);
+    load = λ left. (rose_on _ before middle after first quiet.faults left.0, quiet.files ∙ left.1, quiet.printed ∙ left.2);
+    store = λ left. (left.0, left.1, rose_on _ before middle after first quiet.faults left.2, (left.3.0, quiet.files ∙ left.3.1), quiet.printed ∙ left.4);
+    print = λ left. (left.0, folded_on left.1, rose_on _ before middle after first quiet.faults left.2, (left.3.0, quiet.printed ∙ left.3.1));
+    refused = λ refusal left. (left.0, quiet.files ∙ left.1, quiet.printed ∙ left.2);
+    memory = λ left. (elim left.0 [ inl kept ↦ inl (quiet.files ∙ kept) | inr stored ↦ inr (stored.0, folded_on stored.1) ], quiet.printed ∙ left.1);
+  })
+
   leaves_on : (form : Option Form) (ending : Ending) → Leaves form ending before middle → Leaves form ending before after
   leaves_on None ending left = (left.0, quiet.files ∙ left.1, quiet.printed ∙ left.2)
   leaves_on (Some (PackForm input output)) ending left = pack_on input output ending left
@@ -210,6 +226,7 @@ module _ (before middle after : Outside) (first : NoneFall before middle) (quiet
   leaves_on (Some (CheckForm input output cert)) ending left = (quiet.files ∙ left.0, cert_on input output cert ending left.1)
   leaves_on (Some (ProveForm input output cert)) ending left = prove_on input output cert ending left
   leaves_on (Some (NamesForm input cert)) ending left = (quiet.files ∙ left.0, names_on input cert ending left.1)
+  leaves_on (Some (FoldForm input output)) ending left = fold_on input output ending left
 
   complains_on : (line : Option (List ℕ)) → KeepsComplained before middle → ComplainsLine line middle after → ComplainsLine line before after
   complains_on None silent said = said ∙ silent

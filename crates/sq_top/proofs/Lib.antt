@@ -6,6 +6,11 @@ pub mod CertCases
 pub mod CertLoaded
 pub mod CertPromised
 pub mod EarlyEndings
+pub mod FoldCases
+pub mod FoldHeld
+pub mod FoldPromised
+pub mod FoldWritten
+pub mod FoldedOutput
 pub mod GeneratedWords
 pub mod GeneratedFiles
 pub mod HexPromised
@@ -14,6 +19,7 @@ pub mod Fetches
 pub mod Later
 pub mod LighterFile
 pub mod SettledFiles
+pub mod SettledOutputs
 pub mod NamesCases
 pub mod NamesLoaded
 pub mod NamesPromised
@@ -31,6 +37,7 @@ pub mod SizePromised
 pub mod SizeReported
 pub mod StatusesPromised
 pub mod TrackedFile
+pub mod TrackedStarts
 pub mod TrialCases
 pub mod TrialPromised
 pub mod TrialTold

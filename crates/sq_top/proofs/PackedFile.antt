@@ -1,5 +1,5 @@
 -- What the file of a lifted graph is of the file that the graph was lifted from.
-use Rattle.std.proofs.Common.{◌≡◌, ℕ, ◌+◌, ◌*◌, ◌<◌, ◌≤◌, None, List, length, refl, sym, ap, ◌∙◌, subst, arith}
+use Rattle.std.proofs.Common.{◌≡◌, ℕ, ◌+◌, ◌*◌, ◌<◌, ◌≤◌, None, List, length, sym, ap, ◌∙◌, subst, arith}
 use Rattle.std.specs.List.{AllByRecursion}
 use Rattle.sq_num.specs.declared.packed.Packed.{Packed}
 use Rattle.sq_num.specs.declared.packed.Savings.{Savings}
@@ -13,20 +13,15 @@ use Rattle.sq_graph.specs.Slotted.{IsSlotted}
 use Rattle.sq_graph.specs.Words.{words_of}
 use Rattle.sq_write.specs.Written.{written}
 use Rattle.sq_write.proofs.SegmentFacts.{few_text}
-use Rattle.sq_outputs.specs.Writing.{IsWritable, HasSizes}
-use Rattle.sq_outputs.proofs.Bytes.{written_is_bytes}
+use Rattle.sq_outputs.specs.Writing.{HasSizes}
 use Rattle.sq_lifted.specs.LiftedFiles.{IsLiftedFile, FitsFile}
-use Rattle.sq_lifted.proofs.OneReading.{lifted_one}
 use Rattle.sq_num.specs.declared.packed.TheConstants.Savings.{NONE}
 use Rattle.sq_pass.specs.Rewrites.{IsLighter, IsRewritten}
 use Rattle.sq_drive.specs.Rows.{IsCandidate, described, IsLeftoverFree}
-use Rattle.sq_drive.proofs.Moves.{leftover_free_is_still}
-use Rattle.sq_readback.specs.Whole.{IsWhole}
-use Rattle.sq_top.specs.Packing.{CanBeWritten, IsReachedFile, GoodOutput, Packs}
-use Rattle.sq_top.proofs.ReadBack.{reads_back}
-use Rattle.sq_top.proofs.SettledFiles.{written_is_settled, settled_stays}
-use Rattle.sq_top.proofs.WholeGraphs.{whole_without_candidates}
-use Rattle.sq_top.proofs.LighterFile.{lighter_fits, lifted_is_accepted, lighter_writable, lighter_is_same, lighter_sizes, text_written, loads_less}
+use Rattle.sq_top.specs.Packing.{CanBeWritten, GoodOutput, Packs}
+use Rattle.sq_top.proofs.SettledFiles.{settled_stays}
+use Rattle.sq_top.proofs.SettledOutputs.{settled_output}
+use Rattle.sq_top.proofs.LighterFile.{lighter_fits, lighter_sizes, text_written}
 
 -- a graph that was made by rewriting can be written where the first one can
 pub rewritten_fits : (bytes : List ℕ) (first g : Graph) (savings : Savings) → FitsFile bytes first → IsRewritten IsCandidate described NONE savings first g → CanBeWritten bytes g
@@ -36,9 +31,6 @@ module _ (bytes : List ℕ) (first g : Graph) (savings : Savings) (fit : AllByRe
   lighter : IsLighter r.saved first g
   lighter = r.lighter
 
-  writable : IsWritable bytes g
-  writable = lighter_writable bytes first g r.saved fit l f lighter rules
-
   sizes : HasSizes bytes g (written bytes g)
   sizes = lighter_sizes bytes first g r.saved fit l f lighter rules
 
@@ -46,33 +38,13 @@ module _ (bytes : List ℕ) (first g : Graph) (savings : Savings) (fit : AllByRe
   enough_loaded = omega (arith, sizes.size)
 
   module _ (none : IsLeftoverFree g) (slotted : IsSlotted g) (slotted_first : IsSlotted first) where
-    whole : IsWhole g
-    whole = whole_without_candidates g rules lighter.canonical none
-
-    back : IsReachedFile (written bytes g) g
-    back = reads_back bytes g writable lighter.canonical (lighter.sound f.sound) whole
-
-    left : (h : Graph) → IsLiftedFile (written bytes g) h → IsSlotted h → IsLeftoverFree h
-    left h lifted named =
-        let same : h ≡ g = sym named ∙ lifted_one (written bytes g) h g (written_is_bytes bytes g writable) lifted back.lifted ∙ slotted in
-        subst IsLeftoverFree (sym same) none
-
     abbrev good : GoodOutput bytes (written bytes g)
     good = record {
-      accepted = lifted_is_accepted bytes first l;
-      same = lighter_is_same bytes first g r.saved fit l f lighter rules;
-      loads_no_more = loads_less bytes first g r.saved fit l f lighter rules;
+      made = settled_output bytes first g r.saved fit l f lighter rules none slotted;
       first = first;
       lifted = l;
-      graph = g;
-      read_back = back;
       savings = savings;
       rewritten = r;
-      slotted = slotted;
-      left = left;
-      still = λ h lifted named. leftover_free_is_still h (left h lifted named);
-      output_is = refl;
-      settled = written_is_settled bytes g writable back.lifted slotted none;
       again = settled_stays bytes first g NONE savings fit l slotted_first r;
     }
 

@@ -6,7 +6,7 @@ use Rattle.sq_desk.specs.Outside.{Outside, Files, content_of, with_file}
 use Rattle.sq_top.specs.declared.ending.Ending.{Ending}
 use Rattle.sq_top.specs.declared.ending.Ending.TheVariants.{Done, Words, Desk, Refused, Memory, Break, Limit, BadStart, Differs}
 use Rattle.sq_top.specs.declared.ending.DeskCall.TheVariants.{Load, Store, Print}
-use Rattle.sq_command.specs.Commands.{Form, PackForm, RunForm, WatchForm, HexForm, HexcheckForm, SizeForm, TrialForm, CheckForm, ProveForm, NamesForm, form_of}
+use Rattle.sq_command.specs.Commands.{Form, PackForm, RunForm, WatchForm, HexForm, HexcheckForm, SizeForm, TrialForm, CheckForm, ProveForm, NamesForm, FoldForm, form_of}
 use Rattle.sq_top.specs.Packing.{Packs, Headline, packed_text, sizes_text}
 use Rattle.sq_top.specs.Statuses.{status_of, complaint_of}
 use Rattle.sq_top.specs.Endings.{StoresPacked, LeavesPack, Leaves, ComplainsLine}
@@ -14,9 +14,12 @@ use Rattle.sq_top.specs.HexEndings.{StoresText, LeavesHex}
 use Rattle.sq_top.specs.ProveEndings.{LeavesProve}
 use Rattle.sq_top.proofs.ProveCases.{prove_by_case}
 use Rattle.sq_top.proofs.ProveHeld.{holds_proof, after_fault, after_memory}
+use Rattle.sq_top.specs.FoldEndings.{LeavesFold}
+use Rattle.sq_top.proofs.FoldCases.{fold_by_case}
+use Rattle.sq_top.proofs.FoldHeld.{holds_fold}
 use Rattle.sq_top.specs.Promises.{Ends, ForPack, IsDone, HoldsOutput, HoldsText, StayOrHold, HasRefusal, IsComplete}
 
-same_sizes : {a b c d e f g h : ℕ} → a ≡ e → b ≡ f → c ≡ g → d ≡ h → sizes_text a b c d ≡ sizes_text e f g h
+pub same_sizes : {a b c d e f g h : ℕ} → a ≡ e → b ≡ f → c ≡ g → d ≡ h → sizes_text a b c d ≡ sizes_text e f g h
 same_sizes first second third fourth = λ i. sizes_text (first i) (second i) (third i) (fourth i)
 
 -- and its line is that of the headline
@@ -122,12 +125,22 @@ files_promised words ending before after ends = by_form (form_of words) refl end
     -- what was proved
     proof_case : (input output cert : List ℕ) → form_of words ≡ Some (ProveForm input output cert) → (e : Ending) → LeavesProve input output cert e before after → StayOrHold words (status_of e) before after
     proof_case input output cert form = prove_by_case input output cert before after (λ e. StayOrHold words (status_of e) before after) (record {
-      done = λ gone. inr (inr (inr ((λ same. cc same), (λ same. cc same), input, output, cert, form, inl (holds_proof input output cert gone.0 gone.1 before after gone.2 gone.3))));
+      done = λ gone. inr (inr (inr (inl ((λ same. cc same), (λ same. cc same), input, output, cert, form, inl (holds_proof input output cert gone.0 gone.1 before after gone.2 gone.3)))));
       load = λ gone. inl gone.1;
-      store = λ gone. inr (inr (inr ((λ same. cc same), (λ same. cc same), input, output, cert, form, after_fault input output cert gone.1 gone.2 before after gone.3 gone.4)));
-      print = λ gone. inr (inr (inr ((λ same. cc same), (λ same. cc same), input, output, cert, form, inl (holds_proof input output cert gone.1 gone.2 before after gone.3 gone.4))));
+      store = λ gone. inr (inr (inr (inl ((λ same. cc same), (λ same. cc same), input, output, cert, form, after_fault input output cert gone.1 gone.2 before after gone.3 gone.4))));
+      print = λ gone. inr (inr (inr (inl ((λ same. cc same), (λ same. cc same), input, output, cert, form, inl (holds_proof input output cert gone.1 gone.2 before after gone.3 gone.4)))));
       refused = λ refusal gone. inl gone.1;
-      memory = λ gone. elim gone.1 [ inl kept ↦ inl kept | inr proved ↦ inr (inr (inr ((λ same. cc same), (λ same. cc same), input, output, cert, form, after_memory input output cert proved.0 proved.1 before after proved.2 proved.3))) ];
+      memory = λ gone. elim gone.1 [ inl kept ↦ inl kept | inr proved ↦ inr (inr (inr (inl ((λ same. cc same), (λ same. cc same), input, output, cert, form, after_memory input output cert proved.0 proved.1 before after proved.2 proved.3)))) ];
+    })
+
+    fold_case : (input output : List ℕ) → form_of words ≡ Some (FoldForm input output) → (e : Ending) → LeavesFold input output e before after → StayOrHold words (status_of e) before after
+    fold_case input output form = fold_by_case input output before after (λ e. StayOrHold words (status_of e) before after) (record {
+      done = λ gone. inr (inr (inr (inr ((λ same. cc same), (λ same. cc same), input, output, form, inl (holds_fold gone.1)))));
+      load = λ gone. inl gone.1;
+      store = λ gone. inr (inr (inr (inr ((λ same. cc same), (λ same. cc same), input, output, form, inr (refl, gone.2, gone.3)))));
+      print = λ gone. inr (inr (inr (inr ((λ same. cc same), (λ same. cc same), input, output, form, inl (holds_fold gone.1)))));
+      refused = λ refusal gone. inl gone.1;
+      memory = λ gone. elim gone.0 [ inl kept ↦ inl kept | inr stored ↦ inr (inr (inr (inr ((λ same. cc same), (λ same. cc same), input, output, form, inl (holds_fold stored.1))))) ];
     })
 
     by_form : (f : Option Form) → form_of words ≡ f → Leaves f ending before after → StayOrHold words (status_of ending) before after
@@ -142,3 +155,4 @@ files_promised words ending before after ends = by_form (form_of words) refl end
     by_form (Some (CheckForm input output cert)) form gone = inl gone.0
     by_form (Some (ProveForm input output cert)) form gone = proof_case input output cert form ending gone
     by_form (Some (NamesForm input cert)) form gone = inl gone.0
+    by_form (Some (FoldForm input output)) form gone = fold_case input output form ending gone

@@ -69,10 +69,10 @@ module _ (words : List (List ℕ)) (ending : Ending) (before after : Outside) (e
   -- what is refused is not packed
   pub prove_exact_promised : ForProve words (λ input _ _. RefusesExactly input (status_of ending) before after)
   prove_exact_promised input output cert form files told refusal refused = prove_by_case input output cert before after (λ e. (status_of e ≡ 3) ⊎ ((status_of e ≡ 2) × Rose (Loading input) before after) ⊎ (status_of e ≡ 4)) (record {
-    done = λ gone. absurd (not_refused (content_of files input) (gone.2 files told).packs.good.accepted refusal refused);
+    done = λ gone. absurd (not_refused (content_of files input) (gone.2 files told).packs.good.made.accepted refusal refused);
     load = λ gone. inr (inl (refl, gone.0));
-    store = λ gone. absurd (not_refused (content_of files input) (gone.3 files told).packs.good.accepted refusal refused);
-    print = λ gone. absurd (not_refused (content_of files input) (gone.3 files told).packs.good.accepted refusal refused);
+    store = λ gone. absurd (not_refused (content_of files input) (gone.3 files told).packs.good.made.accepted refusal refused);
+    print = λ gone. absurd (not_refused (content_of files input) (gone.3 files told).packs.good.made.accepted refusal refused);
     refused = λ other gone. inl refl;
     memory = λ gone. inr (inr refl);
   }) ending (left input output cert form)

@@ -57,7 +57,7 @@ module _ (words : List (List ℕ)) (ending : Ending) (before after : Outside) (e
   }) ending (left input form).1
     where
       packs_not : (packed : Packed) → PacksFile input packed before → ⊥
-      packs_not packed packs = not_refused (content_of files input) (packs files told).good.accepted refusal refused
+      packs_not packed packs = not_refused (content_of files input) (packs files told).good.made.accepted refusal refused
 
   pub size_complete_promised : ForSize words (λ input. IsSizeComplete input (status_of ending) before after)
   size_complete_promised input form no_fault files told accepted = size_by_case input before after (λ e. (status_of e ≡ 0) ⊎ (status_of e ≡ 4)) (record {

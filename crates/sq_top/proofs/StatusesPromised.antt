@@ -2,7 +2,7 @@
 use Rattle.std.proofs.Common.{◌≡◌, ◌≢◌, ◌↔◌, ℕ, ◌≤◌, ◌⊎◌, inl, inr, List, Option, Some, None, refl, ap, arith}
 use Rattle.std.specs.Prelude.{⊤}
 use Rattle.sq_num.specs.declared.packed.Packed.{Packed}
-use Rattle.sq_command.specs.Commands.{RunRequest, Form, PackForm, RunForm, WatchForm, HexForm, HexcheckForm, SizeForm, TrialForm, CheckForm, ProveForm, NamesForm, form_of}
+use Rattle.sq_command.specs.Commands.{RunRequest, Form, PackForm, RunForm, WatchForm, HexForm, HexcheckForm, SizeForm, TrialForm, CheckForm, ProveForm, NamesForm, FoldForm, form_of}
 use Rattle.sq_desk.specs.Outside.{Outside, Place, ForFiles, content_of, Loading, Storing, Printing, Rose}
 use Rattle.sq_top.specs.declared.ending.Ending.{Ending}
 use Rattle.sq_top.specs.declared.ending.Ending.TheVariants.{Done, Words, Desk, Refused, Memory, Break, Limit, BadStart, Differs}
@@ -27,6 +27,8 @@ use Rattle.sq_top.specs.ProveEndings.{FailsToStore, LeavesProve}
 use Rattle.sq_top.proofs.ProveCases.{prove_by_case}
 use Rattle.sq_top.specs.NamesEndings.{FailsToName, NamesLeft}
 use Rattle.sq_top.proofs.NamesCases.{names_by_case}
+use Rattle.sq_top.specs.FoldEndings.{LeavesFold}
+use Rattle.sq_top.proofs.FoldCases.{fold_by_case}
 
 -- where no faults are counted none rose
 none_rose : (place : Place) (before after : Outside) → after.faults place ≡ 0 → Rose place before after → ⊥
@@ -142,6 +144,16 @@ module _ (words : List (List ℕ)) (ending : Ending) (before after : Outside) (e
         differs = λ line gone one. absurd (cc one);
       })
 
+      fold_else : (input output : List ℕ) (e : Ending) → LeavesFold input output e before after → status_of e ≡ 1 → ⊥
+      fold_else input output = fold_by_case input output before after (λ e. status_of e ≡ 1 → ⊥) (record {
+        done = λ gone one. absurd (cc one);
+        load = λ gone one. absurd (cc one);
+        store = λ gone one. absurd (cc one);
+        print = λ gone one. absurd (cc one);
+        refused = λ refusal gone one. absurd (cc one);
+        memory = λ gone one. absurd (cc one);
+      })
+
       only : (form : Option Form) → form_of words ≡ form → Leaves form ending before after → status_of ending ≡ 1 → form_of words ≡ None
       only None is gone one = is
       only (Some (PackForm input output)) is gone one = absurd (pack_else input output ending gone one)
@@ -154,6 +166,7 @@ module _ (words : List (List ℕ)) (ending : Ending) (before after : Outside) (e
       only (Some (CheckForm input output cert)) is gone one = absurd (cert_else input output cert ending gone.1 one)
       only (Some (ProveForm input output cert)) is gone one = absurd (prove_else input output cert ending gone one)
       only (Some (NamesForm input cert)) is gone one = absurd (names_else input cert ending gone.1 one)
+      only (Some (FoldForm input output)) is gone one = absurd (fold_else input output ending gone one)
 
   -- each form has its statuses
   pub statuses_promised : IsStatusOf (form_of words) (status_of ending)
@@ -260,6 +273,16 @@ module _ (words : List (List ℕ)) (ending : Ending) (before after : Outside) (e
         differs = λ line gone. inr refl;
       })
 
+      fold_status : (input output : List ℕ) (e : Ending) → LeavesFold input output e before after → status_of e ≤ 4
+      fold_status input output = fold_by_case input output before after (λ e. status_of e ≤ 4) (record {
+        done = λ gone. omega arith;
+        load = λ gone. omega arith;
+        store = λ gone. omega arith;
+        print = λ gone. omega arith;
+        refused = λ refusal gone. omega arith;
+        memory = λ gone. omega arith;
+      })
+
       by_form : (form : Option Form) → Leaves form ending before after → IsStatusOf form (status_of ending)
       by_form None gone = ap status_of gone.0
       by_form (Some (PackForm input output)) gone = pack_status input output ending gone
@@ -272,6 +295,7 @@ module _ (words : List (List ℕ)) (ending : Ending) (before after : Outside) (e
       by_form (Some (CheckForm input output cert)) gone = cert_status input output cert ending gone.1
       by_form (Some (ProveForm input output cert)) gone = prove_status input output cert ending gone
       by_form (Some (NamesForm input cert)) gone = names_status input cert ending gone.1
+      by_form (Some (FoldForm input output)) gone = fold_status input output ending gone
 
   -- without faults the status is not 2
   pub sound_promised : ((place : Place) → after.faults place ≡ 0) → status_of ending ≢ 2
@@ -404,6 +428,16 @@ module _ (words : List (List ℕ)) (ending : Ending) (before after : Outside) (e
         differs = λ line gone is. absurd (cc is);
       })
 
+      fold_sound : (input output : List ℕ) (e : Ending) → LeavesFold input output e before after → status_of e ≡ 2 → ⊥
+      fold_sound input output = fold_by_case input output before after (λ e. status_of e ≡ 2 → ⊥) (record {
+        done = λ gone is. absurd (cc is);
+        load = λ gone is. none_rose (Loading input) before after (none (Loading input)) gone.0;
+        store = λ gone is. none_rose (Storing output) before after (none (Storing output)) gone.2;
+        print = λ gone is. none_rose Printing before after (none Printing) gone.2;
+        refused = λ refusal gone is. absurd (cc is);
+        memory = λ gone is. absurd (cc is);
+      })
+
       by_form : (form : Option Form) → Leaves form ending before after → ⊥
       by_form None gone = absurd (cc (gone.0, two))
       by_form (Some (PackForm input output)) gone = pack_sound input output ending gone two
@@ -416,6 +450,7 @@ module _ (words : List (List ℕ)) (ending : Ending) (before after : Outside) (e
       by_form (Some (CheckForm input output cert)) gone = cert_sound input output cert ending gone.1 two
       by_form (Some (ProveForm input output cert)) gone = prove_sound input output cert ending gone two
       by_form (Some (NamesForm input cert)) gone = names_sound input cert ending gone.1 two
+      by_form (Some (FoldForm input output)) gone = fold_sound input output ending gone two
 
   left : (input output : List ℕ) → form_of words ≡ Some (PackForm input output) → LeavesPack input output ending before after
   left input output form = rw form at ends.leaves
@@ -440,7 +475,7 @@ module _ (words : List (List ℕ)) (ending : Ending) (before after : Outside) (e
   exact_promised input output form files told refusal refused = by_case ending (left input output form)
     where
       packs_not : (packed : Packed) → PacksFile input packed before → ⊥
-      packs_not packed packs = not_refused (content_of files input) (packs files told).good.accepted refusal refused
+      packs_not packed packs = not_refused (content_of files input) (packs files told).good.made.accepted refusal refused
 
       by_case : (e : Ending) → LeavesPack input output e before after → (status_of e ≡ 3) ⊎ ((status_of e ≡ 2) × Rose (Loading input) before after) ⊎ (status_of e ≡ 4)
       by_case Done gone = absurd (packs_not gone.0 gone.1.packs)
@@ -565,12 +600,22 @@ module _ (words : List (List ℕ)) (ending : Ending) (before after : Outside) (e
 
       names_printed : (input cert : List ℕ) → form_of words ≡ Some (NamesForm input cert) → (e : Ending) → NamesLeft input cert e before after → PrintsAsSaid words (status_of e) before after
       names_printed input cert form = names_by_case input cert before after (λ e. PrintsAsSaid words (status_of e) before after) (record {
-        done = λ gone. inr (inr (inr (inr (inr (inr (inr (inr (inr (inr (input, cert, form, gone.0, gone.1, inl (refl, gone.2)))))))))));
+        done = λ gone. inr (inr (inr (inr (inr (inr (inr (inr (inr (inr (inl (input, cert, form, gone.0, gone.1, inl (refl, gone.2))))))))))));
         load = λ gone. inl ((λ is. cc is), (λ is. cc is), (λ is. cc is), gone.0);
-        print = λ gone. inr (inr (inr (inr (inr (inr (inr (inr (inr (inr (input, cert, form, gone.1, gone.2, inr (refl, gone.0, gone.3)))))))))));
+        print = λ gone. inr (inr (inr (inr (inr (inr (inr (inr (inr (inr (inl (input, cert, form, gone.1, gone.2, inr (refl, gone.0, gone.3))))))))))));
         refused = λ refusal gone. inl ((λ is. cc is), (λ is. cc is), (λ is. cc is), gone.0);
         memory = λ gone. inl ((λ is. cc is), (λ is. cc is), (λ is. cc is), gone);
         differs = λ line gone. inl ((λ is. cc is), (λ is. cc is), (λ is. cc is), gone.0);
+      })
+
+      fold_printed : (input output : List ℕ) → form_of words ≡ Some (FoldForm input output) → (e : Ending) → LeavesFold input output e before after → PrintsAsSaid words (status_of e) before after
+      fold_printed input output form = fold_by_case input output before after (λ e. PrintsAsSaid words (status_of e) before after) (record {
+        done = λ gone. inr (inr (inr (inr (inr (inr (inr (inr (inr (inr (inr (input, output, form, gone.0, gone.1.folds, inl (refl, gone.2))))))))))));
+        load = λ gone. inl ((λ is. cc is), (λ is. cc is), (λ is. cc is), gone.2);
+        store = λ gone. inl ((λ is. cc is), (λ is. cc is), (λ is. cc is), gone.4);
+        print = λ gone. inr (inr (inr (inr (inr (inr (inr (inr (inr (inr (inr (input, output, form, gone.0, gone.1.folds, inr (refl, gone.2, gone.3))))))))))));
+        refused = λ refusal gone. inl ((λ is. cc is), (λ is. cc is), (λ is. cc is), gone.2);
+        memory = λ gone. inl ((λ is. cc is), (λ is. cc is), (λ is. cc is), gone.1);
       })
 
       by_form : (form : Option Form) → form_of words ≡ form → Leaves form ending before after → PrintsAsSaid words (status_of ending) before after
@@ -585,3 +630,4 @@ module _ (words : List (List ℕ)) (ending : Ending) (before after : Outside) (e
       by_form (Some (CheckForm input output cert)) is gone = cert_printed input output cert is ending gone.1
       by_form (Some (ProveForm input output cert)) is gone = prove_printed input output cert is ending gone
       by_form (Some (NamesForm input cert)) is gone = names_printed input cert is ending gone.1
+      by_form (Some (FoldForm input output)) is gone = fold_printed input output is ending gone

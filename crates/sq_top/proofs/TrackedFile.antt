@@ -2,7 +2,7 @@
 use Rattle.std.proofs.Common.{◌≡◌, ℕ, suc, ◌+◌, ◌^◌, ◌<◌, inl, inr, List, [], ◌∷◌, ◌++◌, length, map, take, Option, Some, None, Result, Ok, Err, if◌then◌else◌, refl, sym, ap, ◌∙◌, subst, arith}
 use Rattle.std.proofs.lemmas.List.{take_more, take_all}
 use Rattle.std.proofs.lemmas.Option.{slice_get_cases}
-use Rattle.std.specs.List.{AllByRecursion, slice_get}
+use Rattle.std.specs.List.{AllByRecursion, AllZip, slice_get}
 use Rattle.std.specs.Option.{option_map, option_to_list, unwrap_or}
 use Rattle.std.specs.Result.{IsErrAnd}
 use Rattle.sq_num.specs.declared.refusal.Refusal.{Refusal}
@@ -26,12 +26,13 @@ use Rattle.sq_names.specs.declared.track.Track.{Track}
 use Rattle.sq_names.specs.declared.track.Track.TheVariants.{At, Gone}
 use Rattle.sq_cert.specs.declared.step.Step.{Step}
 use Rattle.sq_drive.specs.Checking.{Leads, IsFirstFault}
-use Rattle.sq_drive.specs.Tracking.{carried, standing, by_step, AreCarried, AreTracked}
+use Rattle.sq_drive.specs.Tracking.{carried, standing, by_step, made_by, AreCarried, AreTracked, KeepsStarts}
 use Rattle.sq_drive.proofs.Tracked.{replayed}
 use Rattle.sq_top.specs.declared.tracks.TrackFault.{TrackFault}
 use Rattle.sq_top.specs.declared.tracks.TrackFault.TheVariants.{Denied as DeniedTracks}
 use Rattle.sq_top.specs.Tracking.{begun_by, placed_at}
-use Rattle.sq_top.specs.Tracks.{begun_in, addressed, AreTracksOf, FailsToTrack}
+use Rattle.sq_top.specs.Tracks.{begun_in, addressed, AreTracksOf, KeepsFileStarts, FailsToTrack}
+use Rattle.sq_top.proofs.TrackedStarts.{file_starts}
 
 length_mapped : {X Y : Type 0} (f : X → Y) (xs : List X) → length (map f xs) ≡ length xs
 length_mapped f [] = refl
@@ -88,7 +89,8 @@ addressed_same last lo places are = λ i block. At (unwrap_or (are.blocks block 
 pub length_kept : (steps : List Step) (old new : Graph) (before after : List Track) → AreCarried steps old new before after → length after ≡ length before
 length_kept [] old new before after kept = ap length kept.1
 length_kept (step ∷ steps) old new before after carries =
-    length_kept steps _ new (map (by_step step old carries.0) before) after carries.2 ∙ length_mapped (by_step step old carries.0) before
+    let carry = by_step step old (made_by step old carries.0) in
+    length_kept steps _ new (map (by_step step old (made_by step old carries.0)) before) after carries.1 ∙ length_mapped carry before
 
 pub few_tracks : (text : List ℕ) (old new : Graph) (before after : List Track) → AreTracked text old new before after → length after ≡ length before
 few_tracks text old new before after t = length_kept t.steps old new before after t.carried
@@ -143,3 +145,30 @@ module _ (bytes text : List ℕ) (first last : Graph) (file : IsLiftedFile bytes
       let began : before ≡ map (begun_in bytes first file) (functions_of bytes) = begin ∙ (λ i. map (same i) (named i)) in
       tracks_of bytes text first file slotted last after tracks (subst (λ (b : List Track). AreTracked text first last b after) began tracked)
       (is ∙ (λ i. map (carried (addressed_same last (text_of bytes).lo places at i)) after))
+
+  -- others would lead to the same graph and places
+  module _ (fit : AllByRecursion (λ b. b < 256) bytes) (begins : (other : Graph) (g : IsLiftedFile bytes other) → AreStarts g.program starts) (one : (new : Graph) (others : List Track) → AreTracked text first new before others → (new ≡ last) × (others ≡ after)) (places : Addresses) (tracks : List Track) (at : ArePlaces last (text_of bytes).lo places) (is : tracks ≡ map (carried (placed_at places)) after) (others : List Track) (t : AreTracksOf bytes text others) where
+    same : t.first ≡ first
+    same = sym t.slotted ∙ lifted_one bytes t.first first fit t.file file ∙ slotted
+
+    began : before ≡ map (begun_in bytes t.first t.file) (functions_of bytes)
+    began = begin ∙ (λ i. map (begun_same bytes t.first t.file starts (begins t.first t.file) i) (named i))
+
+    ends : (t.last ≡ last) × (t.places ≡ after)
+    ends = one t.last t.places (subst (λ (g : Graph). AreTracked text g t.last before t.places) same (subst (λ (b : List Track). AreTracked text t.first t.last b t.places) (sym began) t.tracked))
+
+    pub tracks_one : others ≡ tracks
+    tracks_one =
+        t.tracks_are
+        ∙ (λ i. map (carried (addressed (ends.0 i) (text_of bytes).lo)) (ends.1 i))
+        ∙ sym (is ∙ (λ i. map (carried (addressed_same last (text_of bytes).lo places at i)) after))
+
+    pub tracks_start : AllZip (KeepsStarts first last) before after → AllZip (KeepsFileStarts t.file.program t.last (text_of bytes).lo) (functions_of bytes) others
+    tracks_start keep =
+        let led : AllZip (KeepsStarts t.first t.last) (map (begun_in bytes t.first t.file) (functions_of bytes)) t.places =
+        subst (λ (g : Graph). AllZip (KeepsStarts g t.last) (map (begun_in bytes t.first t.file) (functions_of bytes)) t.places) (sym same)
+        (subst (λ (g : Graph). AllZip (KeepsStarts first g) (map (begun_in bytes t.first t.file) (functions_of bytes)) t.places) (sym ends.0)
+        (subst (λ (b : List Track). AllZip (KeepsStarts first last) b t.places) began (subst (AllZip (KeepsStarts first last) before) (sym ends.1) keep)))
+        in
+        subst (AllZip (KeepsFileStarts t.file.program t.last (text_of bytes).lo) (functions_of bytes)) (sym t.tracks_are)
+        (file_starts bytes t.first t.file t.slotted fit t.last (text_of bytes).lo (functions_of bytes) t.places led)

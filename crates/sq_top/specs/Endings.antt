@@ -5,7 +5,7 @@ use Rattle.sq_desk.specs.Outside.{Outside, content_of, Rose, Loading, Storing, P
 use Rattle.sq_top.specs.declared.ending.Ending.{Ending}
 use Rattle.sq_top.specs.declared.ending.Ending.TheVariants.{Done, Words, Desk, Refused, Memory, Break, Limit, BadStart, Differs}
 use Rattle.sq_top.specs.declared.ending.DeskCall.TheVariants.{Load, Store, Print}
-use Rattle.sq_command.specs.Commands.{Form, PackForm, RunForm, WatchForm, HexForm, HexcheckForm, SizeForm, TrialForm, CheckForm, ProveForm, NamesForm}
+use Rattle.sq_command.specs.Commands.{Form, PackForm, RunForm, WatchForm, HexForm, HexcheckForm, SizeForm, TrialForm, CheckForm, ProveForm, NamesForm, FoldForm}
 use Rattle.sq_top.specs.Packing.{Packs, packed_text}
 use Rattle.sq_program.specs.FilePrograms.{IsRefusalOf}
 use Rattle.sq_report.specs.Report.{report_text}
@@ -16,6 +16,7 @@ use Rattle.sq_top.specs.Trials.{LeavesTrial}
 use Rattle.sq_top.specs.CertEndings.{LeavesCert}
 use Rattle.sq_top.specs.ProveEndings.{LeavesProve}
 use Rattle.sq_top.specs.NamesEndings.{LeavesNames}
+use Rattle.sq_top.specs.FoldEndings.{LeavesFold}
 
 -- what the named file holds was packed so
 abbrev pub PacksFile : List ℕ → Packed → Outside → Type 0
@@ -106,6 +107,7 @@ Leaves (Some (TrialForm first blocks)) ending before after = LeavesTrial first b
 Leaves (Some (CheckForm input output cert)) ending before after = LeavesCert input output cert ending before after
 Leaves (Some (ProveForm input output cert)) ending before after = LeavesProve input output cert ending before after
 Leaves (Some (NamesForm input cert)) ending before after = LeavesNames input cert ending before after
+Leaves (Some (FoldForm input output)) ending before after = LeavesFold input output ending before after
 
 -- the line was complained, or a prefix of it where complaining failed, or nothing for want of memory
 abbrev pub ComplainsLine : Option (List ℕ) → Outside → Outside → Type 0

@@ -3,6 +3,9 @@ pub mod CertEndings
 pub mod CertPromises
 pub mod Denials
 pub mod Endings
+pub mod FoldEndings
+pub mod FoldPromises
+pub mod Folding
 pub mod HexEndings
 pub mod HexPromises
 pub mod Hexing

@@ -57,23 +57,17 @@ WrittenFilesReadBack =
     (given : List ℕ) (graph : Graph) → IsWritable given graph → IsCanonical graph → IsSound graph → IsWhole graph
     → IsReachedFile (written given graph) graph
 
--- what an output is of a given file
-pub record GoodOutput (given output : List ℕ) : Type 0 where
+-- what each output is of a given file, whether it is packed or folded
+pub record SettledOutput (given output : List ℕ) : Type 0 where
   -- nothing of the given file is refused
   pub accepted : IsAcceptedFile given
   -- the output does what the given file does
   pub same : Same given output
   -- it loads no more bytes
   pub loads_no_more : loaded_of output ≤ loaded_of given
-  -- the graph of the given file, which has what is reached alone
-  pub first : Graph
-  pub lifted : IsLiftedFile given first
   -- nothing of the output is refused, this is its graph, and all of its text is reached
   pub graph : Graph
   pub read_back : IsReachedFile output graph
-  -- rewriting made it of the first graph, by one candidate after another, and each is counted in the savings of its row
-  pub savings : Savings
-  pub rewritten : IsRewritten IsCandidate described NONE savings first graph
   -- its blocks are named by their positions
   pub slotted : IsSlotted graph
   -- Nothing is left over: whatever graph the output is read back as, named by positions, no row has a
@@ -82,8 +76,19 @@ pub record GoodOutput (given output : List ℕ) : Type 0 where
   pub still : (reading : Graph) → IsLiftedFile output reading → IsSlotted reading → IsStill reading
   -- the output is made of the data of the given file and of the words of that graph
   pub output_is : output ≡ written given graph
-  -- packing is done once: the output is settled, and where the given file is settled, the output is this file
+  -- packing doesn't change the output
   pub settled : IsSettledFile output
+
+-- what a packed output is of a given file
+pub record GoodOutput (given output : List ℕ) : Type 0 where
+  pub made : SettledOutput given output
+  -- the graph of the given file, which has what is reached alone
+  pub first : Graph
+  pub lifted : IsLiftedFile given first
+  -- rewriting made the output's graph of it, by one candidate after another, and each is counted in the savings of its row
+  pub savings : Savings
+  pub rewritten : IsRewritten IsCandidate described NONE savings first made.graph
+  -- packing is done once: where the given file is settled, the output is this file
   pub again : IsSettledFile given → output ≡ given
 
 -- the packing of a given file: a good output, and its sizes
@@ -93,7 +98,7 @@ pub record Packs (given : List ℕ) (packed : Packed) : Type 0 where
   pub text_after : packed.text_after ≡ text_size packed.bytes
   pub loaded_before : packed.loaded_before ≡ loaded_of given
   pub loaded_after : packed.loaded_after ≡ loaded_of packed.bytes
-  pub procedures : packed.procedures ≡ length good.graph.procedures
+  pub procedures : packed.procedures ≡ length good.made.graph.procedures
   -- the words of text that the first graph doesn't have
   pub unreached : 4 * (packed.unreached + words_of good.first) ≡ text_size given
   pub savings : packed.savings ≡ good.savings

@@ -7,7 +7,7 @@ use Rattle.sq_desk.specs.Outside.{Outside, Place, Loading, Storing, Printing, co
 use Rattle.sq_top.specs.declared.ending.Ending.{Ending}
 use Rattle.sq_top.specs.declared.ending.DeskCall.{DeskCall}
 use Rattle.sq_top.specs.declared.ending.DeskCall.TheVariants.{Load, Store, Print}
-use Rattle.sq_command.specs.Commands.{RunRequest, PackForm, RunForm, WatchForm, HexForm, HexcheckForm, SizeForm, TrialForm, CheckForm, ProveForm, NamesForm, form_of}
+use Rattle.sq_command.specs.Commands.{RunRequest, PackForm, RunForm, WatchForm, HexForm, HexcheckForm, SizeForm, TrialForm, CheckForm, ProveForm, NamesForm, FoldForm, form_of}
 use Rattle.sq_top.specs.Packing.{GoodOutput, Headline, packed_text}
 use Rattle.sq_program.specs.FilePrograms.{IsRefusalOf}
 use Rattle.sq_top.specs.Statuses.{call_text, complaint_of}
@@ -19,6 +19,9 @@ use Rattle.sq_top.specs.CertEndings.{proved_line, Certifies}
 use Rattle.sq_top.specs.Proving.{Proves}
 use Rattle.sq_top.specs.ProveEndings.{ProvesFile}
 use Rattle.sq_top.specs.NamesEndings.{TellsNames}
+use Rattle.sq_top.specs.declared.folding.FoldedFile.{FoldedFile}
+use Rattle.sq_top.specs.Folding.{GoodFold, folded_text}
+use Rattle.sq_top.specs.FoldEndings.{FoldsFile}
 use Rattle.sq_top.specs.Hexing.{HasHexText, hex_line, same_line, IsSame}
 
 -- the call ended so: with what the form leaves, and with the ending's complaint
@@ -27,7 +30,7 @@ pub record Ends (words : List (List ℕ)) (ending : Ending) (before after : Outs
   pub complains : ComplainsLine (complaint_of ending) before after
   pub faults : NoneFall before after
 
--- the place of a call that `pack IN OUT` uses
+-- the place of a call that `pack IN OUT` or `fold IN OUT` uses
 abbrev pub place_of : DeskCall → List ℕ → List ℕ → Place
 place_of Load input output = Loading input
 place_of Store input output = Storing output
@@ -74,7 +77,12 @@ HoldProof input output cert status before after =
     ⊎ ((status ≡ 2) × Rose (Storing output) before after × LosesFile output before after)
     ⊎ ((status ≡ 2) × Rose (Storing cert) before after × HoldsBoth input output cert (λ given packed content. ⊤) before after)
 
--- files stay; or with status 0, 2 or 4 the output's holds a good output or the text of the input's; or with
+-- the output's file holds a good folding of the input's, and every other file is as before
+abbrev pub HoldsFold : List ℕ → List ℕ → Outside → Outside → Type 0
+HoldsFold input output before after =
+    ForFiles before (λ files. (folded : List ℕ) × GoodFold (content_of files input) folded × (after.files ≡ Some (with_file output (Some folded) files)))
+
+-- files stay; or with status 0, 2 or 4 the output's holds a good output, the text or a good folding of the input's; or with
 -- status 2 it is not known, where its storing failed; or of `prove` what its stores leave
 abbrev pub StayOrHold : List (List ℕ) → ℕ → Outside → Outside → Type 0
 StayOrHold words status before after =
@@ -85,6 +93,8 @@ StayOrHold words status before after =
     × (HoldsText input output before after ⊎ ((status ≡ 2) × Rose (Storing output) before after × LosesFile output before after)))
     ⊎ ((status ≢ 1) × (status ≢ 3) × (input : List ℕ) × (output : List ℕ) × (cert : List ℕ) × (form_of words ≡ Some (ProveForm input output cert))
     × HoldProof input output cert status before after)
+    ⊎ ((status ≢ 1) × (status ≢ 3) × (input : List ℕ) × (output : List ℕ) × (form_of words ≡ Some (FoldForm input output))
+    × (HoldsFold input output before after ⊎ ((status ≡ 2) × Rose (Storing output) before after × LosesFile output before after)))
 
 -- what was printed of a packing: the line with status 0, or a prefix of it where printing failed
 abbrev pub PrintsSizes : List (List ℕ) → ℕ → Outside → Outside → Type 0
@@ -146,8 +156,14 @@ PrintsNames words status before after =
     (input : List ℕ) × (cert : List ℕ) × (form_of words ≡ Some (NamesForm input cert)) × (lines : List ℕ) × TellsNames input cert lines before
     × (((status ≡ 0) × Prints lines before after) ⊎ ((status ≡ 2) × Rose Printing before after × PrintsPrefix lines before after))
 
+-- what was printed of a folding: the line with status 0, or a prefix of it where printing failed
+abbrev pub PrintsFolded : List (List ℕ) → ℕ → Outside → Outside → Type 0
+PrintsFolded words status before after =
+    (input : List ℕ) × (output : List ℕ) × (form_of words ≡ Some (FoldForm input output)) × (folded : FoldedFile) × FoldsFile input folded before
+    × (((status ≡ 0) × Prints (folded_text folded) before after) ⊎ ((status ≡ 2) × Rose Printing before after × PrintsPrefix (folded_text folded) before after))
+
 -- nothing was printed, but with status 0, 5 or 6; or what a packing, a run, a watch, a text, a comparison, a report, a trial, a
--- proof, a proved packing or functions print
+-- proof, a proved packing, functions or a folding print
 abbrev pub PrintsAsSaid : List (List ℕ) → ℕ → Outside → Outside → Type 0
 PrintsAsSaid words status before after =
     ((status ≢ 0) × (status ≢ 5) × (status ≢ 6) × KeepsPrinted before after)
@@ -161,6 +177,7 @@ PrintsAsSaid words status before after =
     ⊎ PrintsProof words status before after
     ⊎ PrintsProvedSizes words status before after
     ⊎ PrintsNames words status before after
+    ⊎ PrintsFolded words status before after
 
 -- status 2 has its cause, and its line names it
 abbrev pub HasFault : List ℕ → List ℕ → Outside → Outside → Type 0

@@ -1,7 +1,7 @@
 -- The statuses and the complaints of endings.
 use Rattle.std.specs.Prelude.{◌≡◌, ℕ, ◌≤◌, ◌⊎◌, List, ◌++◌, codes, decimal, Option, Some, None}
 use Rattle.sq_num.specs.RefusalTexts.{refusal_text}
-use Rattle.sq_command.specs.Commands.{Form, PackForm, RunForm, WatchForm, HexForm, HexcheckForm, SizeForm, TrialForm, CheckForm, ProveForm, NamesForm}
+use Rattle.sq_command.specs.Commands.{Form, PackForm, RunForm, WatchForm, HexForm, HexcheckForm, SizeForm, TrialForm, CheckForm, ProveForm, NamesForm, FoldForm}
 use Rattle.sq_top.specs.declared.ending.Ending.{Ending}
 use Rattle.sq_top.specs.declared.ending.Ending.TheVariants.{Done, Words, Desk, Refused, Memory, Break, Limit, BadStart, Differs}
 use Rattle.sq_top.specs.declared.ending.DeskCall.{DeskCall}
@@ -48,3 +48,4 @@ IsStatusOf (Some (TrialForm first blocks)) status = (status ≡ 0) ⊎ (status �
 IsStatusOf (Some (CheckForm input output cert)) status = (status ≤ 4) ⊎ (status ≡ 8)
 IsStatusOf (Some (ProveForm input output cert)) status = status ≤ 4
 IsStatusOf (Some (NamesForm input cert)) status = (status ≤ 4) ⊎ (status ≡ 8)
+IsStatusOf (Some (FoldForm input output)) status = status ≤ 4

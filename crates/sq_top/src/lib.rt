@@ -12,6 +12,8 @@ mod check_command;
 mod complaint;
 mod delivery;
 mod ending;
+mod fold_command;
+mod folding;
 mod hex_command;
 mod hexcheck_command;
 mod laws;
@@ -31,6 +33,7 @@ mod trial_command;
 mod watch_command;
 
 pub use certifying::{ProvedPacking, prove_bytes};
+pub use folding::{FoldedFile, fold_bytes};
 pub use laws::{not_refused_is_accepted, written_files_read_back};
 pub use packing::pack_bytes;
 pub use proving::check_files;

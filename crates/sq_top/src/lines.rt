@@ -2,9 +2,11 @@
 
 ghost use Rattle.std.specs.Prelude.{◌≡◌, ◌+◌, ◌≤◌, ◌++◌, length, decimal};
 ghost use Rattle.sq_top.specs.Packing.{packed_text, sizes_text};
+ghost use Rattle.sq_top.specs.Folding.{folded_text};
 ghost use Rattle.sq_top.specs.Hexing.{hex_line};
 ghost use Rattle.sq_top.specs.CertEndings.{proved_line};
 
+use crate::folding::FoldedFile;
 use sq_hex::line_count;
 use sq_num::{Line, Packed};
 
@@ -18,6 +20,19 @@ pub fn packed_line(packed: &Packed) -> Line
         packed.text_after,
         packed.loaded_before,
         packed.loaded_after,
+    )
+}
+
+/// The line that tells the sizes of a folding.
+#[tactic(auto, unfolding(crate::specs::Folding::folded_text))]
+pub fn folded_line(folded: &FoldedFile) -> Line
+    ensures { result ≡ folded_text folded.now }
+{
+    sizes_line(
+        folded.text_before,
+        folded.text_after,
+        folded.loaded_before,
+        folded.loaded_after,
     )
 }
 

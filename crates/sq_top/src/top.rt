@@ -18,14 +18,15 @@ ghost use Rattle.sq_top.specs.TrialPromises.{ForTrial, IsTrialDone, HasTrialFaul
 ghost use Rattle.sq_top.specs.CertPromises.{ForCheck, IsCertDone, HasNoProof, HasCertFault, HasCertRefusal, CertifiesExactly, IsCertComplete};
 ghost use Rattle.sq_top.specs.ProvePromises.{ForProve, IsProveDone, HasProveFault, IsProveComplete};
 ghost use Rattle.sq_top.specs.NamesPromises.{ForNames, IsNamesDone, HasStepFault, HasNamesFault, HasNamesRefusal, NamesExactly, IsNamesComplete};
+ghost use Rattle.sq_top.specs.FoldPromises.{ForFold, IsFoldDone};
 ghost use Rattle.sq_top.specs.RunEndings.{PrintsRun};
 ghost use Rattle.sq_top.specs.RunPromises.{ForRun, HasRunFault, HasRunRefusal, IsBadRun, RunsExactly, IsRunComplete};
 
 use crate::complaint::complain;
 use crate::ending::Ending;
 use crate::{
-    check_command, hex_command, hexcheck_command, names_command, pack_command, prove_command,
-    run_command, size_command, trial_command, watch_command,
+    check_command, fold_command, hex_command, hexcheck_command, names_command, pack_command,
+    prove_command, run_command, size_command, trial_command, watch_command,
 };
 use sq_command::{Command, command_of};
 use sq_desk::Desk;
@@ -43,7 +44,8 @@ use std::alloc::Global;
 /// packs the result, stores nothing, and prints how many bytes of text each has;
 /// `check IN OUT CERT` prints `proved N` where the N steps of CERT lead from IN to OUT; `prove IN OUT CERT` loads IN, packs
 /// it, stores OUT, stores CERT, which proves OUT of IN, and prints the sizes; `names IN CERT` prints where each function of IN
-/// goes by the steps of CERT.
+/// goes by the steps of CERT; `fold IN OUT` loads IN, packs it and folds equal functions in turn, stores OUT, and prints the
+/// sizes.
 pub fn squeeze<D: Desk>(alloc: Global, desk: &mut D, words: &WordList) -> u8
     // Status 0: the headline.
     ensures done { ForPack words.now (λ input output. result ≡ 0 → IsDone input output (D.outside desk.old) (D.outside desk.new)) }
@@ -130,6 +132,13 @@ pub fn squeeze<D: Desk>(alloc: Global, desk: &mut D, words: &WordList) -> u8
     ensures names_complete { ForNames words.now (λ input cert. IsNamesComplete input cert result (D.outside desk.old) (D.outside desk.new)) }
     ensures names_files { ForNames words.now (λ _ _. KeepsFiles (D.outside desk.old) (D.outside desk.new)) }
 
+    // `fold`: with 0 the headline, and folding OUT again saves no word; each other status has its cause, as of `pack`.
+    ensures fold_done { ForFold words.now (λ input output. result ≡ 0 → IsFoldDone input output (D.outside desk.old) (D.outside desk.new)) }
+    ensures fold_fault { ForFold words.now (λ input output. result ≡ 2 → HasFault input output (D.outside desk.old) (D.outside desk.new)) }
+    ensures fold_refused { ForFold words.now (λ input _. result ≡ 3 → HasRefusal input (D.outside desk.old) (D.outside desk.new)) }
+    ensures fold_exact { ForFold words.now (λ input _. RefusesExactly input result (D.outside desk.old) (D.outside desk.new)) }
+    ensures fold_complete { ForFold words.now (λ input output. IsComplete input output result (D.outside desk.old) (D.outside desk.new)) }
+
     // Words without a form, and statuses.
     ensures words { (result ≡ 1) ↔ (form_of words.now ≡ None) }
     ensures sound { ((place : Place) → (D.outside desk.new).faults place ≡ 0) → result ≢ 2 }
@@ -186,5 +195,6 @@ fn run<D: Desk>(alloc: Global, desk: &mut D, words: &WordList) -> Ending
             },
         ) => prove_command::prove(alloc, desk, input, output, cert),
         Some(Command::Names { input, cert }) => names_command::names(alloc, desk, input, cert),
+        Some(Command::Fold { input, output }) => fold_command::fold(alloc, desk, input, output),
     }
 }

@@ -1,5 +1,5 @@
 -- the words of each form
-use Rattle.sq_command.proofs.Forms.{pack_is, run_is, watch_is, hex_is, hexcheck_is, size_is, trial_is, check_is, prove_is, names_is}
+use Rattle.sq_command.proofs.Forms.{pack_is, run_is, watch_is, hex_is, hexcheck_is, size_is, trial_is, check_is, prove_is, names_is, fold_is}
 use Rattle.sq_command.proofs.command.command_of.Goals as goal
 
 pub returns-clause-pack : goal.returns-clause-pack
@@ -31,3 +31,6 @@ returns-clause-prove c = prove_is c.args.words.now
 
 pub returns-clause-names : goal.returns-clause-names
 returns-clause-names c = names_is c.args.words.now
+
+pub returns-clause-fold : goal.returns-clause-fold
+returns-clause-fold c = fold_is c.args.words.now

@@ -2,7 +2,7 @@
 use Rattle.std.proofs.Common.{◌≡◌, None, sym, ap, ◌∙◌}
 use Rattle.std.specs.Option.{option_map}
 use Rattle.sq_command.specs.Commands.{form}
-use Rattle.sq_command.proofs.Forms.{at_none, at_pack, at_run, at_watch, at_hex, at_hexcheck, at_size, at_trial, at_check, at_prove, at_names, at_other}
+use Rattle.sq_command.proofs.Forms.{at_none, at_pack, at_run, at_watch, at_hex, at_hexcheck, at_size, at_trial, at_check, at_prove, at_names, at_fold, at_other}
 use Rattle.sq_command.proofs.command.named_command.Goals as goal
 
 pub returns-in_err-verb : goal.returns-in_err-verb
@@ -50,6 +50,10 @@ pub returns-then-eq-10 : goal.returns-then-eq-10
 returns-then-eq-10 c =
     c.names_words.ensures ∙ sym (at_names c.args.words.now c.in_ok-verb.verb.now (sym c.in_ok-verb.ensures) (sym c.if-eq.ensures) (sym c.if-eq-2.ensures) (sym c.if-eq-3.ensures) (sym c.if-eq-4.ensures) (sym c.if-eq-5.ensures) (sym c.if-eq-6.ensures) (sym c.if-eq-7.ensures) (sym c.if-eq-8.ensures) (sym c.if-eq-9.ensures) (sym c.if-eq-10.ensures))
 
-pub returns-else-eq-10 : goal.returns-else-eq-10
-returns-else-eq-10 c =
-    sym (at_other c.args.words.now c.in_ok-verb.verb.now (sym c.in_ok-verb.ensures) (sym c.if-eq.ensures) (sym c.if-eq-2.ensures) (sym c.if-eq-3.ensures) (sym c.if-eq-4.ensures) (sym c.if-eq-5.ensures) (sym c.if-eq-6.ensures) (sym c.if-eq-7.ensures) (sym c.if-eq-8.ensures) (sym c.if-eq-9.ensures) (sym c.if-eq-10.ensures))
+pub returns-then-eq-11 : goal.returns-then-eq-11
+returns-then-eq-11 c =
+    c.fold_words.ensures ∙ sym (at_fold c.args.words.now c.in_ok-verb.verb.now (sym c.in_ok-verb.ensures) (sym c.if-eq.ensures) (sym c.if-eq-2.ensures) (sym c.if-eq-3.ensures) (sym c.if-eq-4.ensures) (sym c.if-eq-5.ensures) (sym c.if-eq-6.ensures) (sym c.if-eq-7.ensures) (sym c.if-eq-8.ensures) (sym c.if-eq-9.ensures) (sym c.if-eq-10.ensures) (sym c.if-eq-11.ensures))
+
+pub returns-else-eq-11 : goal.returns-else-eq-11
+returns-else-eq-11 c =
+    sym (at_other c.args.words.now c.in_ok-verb.verb.now (sym c.in_ok-verb.ensures) (sym c.if-eq.ensures) (sym c.if-eq-2.ensures) (sym c.if-eq-3.ensures) (sym c.if-eq-4.ensures) (sym c.if-eq-5.ensures) (sym c.if-eq-6.ensures) (sym c.if-eq-7.ensures) (sym c.if-eq-8.ensures) (sym c.if-eq-9.ensures) (sym c.if-eq-10.ensures) (sym c.if-eq-11.ensures))

@@ -46,4 +46,4 @@ returns-clause-packed c =
     c.packed_of-packed.ensures.savings c.packed_of-packed.ensures.balance))
 
 pub returns-clause-exact : goal.returns-clause-exact
-returns-clause-exact c = λ refusal refused. absurd (not_refused c.args.bytes.now (returns-clause-packed c).packs.good.accepted refusal refused)
+returns-clause-exact c = λ refusal refused. absurd (not_refused c.args.bytes.now (returns-clause-packed c).packs.good.made.accepted refusal refused)

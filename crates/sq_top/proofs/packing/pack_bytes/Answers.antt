@@ -45,10 +45,10 @@ pub returns-clause-good : goal.returns-clause-good
 returns-clause-good c = (returns-clause-packed c).good
 
 pub returns-clause-settled : goal.returns-clause-settled
-returns-clause-settled c = (returns-clause-packed c).good.settled
+returns-clause-settled c = (returns-clause-packed c).good.made.settled
 
 pub returns-clause-again : goal.returns-clause-again
 returns-clause-again c = (returns-clause-packed c).good.again
 
 pub returns-clause-exact : goal.returns-clause-exact
-returns-clause-exact c = λ refusal refused. absurd (not_refused c.args.bytes.now (returns-clause-packed c).good.accepted refusal refused)
+returns-clause-exact c = λ refusal refused. absurd (not_refused c.args.bytes.now (returns-clause-packed c).good.made.accepted refusal refused)

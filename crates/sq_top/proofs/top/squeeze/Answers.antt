@@ -22,6 +22,8 @@ use Rattle.sq_top.specs.ProvePromises.{ForProve, IsProveComplete}
 use Rattle.sq_top.proofs.ProvePromised.{prove_done_promised, prove_fault_promised, prove_refused_promised, prove_exact_promised, prove_complete_promised}
 use Rattle.sq_top.specs.NamesPromises.{ForNames, NamesExactly, IsNamesComplete}
 use Rattle.sq_top.proofs.NamesPromised.{names_done_promised, names_differs_promised, names_fault_promised, names_refused_promised, names_exact_promised, names_complete_promised, names_files_promised}
+use Rattle.sq_top.specs.FoldPromises.{ForFold}
+use Rattle.sq_top.proofs.FoldPromised.{fold_done_promised, fold_fault_promised, fold_refused_promised, fold_exact_promised, fold_complete_promised}
 use Rattle.sq_top.proofs.top.squeeze.Goals as goal
 
 pub returns-clause-done : goal.returns-clause-done
@@ -325,6 +327,32 @@ returns-clause-names_complete g c =
 
 pub returns-clause-names_files : goal.returns-clause-names_files
 returns-clause-names_files g c = names_files_promised c.args.words.now c.run_and_complain-ending.result _ _ c.run_and_complain-ending.ensures
+
+pub returns-clause-fold_done : goal.returns-clause-fold_done
+returns-clause-fold_done g c = λ input output form status.
+    fold_done_promised c.args.words.now c.run_and_complain-ending.result _ _ c.run_and_complain-ending.ensures input output form (sym c.status.ensures ∙ status)
+
+pub returns-clause-fold_fault : goal.returns-clause-fold_fault
+returns-clause-fold_fault g c = λ input output form status.
+    fold_fault_promised c.args.words.now c.run_and_complain-ending.result _ _ c.run_and_complain-ending.ensures input output form (sym c.status.ensures ∙ status)
+
+pub returns-clause-fold_refused : goal.returns-clause-fold_refused
+returns-clause-fold_refused g c = λ input output form status.
+    fold_refused_promised c.args.words.now c.run_and_complain-ending.result _ _ c.run_and_complain-ending.ensures input output form (sym c.status.ensures ∙ status)
+
+pub returns-clause-fold_exact : goal.returns-clause-fold_exact
+returns-clause-fold_exact g c =
+    let before : Outside = g.D.Desk.outside c.args.desk.now in
+    let after : Outside = g.D.Desk.outside c.run_and_complain-ending.new.desk in
+    let P : ℕ → Type 0 = λ status. ForFold c.args.words.now (λ input _. RefusesExactly input status before after) in
+    subst P (sym c.status.ensures) (fold_exact_promised c.args.words.now c.run_and_complain-ending.result before after c.run_and_complain-ending.ensures)
+
+pub returns-clause-fold_complete : goal.returns-clause-fold_complete
+returns-clause-fold_complete g c =
+    let before : Outside = g.D.Desk.outside c.args.desk.now in
+    let after : Outside = g.D.Desk.outside c.run_and_complain-ending.new.desk in
+    let P : ℕ → Type 0 = λ status. ForFold c.args.words.now (λ input output. IsComplete input output status before after) in
+    subst P (sym c.status.ensures) (fold_complete_promised c.args.words.now c.run_and_complain-ending.result before after c.run_and_complain-ending.ensures)
 
 pub returns-clause-words : goal.returns-clause-words
 returns-clause-words g c =
