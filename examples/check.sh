@@ -67,6 +67,9 @@ printf 'squeeze certificate 1\nend\n' > cert
 check 0 "proved 0" "" check smallest smallest cert
 check 0 "text 820 -> 668, loaded 1044 -> 892" "" prove meter proved proof
 check 0 "proved 14" "" check meter proved proof
+check 0 "text 820 -> 668, loaded 1044 -> 892" "" fold meter folded
+check 0 "text 668 -> 668, loaded 892 -> 892" "" pack folded again
+holds again folded
 check 8 "" "no 0" check meter meter proof
 check 0 "" "" names smallest cert
 check 8 "" "no 1" names smallest empty
@@ -82,6 +85,7 @@ check 1 "" "words" pack smallest
 check 1 "" "words" names smallest
 check 1 "" "words" pack smallest out more
 check 1 "" "words" prove smallest out out
+check 1 "" "words" fold smallest
 check 1 "" "words" size smallest out
 check 1 "" "words" trial 0 4001
 check 1 "" "words" check smallest smallest
@@ -97,6 +101,7 @@ check 2 "" "desk load" size missing
 check 2 "" "desk load" check smallest smallest missing
 check 2 "" "desk load" pack "$(printf 'n%.0s' $(seq 1 5000))" out
 check 2 "" "desk store" pack smallest missing/out
+check 2 "" "desk store" fold smallest missing/out
 check 2 "" "desk store" pack smallest .
 check 2 "" "desk load" run smallest missing $machine
 

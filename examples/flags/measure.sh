@@ -4,9 +4,9 @@
 #     examples/flags/measure.sh SQUEEZE [FOLDER]
 #
 # Builds newlib, bzip2 and Lua from Debian's sources in FOLDER, for each line of flags below, links each program twice, with
-# and without relaxation, packs the second one, runs it before and after, and prints the bytes of text. Needs Debian's packages
-# gcc-riscv64-unknown-elf, newlib-source and dpkg-dev, and a line of type deb-src among apt's sources. Takes some minutes a
-# line; what is built already stays.
+# and without relaxation, packs the second one, runs it before and after, and prints the bytes of text: by gcc, and by clang with
+# gcc's library. Needs Debian's packages gcc-riscv64-unknown-elf, clang, lld, newlib-source and dpkg-dev, and a line of type
+# deb-src among apt's sources. Takes some minutes a line; what is built already stays.
 set -eu
 squeeze=$(realpath "$1")
 here=$(dirname "$(realpath "$0")")
@@ -79,6 +79,35 @@ measure() {
     printf '| %s | %s | %s | %s | %s |\n' "$program" "$flags" "$(text "$name.relaxed.elf")" "$(text "$name.elf")" "$packed"
 }
 
+# clang's objects in the folder, by these flags, of the sources that are left. By way of assembler text: in one step, clang
+# leaves out relocations of calls within a section
+compile_by_clang() {
+    folder=$1 by=$2
+    shift 2
+    rm -rf "$folder"
+    mkdir "$folder"
+    for source in "$here/calls.c" "$@"; do
+        object=$folder/$(basename "$source" .c)
+        clang $clang_machine $by -w -isystem lib-small/include -S -o "$object.s" "$source"
+        clang $clang_machine -w -c -o "$object.o" "$object.s"
+    done
+    for called in "$here/start.S" "$here/../lib/memory.c" "$here/../lib/division.c"; do
+        $target-gcc $machine -Os -ffreestanding -c -o "$folder/called-$(basename "$called").o" "$called"
+    done
+}
+
+# measures a program by clang: NAME LINE FLAGS FURTHER, then sources; FURTHER isn't printed
+measure_by_clang() {
+    program=$1 name=$1-clang-$2 flags=$3 further=$4
+    shift 4
+    library="--start-group lib-small/libc.a lib-small/libm.a $($target-gcc $machine -print-libgcc-file-name) --end-group"
+    compile_by_clang "$name" "$flags $further" "$@"
+    $target-ld -m elf32lriscv --gc-sections --build-id=none -o "$name.relaxed.elf" "$name"/*.o $library
+    ld.lld --gc-sections --build-id=none --emit-relocs --no-relax -o "$name.elf" "$name"/*.o $library
+    packed=$("$squeeze" pack "$name.elf" "$name.packed.elf" | sed -n 's/text [0-9]* -> \([0-9]*\),.*/\1/p')
+    printf '| %s | clang %s | %s | %s | %s |\n' "$program" "$flags" "$(text "$name.relaxed.elf")" "$(text "$name.elf")" "$packed"
+}
+
 bzip2='bzip2-1.0.8/blocksort.c bzip2-1.0.8/huffman.c bzip2-1.0.8/crctable.c bzip2-1.0.8/randtable.c bzip2-1.0.8/compress.c bzip2-1.0.8/decompress.c bzip2-1.0.8/bzlib.c bzip2-1.0.8/bzip2.c'
 lua=$(ls lua-5.4.4/src/l*.c | grep -v '/luac\.c')
 
@@ -99,3 +128,14 @@ both save "$save" "$save"
 both save "$save" "$save -flto"
 both shapes "$save $shapes" "$save $shapes"
 both shapes "$save $shapes" "$save $shapes -flto"
+
+clang_machine='--target=riscv32-unknown-elf -march=rv32im -mabi=ilp32 -mcmodel=small -ffunction-sections -fdata-sections'
+# the same by clang: the line's name and flags
+both_by_clang() {
+    measure_by_clang bzip2 "$1" "$2" -Ibzip2-1.0.8 $bzip2
+    runs_as_before "bzip2-clang-$1" "$here/calls.c" bzip2 -1 -c
+    measure_by_clang lua "$1" "$2" '-Dluai_makeseed(state)=0 -Ilua-5.4.4/src' $lua
+    runs_as_before "lua-clang-$1" program.lua lua -
+}
+both_by_clang small -Os
+both_by_clang smallest -Oz
