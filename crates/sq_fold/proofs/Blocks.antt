@@ -1,9 +1,8 @@
 -- The coarsest stable partition of the places of a graph gives that of its blocks.
-use Rattle.std.proofs.Common.{◌≡◌, ◌↔◌, ℕ, zero, suc, ◌+◌, ◌<◌, ◌≤◌, Bool, true, false, true≢false, List, [], ◌∷◌, ◌++◌, map, append_assoc, length, length-append, drop, Option, None, Some, IsSome, option_to_list, slice_get, inl, inr, refl, sym, ap, ◌∙◌, subst, arith}
+use Rattle.std.proofs.Common.{◌≡◌, ◌↔◌, ℕ, zero, suc, ◌+◌, ◌<◌, ◌≤◌, Bool, true, false, List, [], ◌∷◌, ◌++◌, map, append_assoc, length, drop, Option, None, Some, IsSome, option_to_list, slice_get, refl, sym, ap, ◌∙◌, subst, arith}
 use Rattle.std.specs.Option.{option_map, option_and_then, option_flatten}
-use Rattle.std.proofs.lemmas.Bool.{cases_lt}
 use Rattle.std.proofs.lemmas.List.{map-append}
-use Rattle.std.proofs.lemmas.Option.{slice_get-map, slice_get-get_or, slice_get_past, slice_get_within}
+use Rattle.std.proofs.lemmas.Option.{slice_get-map, slice_get_past, slice_get_within}
 use Rattle.sq_graph.specs.declared.item.Item.{Item}
 use Rattle.sq_graph.specs.declared.item.Term.{Term}
 use Rattle.sq_graph.specs.Blocks.{HasBlock, block_of, block_term, items_of, term_of, next_of}
@@ -22,7 +21,7 @@ use Rattle.sq_finger.proofs.Telling.{numbers_of_keys}
 use Rattle.sq_fold.specs.declared.rounds.Node.{Node}
 use Rattle.sq_fold.specs.Index.{IsIndex}
 use Rattle.sq_fold.specs.Labels.{bare, bare_at}
-use Rattle.sq_fold.specs.Nodes.{item_name, term_name, slot_of, At, start_of, starts_of, term_leads, leads_on, leads_by, leads_at, node_of, AreNodes, class_by}
+use Rattle.sq_fold.specs.Nodes.{item_name, slot_of, At, start_of, starts_of, term_leads, leads_on, leads_by, leads_at, node_of, AreNodes, class_by}
 use Rattle.sq_fold.specs.Partition.{bare_item, bare_term, target_references, next_references, references_of, shape_of, IsStablePartition, IsCoarsestPartition}
 use Rattle.sq_fold.specs.Stable.{seen_by, view, IsStable, IsCoarsest}
 use Rattle.sq_fold.proofs.Growing.{value}

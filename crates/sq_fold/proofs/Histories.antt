@@ -1,6 +1,5 @@
 -- The rounds so far, and what tells two places apart after one of them.
-use Rattle.std.proofs.Common.{◌≡◌, ℕ, zero, suc, ◌+◌, ◌<◌, ◌≤◌, List, [], ◌∷◌, ◌++◌, length, length-append, Option, Some, None, slice_get, refl, sym, ap, ◌∙◌, subst, arith}
-use Rattle.sq_finger.specs.Numbers.{member_at}
+use Rattle.std.proofs.Common.{◌≡◌, ℕ, suc, ◌+◌, List, [], ◌∷◌, ◌++◌, Option, sym, ap, ◌∙◌, subst}
 use Rattle.sq_fold.specs.declared.rounds.Node.{Node}
 use Rattle.sq_fold.specs.Stable.{after, rounds_to, IsFinerBy, AreAllRounds}
 use Rattle.sq_fold.proofs.Refining.{Rounds, rounds_first, rounds_next}

@@ -1,5 +1,5 @@
 -- Where places lead, as the code looks it up; and the nodes of the first places of a line.
-use Rattle.std.proofs.Common.{◌≡◌, ℕ, zero, suc, ◌+◌, ◌<◌, ◌≤◌, true, false, inl, inr, List, [], ◌∷◌, ◌++◌, length, length-append, get_or, ◌^◌, nat_lt, Option, None, Some, slice_get, refl, sym, ap, ◌∙◌, subst, arith}
+use Rattle.std.proofs.Common.{◌≡◌, ℕ, ◌+◌, ◌<◌, ◌≤◌, true, false, inl, inr, List, [], ◌∷◌, ◌++◌, length, length-append, get_or, ◌^◌, nat_lt, Option, None, Some, slice_get, refl, sym, ap, ◌∙◌, arith}
 use Rattle.std.specs.Option.{option_and_then, option_flatten}
 use Rattle.std.proofs.lemmas.Bool.{cases_lt}
 use Rattle.std.proofs.lemmas.Bool.Decides.{nat_tests}
@@ -13,7 +13,7 @@ use Rattle.sq_finger.specs.Numbers.{member_at}
 use Rattle.sq_finger.proofs.Layouts.{items_within}
 use Rattle.sq_finger.proofs.Telling.{get_front}
 use Rattle.sq_fold.specs.declared.rounds.Node.{Node}
-use Rattle.sq_fold.specs.Nodes.{At, slot_of, starts_of, start_of, term_leads, leads_on, leads_by, leads_at, item_name, node_of, AreNodes}
+use Rattle.sq_fold.specs.Nodes.{At, slot_of, start_of, term_leads, leads_on, leads_by, leads_at, item_name, node_of, AreNodes}
 
 some_same : {X : Type 0} {x y : X} → Some x ≡ Some y → x ≡ y
 some_same e = cc

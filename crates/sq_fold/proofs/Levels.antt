@@ -1,15 +1,14 @@
 -- Two blocks that are parted after a round were parted there by their shapes, or one round earlier by a reference.
 use Rattle.std.proofs.Common.{◌≡◌, ◌≢◌, ℕ, zero, suc, ◌+◌, ◌<◌, ◌≤◌, inl, inr, List, [], ◌∷◌, ◌++◌, map, length, length-append, append-nil, append_assoc, ◌-◌, Bool, true, false, drop, Option, None, Some, IsSome, slice_get, refl, sym, ap, ◌∙◌, subst, arith}
-use Rattle.std.specs.Option.{option_map, option_and_then, option_flatten}
+use Rattle.std.specs.Option.{option_map, option_and_then}
 use Rattle.std.proofs.lemmas.Bool.{cases_lt}
 use Rattle.std.proofs.lemmas.List.{length-map, map-append}
-use Rattle.std.proofs.lemmas.Option.{slice_get-map, slice_get_past, slice_get_within}
+use Rattle.std.proofs.lemmas.Option.{slice_get_past, slice_get_within}
 use Rattle.sq_graph.specs.declared.item.Item.{Item}
 use Rattle.sq_graph.specs.Blocks.{HasBlock, items_of, term_of}
 use Rattle.sq_graph.specs.Graph.{Graph}
 use Rattle.sq_graph.specs.Rules.{IsGraph}
 use Rattle.sq_graph.specs.Uses.{item_uses, items_uses}
-use Rattle.sq_finger.specs.declared.places.WindowAt.{WindowAt}
 use Rattle.sq_finger.specs.Lines.{line_of}
 use Rattle.sq_finger.specs.Numbers.{member_at}
 use Rattle.sq_finger.proofs.Telling.{get_front}
@@ -17,9 +16,9 @@ use Rattle.sq_fold.specs.declared.rounds.Node.{Node}
 use Rattle.sq_fold.specs.Labels.{bare, bare_at}
 use Rattle.sq_fold.specs.Nodes.{item_name, At, start_of, starts_of, leads_on, leads_by, leads_at, class_by}
 use Rattle.sq_fold.specs.Partition.{bare_item, bare_term, references_of, shape_of, IsCoarsestPartition}
-use Rattle.sq_fold.specs.Stable.{seen_by, view, after, rounds_to}
-use Rattle.sq_fold.specs.Walks.{RefersTo, ReferAlike, IsSurveyed, ArePartedAt, Parts, TellsApart, differs, goes, AreOfOneClass}
-use Rattle.sq_fold.proofs.Blocks.{drop_here, drop_end, term_references, number, same_label, seen, node, pick, refer_terms, terms_refer, items_refer, item_names_there, one_value, coarsest_blocks}
+use Rattle.sq_fold.specs.Stable.{view, after, rounds_to}
+use Rattle.sq_fold.specs.Walks.{ReferAlike, IsSurveyed, ArePartedAt, Parts, TellsApart, differs, goes, AreOfOneClass}
+use Rattle.sq_fold.proofs.Blocks.{drop_here, drop_end, term_references, number, same_label, seen, pick, refer_terms, terms_refer, items_refer, item_names_there, one_value, coarsest_blocks}
 use Rattle.sq_fold.proofs.Growing.{value}
 use Rattle.sq_fold.proofs.Places.{place}
 use Rattle.sq_fold.proofs.Referred.{has_one, IsThere, references_known}

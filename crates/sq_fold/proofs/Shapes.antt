@@ -1,5 +1,5 @@
 -- Shapes of blocks, by the keys of their items and terms.
-use Rattle.std.proofs.Common.{◌≡◌, ◌↔◌, ℕ, ◌<◌, Bool, true, false, true≢false, List, [], ◌∷◌, map, Option, None, Some, IsTrue, refl, sym, ap, ◌∙◌, subst, arith}
+use Rattle.std.proofs.Common.{◌≡◌, ◌↔◌, ℕ, Bool, true, List, [], ◌∷◌, map, Some, refl, sym, ap, ◌∙◌}
 use Rattle.std.specs.List.{All}
 use Rattle.std.specs.Option.{option_map}
 use Rattle.std.proofs.lemmas.List.Elements.{All-head, All-tail}
@@ -19,7 +19,7 @@ use Rattle.sq_finger.specs.ItemKeys.{key_of}
 use Rattle.sq_finger.specs.TermKeys.{term_key_of}
 use Rattle.sq_finger.proofs.Exactness.{exact_item_key, exact_term_key}
 use Rattle.sq_finger.proofs.Keying.{one_item, one_term}
-use Rattle.sq_fold.specs.Partition.{bare_item, bare_term, shape_of}
+use Rattle.sq_fold.specs.Partition.{bare_item, bare_term}
 use Rattle.sq_fold.proofs.Bareness.{bare_fits}
 
 some_same : {X : Type 0} {x y : X} → Some x ≡ Some y → x ≡ y

@@ -4,7 +4,6 @@ use mathlib.Core.Path.{fun_ext}
 use Rattle.std.specs.List.{All}
 use Rattle.std.proofs.lemmas.List.{length-map}
 use Rattle.std.proofs.lemmas.Bool.{cases_Bool}
-use Rattle.std.proofs.lemmas.List.Elements.{All-head, All-tail, All-weaker}
 use Rattle.sq_arena.specs.Arena.{Arena as Listed}
 use Rattle.sq_arena.specs.Entries.{HasDistinctKeys, value_of, ContainsKey, first_key}
 use Rattle.sq_graph.specs.declared.item.Item.{Item}
@@ -22,7 +21,6 @@ use Rattle.sq_graph.specs.Bypasses.{passed, all_bypassed}
 use Rattle.sq_graph.specs.Cursor.{ahead_of, rest_from, retargeted_slots, slot_uses, renumbered, length_of_slots}
 use Rattle.sq_graph.specs.CanonicalSlots.{aimed, start_of, full_slots, marked, joined_slots}
 use Rattle.sq_graph.specs.Layout.{graph_of, spare_of, IsSound}
-use Rattle.sq_graph.proofs.Eachs.{All-left, All-right}
 use Rattle.sq_graph.proofs.Sizes.{sizes, same_room}
 use Rattle.sq_graph.proofs.CursorLaws.{from_first}
 use Rattle.sq_graph.proofs.SlotReads.{has_slot}
@@ -32,7 +30,8 @@ use Rattle.sq_graph.proofs.MapWrites.{bodies_from-mapped, items_of_bodies-mapped
 use Rattle.sq_graph.proofs.BlockRemoval.{length-renumbered}
 use Rattle.sq_graph.proofs.Numbering.{renumbered_from_first}
 use Rattle.sq_graph.proofs.Marks.{marked_more}
-use Rattle.sq_graph.proofs.SlotPasses.{start_of-retargeted, contains-retargeted}
+use Rattle.sq_graph.proofs.SlotPasses.{start_of-retargeted}
+use Rattle.sq_graph.proofs.Aiming as aiming
 use Rattle.sq_graph.proofs.BlockPasses.{starts_passed, keys-aimed, keys-retargeted, slot_uses-aimed, marked_blocks, full_slots-blocks, keys-marked_blocks, marked-blocks, slot_uses-marked, slot_uses-blocks, length_of_slots-blocks, renumbered-blocks, joined_slots-blocks, used_joins}
 use Rattle.sq_graph.proofs.CanonicalLaws.{all_bypassed_is_graph, all_bypassed_items, all_items-joined, joined_is_graph, canonical_is_joined, canonical_length}
 
@@ -50,45 +49,24 @@ module _ (old : Inside) (sound : IsSound old) where
   pub distinct_aimed : HasDistinctKeys (aimed old.slots.entries)
   distinct_aimed = rw (keys-aimed old.slots.entries) (distinct_slots old sound)
 
-  all_used : All (ContainsKey (aimed old.slots.entries)) (uses (graph_of old))
-  all_used = All-weaker (HasBlock (graph_of old)) (ContainsKey (aimed old.slots.entries)) there (uses (graph_of old)) sound.rules.named_all
-
-  more_used : All (ContainsKey (aimed old.slots.entries)) (code_word_uses old.code_words.items ++ (terms_uses (graph_of old).blocks ++ items_uses (all_items (graph_of old))))
-  more_used = All-tail (ContainsKey (aimed old.slots.entries)) (graph_of old).entry (code_word_uses old.code_words.items ++ (terms_uses (graph_of old).blocks ++ items_uses (all_items (graph_of old)))) all_used
+  same_uses : slot_uses (aimed old.slots.entries) ≡ terms_uses (graph_of old).blocks
+  same_uses = ap (λ es. slot_uses (aimed es)) sound.holds.slots ∙ slot_uses-aimed 0 (graph_of old).blocks
 
   pub terms_known : All (ContainsKey (aimed old.slots.entries)) (slot_uses (aimed old.slots.entries))
-  terms_known =
-      let P = ContainsKey (aimed old.slots.entries) in
-      let g = graph_of old in
-      let same : slot_uses (aimed old.slots.entries) ≡ terms_uses g.blocks = ap (λ es. slot_uses (aimed es)) sound.holds.slots ∙ slot_uses-aimed 0 g.blocks in
-      subst (λ us. All P us) (sym same)
-      (All-left P (terms_uses g.blocks) (items_uses (all_items g)) (All-right P (code_word_uses old.code_words.items) (terms_uses g.blocks ++ items_uses (all_items g)) more_used))
+  terms_known = aiming.terms_known old sound (aimed old.slots.entries) there same_uses
 
   -- and after the terms go there
   abbrev pub passed_slots : List (ℕ × Slot)
   passed_slots = retargeted_slots (start_of (aimed old.slots.entries)) (aimed old.slots.entries)
 
-  still_there : (name : ℕ) → ContainsKey (aimed old.slots.entries) name → ContainsKey passed_slots name
-  still_there = contains-retargeted (start_of (aimed old.slots.entries)) [] (aimed old.slots.entries)
-
   pub items_known : All (ContainsKey passed_slots) (items_uses old.items.items)
-  items_known =
-      let P = ContainsKey (aimed old.slots.entries) in
-      let g = graph_of old in
-      subst (λ (is : List Item). All (ContainsKey passed_slots) (items_uses is)) (sym sound.holds.items)
-      (All-weaker P (ContainsKey passed_slots) still_there (items_uses (all_items g))
-      (All-right P (terms_uses g.blocks) (items_uses (all_items g)) (All-right P (code_word_uses old.code_words.items) (terms_uses g.blocks ++ items_uses (all_items g)) more_used)))
+  items_known = aiming.items_known old sound (aimed old.slots.entries) there same_uses
 
   pub words_known : All (ContainsKey passed_slots) (code_word_uses old.code_words.items)
-  words_known =
-      let g = graph_of old in
-      All-weaker (ContainsKey (aimed old.slots.entries)) (ContainsKey passed_slots) still_there (code_word_uses old.code_words.items)
-      (All-left (ContainsKey (aimed old.slots.entries)) (code_word_uses old.code_words.items) (terms_uses g.blocks ++ items_uses (all_items g)) more_used)
+  words_known = aiming.words_known old sound (aimed old.slots.entries) there same_uses
 
   pub entry_known : ContainsKey passed_slots old.entry
-  entry_known =
-      still_there old.entry
-      (All-head (ContainsKey (aimed old.slots.entries)) old.entry (code_word_uses old.code_words.items ++ (terms_uses (graph_of old).blocks ++ items_uses (all_items (graph_of old)))) all_used)
+  entry_known = aiming.entry_known old sound (aimed old.slots.entries) there same_uses
 
   pub distinct_passed : HasDistinctKeys passed_slots
   distinct_passed = rw (keys-retargeted (start_of (aimed old.slots.entries)) (aimed old.slots.entries)) distinct_aimed

@@ -10,12 +10,14 @@ pub mod CursorLaws
 pub mod BackWalks
 pub mod Marks
 pub mod SlotPasses
+pub mod Aiming
 pub mod BlockPasses
 pub mod CanonicalShows
 pub mod RulesByBlock
 pub mod Fitting
 pub mod OperationRules
 pub mod SlotWalks
+pub mod Restarting
 pub mod Changes
 pub mod BlockWrites
 pub mod MapWrites
@@ -35,6 +37,7 @@ pub mod Numbering
 pub mod Exchanged
 pub mod RunMoves
 pub mod MoveShows
+pub mod RedirectShows
 pub mod LinkReads
 pub mod Bypassing
 pub mod Joining

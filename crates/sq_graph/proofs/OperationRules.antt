@@ -15,7 +15,7 @@ use Rattle.sq_graph.specs.Blocks.{named, HasBlock, HasProcedure, next_of, items_
 use Rattle.sq_graph.specs.Terms.{goes_on}
 use Rattle.sq_graph.specs.Uses.{term_uses, code_word_uses, item_calls, uses, calls}
 use Rattle.sq_graph.specs.Rules.{IsGraph, TermFits, ProcedureFits, last_goes_on, mentions}
-use Rattle.sq_graph.specs.Renames.{retargeted_block, recalled, recalled_item, recalled_items, recalled_block, recalled_procedure, swapped, lowered}
+use Rattle.sq_graph.specs.Renames.{retargeted_block, retargeted, recalled, recalled_item, recalled_items, recalled_block, recalled_procedure, swapped, lowered}
 use Rattle.sq_graph.specs.Operations.{IsNew, with_blocks, changed, with_term, redirected, replaced_items, replaced, called_at, called_body, inlined, outlined, inserted_after, without_block, redirected_calls, without_procedure, moved_after}
 use Rattle.sq_graph.proofs.Located.{IsAt, located, named-append}
 use Rattle.sq_graph.proofs.SlotReads.{block_at}
@@ -175,24 +175,27 @@ inserted_after_rules g new name t rules fresh has fits names goes =
         named-append front (b ∷ added ∷ back) ∙ sym (append_assoc (named front) ((b.name, b) ∷ []) ((new, added) ∷ named back)) in
         rw same inserted
 
--- the new name is a block's
-pub redirected_rules : (g : Graph) (from to : ℕ) → IsGraph g → HasBlock g to → IsGraph (redirected g from to)
-redirected_rules g from to rules has =
-    other_rules (swapped from to) (λ b. b.name) g rules
-    (distinct_by_keys (map (retargeted_block (swapped from to)) g.blocks) g.blocks (keys-retargeted_blocks (swapped from to) g.blocks) rules.distinct)
-    (λ k there. has_other g.blocks (swapped from to k) (goes k there))
+-- each name that is a block's becomes one that is a block's
+pub retargeted_rules : (f : ℕ → ℕ) (g : Graph) → IsGraph g → ((k : ℕ) → HasBlock g k → HasBlock g (f k)) → IsGraph (retargeted f g)
+retargeted_rules f g rules goes =
+    other_rules f (λ b. b.name) g rules
+    (distinct_by_keys (map (retargeted_block f) g.blocks) g.blocks (keys-retargeted_blocks g.blocks) rules.distinct)
+    (λ k there. has_other g.blocks (f k) (goes k there))
   where
-    has_other : (bs : List Block) (k : ℕ) → IsSome (value_of (named bs) k) → IsSome (value_of (named (map (retargeted_block (swapped from to)) bs)) k)
+    has_other : (bs : List Block) (k : ℕ) → IsSome (value_of (named bs) k) → IsSome (value_of (named (map (retargeted_block f) bs)) k)
     has_other [] k there = there
     has_other (b ∷ bs) k there =
         elim (cases_Bool (b.name == k)) [ inl here ↦ rw here refl | inr apart ↦ rw apart (has_other bs k (rw apart at there)) ]
 
+    keys-retargeted_blocks : (bs : List Block) → keys (named (map (retargeted_block f) bs)) ≡ keys (named bs)
+    keys-retargeted_blocks [] = refl
+    keys-retargeted_blocks (b ∷ bs) = ap (λ ks. b.name ∷ ks) (keys-retargeted_blocks bs)
+
+pub redirected_rules : (g : Graph) (from to : ℕ) → IsGraph g → HasBlock g to → IsGraph (redirected g from to)
+redirected_rules g from to rules has = retargeted_rules (swapped from to) g rules goes
+  where
     goes : (k : ℕ) → HasBlock g k → HasBlock g (swapped from to k)
     goes k there = elim (cases_Bool (k == from)) [ inl here ↦ rw here has | inr apart ↦ rw apart there ]
-
-    keys-retargeted_blocks : (f : ℕ → ℕ) (bs : List Block) → keys (named (map (retargeted_block f) bs)) ≡ keys (named bs)
-    keys-retargeted_blocks f [] = refl
-    keys-retargeted_blocks f (b ∷ bs) = ap (λ ks. b.name ∷ ks) (keys-retargeted_blocks f bs)
 
 swapped_away : (from to k : ℕ) → to ≢ from → swapped from to k ≢ from
 swapped_away from to k apart =

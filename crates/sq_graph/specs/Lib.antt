@@ -23,6 +23,8 @@ pub mod Slotted
 pub mod PartSlots
 pub mod Pieces
 pub mod Packed
+pub mod Redirected
+pub mod Aims
 pub mod Lines
 pub mod Walks
 pub mod Matches

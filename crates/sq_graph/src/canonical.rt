@@ -97,7 +97,7 @@ fn aim(slots: &mut Arena<Slot>)
 }
 
 // Makes each use of a name in a term one of the name that it goes to.
-fn retarget_terms(slots: &mut Arena<Slot>)
+pub(crate) fn retarget_terms(slots: &mut Arena<Slot>)
     requires distinct { HasDistinctKeys slots.old.entries }
     requires known { All (ContainsKey slots.old.entries) (slot_uses slots.old.entries) }
     ensures entries { slots.new.entries ≡ retargeted_slots (start_of slots.old.entries) slots.old.entries }

@@ -17,6 +17,7 @@ mod moves;
 mod naming;
 mod parts;
 mod pieces;
+mod redirect;
 mod rename;
 mod slot;
 mod slots;

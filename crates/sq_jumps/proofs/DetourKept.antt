@@ -7,7 +7,7 @@ use Rattle.sq_graph.specs.declared.item.Term.{Term}
 use Rattle.sq_graph.specs.declared.item.Term.TheVariants.{Branch, PartJump, Fall, Jump, Call, Indirect, Stop}
 use Rattle.sq_graph.specs.Graph.{Graph, Block}
 use Rattle.sq_graph.specs.Blocks.{named, items_of_blocks, items_of_bodies}
-use Rattle.sq_graph.specs.Operations.{redirected, with_blocks}
+use Rattle.sq_graph.specs.Operations.{with_blocks, without_block}
 use Rattle.sq_graph.specs.Rules.{IsGraph, last_goes_on}
 use Rattle.sq_graph.specs.Terms.{goes_on}
 use Rattle.sq_graph.specs.Uses.{uses, term_uses, items_uses, terms_uses, code_word_uses}
@@ -75,6 +75,10 @@ without-other f (b ∷ bs) n =
       | inl here ↦ rw here refl
       | inr apart ↦ rw apart (ap (λ cs. retargeted_block f b ∷ cs) (without-other f bs n))
     ]
+
+-- a block goes before its uses go, or after
+pub without-retargeted : (f : ℕ → ℕ) (g : Graph) (n : ℕ) → without_block (retargeted f g) n ≡ retargeted f (without_block g n)
+without-retargeted f g n = λ i. record (retargeted f g) { blocks = without-other f g.blocks n i }
 
 fall_goes_on : (t : Term) → is_fall t ≡ true → goes_on t ≡ true
 fall_goes_on Fall e = refl
@@ -246,7 +250,7 @@ module _ (g : Graph) (block to : ℕ) (rules : IsGraph g) (leads : IsDetourTo g 
 
   moved : without_jump g block to ≡ retargeted (swapped block to) (record g { blocks = spot.front ++ spot.back })
   moved =
-      (λ i. record (redirected g block to) { blocks = without-other (swapped block to) g.blocks block i })
+      without-retargeted (swapped block to) g block
       ∙ ap (λ bs. retargeted (swapped block to) (record g { blocks = bs })) gone
 
   -- a name is used still, but for the block's own

@@ -1,7 +1,7 @@
 -- Detours of which none leads to another don't disturb one another.
 use Rattle.std.proofs.Common.{Result, Ok, Err, ◌≡◌, ◌≢◌, ◌⊎◌, ℕ, ◌==◌, Bool, true, false, ◌||◌, if◌then◌else◌, nat_eq, List, [], ◌∷◌, ◌++◌, map, length, Option, None, Some, is_some, inl, inr, refl, sym, ap, ◌∙◌, subst}
 use Rattle.std.specs.Prelude.{option_map, OnOk}
-use Rattle.std.proofs.lemmas.Bool.{cases_Bool, eqb-true, eq-eqb, ne_eqb, or_left, or_right}
+use Rattle.std.proofs.lemmas.Bool.{cases_Bool, eqb-true, eqb-false, eq-eqb, ne_eqb, or_left, or_right}
 use Rattle.std.proofs.lemmas.List.{length-map}
 use Rattle.sq_arena.specs.Entries.{first_key, next_key}
 use Rattle.sq_num.specs.declared.memory.Memory.{Memory}
@@ -26,7 +26,7 @@ use Rattle.sq_jumps.specs.Detour.{without_detour, IsDetour, GoTogether, GoesToo,
 use Rattle.sq_lookup.specs.Addresses.{address_of}
 use Rattle.sq_jumps.specs.Surveys.{ReachesBy, ReachesWithout}
 use Rattle.sq_layout.proofs.Standing.{block_of-without, block_of-retargeted}
-use Rattle.sq_lookup.proofs.Targets.{has_term, jump_there}
+use Rattle.sq_lookup.proofs.Targets.{has_term, jump_there, lone, lone_term}
 use Rattle.sq_jumps.proofs.DetourApplied.{detour_made, detour_shrinks, detour_redirected, detour_rules}
 use Rattle.sq_jumps.proofs.Blocks.{retargeted_before, gone_block, goes_on-retargeted, next-redirected}
 use Rattle.sq_jumps.proofs.Distances.{detour_near}
@@ -154,19 +154,31 @@ module _ (g : Graph) (gone : ℕ) (rules : IsGraph g) (d : IsDetour g gone) wher
 
 -- DETOURS THAT GO TOGETHER
 
+-- a name in a list, by the test of tables
+pub among_listed : (xs : List ℕ) (n : ℕ) → is_among xs n ≡ is_listed xs n
+among_listed [] n = refl
+among_listed (x ∷ xs) n =
+    elim (cases_Bool (x == n)) [
+      | inl here ↦ rw (here, eq-eqb n x (sym (eqb-true x n here))) refl
+      | inr apart ↦ rw (apart, ne_eqb n x (λ same. eqb-false x n apart (sym same))) (among_listed xs n)
+    ]
+
+pub listed_among : (xs : List ℕ) (n : ℕ) → is_listed xs n ≡ true → is_among xs n ≡ true
+listed_among xs n e = among_listed xs n ∙ e
+
 pub here_listed : (n : ℕ) (rest : List ℕ) → is_listed (n ∷ rest) n ≡ true
 here_listed n rest = or_left (nat_eq n n) (is_listed rest n) (eq-eqb n n refl)
 
-none_of_two : (a b : Bool) → (a || b) ≡ false → (a ≡ false) × (b ≡ false)
+pub none_of_two : (a b : Bool) → (a || b) ≡ false → (a ≡ false) × (b ≡ false)
 none_of_two true b e = absurd (cc)
 none_of_two false b e = (refl, e)
 
 -- once the first went, the others go together still
 module _ (g : Graph) (gone : ℕ) (rest : List ℕ) (rules : IsGraph g) (t : GoTogether g (gone ∷ rest)) where
-  first : IsDetour g gone
+  pub first : IsDetour g gone
   first = t.detours gone (here_listed gone rest)
 
-  aside : is_listed (gone ∷ rest) first.to ≡ false
+  pub aside : is_listed (gone ∷ rest) first.to ≡ false
   aside = t.apart gone first.to (here_listed gone rest) first.leads.jump
 
   module _ (n : ℕ) (listed : is_listed rest n ≡ true) where
@@ -191,6 +203,11 @@ module _ (g : Graph) (gone : ℕ) (rest : List ℕ) (rules : IsGraph g) (t : GoT
     still : IsDetour (without_jump g gone first.to) n
     still = detour_still g gone rules first n not_gone detour not_to no_target
 
+    pub term_still : term_of (without_jump g gone first.to) n ≡ term_of g n
+    term_still =
+        let h = without_jump g gone first.to in
+        lone_term h n detour.to (lone h n detour.to (jump g gone rules first n not_gone detour not_to no_target)) ∙ sym (lone_term g n detour.to (lone g n detour.to detour.leads.jump))
+
     used_still : is_among (uses (without_jump g gone first.to)) n ≡ true
     used_still = name_used g gone first.to rules first.leads n (ne_eqb n gone not_gone) (t.are_named gone (here_listed gone rest)) (t.are_named n too)
 
@@ -205,15 +222,6 @@ module _ (g : Graph) (gone : ℕ) (rest : List ℕ) (rules : IsGraph g) (t : GoT
       (record { detours = still; are_named = used_still; apart = λ n to listed. apart_still n listed to; once = t.once.1 })
 
 -- WHICH BLOCKS ARE CHOSEN
-
--- a name in a list, by the test of tables
-pub listed_among : (xs : List ℕ) (n : ℕ) → is_listed xs n ≡ true → is_among xs n ≡ true
-listed_among [] n e = absurd (cc)
-listed_among (x ∷ xs) n e =
-    elim (or_cases (nat_eq n x) (is_listed xs n) e) [
-      | inl here ↦ or_left (x == n) (is_among xs n) (eq-eqb x n (sym (eqb-true n x here)))
-      | inr later ↦ or_right (x == n) (is_among xs n) (listed_among xs n later)
-    ]
 
 alone_is : (block n : ℕ) → is_listed (block ∷ []) n ≡ true → n ≡ block
 alone_is block n e = elim (or_cases (nat_eq n block) (is_listed [] n) e) [ inl here ↦ eqb-true n block here | inr none ↦ absurd (cc) ]

@@ -15,6 +15,7 @@ pub mod DetourApplied
 pub mod DetourTests
 pub mod DetourKept
 pub mod DetoursApart
+pub mod DetoursGo
 pub mod InvertApplied
 pub mod InvertTests
 pub mod InvertKept

@@ -111,32 +111,31 @@ fn detours_together(alloc: Global, graph: &Graph) -> Result<Vec<u32>, Memory>
     Ok(chosen.blocks)
 }
 
-/// Gives the names of each of these blocks to its target, by row J2. That leaves the graph canonical, and the others go
-/// together still.
+/// Rewrites the graph by row J2 at each of these blocks: they give their names to their targets by one pass over the
+/// graph, and then all go.
 fn remove_detours(graph: &mut Graph, blocks: &[u32], savings: Savings) -> Savings
     requires canonical { IsCanonical graph.old.graph }
     requires detours { GoTogether graph.old.graph blocks.now }
     requires words { words_of graph.old.graph + words_saved savings ≤ most_words }
     ensures { IsRewritten IsCandidate described savings result graph.old.graph graph.new.graph }
 {
+    graph.learn();
+    graph.redirect_each(blocks);
+    for block in blocks {
+        graph.remove(*block);
+    }
     let done = Rewrite {
         row: Row::J2,
-        saving: 1,
+        saving: blocks.len() as u32,
     };
-    let mut after = savings;
-    for block in blocks {
-        graph.learn();
-        remove_detour(graph, *block);
-        after = done.count(after);
-    }
-    after
+    done.count(savings)
 }
 
 /// So many rounds leave nothing of a chain of detours, however long: in each a third of them goes.
 const ROUNDS: u32 = 32;
 
 /// Rewrites the graph by candidates of row J2 in rounds. Each surveys the graph once, chooses detours that go together, and
-/// gives the names of each to its target, for which it looks at all uses of names.
+/// gives the names of all of them to their targets by one look at each use of a name.
 pub(crate) fn sweep_detours(
     alloc: Global,
     graph: &mut Graph,

@@ -1,18 +1,16 @@
 -- A file has at most one refusal, and one lifted graph but for the names of blocks.
-use Rattle.std.proofs.Common.{◌≡◌, ℕ, ◌+◌, ◌<◌, Bool, List, Some, None, sym, ap, ◌∙◌, subst}
-use Rattle.std.specs.List.{AllByRecursion}
+use Rattle.std.proofs.Common.{◌≡◌, ℕ, ◌+◌, Bool, List, Some, None, sym, ap, ◌∙◌, subst}
 use Rattle.sq_num.specs.declared.refusal.Refusal.{Refusal}
 use Rattle.sq_num.specs.declared.refusal.Refusal.TheVariants.{BadNote}
 use Rattle.sq_graph.specs.Alike.{AreAlike}
-use Rattle.sq_graph.specs.Graph.{Graph}
 use Rattle.sq_graph.specs.Rules.{IsGraph}
 use Rattle.sq_graph.proofs.Slotting.{one_slotted}
 use Rattle.sq_program.specs.Programs.{Program}
 use Rattle.sq_program.specs.Lifted.{lifted}
-use Rattle.sq_program.specs.FilePrograms.{IsReadAs, IsLiftRefusal, IsRefusalOf}
+use Rattle.sq_program.specs.FilePrograms.{IsReadAs, IsLiftRefusal}
 use Rattle.sq_program.specs.FilePrograms.IsLiftRefusal.{early, alive}
 use Rattle.sq_program.specs.FilePrograms.IsRefusalOf.{by_file, by_relocs, by_lift}
-use Rattle.sq_lifted.specs.LiftedFiles.{IsLiftedFile, LiftedGraphsAreOne, RefusalsAreOne}
+use Rattle.sq_lifted.specs.LiftedFiles.{LiftedGraphsAreOne, RefusalsAreOne}
 use Rattle.sq_lifted.proofs.Alive.{one_first}
 use Rattle.sq_lifted.proofs.EarlyGraphs.{rules}
 use Rattle.sq_lifted.proofs.LiftedFiles.{same_lifted, early_same, first_same}

@@ -47,7 +47,7 @@ use Rattle.sq_program.specs.Reached.{target_from}
 use Rattle.sq_program.specs.Readings.{Reading, IsItem, IsTerm, Links, ebreak_word, upper_item, plain_reading, upper_reading, lower_reading, marked_reading, reading_of, jal_reading}
 use Rattle.sq_program.specs.Lifted.{Form, ItemForm, TermForm, link_form, form_of, procedure_at}
 use Rattle.sq_program.specs.Monitored as monitored
-use Rattle.sq_program.specs.Monitored.{Watched, Watches, half_of, upper_value, at_address, jumped, branched, finished, jalr_jump, insn_step, marked_step, word_step, monitored_step}
+use Rattle.sq_program.specs.Monitored.{Watched, Watches, half_of, upper_value, at_address, jumped, branched, finished, insn_step, marked_step, word_step, monitored_step}
 use Rattle.sq_lifting.specs.Lifting.{MarkFits}
 use Rattle.sq_lifting.proofs.Lifts.{HasName, form_line, onward, IsAt, GoodLine, SlotIf, IsNamed, IsTarget, ProcedureReads, IsDoor, Lifts, lift_end, lift_name, lift_line, Place, out, within, NeverLost, Same, IsLiftOf}
 use Rattle.sq_lifting.proofs.LiftedRows.{T, s, s', SameStep, SameOperands, SameStores, plain_row_lift, upper_text, upper_outside, addi_text, addi_outside, load_outside, store_outside, in_text_upper, outside_upper, upper_is, halves_add}

@@ -51,7 +51,7 @@ use Rattle.sq_program.specs.Programs.{Word, Text, Program, word_at, is_in_text, 
 use Rattle.sq_program.specs.Reached.{target_from, jump_target, half_target, insn_goes_on, Decides, entry}
 use Rattle.sq_program.specs.Faults.{text_refusal}
 use Rattle.sq_program.specs.Monitored as monitored
-use Rattle.sq_program.specs.Monitored.{Watched, Watches, half_of, upper_value, at_address, jumped, branched, finished, jalr_jump, monitored_step}
+use Rattle.sq_program.specs.Monitored.{Watched, Watches, half_of, upper_value, at_address, jumped, branched, finished, monitored_step}
 use Rattle.sq_program.specs.FileRuns.{watched_start}
 use Rattle.sq_lifting.specs.Lifting.{MarkFits, IsLinked}
 use Rattle.sq_lifting.specs.Watching.{own_names, IsPlainStart, WatchingErases, IsErasureOf, ErasureLaw}

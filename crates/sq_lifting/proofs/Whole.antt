@@ -26,7 +26,7 @@ use Rattle.sq_program.specs.Notes.{used_notes, is_in_procedure, is_in_procedures
 use Rattle.sq_program.specs.Lifted.{procedure_of, code_ref, lifted}
 use Rattle.sq_program.specs.FilePrograms.{LinkDies}
 use Rattle.sq_program.specs.Monitored as monitored
-use Rattle.sq_program.specs.Monitored.{Watched, monitored_step}
+use Rattle.sq_program.specs.Monitored.{monitored_step}
 use Rattle.sq_program.specs.FileRuns.{watched_start}
 use Rattle.sq_lifting.specs.Lifting.{IsLinked, IsReadable, NotesDie, IsFine, IsWorldOf, LiftingKeepsRuns}
 use Rattle.sq_lifting.proofs.Lifts.{ties, IsNamed, NeverLost}

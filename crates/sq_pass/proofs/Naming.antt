@@ -1,5 +1,5 @@
 -- Blocks that keep their names.
-use Rattle.std.proofs.Common.{◌≡◌, ℕ, ◌+◌, ◌==◌, if◌then◌else◌, List, [], ◌∷◌, map, Option, Some, refl, sym, ap, ◌∙◌}
+use Rattle.std.proofs.Common.{◌≡◌, ℕ, ◌+◌, ◌==◌, if◌then◌else◌, List, [], ◌∷◌, map, Some, refl, sym}
 use Rattle.sq_graph.specs.Blocks.{HasBlock}
 use Rattle.sq_graph.specs.Graph.{Block, Graph}
 use Rattle.sq_graph.specs.Renames.{renamed_block, renamed}

@@ -1,5 +1,5 @@
 -- What is read off small programs, by computing it.
-use Rattle.std.specs.Prelude.{◌≡◌, ℕ, pos, Bool, false, ◌||◌, ◌==◌, nat_le, nat_lt, ◌&&◌, List, [], ◌∷◌, Some, None, refl}
+use Rattle.std.specs.Prelude.{◌≡◌, ℕ, pos, Bool, ◌||◌, nat_le, nat_lt, ◌&&◌, List, [], ◌∷◌, Some, None, refl}
 use Rattle.sq_num.specs.declared.refusal.Refusal.TheVariants.{UnsupportedInstruction, FallsOffText, UnrelocatedAuipc, RelocDisagrees, BadTarget}
 use Rattle.sq_isa.specs.Table.{insn_of}
 use Rattle.sq_isa.specs.declared.instructions.Insn.TheVariants.{OpImm, Ecall, Load, Lui}
@@ -11,8 +11,7 @@ use Rattle.sq_reloc.specs.declared.mark.CodeWord.{CodeWord}
 use Rattle.sq_graph.specs.declared.item.Item.{Item}
 use Rattle.sq_graph.specs.declared.item.Item.TheVariants.{Op, Hi, Lo, Out}
 use Rattle.sq_graph.specs.declared.item.Term.TheVariants.{Fall, Jump, Indirect}
-use Rattle.sq_graph.specs.Graph.{Graph}
-use Rattle.sq_program.specs.Programs.{Word, Text, Note, Program}
+use Rattle.sq_program.specs.Programs.{Word, Note, Program}
 use Rattle.sq_program.specs.Faults.{text_refusal}
 use Rattle.sq_program.specs.Notes.{bad_note}
 use Rattle.sq_program.specs.Lifted.{lifted}

@@ -1,14 +1,14 @@
 -- From the tables of pairs to bodies that match.
-use Rattle.std.proofs.Common.{◌≡◌, ◌≢◌, ◌<◌, ◌↔◌, ℕ, ◌⊎◌, inl, inr, ⊎_elim, Bool, true, false, List, Option, Some, None, length, slice_get, refl, sym, ap, ◌∙◌, subst, arith}
+use Rattle.std.proofs.Common.{◌≡◌, ◌≢◌, ◌<◌, ◌↔◌, ℕ, ◌⊎◌, inl, inr, ⊎_elim, Bool, true, false, List, Option, Some, None, length, slice_get, refl, sym, ◌∙◌, subst, arith}
 use Rattle.std.specs.Prelude.{MatchOption}
 use Rattle.std.proofs.lemmas.Option.{slice_get_within, get_or_from_slice_get}
 use Rattle.sq_isa.specs.Registers.{is_member}
 use Rattle.sq_graph.specs.declared.item.Item.{Item}
 use Rattle.sq_graph.specs.Graph.{Procedure}
-use Rattle.sq_graph.specs.Matches.{IsPair, IsWrittenFirst, Match}
+use Rattle.sq_graph.specs.Matches.{IsPair}
 use Rattle.sq_rename.specs.declared.pairs.Pairs.{Pairs}
-use Rattle.sq_rename.specs.Pairs.{GoWith, GoBack, AreTables, IsOneToOne, PairOrZero, ArePairs, HavePairs, MayChange, AllMayChange}
-use Rattle.sq_rename.specs.Renamings.{IsPermutation, IsRenaming}
+use Rattle.sq_rename.specs.Pairs.{GoWith, AreTables, PairOrZero, ArePairs, HavePairs, MayChange, AllMayChange}
+use Rattle.sq_rename.specs.Renamings.{IsPermutation}
 use Rattle.sq_rename.specs.Bodies.{IsBodyMatch, IsMatchBy, MayLive}
 
 one : (x y : ℕ) (a : Option (Option ℕ)) → a ≡ Some (Some x) → a ≡ Some (Some y) → x ≡ y

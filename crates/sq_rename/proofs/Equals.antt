@@ -1,5 +1,5 @@
 -- What `==` tells of instructions and items: whether they are equal.
-use Rattle.std.proofs.Common.{◌≡◌, ℕ, ℤ, Bool, true, false, ◌&&◌, nat_eq, rules, refl, ap, subst}
+use Rattle.std.proofs.Common.{◌≡◌, ℤ, true, false, ◌&&◌, nat_eq, rules, refl, ap, subst}
 use Rattle.std.specs.Ordering.{int_eq}
 use Rattle.std.proofs.lemmas.Bool.{and_parts, eqb-true}
 use Rattle.std.proofs.lemmas.Bool.Decides.{Decides-int_eq}

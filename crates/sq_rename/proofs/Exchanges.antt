@@ -1,5 +1,5 @@
 -- A list that another undoes is a permutation.
-use Rattle.std.proofs.Common.{◌≡◌, ℕ, List, slice_index, sym, ap, ◌∙◌}
+use Rattle.std.proofs.Common.{ℕ, List, slice_index, sym, ap, ◌∙◌}
 use Rattle.sq_rename.specs.Renamings.{IsPermutation}
 use Rattle.sq_rename.specs.Inverses.{AreInverse}
 

@@ -1,5 +1,5 @@
 -- Shapes and forms.
-use Rattle.std.proofs.Common.{◌≡◌, ℕ, zero, suc, List, [], ◌∷◌, map, get_or, slice_index, replicate, refl, sym, ap, ◌∙◌, subst}
+use Rattle.std.proofs.Common.{◌≡◌, ℕ, zero, suc, List, [], ◌∷◌, map, get_or, slice_index, replicate, refl, sym, ap, ◌∙◌}
 use Rattle.sq_isa.specs.Forms.{renamed, form_of, first_of, second_of, with_registers}
 use Rattle.sq_isa.specs.Uses.{destination_of}
 use Rattle.sq_isa.specs.declared.instructions.Insn.{Insn}

@@ -1,14 +1,13 @@
 -- How pairs of registers come into the two tables.
-use Rattle.std.proofs.Common.{◌+◌, ◌≤◌, ◌++◌, drop, get_or, replicate, nat_eq, ◌≡◌, ◌≢◌, ◌<◌, ℕ, zero, suc, ◌⊎◌, inl, inr, ⊎_elim, Bool, true, false, ◌==◌, List, [], ◌∷◌, Option, Some, None, length, slice_get, slice_set, refl, sym, ap, ◌∙◌, subst, arith, eq-eqb}
-use Rattle.std.specs.Prelude.{MatchBool}
-use Rattle.std.proofs.lemmas.Bool.{cases_eq, eqb-true, eqb-false}
-use Rattle.std.proofs.lemmas.List.{length-set, length-replicate, drop_more, drop_all}
-use Rattle.std.proofs.lemmas.Option.{slice_get_read, slice_get_within}
+use Rattle.std.proofs.Common.{◌+◌, ◌≤◌, ◌++◌, drop, get_or, replicate, ◌≡◌, ◌≢◌, ◌<◌, ℕ, zero, suc, ◌⊎◌, inl, inr, ⊎_elim, Bool, true, false, List, [], ◌∷◌, Option, Some, None, length, slice_get, slice_set, refl, sym, ap, ◌∙◌, subst, arith}
+use Rattle.std.proofs.lemmas.Bool.{cases_eq}
+use Rattle.std.proofs.lemmas.List.{length-set, drop_more, drop_all}
+use Rattle.std.proofs.lemmas.Option.{slice_get_read}
 use Rattle.std.specs.List.{flat_map}
 use Rattle.sq_graph.specs.declared.item.Item.{Item}
 use Rattle.sq_graph.specs.Matches.{IsPairIn, item_registers}
 use Rattle.sq_rename.specs.declared.pairs.Pairs.{Pairs}
-use Rattle.sq_rename.specs.Pairs.{GoWith, GoBack, AreTables, IsOneToOne, Joined, IsJoining, Nothing, Joins, padded}
+use Rattle.sq_rename.specs.Pairs.{GoWith, AreTables, IsOneToOne, Joined, IsJoining, Nothing, Joins, padded}
 
 abbrev Table : Type 0
 Table = List (Option ℕ)

@@ -1,5 +1,5 @@
 -- The registers of items of equal forms, and the pairs of two bodies.
-use Rattle.std.proofs.Common.{◌≡◌, ◌≢◌, ◌<◌, ◌≤◌, ◌+◌, ◌%◌, ℕ, zero, suc, ◌⊎◌, inl, inr, ⊎_elim, Bool, true, false, List, [], ◌∷◌, Option, Some, None, length, drop, slice_get, refl, sym, ap, ◌∙◌, subst, arith}
+use Rattle.std.proofs.Common.{◌≡◌, ◌≢◌, ◌<◌, ◌≤◌, ◌+◌, ◌%◌, ℕ, suc, ◌⊎◌, inl, inr, ⊎_elim, Bool, true, List, [], ◌∷◌, Option, Some, None, length, drop, slice_get, refl, sym, ap, ◌∙◌, subst, arith}
 use Rattle.std.specs.List.{flat_map}
 use Rattle.std.proofs.lemmas.Bool.{cases_eq}
 use Rattle.std.proofs.lemmas.List.{drop_all}
@@ -14,8 +14,8 @@ use Rattle.sq_graph.specs.Graph.{Procedure, Graph}
 use Rattle.sq_graph.specs.Blocks.{procedure_link, procedure_body, link_of, body_of}
 use Rattle.sq_graph.specs.Matches.{item_registers, procedure_registers, registers_of, IsSameForm, AreSameForms, IsPairIn, IsPair}
 use Rattle.sq_rename.specs.declared.pairs.Pairs.{Pairs}
-use Rattle.sq_rename.specs.Pairs.{GoWith, AreTables, IsOneToOne, Joined, IsJoining, Nothing, Joins, PairOrZero, ArePairs, HavePairs, MayChange, AllMayChange, padded}
-use Rattle.sq_rename.proofs.Joining.{join_start, join_end, join_fail, joins_padded, zero_with}
+use Rattle.sq_rename.specs.Pairs.{GoWith, AreTables, IsOneToOne, Joined, IsJoining, Joins, PairOrZero, ArePairs, MayChange, AllMayChange, padded}
+use Rattle.sq_rename.proofs.Joining.{join_start, join_end, joins_padded, zero_with}
 
 pub registers_few : (item : Item) → length (item_registers item) ≤ 5
 registers_few (Op (Lui rd u)) = omega arith

@@ -1,5 +1,5 @@
 -- Registers that go with each other, as two tables have them. No public clause cites this module.
-use Rattle.std.specs.Prelude.{◌≡◌, ◌≢◌, ◌↔◌, ℕ, zero, suc, Bool, true, false, ◌⊎◌, List, [], ◌∷◌, Some, slice_get, length, MatchBool}
+use Rattle.std.specs.Prelude.{◌≡◌, ◌≢◌, ℕ, zero, suc, Bool, true, ◌⊎◌, List, [], ◌∷◌, Some, slice_get, length, MatchBool}
 use Rattle.sq_isa.specs.Registers.{is_member}
 use Rattle.sq_graph.specs.declared.item.Item.{Item}
 use Rattle.sq_graph.specs.Graph.{Procedure}

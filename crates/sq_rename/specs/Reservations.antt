@@ -1,12 +1,11 @@
 -- Load-reserved and store-conditional, which RISC-V asks to stand close to each other, with few instructions between.
 use Rattle.std.specs.Prelude.{◌≡◌, Bool, true, false, List}
 use Rattle.std.specs.List.{All}
-use Rattle.sq_isa.specs.declared.instructions.Insn.{Insn}
-use Rattle.sq_isa.specs.declared.instructions.Insn.TheVariants.{Lui, Auipc, Jal, Jalr, Branch, Load, Store, OpImm, Op as OpInsn, Fence, Ecall, Ebreak, Unimp, Atomic}
+use Rattle.sq_isa.specs.declared.instructions.Insn.TheVariants.{Atomic}
 use Rattle.sq_isa.specs.declared.instructions.AtomicOp.{AtomicOp}
 use Rattle.sq_isa.specs.declared.instructions.AtomicOp.TheVariants.{Lr, Sc}
 use Rattle.sq_graph.specs.declared.item.Item.{Item}
-use Rattle.sq_graph.specs.declared.item.Item.TheVariants.{Op, Hi, Lo, Out}
+use Rattle.sq_graph.specs.declared.item.Item.TheVariants.{Op}
 
 abbrev pub reserves : AtomicOp → Bool
 reserves Lr = true

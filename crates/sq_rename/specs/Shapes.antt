@@ -1,5 +1,5 @@
 -- The shape of an item: the item with x0 for each of its registers. An ECALL's registers are fixed, and an Out has none.
-use Rattle.std.specs.Prelude.{◌≡◌, ◌↔◌, ℕ, List, map}
+use Rattle.std.specs.Prelude.{◌≡◌, ◌↔◌, List, map}
 use Rattle.sq_isa.specs.Forms.{form_of}
 use Rattle.sq_graph.specs.declared.item.Item.{Item}
 use Rattle.sq_graph.specs.declared.item.Item.TheVariants.{Op, Hi, Lo, Out}

@@ -1,22 +1,21 @@
 -- What is found and admitted is a candidate, and what a candidate makes of a graph keeps what a pass promises.
-use Rattle.std.proofs.Common.{◌≡◌, ◌≢◌, ◌⊎◌, ℕ, ◌+◌, ◌-◌, ◌≤◌, List, [], ◌∷◌, Some, length, drop, inl, inr, refl, sym, ap, ◌∙◌, subst, arith}
+use Rattle.std.proofs.Common.{◌≡◌, ◌≢◌, ℕ, ◌+◌, ◌-◌, ◌≤◌, [], ◌∷◌, length, drop, inl, inr, refl, sym, ap, ◌∙◌, subst, arith}
 use Rattle.sq_graph.specs.Graph.{Graph}
-use Rattle.sq_graph.specs.Blocks.{HasBlock, items_of}
+use Rattle.sq_graph.specs.Blocks.{items_of}
 use Rattle.sq_graph.specs.Rules.{IsGraph}
 use Rattle.sq_graph.specs.Words.{words_of}
 use Rattle.sq_pass.specs.Applied.{IsApplied}
 use Rattle.sq_pass.specs.Cuts.{IsCompleted}
 use Rattle.sq_pass.specs.declared.cut.Cut.{Cut}
-use Rattle.sq_pass.specs.declared.cut.Row.{Row}
 use Rattle.sq_pass.specs.declared.cut.Row.TheVariants.{U, T}
 use Rattle.sq_tail.specs.Admitted.{TwoBlocks, CanJoin, Saves}
 use Rattle.sq_tail.specs.Bodies.{IsBodyPair}
 use Rattle.sq_tail.specs.Candidates.{IsBodyCut, IsCandidate, described}
-use Rattle.sq_tail.specs.Ends.{HaveEnd, IsTailPair}
-use Rattle.sq_tail.specs.Tails.{end_words, tail_cut, IsTailCut, AreTails, fresh, joined, tails_joined, IsJoined}
+use Rattle.sq_tail.specs.Ends.{HaveEnd}
+use Rattle.sq_tail.specs.Tails.{end_words, tail_cut, AreTails, fresh, joined, tails_joined, IsJoined}
 use Rattle.sq_tail.proofs.Applying.{tail_applied, body_applied, tail_ends, body_ends}
 use Rattle.sq_tail.proofs.Naming.{fresh_is_new}
-use Rattle.sq_tail.proofs.Cutting.{end_cut, cut_end, cut_saves, cut_pair, ends_there}
+use Rattle.sq_tail.proofs.Cutting.{end_cut, cut_end, ends_there}
 
 -- WHAT IS FOUND
 

@@ -1,14 +1,14 @@
 -- Cuts of row T on equal tails are the pairs of blocks with a common end that saves a word.
-use Rattle.std.proofs.Common.{◌≡◌, ◌≢◌, ℕ, ◌+◌, ◌-◌, ◌≤◌, List, [], ◌∷◌, drop, length, Some, refl, sym, ap, ◌∙◌, subst, arith, length-drop}
+use Rattle.std.proofs.Common.{◌≡◌, ◌≢◌, ℕ, ◌+◌, ◌-◌, ◌≤◌, List, drop, length, sym, ap, ◌∙◌, subst, arith, length-drop}
 use Rattle.sq_graph.specs.declared.item.Item.{Item}
 use Rattle.sq_graph.specs.Graph.{Graph}
-use Rattle.sq_graph.specs.Blocks.{HasBlock, items_of}
+use Rattle.sq_graph.specs.Blocks.{items_of}
 use Rattle.sq_pass.specs.declared.cut.Cut.{Cut}
 use Rattle.sq_patch.specs.Merges.{HaveTail}
 use Rattle.sq_rename.specs.Reservations.{HasNoReservations}
 use Rattle.sq_tail.specs.Tails.{end_words, tail_cut, IsTailCut, AreTails}
-use Rattle.sq_tail.specs.Ends.{last_items, IsCommonEnd, IsLongestEnd, HaveEnd, IsTailPair}
-use Rattle.sq_tail.proofs.Applying.{AreEnds, tail_ends, has_items}
+use Rattle.sq_tail.specs.Ends.{last_items, IsLongestEnd, HaveEnd, IsTailPair}
+use Rattle.sq_tail.proofs.Applying.{AreEnds, tail_ends}
 
 last_count : (n : ℕ) (items : List Item) → n ≤ length items → length (last_items n items) ≡ n
 last_count n items l = omega (arith, l, length-drop (length items - n) items)

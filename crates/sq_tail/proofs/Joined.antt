@@ -1,12 +1,12 @@
 -- The steps by which two tails are joined.
-use Rattle.std.proofs.Common.{◌≡◌, ◌≢◌, ℕ, ◌+◌, ◌-◌, ◌≤◌, ◌==◌, true, false, List, [], ◌∷◌, drop, length, Option, Some, None, IsSome, refl, sym, ap, ◌∙◌, subst, arith, length-drop}
+use Rattle.std.proofs.Common.{◌≡◌, ◌≢◌, ℕ, ◌+◌, ◌-◌, List, drop, length, IsSome, refl, sym, ap, ◌∙◌, subst, arith, length-drop}
 use Rattle.std.proofs.lemmas.Bool.{eq-eqb, ne_eqb}
 use Rattle.sq_graph.specs.declared.item.Item.{Item}
 use Rattle.sq_graph.specs.Blocks.{HasBlock, block_items, items_of}
 use Rattle.sq_graph.specs.Graph.{Graph}
 use Rattle.sq_graph.specs.Operations.{IsNew, split_at}
 use Rattle.sq_patch.specs.Merges.{merged, tailed}
-use Rattle.sq_tail.specs.Tails.{fresh, joined, IsJoined, AreTails}
+use Rattle.sq_tail.specs.Tails.{fresh, IsJoined, AreTails}
 use Rattle.sq_tail.proofs.Applying.{has_items}
 use Rattle.sq_tail.proofs.Naming.{fresh_is_new, apart_from_new}
 use Rattle.sq_tail.proofs.Splitting.{second_items, other_block}

@@ -1,5 +1,5 @@
 -- A graph with a Jump in place of the end of a block keeps the rules and stays in reach.
-use Rattle.std.proofs.Common.{◌≡◌, ℕ, ◌+◌, ◌≤◌, ◌==◌, true, List, [], ◌∷◌, ◌++◌, take, drop, length, Option, None, Some, IsSome, inl, inr, refl, sym, ap, ◌∙◌, subst, arith, length-append, length-take, length-drop}
+use Rattle.std.proofs.Common.{◌≡◌, ℕ, ◌+◌, ◌≤◌, ◌==◌, true, List, [], ◌∷◌, take, drop, length, Option, None, Some, inl, inr, refl, sym, ap, ◌∙◌, subst, arith, length-append, length-take, length-drop}
 use Rattle.std.specs.Prelude.{option_map}
 use Rattle.std.proofs.lemmas.Bool.{cases_Bool, eqb-true, eqb-false, eq-eqb}
 use Rattle.std.proofs.lemmas.List.Elements.{All-nil, All-cons}
@@ -8,7 +8,7 @@ use Rattle.sq_isa.specs.declared.instructions.Cond.{Cond}
 use Rattle.sq_graph.specs.declared.item.Item.{Item}
 use Rattle.sq_graph.specs.declared.item.Term.TheVariants.{Jump, Branch}
 use Rattle.sq_graph.specs.Graph.{Block, Graph}
-use Rattle.sq_graph.specs.Blocks.{named, HasBlock, HasProcedure, block_of, block_items, block_term, items_of, term_of}
+use Rattle.sq_graph.specs.Blocks.{named, HasBlock, HasProcedure, block_of, block_items, block_term, items_of}
 use Rattle.sq_graph.specs.Operations.{with_blocks, replaced_items, replaced}
 use Rattle.sq_graph.specs.Places.{IsInReach}
 use Rattle.sq_graph.specs.Rules.{IsGraph}

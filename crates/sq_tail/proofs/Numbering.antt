@@ -1,21 +1,18 @@
 -- Numbers tell ends of blocks apart.
-use Rattle.std.proofs.Common.{◌≡◌, ◌↔◌, ℕ, zero, suc, ◌+◌, ◌<◌, ◌≤◌, nat_eq, ◌&&◌, List, [], ◌∷◌, map, length, get_or, Option, Some, None, IsSome, slice_get, inl, inr, refl, sym, ap, ◌∙◌, subst, arith}
-use Rattle.std.specs.Option.{option_map, option_flatten, option_zip, option_eq}
+use Rattle.std.proofs.Common.{◌≡◌, ◌↔◌, ℕ, zero, suc, ◌<◌, List, [], ◌∷◌, map, length, get_or, Option, Some, None, IsSome, slice_get, inl, inr, refl, sym, ap, ◌∙◌, arith}
+use Rattle.std.specs.Option.{option_map, option_flatten, option_zip}
 use Rattle.std.proofs.lemmas.Bool.{cases_lt}
 use Rattle.std.proofs.lemmas.List.{length-map}
 use Rattle.std.proofs.lemmas.Option.{slice_get-map, slice_get-get_or, slice_get_past}
 use Rattle.sq_graph.specs.declared.item.Item.{Item}
 use Rattle.sq_graph.specs.Graph.{Block, Graph}
 use Rattle.sq_graph.specs.Blocks.{HasBlock, block_of, items_of, next_of}
-use Rattle.sq_graph.specs.Parts.{names_of}
 use Rattle.sq_graph.specs.Resolve.{ResolvedTerm, resolved_term, resolved_term_of, block_resolved}
-use Rattle.sq_graph.specs.Rules.{IsGraph, ItemFits}
-use Rattle.sq_finger.specs.Exact.{IsExact}
+use Rattle.sq_graph.specs.Rules.{ItemFits}
 use Rattle.sq_finger.specs.ItemKeys.{key_of}
 use Rattle.sq_finger.specs.TermKeys.{term_key_of}
 use Rattle.sq_finger.specs.Numbers.{member_at, AreNumbersOf}
 use Rattle.sq_finger.specs.declared.keys.ItemKey.{ItemKey}
-use Rattle.sq_finger.specs.declared.keys.TermKey.{TermKey}
 use Rattle.sq_finger.proofs.Keying.{one_item, one_term}
 use Rattle.sq_finger.proofs.Telling.{Tells, tells_zip, tells_members}
 use Rattle.sq_tail.specs.Ends.{item_back, end_of}

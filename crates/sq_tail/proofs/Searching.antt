@@ -1,5 +1,5 @@
 -- Two blocks with a common end have one number, and the search finds two such blocks where there are any.
-use Rattle.std.proofs.Common.{◌≡◌, ◌≢◌, ◌↔◌, ℕ, zero, suc, ◌+◌, ◌-◌, ◌<◌, ◌≤◌, ◌⊎◌, nat_eq, ◌==◌, true, List, [], ◌∷◌, map, length, get_or, Option, Some, None, IsSome, slice_get, inl, inr, refl, sym, ap, ◌∙◌, subst, arith}
+use Rattle.std.proofs.Common.{◌≡◌, ◌≢◌, ℕ, zero, suc, ◌+◌, ◌-◌, ◌<◌, ◌≤◌, ◌⊎◌, ◌==◌, true, List, [], ◌∷◌, map, length, get_or, Option, Some, None, slice_get, inl, inr, refl, sym, ap, ◌∙◌, subst, arith}
 use Rattle.std.specs.Option.{option_flatten}
 use Rattle.std.proofs.lemmas.Bool.{cases_Bool, cases_lt, eqb-true, eqb-false}
 use Rattle.std.proofs.lemmas.List.{length-map}
@@ -8,7 +8,7 @@ use Rattle.sq_graph.specs.declared.item.Item.{Item}
 use Rattle.sq_graph.specs.Graph.{Graph}
 use Rattle.sq_graph.specs.Blocks.{HasBlock, items_of}
 use Rattle.sq_graph.specs.Parts.{names_of}
-use Rattle.sq_graph.specs.Resolve.{ResolvedTerm, resolved_term_of}
+use Rattle.sq_graph.specs.Resolve.{resolved_term_of}
 use Rattle.sq_graph.specs.Rules.{IsGraph}
 use Rattle.sq_graph.specs.Slotted.{position_in}
 use Rattle.sq_graph.proofs.Slotting.{AreNumbered, positions_numbered}
@@ -16,9 +16,9 @@ use Rattle.sq_finger.specs.Numbers.{member_at, NoDouble}
 use Rattle.sq_lookup.proofs.Targets.{name_listed}
 use Rattle.sq_rename.specs.Reservations.{HasNoReservations}
 use Rattle.sq_tail.specs.Tails.{end_words}
-use Rattle.sq_tail.specs.Ends.{last_items, IsCommonEnd, HaveEnd, IsTailPair, end_of}
+use Rattle.sq_tail.specs.Ends.{last_items, HaveEnd, IsTailPair, end_of}
 use Rattle.sq_tail.specs.Numbers.{AreEndNumbers, AreWords, IsMeeting}
-use Rattle.sq_tail.proofs.Applying.{full, has_items}
+use Rattle.sq_tail.proofs.Applying.{has_items}
 use Rattle.sq_tail.proofs.Ending.{common_less, end_plain, end_is}
 use Rattle.sq_tail.proofs.Numbering.{by_name, at_map}
 

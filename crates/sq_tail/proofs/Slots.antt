@@ -1,5 +1,5 @@
 -- The slot behind a block has a block.
-use Rattle.std.proofs.Common.{◌≡◌, ℕ, ◌==◌, List, [], ◌∷◌, Option, None, Some, IsSome, inl, inr, refl}
+use Rattle.std.proofs.Common.{◌≡◌, ℕ, ◌==◌, List, [], ◌∷◌, Some, IsSome, inl, inr, refl}
 use Rattle.std.proofs.lemmas.Bool.{cases_Bool, eq-eqb}
 use Rattle.sq_arena.specs.Entries.{value_of, first_key, next_key}
 use Rattle.sq_graph.specs.Graph.{Block, Graph}

@@ -1,8 +1,7 @@
 -- What there is and what is spare stays, where a block is split, or loses items, or has another term.
-use Rattle.std.proofs.Common.{◌≡◌, ℕ, ◌+◌, ◌-◌, ◌<◌, ◌≤◌, List, [], ◌∷◌, ◌++◌, map, length, take, drop, sym, ap, ◌∙◌, subst, refl, arith, length-append, length-take, length-drop, take-append-drop}
+use Rattle.std.proofs.Common.{◌≡◌, ℕ, ◌+◌, ◌-◌, ◌<◌, ◌≤◌, List, [], ◌∷◌, ◌++◌, length, take, drop, ap, ◌∙◌, subst, refl, arith, length-append, take-append-drop}
 use Rattle.sq_graph.specs.declared.item.Item.{Item}
 use Rattle.sq_graph.specs.declared.item.Term.{Term}
-use Rattle.sq_graph.specs.declared.item.Term.TheVariants.{Fall}
 use Rattle.sq_graph.specs.declared.parts.Room.{Room}
 use Rattle.sq_graph.specs.Graph.{Block, Graph}
 use Rattle.sq_graph.specs.Blocks.{HasBlock, items_of, block_items, items_of_blocks, items_of_bodies}

@@ -1,5 +1,5 @@
 -- Resolved terms as the code holds them.
-use Rattle.std.specs.Prelude.{ℕ, Option, Some}
+use Rattle.std.specs.Prelude.{ℕ, Option}
 use Rattle.std.specs.Option.{option_map}
 use Rattle.sq_graph.specs.Graph.{Graph}
 use Rattle.sq_graph.specs.Resolve.{ResolvedTerm, resolved_term_of}

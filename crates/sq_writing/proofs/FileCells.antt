@@ -12,7 +12,7 @@ use Rattle.sq_memory.specs.Regions.{Region}
 use Rattle.sq_elf.specs.declared.segment.Segment.{Segment}
 use Rattle.sq_elf.specs.Headers.{phnum_of, is_load, segment_of}
 use Rattle.sq_elf.specs.Segments.{copy_size, is_misshapen, is_bad_segment}
-use Rattle.sq_elf.specs.Memory.{MemoryPiece, has_memory, file_bytes_of, segments_of, own_piece, copy_piece, image_of, segment_pieces as image_pieces}
+use Rattle.sq_elf.specs.Memory.{has_memory, file_bytes_of, segments_of, own_piece, copy_piece, segment_pieces as image_pieces}
 use Rattle.sq_elf.specs.Memory as pieces
 use Rattle.sq_elf.specs.Reading.{has_word, word_in, word_of}
 use Rattle.sq_elf.specs.Refusing.{bad_segment, segment_kind, segment_overlap}

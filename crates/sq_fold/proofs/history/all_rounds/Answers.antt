@@ -1,4 +1,4 @@
-use Rattle.std.proofs.Common.{length, ap, sym, subst, ◌∙◌}
+use Rattle.std.proofs.Common.{subst}
 use Rattle.sq_fold.specs.Stable.{IsFinerBy}
 use Rattle.sq_fold.proofs.Refining.{rounds_smaller, same_numbers}
 use Rattle.sq_fold.proofs.Histories.{history_first, history_next, history_end}

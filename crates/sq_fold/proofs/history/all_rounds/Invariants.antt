@@ -1,6 +1,5 @@
-use Rattle.std.proofs.Common.{◌≡◌, length, ◌-◌}
+use Rattle.std.proofs.Common.{length, ◌-◌}
 use Rattle.sq_fold.proofs.Growing.{weight, full}
-use Rattle.sq_fold.proofs.Refining.{Rounds}
 use Rattle.sq_fold.proofs.Histories.{RoundsSoFar}
 use Rattle.sq_fold.proofs.history.all_rounds.Given as goal
 

@@ -1,8 +1,7 @@
-use Rattle.std.proofs.Common.{◌≡◌, ◌+◌, Some, None, get_or, sym, ap, ◌∙◌, subst, arith}
+use Rattle.std.proofs.Common.{◌+◌, None, get_or, sym, subst, arith}
 use Rattle.std.specs.HashMap.{get}
-use Rattle.std.proofs.lemmas.Option.{slice_get-get_or, unwrap_or-slice_get}
+use Rattle.std.proofs.lemmas.Option.{slice_get-get_or}
 use Rattle.sq_finger.specs.Classes.{is_same_kind}
-use Rattle.sq_finger.specs.Numbers.{member_at}
 use Rattle.sq_finger.proofs.Lining.{place_block}
 use Rattle.sq_fold.proofs.Leading.{NodesTo, nodes_next, nodes_end, label_at, node_made}
 use Rattle.sq_fold.proofs.nodes.nodes.Goals as goal

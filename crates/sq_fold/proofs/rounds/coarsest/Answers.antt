@@ -1,5 +1,5 @@
 use Rattle.std.proofs.Common.{length, ap, sym, subst, ◌∙◌}
-use Rattle.std.specs.Prelude.{IsSome, ◌<◌}
+use Rattle.std.specs.Prelude.{IsSome}
 use Rattle.sq_finger.specs.Numbers.{member_at}
 use Rattle.sq_fold.specs.Stable.{IsFinerBy}
 use Rattle.sq_fold.proofs.Refining.{rounds_first, rounds_next, rounds_smaller, rounds_end, finer_many, finer_some, same_numbers}

@@ -1,4 +1,4 @@
-use Rattle.std.proofs.Common.{◌≡◌, ◌-◌, Some, length, slice_get, ap, sym, ◌∙◌, subst}
+use Rattle.std.proofs.Common.{◌≡◌, ◌-◌, Some, slice_get, sym, ◌∙◌, subst}
 use Rattle.std.specs.HashMap.{get}
 use Rattle.sq_finger.specs.Classes.{is_same_kind}
 use Rattle.sq_fold.proofs.Levels.{one_class, other_class}

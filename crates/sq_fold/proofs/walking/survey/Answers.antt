@@ -1,4 +1,4 @@
-use Rattle.std.proofs.Common.{◌≡◌, length, map, Some, sym, ap, ◌∙◌, subst, arith}
+use Rattle.std.proofs.Common.{length, map, Some, ap, ◌∙◌, subst, arith}
 use Rattle.std.specs.HashMap.{get}
 use Rattle.sq_finger.specs.Classes.{is_same_kind}
 use Rattle.sq_finger.specs.Numbers.{AreNumbersOf}

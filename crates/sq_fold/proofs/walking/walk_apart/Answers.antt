@@ -1,8 +1,6 @@
-use Rattle.std.proofs.Common.{◌≡◌, ◌-◌, ◌++◌, [], ◌∷◌, ℕ, suc, length, Some, ap, sym, ◌∙◌, subst, arith}
+use Rattle.std.proofs.Common.{◌≡◌, ◌-◌, suc, length, Some, sym, subst, arith}
 use Rattle.std.specs.HashMap.{get}
-use Rattle.sq_graph.specs.Rules.{IsGraph}
 use Rattle.sq_finger.specs.Classes.{is_same_kind}
-use Rattle.sq_fold.specs.Walks.{IsSurveyed}
 use Rattle.sq_fold.proofs.Levels.{Walking, walking_first, walking_next, walking_end, walking_stuck, walking_zero, some_rounds}
 use Rattle.sq_fold.proofs.walking.walk_apart.Goals as goal
 

@@ -1,5 +1,5 @@
 -- the words so far and the next block; and where no block is left
-use Rattle.std.proofs.Common.{◌≡◌, ℕ, ◌+◌, ◌*◌, ◌-◌, ◌<◌, ◌++◌, List, sym, subst, ap, ◌∙◌, arith, append_assoc}
+use Rattle.std.proofs.Common.{◌≡◌, ℕ, ◌+◌, ◌*◌, ◌-◌, ◌++◌, sym, subst, ap, ◌∙◌, arith, append_assoc}
 use Rattle.sq_gen.specs.Generated.{number_after, kind_of, block, last_words, words_from}
 use Rattle.sq_gen.proofs.WordCounts.{next_block, no_block}
 use Rattle.sq_gen.proofs.generator.words_from.Goals as goal

@@ -1,4 +1,4 @@
-use Rattle.std.proofs.Common.{◌≡◌, ◌∙◌, ◌+◌, ◌-◌, ◌<◌, ap, sym, drop, get_or, length, nat_eq, Some, cond, arith}
+use Rattle.std.proofs.Common.{◌≡◌, ◌∙◌, ◌+◌, ◌-◌, ap, sym, drop, get_or, nat_eq, Some, cond, arith}
 use Rattle.std.proofs.lemmas.List.{drop_more}
 use Rattle.std.specs.HashMap.{get}
 use Rattle.sq_live.specs.Exits.{position_in}

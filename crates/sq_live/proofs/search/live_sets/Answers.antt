@@ -1,4 +1,4 @@
-use Rattle.std.proofs.Common.{◌≡◌, ◌∙◌, ◌<◌, ◌↔◌, ℕ, [], true, sym, subst, length, arith}
+use Rattle.std.proofs.Common.{◌∙◌, ◌<◌, [], sym, subst, length, arith}
 use Rattle.std.specs.List.{Contains}
 use Rattle.std.proofs.lemmas.List.Elements.{Contains-push}
 use Rattle.sq_live.specs.Search.{list_at, lists, IsVisiting}

@@ -1,7 +1,6 @@
 use Rattle.std.proofs.Common.{◌≡◌, ◌∙◌, ◌+◌, ◌<◌, ◌≤◌, ◌++◌, ◌∷◌, ◌||◌, [], ℕ, true, refl, ap, sym, subst, drop, length, get_or, arith}
 use Rattle.std.proofs.Math.ListN.{set}
 use Rattle.std.proofs.lemmas.List.{drop_all}
-use Rattle.std.specs.Prelude.{IfSome}
 use Rattle.sq_isa.specs.Registers.{is_member}
 use Rattle.sq_live.specs.Search.{list_at, lists, IsVisiting, work_of}
 use Rattle.sq_live.proofs.Searches.{read_list, source_at, sources_left, adds_before, read_set, skips, grows, work_falls}

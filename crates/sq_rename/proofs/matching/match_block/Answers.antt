@@ -1,4 +1,4 @@
-use Rattle.std.proofs.Common.{◌≡◌, ◌↔◌, ◌≤◌, ◌<◌, ◌^◌, true, length, ap, subst, arith}
+use Rattle.std.proofs.Common.{◌≡◌, ◌↔◌, true, length, ap, subst, arith}
 use Rattle.std.specs.Prelude.{MatchOption}
 use Rattle.sq_isa.specs.Registers.{is_member}
 use Rattle.sq_graph.specs.Blocks.{items_of}

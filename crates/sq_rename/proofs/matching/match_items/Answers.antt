@@ -1,5 +1,5 @@
 use Rattle.std.proofs.Common.{◌≡◌, true, false, refl}
-use Rattle.sq_rename.proofs.Bodies.{goes_one_way, match_is, match_all, match_has}
+use Rattle.sq_rename.proofs.Bodies.{goes_one_way, match_is, match_all}
 use Rattle.sq_rename.proofs.matching.match_items.Goals as goal
 
 pub returns-then-not-may_stand_all : goal.returns-then-not-may_stand_all

@@ -1,5 +1,4 @@
 use Rattle.std.proofs.Common.{◌≡◌, ◌∙◌, sym}
-use Rattle.sq_rename.specs.Shapes.{shape_of}
 use Rattle.sq_rename.proofs.Forms.{form_shape, shape_form}
 use Rattle.sq_rename.proofs.Equals.{item_is, item_itself}
 use Rattle.sq_graph.specs.contracts.item.ItemPartialEq.TheImpl as item_eq

@@ -1,8 +1,8 @@
-use Rattle.std.proofs.Common.{◌≡◌, ◌∙◌, ap, sym, replicate, slice_index}
-use Rattle.sq_isa.specs.Forms.{renamed, form_of}
+use Rattle.std.proofs.Common.{◌≡◌, ◌∙◌, ap, sym}
+use Rattle.sq_isa.specs.Forms.{form_of}
 use Rattle.sq_graph.specs.declared.item.Item.TheVariants.{Op}
 use Rattle.sq_rename.specs.Shapes.{shape_of}
-use Rattle.sq_rename.proofs.Forms.{shape_op, shapes_tell}
+use Rattle.sq_rename.proofs.Forms.{shape_op}
 use Rattle.sq_rename.proofs.shapes.shape.Goals as goal
 
 pub returns-in-Op-clause-value : goal.returns-in-Op-clause-value

@@ -1,4 +1,4 @@
-use Rattle.std.proofs.Common.{◌≡◌, subst}
+use Rattle.std.proofs.Common.{subst}
 use Rattle.std.specs.Prelude.{IfSome}
 use Rattle.sq_tail.specs.Admitted.{TwoBlocks, CanJoin, Saves}
 use Rattle.sq_tail.proofs.Admitting.{admitted, completes, one_pair}

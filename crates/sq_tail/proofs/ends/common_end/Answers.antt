@@ -1,7 +1,6 @@
-use Rattle.std.proofs.Common.{false, [], ◌∷◌, ◌≡◌, ◌-◌, ◌+◌, ◌<◌, length, get_or, sym, ap, ◌∙◌, subst, add-one, true≢false, arith}
+use Rattle.std.proofs.Common.{false, [], ◌≡◌, ◌-◌, ◌+◌, ◌<◌, length, sym, ap, ◌∙◌, subst, add-one, true≢false, arith}
 use Rattle.std.proofs.lemmas.List.Elements.{All-cons, All-nil, All-head}
-use Rattle.sq_graph.specs.declared.item.Item.{Item}
-use Rattle.sq_rename.specs.Reservations.{is_reservation, HasNoReservations}
+use Rattle.sq_rename.specs.Reservations.{is_reservation}
 use Rattle.sq_tail.specs.Ends.{IsCommonEnd}
 use Rattle.sq_tail.proofs.Equals.{item_same, item_apart}
 use Rattle.sq_tail.proofs.Ending.{some_item, back, get_any, common_more, longest}

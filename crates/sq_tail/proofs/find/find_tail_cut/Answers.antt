@@ -1,4 +1,4 @@
-use Rattle.std.proofs.Common.{◌≡◌, Ok, ap, ◌∙◌, subst}
+use Rattle.std.proofs.Common.{Ok, ap, ◌∙◌, subst}
 use Rattle.std.specs.Prelude.{IfSome}
 use Rattle.sq_tail.specs.Ends.{IsTailPair}
 use Rattle.sq_tail.proofs.Cutting.{cut_pair, longest_cut}

@@ -1,10 +1,10 @@
-use Rattle.std.proofs.Common.{ℕ, ◌≡◌, ◌≤◌, ◌-◌, ◌+◌, ◌==◌, IsSome, List, length, sym, ap, subst, ◌∙◌, arith}
+use Rattle.std.proofs.Common.{◌≤◌, ◌-◌, ◌+◌, List, length, sym, ap, subst, arith}
 use Rattle.sq_graph.specs.declared.item.Item.{Item}
 use Rattle.sq_graph.specs.Blocks.{HasBlock, items_of}
 use Rattle.sq_graph.specs.Graph.{Graph}
 use Rattle.sq_graph.specs.Operations.{split_at}
 use Rattle.sq_tail.proofs.Sizes.{few_items}
-use Rattle.sq_tail.proofs.Joined.{whole_joined, part_joined, split_ends}
+use Rattle.sq_tail.proofs.Joined.{whole_joined, split_ends}
 use Rattle.sq_tail.proofs.Totals.{total_by, total_through, split_total}
 use Rattle.sq_tail.proofs.joining.join.Goals as goal
 

@@ -1,6 +1,4 @@
-use Rattle.std.proofs.Common.{◌≡◌}
 use Rattle.std.specs.List.{All}
-use Rattle.sq_finger.specs.Lines.{line_of}
 use Rattle.sq_outline.specs.WindowsCandidates.{IsWindowsCandidate}
 use Rattle.sq_outline.proofs.windows.proposals.push_calls.Given as goal
 

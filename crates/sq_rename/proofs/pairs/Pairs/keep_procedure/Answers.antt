@@ -4,7 +4,7 @@ use Rattle.std.specs.List.{flat_map}
 use Rattle.sq_graph.specs.Matches.{item_registers, procedure_registers}
 use Rattle.std.proofs.Common.{slice_get}
 use Rattle.sq_rename.proofs.Joining.{joins_link, link_fails}
-use Rattle.sq_rename.proofs.Places.{no_procedure, procedure_at, procedure_joins}
+use Rattle.sq_rename.proofs.Places.{procedure_at, procedure_joins}
 use Rattle.sq_rename.proofs.pairs.Pairs.keep_procedure.Goals as goal
 
 pub returns-then-pair : goal.returns-then-pair

@@ -1,4 +1,4 @@
-use Rattle.std.proofs.Common.{◌≤◌, ◌<◌, ◌+◌, length, drop, arith}
+use Rattle.std.proofs.Common.{◌≤◌, ◌+◌, length, drop, arith}
 use Rattle.sq_graph.specs.Matches.{IsPairIn}
 use Rattle.std.proofs.Common.{inr}
 use Rattle.sq_rename.specs.Pairs.{Nothing}

@@ -1,4 +1,4 @@
-use Rattle.std.proofs.Common.{◌∷◌, [], ◌≡◌, get_or, sym, ◌∙◌, subst}
+use Rattle.std.proofs.Common.{get_or, sym, ◌∙◌, subst}
 use Rattle.sq_tail.specs.Tails.{AreTails, IsJoined}
 use Rattle.sq_tail.proofs.Admitting.{joinable, tails_there, candidate_applied}
 use Rattle.sq_tail.proofs.tails.TailsPass.apply.Goals as goal
