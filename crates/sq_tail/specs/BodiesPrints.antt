@@ -1,5 +1,5 @@
 -- Prints: numbers that are equal for blocks whose bodies match.
-use Rattle.std.specs.Prelude.{ℕ, ◌+◌, ◌*◌, ◌%◌, ◌^◌, List, [], ◌∷◌, map, Option, None, Some}
+use Rattle.std.specs.Prelude.{ℕ, ◌+◌, ◌*◌, ◌%◌, ◌^◌, List, [], ◌∷◌, map, Option, None, Some, option_to_list}
 use Rattle.sq_isa.specs.Encoding.{word_of}
 use Rattle.sq_graph.specs.declared.item.Item.{Item}
 use Rattle.sq_graph.specs.declared.item.Item.TheVariants.{Op, Hi, Lo, Out}
@@ -29,10 +29,11 @@ abbrev pub number_of_uses : List ℕ → ℕ
 number_of_uses [] = 0
 number_of_uses (to ∷ rest) = to + 1
 
+-- the number of an end: of the block that the resolved term names, and of the slot in which what follows goes on
 abbrev pub end_number : Option ResolvedTerm → ℕ
 end_number None = 0
-end_number (Some resolved) = number_of_uses (term_uses resolved.term)
+end_number (Some resolved) = mixed (number_of_uses (term_uses resolved.term)) (number_of_uses (option_to_list resolved.next))
 
--- the print of a block: of the block that its resolved term names, and of the shapes of its items
+-- the print of a block: of its end, and of the shapes of its items
 abbrev pub print_of : Graph → ℕ → ℕ
 print_of g block = mixed_all (end_number (resolved_term_of g block)) (map shape_of (items_of g block))

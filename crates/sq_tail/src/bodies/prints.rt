@@ -1,16 +1,16 @@
 //! Prints of blocks: numbers that are equal for bodies that match, and mostly differ for others.
 
-ghost use Rattle.std.specs.Prelude.{◌≡◌, ◌≤◌, ◌<◌, ◌^◌, map, IfOk};
+ghost use Rattle.std.specs.Prelude.{◌≡◌, ◌≤◌, ◌<◌, ◌^◌, map, option_to_list, IfOk};
 ghost use Rattle.std.specs.List.{All};
 ghost use Rattle.sq_graph.specs.Blocks.{HasBlock};
 ghost use Rattle.sq_graph.specs.Rules.{ItemFits};
-ghost use Rattle.sq_graph.specs.Uses.{term_uses};
+ghost use Rattle.sq_graph.specs.Resolve.{resolved_term_of};
 ghost use Rattle.sq_rename.specs.Shapes.{shape_of};
-ghost use Rattle.sq_tail.specs.BodiesPrints.{item_number, mixed, number_of_uses, print_of};
+ghost use Rattle.sq_tail.specs.BodiesPrints.{item_number, mixed, number_of_uses, end_number, print_of};
 
 use crate::resolved::resolved_term;
 use sq_encode::encode;
-use sq_graph::{Graph, Item, Term};
+use sq_graph::{Graph, Item};
 use sq_num::Memory;
 use sq_rename::shape;
 use std::alloc::Global;
@@ -39,15 +39,25 @@ fn mixed(print: u64, number: u64) -> u64
     (print * 1_540_483_477 + number) % 4_294_967_291
 }
 
-/// One more than the block that a term names, and 0 where it names none.
-fn target_number(term: Term) -> u64
-    ensures value { result ≡ number_of_uses (term_uses term) }
+/// One more than a block, and 0 where there is none.
+fn block_number(block: Option<u32>) -> u64
+    ensures value { result ≡ number_of_uses (option_to_list block) }
     ensures small { result ≤ 2 ^ 32 }
 {
-    match term.target() {
-        Some(to) => u64::from(to) + 1,
+    match block {
+        Some(block) => u64::from(block) + 1,
         None => 0,
     }
+}
+
+/// The number of a block's end: of the block that its term names, and of the slot in which what follows goes on.
+fn end_number(graph: &Graph, block: u32) -> u64
+    requires { HasBlock graph.now.graph block }
+    ensures value { result ≡ end_number (resolved_term_of graph.now.graph block) }
+    ensures small { result ≤ 2 ^ 32 }
+{
+    let end = resolved_term(graph, block);
+    mixed(block_number(end.term.target()), block_number(end.next))
 }
 
 /// The print of a block.
@@ -56,7 +66,7 @@ fn print(graph: &Graph, block: u32) -> u64
     ensures { result ≡ print_of graph.now.graph block }
 {
     graph.learn();
-    let mut print = target_number(resolved_term(graph, block).term);
+    let mut print = end_number(graph, block);
     let items = graph.items(block);
     for item in items {
         print = mixed(print, shape_number(item));
