@@ -22,6 +22,7 @@ pub mod Still
 pub mod Sweeping
 pub mod WindowsStanding
 pub mod WindowsLining
+pub mod WindowsListed
 pub mod WindowsCalling
 pub mod WindowsHeading
 pub mod WindowsApplying

@@ -1,5 +1,5 @@
 -- The places of one number are those where one window stands.
-use Rattle.std.proofs.Common.{◌≡◌, ℕ, zero, suc, ◌==◌, Bool, true, false, if◌then◌else◌, ◌+◌, ◌≤◌, ◌<◌, List, [], ◌∷◌, ◌++◌, map, take, drop, length, get_or, Option, None, Some, slice_get, inl, inr, refl, sym, ap, ◌∙◌, subst, arith, eq-eqb, true≢false, append_assoc, add-one}
+use Rattle.std.proofs.Common.{◌≡◌, ℕ, zero, suc, ◌==◌, Bool, true, false, if◌then◌else◌, ◌+◌, ◌≤◌, ◌<◌, List, [], ◌∷◌, ◌++◌, map, take, drop, length, get_or, Option, None, Some, slice_get, inl, inr, refl, sym, ap, ◌∙◌, subst, arith, eq-eqb, true≢false, add-one}
 use Rattle.std.specs.List.{All, list_all}
 use Rattle.std.specs.Prelude.{Contains}
 use Rattle.std.proofs.lemmas.Bool.{cases_Bool, eqb-true, ne_eqb}
@@ -24,7 +24,6 @@ use Rattle.sq_finger.proofs.Lining.{place_block}
 use Rattle.sq_outline.specs.WindowsPlaces.{StandAt, begins, places_from}
 use Rattle.sq_outline.specs.WindowsMade.{items_at, IsWindowMade}
 use Rattle.sq_outline.specs.WindowsSearch.{place_in, standing_among, standing, AreStanding, AreWindowClasses}
-use Rattle.sq_outline.proofs.Early.{left_at}
 use Rattle.sq_outline.proofs.WindowsApart.{all_mapped, places_stand}
 use Rattle.sq_outline.proofs.WindowsFinding.{long_at}
 use Rattle.sq_outline.proofs.WindowsLining.{place_listed}
@@ -117,33 +116,6 @@ module _ (g : Graph) (w : List Item) where
         | inl yes' ↦ let number : is_number m o ≡ true = here ∙ yes' in rw (number, yes') (ap (λ ps. p ∷ ps) rest)
         | inr no' ↦ let number : is_number m o ≡ false = here ∙ no' in rw (number, no') rest
       ]
-
--- they are gathered place by place
-module _ (g : Graph) (w : List Item) (some : 1 ≤ length w) (line : List WindowAt) (i : ℕ) (d : WindowAt) (there : i < length line) (done : List WindowAt) where
-  abbrev place : WindowAt
-  place = get_or line i d
-
-  abbrev items : List Item
-  items = items_of g place.block
-
-  pub place_kept : StandAt g (get_or line i d).block (get_or line i d).at w → (done ++ get_or line i d ∷ []) ++ those g w (drop (i + 1) line) ≡ done ++ those g w (drop i line)
-  place_kept stands =
-      let here : stands_there g w (get_or line i d) ≡ true = (begins_is w (drop place.at items)).1 (stands_to g place.block place.at w stands) in
-      let kept : those g w (get_or line i d ∷ drop (i + 1) line) ≡ get_or line i d ∷ those g w (drop (i + 1) line) = rw here refl in
-      append_assoc done (place ∷ []) (those g w (drop (i + 1) line)) ∙ ap (λ ps. done ++ ps) (sym (ap (those g w) (left_at line i d there) ∙ kept))
-
-  pub place_left_out : ¬ StandAt g (get_or line i d).block (get_or line i d).at w → done ++ those g w (drop (i + 1) line) ≡ done ++ those g w (drop i line)
-  place_left_out fails =
-      let none : stands_there g w (get_or line i d) ≡ false =
-      elim (cases_Bool (stands_there g w (get_or line i d))) [
-        | inl here ↦
-            let is = (begins_is w (drop place.at items)).0 here in
-            let within : place.at ≤ length items = omega (arith, some, ap (λ (js : List Item). length js) is, length-take (length w) (drop place.at items), length-drop place.at items) in
-            absurd (fails (stands_from g place.block place.at w within is))
-        | inr none ↦ none
-      ] in
-      let left : those g w (get_or line i d ∷ drop (i + 1) line) ≡ those g w (drop (i + 1) line) = rw none refl in
-      ap (λ ps. done ++ ps) (sym (ap (those g w) (left_at line i d there) ∙ left))
 
 -- a window without Out
 plain_by : (items : List Item) → All (λ item. item_calls item ≡ []) items → list_all is_plain items ≡ true

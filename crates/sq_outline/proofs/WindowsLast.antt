@@ -1,15 +1,20 @@
 -- The last occurrence of a window among some items.
-use Rattle.std.proofs.Common.{◌≡◌, ℕ, zero, suc, true, false, ◌+◌, ◌≤◌, ◌<◌, List, [], ◌∷◌, ◌++◌, Option, None, Some, take, drop, length, get_or, inl, inr, refl, sym, ap, ◌∙◌, subst, arith, append_assoc}
+use Rattle.std.proofs.Common.{◌≡◌, ℕ, zero, suc, Bool, true, false, ◌+◌, ◌-◌, ◌≤◌, ◌<◌, List, [], ◌∷◌, ◌++◌, Option, None, Some, take, drop, length, get_or, inl, inr, refl, sym, ap, ◌∙◌, subst, arith, append_assoc}
 use Rattle.std.specs.List.{All}
 use Rattle.std.proofs.lemmas.Bool.{cases_Bool, cases_lt, lt-ltb, le-ltb}
 use Rattle.std.proofs.lemmas.List.{append-nil, drop_all, length-take}
 use Rattle.std.proofs.lemmas.List.Elements.{All-nil, All-cons, All-head}
 use Rattle.sq_graph.specs.declared.item.Item.{Item}
 use Rattle.sq_graph.specs.declared.item.Item.TheVariants.{Out}
+use Rattle.sq_finger.proofs.Placing.{to_end}
 use Rattle.sq_outline.specs.WindowsPlaces.{begins, places_from, apart_from, occurrences_in}
 use Rattle.sq_outline.proofs.Early.{left_at}
 use Rattle.sq_outline.proofs.WindowsStanding.{begins_is}
 use Rattle.sq_outline.proofs.WindowsApart.{Spaced, all_back, from_end, spaced, still_all}
+
+-- what a test tells of the items from a place up to the end
+pub begins_from : (window items : List Item) (at : ℕ) (b e : Bool) → b ≡ begins window (take (length items - at) (drop at items)) → b ≡ e → begins window (drop at items) ≡ e
+begins_from window items at b e is now = ap (λ (is : List Item). begins window is) (sym (to_end items at)) ∙ sym is ∙ now
 
 -- the last one of these, where there is one
 abbrev pub IsLast : List ℕ → Option ℕ → Type 0

@@ -1,6 +1,6 @@
 //! The windows of a graph that may become procedures.
 
-ghost use Rattle.std.specs.Prelude.{◌≡◌, ◌≤◌, ◌<◌, ◌^◌, ◌+◌, ℕ, None, Ok, IsTrue, IfOk, IfSome, length};
+ghost use Rattle.std.specs.Prelude.{◌≡◌, ◌≤◌, ◌<◌, ◌^◌, ◌+◌, ◌++◌, ℕ, None, Ok, IsTrue, IfOk, IfSome, OnOk, length, map};
 ghost use Rattle.sq_graph.specs.Blocks.{HasBlock, items_of};
 ghost use Rattle.sq_finger.specs.Groups.{group_count};
 ghost use Rattle.sq_finger.specs.Lines.{line_of, AreWindowNumbers};
@@ -9,13 +9,14 @@ ghost use Rattle.sq_pass.specs.declared.cut.Cut.{Cut as Told};
 ghost use Rattle.sq_pass.specs.declared.cut.Row.TheVariants.{W as Window};
 ghost use Rattle.sq_pass.specs.Cuts.{IsCompleted};
 ghost use Rattle.sq_outline.specs.WindowsMade.{items_at, IsWindowMade, IsWindowCut};
-ghost use Rattle.sq_outline.specs.WindowsSearch.{standing, AreWindowClasses};
+ghost use Rattle.sq_outline.specs.WindowsPlaces.{places_from};
+ghost use Rattle.sq_outline.specs.WindowsSearch.{place_in, standing, AreWindowClasses};
 
 use crate::windows::found::{Found, found_at, items_at};
-use crate::windows::stands::stand_at;
+use crate::windows::stands::begins;
 use sq_finger::{Groups, WindowAt, all_places, number_items, number_longer_runs, window_laws};
-use sq_graph::Graph;
-use sq_live::Liveness;
+use sq_graph::{Graph, Item};
+use sq_live::{Liveness, block_names};
 use sq_lookup::is_block;
 use sq_num::Memory;
 use sq_pass::{Blocks, Cut, Row};
@@ -119,7 +120,30 @@ pub(crate) fn find_window(
     Ok(None)
 }
 
-/// The places where the n items of a place stand.
+/// Adds the places of a block where the window stands.
+fn push_places(
+    places: &mut Vec<WindowAt>,
+    graph: &Graph,
+    block: u32,
+    window: &[Item],
+) -> Result<(), Memory>
+    requires { HasBlock graph.now.graph block }
+    ensures { OnOk result (places.new.items ≡ places.old.items ++ map (place_in block) (places_from window.now 0 (items_of graph.now.graph block))) }
+{
+    graph.learn();
+    let items = graph.items(block);
+    for at in 0..items.len() {
+        if begins(window, &items[at..]) {
+            places.push(WindowAt {
+                block,
+                at: at as u32,
+            })?;
+        }
+    }
+    Ok(())
+}
+
+/// The places where the n items of a place stand. It looks at each item once.
 pub(crate) fn standing(
     alloc: Global,
     graph: &Graph,
@@ -129,17 +153,14 @@ pub(crate) fn standing(
 ) -> Result<Vec<WindowAt>, Memory>
     requires block { HasBlock graph.now.graph block }
     requires within { at + n ≤ length (items_of graph.now.graph block) }
-    requires some { 1 ≤ n }
     ensures { IfOk result (λ places. places.items ≡ standing graph.now.graph (items_at graph.now.graph block at n)) }
 {
     graph.learn();
-    let line = all_places(alloc, graph)?;
     let window = items_at(graph, block, at, n);
+    let names = block_names(alloc, graph)?;
     let mut places = Vec::new(alloc);
-    for place in &line {
-        if stand_at(graph, place.block, place.at, window) {
-            places.push(*place)?;
-        }
+    for name in &names {
+        push_places(&mut places, graph, *name, window)?;
     }
     Ok(places)
 }

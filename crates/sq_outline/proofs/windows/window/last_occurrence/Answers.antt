@@ -1,13 +1,7 @@
-use Rattle.std.proofs.Common.{◌≡◌, ◌<◌, ◌-◌, ℕ, take, Bool, true, false, List, length, drop, sym, ap, ◌∙◌}
-use Rattle.sq_graph.specs.declared.item.Item.{Item}
-use Rattle.sq_finger.proofs.Placing.{to_end}
-use Rattle.sq_outline.specs.WindowsPlaces.{begins}
-use Rattle.sq_outline.proofs.WindowsLast.{one_known, none_here, none_past}
+use Rattle.std.proofs.Common.{◌<◌, true, false, length}
+use Rattle.sq_outline.proofs.WindowsLast.{begins_from, one_known, none_here, none_past}
 use Rattle.sq_outline.proofs.windows.window.last_occurrence.Goals as goal
 use Rattle.sq_outline.proofs.windows.window.last_occurrence.Goals.{then-at-end+then-begins, else-at-end, else-at-end-via-then-at-end+else-begins, else-at-end-via-else-at-end}
-
-told : (window items : List Item) (at : ℕ) (b e : Bool) → b ≡ begins window (take (length items - at) (drop at items)) → b ≡ e → begins window (drop at items) ≡ e
-told window items at b e is now = ap (λ (is : List Item). begins window is) (sym (to_end items at)) ∙ sym is ∙ now
 
 pub loop-at-preserved : goal.loop-at-preserved
 loop-at-preserved c =
@@ -17,10 +11,10 @@ loop-at-preserved c =
     let there : c.loop-at.at < length c.args.items.now = c.loop-at-test.true in
     elim c.if-at-end.branch [
       | then-at-end+then-begins w ↦
-          rw (w.last-is, w.end-is) (one_known window items at c.loop-at.end c.loop-at.last c.loop-at.invariant there w.if-at-end.true (told window items at w.begins.result true w.begins.ensures w.if-begins.true))
+          rw (w.last-is, w.end-is) (one_known window items at c.loop-at.end c.loop-at.last c.loop-at.invariant there w.if-at-end.true (begins_from window items at w.begins.result true w.begins.ensures w.if-begins.true))
       | else-at-end w ↦ elim w.else-at-end.branch [
         | else-at-end-via-then-at-end+else-begins v ↦
-            rw (w.last-is, w.end-is) (none_here window items at c.loop-at.end c.loop-at.last c.loop-at.invariant there (told window items at v.begins.result false v.begins.ensures v.if-begins.false))
+            rw (w.last-is, w.end-is) (none_here window items at c.loop-at.end c.loop-at.last c.loop-at.invariant there (begins_from window items at v.begins.result false v.begins.ensures v.if-begins.false))
         | else-at-end-via-else-at-end v ↦
             rw (w.last-is, w.end-is) (none_past window items at c.loop-at.end c.loop-at.last c.loop-at.invariant there v.if-at-end.false)
       ]
