@@ -1,10 +1,10 @@
 #!/usr/bin/env python3
 """Writes certificates as another producer does, and has each of them checked.
 
-    SQUEEZE=crates/squeeze/out/squeeze examples/certificate.py [COUNT [SEED]]
+    examples/certificate.py [COUNT [SEED]]
 
-SQUEEZE is the built program: `rt run` in crates/squeeze leaves it there. IN has COUNT jumps to the next instruction (12, if
-nothing is said; at most 2,048), and OUT is IN without them. Squeeze takes them from the first on. Here they are taken in an order drawn
+The built program is the one that `rt run` in crates/squeeze leaves there, or SQUEEZE where that is set. IN has COUNT jumps to
+the next instruction (12, if nothing is said; at most 2,048), and OUT is IN without them. Squeeze takes them from the first on. Here they are taken in an order drawn
 from SEED, so that the steps tell other blocks, and `check` has to prove OUT by them. Certificates with a wrong step, one step
 too few or one too many have to fail at their line; and `prove` has to make the same OUT, with its own certificate.
 """
@@ -16,6 +16,7 @@ import sys
 import tempfile
 
 HERE = os.path.dirname(os.path.abspath(__file__))
+BUILT = os.path.join(HERE, "../crates/squeeze/out/squeeze")
 NEXT, EXIT = 0x0040006F, [0x05D00893, 0x00000073, 0x0000006F]
 
 
@@ -60,7 +61,7 @@ def main():
     count = int(sys.argv[1]) if len(sys.argv) > 1 else 12
     order = list(range(count))
     random.Random(sys.argv[2] if len(sys.argv) > 2 else "0").shuffle(order)
-    squeeze = os.path.abspath(os.environ["SQUEEZE"])
+    squeeze = os.path.abspath(os.environ.get("SQUEEZE", BUILT))
     steps = steps_in(order)
     wrong = steps[: count // 2] + [f"J1 {count}"]
     with tempfile.TemporaryDirectory() as folder:

@@ -2,12 +2,13 @@
 # Runs the built program from outside, once for each status and for each way in which the host can fail it, and compares
 # what it prints, what it complains, and what files hold.
 #
-#     SQUEEZE=crates/squeeze/out/squeeze examples/check.sh
+#     examples/check.sh
 #
-# SQUEEZE is the built program: `rt run` in crates/squeeze leaves it there. It needs a shell, python3 and diff.
+# The built program is the one that `rt run` in crates/squeeze leaves there, or SQUEEZE where that is set. It needs a
+# shell, python3 and diff.
 set -u
 
-SQUEEZE=$(realpath "$SQUEEZE")
+SQUEEZE=$(realpath "${SQUEEZE:-$(dirname "$0")/../crates/squeeze/out/squeeze}")
 top=$(realpath "$(dirname "$0")/..")
 folder=$(mktemp -d)
 trap 'chmod -R u+w "$folder"; rm -rf "$folder"' EXIT

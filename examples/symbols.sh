@@ -2,14 +2,14 @@
 # Gives a packed file the functions of the original as symbols, at the addresses where `names` says that they stand, and
 # compares these with what nm shows.
 #
-#     SQUEEZE=crates/squeeze/out/squeeze examples/symbols.sh [FILE [SYMBOLS]]
+#     examples/symbols.sh [FILE [SYMBOLS]]
 #
-# SQUEEZE is the built program: `rt run` in crates/squeeze leaves it there. FILE is examples/meter/meter.elf where none is
-# given. SYMBOLS becomes the packed file with symbols, for a debugger: it is not for flash. It needs GNU binutils for
-# RISC-V; CROSS is what their names begin with.
+# The built program is the one that `rt run` in crates/squeeze leaves there, or SQUEEZE where that is set. FILE is
+# examples/meter/meter.elf where none is given. SYMBOLS becomes the packed file with symbols, for a debugger: it is not
+# for flash. It needs GNU binutils for RISC-V; CROSS is what their names begin with.
 set -eu
 
-SQUEEZE=$(realpath "$SQUEEZE")
+SQUEEZE=$(realpath "${SQUEEZE:-$(dirname "$0")/../crates/squeeze/out/squeeze}")
 CROSS=${CROSS:-riscv64-unknown-elf-}
 file=$(realpath "${1:-$(dirname "$0")/meter/meter.elf}")
 folder=$(mktemp -d)

@@ -1,12 +1,13 @@
 #!/bin/sh
 # Links the program with the usual libraries and with those of this folder, watches both, and packs the second.
 #
-#     SQUEEZE=crates/squeeze/out/squeeze examples/lib/try.sh
+#     examples/lib/try.sh
 #
-# SQUEEZE is the built program: `rt run` in crates/squeeze leaves it there. It needs the compiler that Makefile names.
+# The built program is the one that `rt run` in crates/squeeze leaves there, or SQUEEZE where that is set. It needs the
+# compiler that Makefile names.
 set -eu
 
-SQUEEZE=$(realpath "$SQUEEZE")
+SQUEEZE=$(realpath "${SQUEEZE:-$(dirname "$0")/../../crates/squeeze/out/squeeze}")
 cd "$(dirname "$0")"
 folder=$(mktemp -d)
 trap 'rm -rf "$folder"' EXIT

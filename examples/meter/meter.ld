@@ -1,5 +1,6 @@
 /* 64 KiB of flash and 16 KiB of RAM. Text is a segment of its own, and .data is loaded into flash. Text stands last there:
-   what packing frees lies behind text, so the image gets shorter by it. */
+   what packing frees lies behind text, so the image gets shorter by it. .bss is a segment of its own, or lld would have it
+   loaded into flash behind .data. */
 OUTPUT_ARCH(riscv)
 ENTRY(_start)
 
@@ -14,6 +15,7 @@ PHDRS
     text PT_LOAD FLAGS(5);
     constants PT_LOAD FLAGS(4);
     data PT_LOAD FLAGS(6);
+    zeros PT_LOAD FLAGS(6);
 }
 
 SECTIONS
@@ -31,7 +33,7 @@ SECTIONS
         *(.bss .bss.* .sbss .sbss.* COMMON)
         . = ALIGN(4);
         bss_end = .;
-    } > ram :data
+    } > ram AT > ram :zeros
     .text data_in_flash + SIZEOF(.data) : { *(.text.start) *(.text .text.*) } > flash :text
     /DISCARD/ : { *(.comment) *(.riscv.attributes) *(.eh_frame) *(.note.*) }
 }

@@ -1,12 +1,13 @@
 #!/bin/sh
 # Packs the meter, runs the file before and after, watches it, and shows the sizes.
 #
-#     SQUEEZE=crates/squeeze/out/squeeze examples/meter/try.sh
+#     examples/meter/try.sh
 #
-# SQUEEZE is the built program: `rt run` in crates/squeeze leaves it there. No compiler is needed: meter.elf is here.
+# The built program is the one that `rt run` in crates/squeeze leaves there, or SQUEEZE where that is set. No compiler
+# is needed: meter.elf is here.
 set -eu
 
-SQUEEZE=$(realpath "$SQUEEZE")
+SQUEEZE=$(realpath "${SQUEEZE:-$(dirname "$0")/../../crates/squeeze/out/squeeze}")
 cd "$(dirname "$0")"
 folder=$(mktemp -d)
 trap 'rm -rf "$folder"' EXIT
