@@ -24,6 +24,7 @@ pub mod ShortenApplied
 pub mod ShortenTests
 pub mod ShortenKept
 pub mod ShortenSwept
+pub mod ShortenRuns
 pub mod Cutting
 pub mod UnreachedCleared
 pub mod UnreachedUncalled

@@ -25,10 +25,10 @@ use Rattle.sq_patch.specs.Operations.{hastened as short_jump, shortened}
 use Rattle.sq_patch.proofs.StayingDead.{shorten_dead}
 use Rattle.sq_pass.specs.declared.cut.Row.TheVariants.{C}
 use Rattle.sq_pass.specs.Counted.{counted}
-use Rattle.sq_pass.specs.Rewrites.{IsRewritten}
-use Rattle.sq_pass.proofs.Rewriting.{rewritten_itself, rewritten_through}
+use Rattle.sq_pass.specs.Rewrites.{IsLighter, IsRewritten}
+use Rattle.sq_pass.proofs.Rewriting.{lighter_itself, lighter_made, rewritten_itself, rewritten_through}
 use Rattle.sq_jumps.specs.Candidates.{IsCandidate, described}
-use Rattle.sq_jumps.specs.Shorten.{JumpsByDeadPart, shortened_by, shortened_at, hastened_by, hastened_at, hastened_each}
+use Rattle.sq_jumps.specs.Shorten.{JumpsByDeadPart, shortened_by, shortened_at, hastened_by, hastened_at, hastened_each, shortened_each}
 use Rattle.sq_jumps.proofs.Blocks.{names-changed, has_names, term_with_items}
 use Rattle.sq_jumps.proofs.ShortenApplied.{shorten_has, shorten_made, shorten_applied}
 use Rattle.sq_jumps.proofs.ShortenKept.{shorten_canonical}
@@ -100,16 +100,27 @@ trimmed_shortened g block d =
     ∙ ap (hastened_by (trimmed 1 g block) block) (trimmed_term g block block ∙ d.shortable.jump)
     ∙ sym (ap (shortened_by g block) d.shortable.jump)
 
-shorten_rules_at : (g : Graph) (block : ℕ) → IsGraph g → JumpsByDeadPart g block → IsGraph (shortened_at g block)
+pub shorten_rules_at : (g : Graph) (block : ℕ) → IsGraph g → JumpsByDeadPart g block → IsGraph (shortened_at g block)
 shorten_rules_at g block rules d = (shorten_applied g block rules d).rules
 
-shorten_canonical_at : (g : Graph) (block : ℕ) → JumpsByDeadPart g block → IsCanonical g → IsCanonical (shortened_at g block)
+pub shorten_canonical_at : (g : Graph) (block : ℕ) → JumpsByDeadPart g block → IsCanonical g → IsCanonical (shortened_at g block)
 shorten_canonical_at g block d canonical =
     subst IsCanonical (sym (shorten_made g block d.at d.link d.part d.to d.shortable)) (shorten_canonical g block d.at d.link d.part d.to d.shortable canonical)
 
 shorten_rewritten : (g : Graph) (block : ℕ) (before : Savings) → IsGraph g → IsCanonical g → JumpsByDeadPart g block → IsRewritten IsCandidate described before (counted before C 1) g (shortened_at g block)
 shorten_rewritten g block before rules canonical d =
     kept_rewritten C block before (counted before C 1) g (shortened_at g block) d (shorten_applied g block rules d) (shorten_canonical_at g block d canonical) refl refl
+
+pub shorten_lighter : (g : Graph) (block : ℕ) → IsGraph g → IsCanonical g → JumpsByDeadPart g block → IsLighter 1 g (shortened_at g block)
+shorten_lighter g block rules canonical d =
+    let h = shortened_at g block in
+    lighter_made 1 h g h h (shorten_applied g block rules d) (lighter_itself h (shorten_canonical_at g block d canonical))
+
+pub shorten_names : (g : Graph) (block : ℕ) → JumpsByDeadPart g block → names_of (shortened_at g block) ≡ names_of g
+shorten_names g block d =
+    ap names_of (shorten_made g block d.at d.link d.part d.to d.shortable)
+    ∙ names-changed (λ b. record b { term = short_jump d.link d.to }) (replaced g block d.at 1 []).blocks block (λ b. refl)
+    ∙ names-changed (λ b. record b { items = replaced_items b.items d.at 1 [] }) g.blocks block (λ b. refl)
 
 -- another block that jumps by an upper half does so still
 shorten_other : (g : Graph) (n m : ℕ) → IsGraph g → JumpsByDeadPart g n → m ≢ n → JumpsByDeadPart g m → JumpsByDeadPart (shortened_at g n) m
@@ -139,19 +150,15 @@ shorten_other g n m rules d apart e =
 
 -- ALL REWRITES
 
-abbrev shortened_each : List ℕ → Graph → Graph
-shortened_each [] g = g
-shortened_each (block ∷ rest) g = shortened_each rest (shortened_at g block)
-
 module _ (g : Graph) (n : ℕ) (rules : IsGraph g) (d : JumpsByDeadPart g n) where
-  shorten_others : (blocks : List ℕ) → AllByRecursion (λ m. nat_eq n m ≡ false) blocks → All (JumpsByDeadPart g) blocks → All (JumpsByDeadPart (shortened_at g n)) blocks
+  pub shorten_others : (blocks : List ℕ) → AllByRecursion (λ m. nat_eq n m ≡ false) blocks → All (JumpsByDeadPart g) blocks → All (JumpsByDeadPart (shortened_at g n)) blocks
   shorten_others [] apart jumps = All-nil (JumpsByDeadPart (shortened_at g n))
   shorten_others (m ∷ blocks) apart jumps =
       All-cons (JumpsByDeadPart (shortened_at g n)) m blocks
       (shorten_other g n m rules d (λ same. eqb-false n m apart.0 (sym same)) (All-head (JumpsByDeadPart g) m blocks jumps))
       (shorten_others blocks apart.1 (All-tail (JumpsByDeadPart g) m blocks jumps))
 
-trimmed_shortened_each : (blocks : List ℕ) (g : Graph) → IsGraph g → IsDistinct nat_eq blocks → All (JumpsByDeadPart g) blocks → trimmed_each 1 blocks (hastened_each blocks g) ≡ shortened_each blocks g
+pub trimmed_shortened_each : (blocks : List ℕ) (g : Graph) → IsGraph g → IsDistinct nat_eq blocks → All (JumpsByDeadPart g) blocks → trimmed_each 1 blocks (hastened_each blocks g) ≡ shortened_each blocks g
 trimmed_shortened_each [] g rules distinct jumps = refl
 trimmed_shortened_each (n ∷ blocks) g rules distinct jumps =
     let d = All-head (JumpsByDeadPart g) n blocks jumps in
@@ -172,20 +179,18 @@ rewritten_each (n ∷ blocks) g before rules canonical distinct jumps =
     subst (λ (c : ℕ). IsRewritten IsCandidate described before (record before { c = c }) g (shortened_each (n ∷ blocks) g)) sum
     (rewritten_through IsCandidate described before (counted before C 1) (counted (counted before C 1) C (length blocks)) g (shortened_at g n) (shortened_each blocks (shortened_at g n)) first rest)
 
+pub jumps_there : (g : Graph) (blocks : List ℕ) → All (JumpsByDeadPart g) blocks → All (HasBlock g) blocks
+jumps_there g blocks jumps = All-weaker (JumpsByDeadPart g) (HasBlock g) (λ n d. shorten_has g n d.at d.link d.part d.to d.shortable) blocks jumps
+
 module _ (g : Graph) (blocks : List ℕ) (before : Savings) (rules : IsGraph g) (canonical : IsCanonical g) (distinct : IsDistinct nat_eq blocks) (jumps : All (JumpsByDeadPart g) blocks) where
   -- each saves a word
   pub few_jumps : length blocks ≤ words_of g
   few_jumps = let all = rewritten_each blocks g before rules canonical distinct jumps in omega (arith, all.total, all.lighter.words)
 
-  pub jumps_there : All (HasBlock g) blocks
-  jumps_there = All-weaker (JumpsByDeadPart g) (HasBlock g) (λ n d. shorten_has g n d.at d.link d.part d.to d.shortable) blocks jumps
-
-  pub all_rewritten : (mid new : Graph) (after : Savings) → mid ≡ hastened_each blocks g → new ≡ trimmed_each 1 blocks mid → after ≡ counted before C (length blocks) → IsRewritten IsCandidate described before after g new
-  all_rewritten mid new after hasted is counts =
+  pub all_rewritten : (new : Graph) (after : Savings) → new ≡ shortened_each blocks g → after ≡ counted before C (length blocks) → IsRewritten IsCandidate described before after g new
+  all_rewritten new after is counts =
       subst (λ s. IsRewritten IsCandidate described before s g new) (sym counts)
-      (subst (IsRewritten IsCandidate described before (counted before C (length blocks)) g)
-      (sym (is ∙ ap (trimmed_each 1 blocks) hasted ∙ trimmed_shortened_each blocks g rules distinct jumps))
-      (rewritten_each blocks g before rules canonical distinct jumps))
+      (subst (IsRewritten IsCandidate described before (counted before C (length blocks)) g) (sym is) (rewritten_each blocks g before rules canonical distinct jumps))
 
 -- BLOCKS THAT ARE FOUND ONE AFTER ANOTHER
 
@@ -199,7 +204,7 @@ pub record Found (g : Graph) (names : List ℕ) (count : ℕ) (blocks : List ℕ
   pub among : All (IsAmongFirst names count) blocks
   pub distinct : IsDistinct nat_eq blocks
 
-distinct_pushed : (names : List ℕ) (n : ℕ) → AllByRecursion (λ m. nat_eq m n ≡ false) names → IsDistinct nat_eq names → IsDistinct nat_eq (names ++ n ∷ [])
+pub distinct_pushed : (names : List ℕ) (n : ℕ) → AllByRecursion (λ m. nat_eq m n ≡ false) names → IsDistinct nat_eq names → IsDistinct nat_eq (names ++ n ∷ [])
 unfolding IsDistinct
 distinct_pushed [] n apart distinct = (tt, tt)
 distinct_pushed (m ∷ names) n apart distinct = (ends names n m apart.0 distinct.0, distinct_pushed names n apart.1 distinct.1)

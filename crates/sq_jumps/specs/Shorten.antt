@@ -1,5 +1,6 @@
 -- Row C: a jump by an upper half that nothing else needs becomes one of a single word.
-use Rattle.std.specs.Prelude.{ℕ, Some, ◌-◌, length, Option, List, [], ◌∷◌}
+use Rattle.std.specs.Prelude.{◌≡◌, ◌≤◌, ℕ, Some, ◌-◌, length, Option, List, [], ◌∷◌, slice_get, take, nat_eq}
+use Rattle.std.specs.List.{All, Contains, IsDistinct}
 use Rattle.sq_graph.specs.declared.item.Term.TheVariants.{PartJump}
 use Rattle.sq_graph.specs.Graph.{Graph}
 use Rattle.sq_graph.specs.Blocks.{term_of, items_of}
@@ -37,3 +38,21 @@ hastened_at g block = hastened_by g block (term_of g block)
 abbrev pub hastened_each : List ℕ → Graph → Graph
 hastened_each [] g = g
 hastened_each (block ∷ rest) g = hastened_each rest (hastened_at g block)
+
+-- C at these blocks, one after another
+abbrev pub shortened_each : List ℕ → Graph → Graph
+shortened_each [] g = g
+shortened_each (block ∷ rest) g = shortened_each rest (shortened_at g block)
+
+-- the same, where each block is one for C in the graph that those before it left
+abbrev pub AreShortened : List ℕ → Graph → Graph → Type 0
+AreShortened [] old new = new ≡ old
+AreShortened (block ∷ rest) old new = JumpsByDeadPart old block × AreShortened rest (shortened_at old block) new
+
+-- so many of these blocks, from the first on, are for C in this graph, and none of them stands there twice. The next one
+-- is not for C, or is one of them
+pub record AreFirstShortable (g : Graph) (blocks : List ℕ) (count : ℕ) : Type 0 where
+  pub within : count ≤ length blocks
+  pub jumps : All (JumpsByDeadPart g) (take count blocks)
+  pub distinct : IsDistinct nat_eq (take count blocks)
+  pub next : (block : ℕ) → slice_get blocks count ≡ Some block → JumpsByDeadPart g block → Contains (take count blocks) block

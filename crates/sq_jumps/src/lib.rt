@@ -18,3 +18,4 @@ mod uses;
 
 pub use jumps::Jumps;
 pub use proposals::propose;
+pub use shorten::shorten_first;

@@ -4,7 +4,7 @@
 //!                 lui p,%hi(t)                    jal l,t
 //!                 jalr l,%lo(t)(p)
 
-ghost use Rattle.std.specs.Prelude.{IsTrue, ◌≡◌, ◌≤◌, ◌+◌, IfOk, nat_eq};
+ghost use Rattle.std.specs.Prelude.{◌↔◌, IsTrue, ◌≡◌, ◌≤◌, ◌+◌, IfOk, nat_eq, take};
 ghost use Rattle.std.specs.List.{All, IsDistinct};
 ghost use Rattle.sq_graph.specs.Blocks.{HasBlock};
 ghost use Rattle.sq_live.specs.Liveness.{IsLivenessOf};
@@ -16,12 +16,14 @@ ghost use Rattle.sq_graph.specs.Leaders.{IsCanonical};
 ghost use Rattle.sq_graph.specs.Parts.{names_of};
 ghost use Rattle.sq_graph.specs.Words.{words_of, most_words};
 ghost use Rattle.sq_follow.specs.Follows.{Follows};
-ghost use Rattle.sq_pass.specs.Rewrites.{IsRewritten};
-ghost use Rattle.sq_jumps.specs.Shorten.{JumpsByDeadPart, shortened_at, hastened_at, hastened_each};
+ghost use Rattle.sq_graph.specs.Slotted.{IsSlotted};
+ghost use Rattle.sq_pass.specs.Rewrites.{IsLighter, IsRewritten};
+ghost use Rattle.sq_jumps.specs.Shorten.{JumpsByDeadPart, shortened_at, shortened_each, hastened_at, hastened_each, AreShortened, AreFirstShortable};
 
 use sq_graph::{Graph, Item, Term};
 use sq_isa::Reg;
 use sq_live::{Liveness, block_names, live};
+use sq_lookup::{Names, is_block};
 use sq_num::{Memory, Savings};
 use sq_pass::{Rewrite, Row};
 use std::alloc::Global;
@@ -115,9 +117,19 @@ fn hasten_each(graph: &mut Graph, blocks: &[u32])
     }
 }
 
-/// Rewrites the graph by row C at each of these blocks: their jumps first, and then all upper halves go by one pass over
-/// the graph.
-fn shorten_each(graph: &mut Graph, blocks: &[u32], savings: Savings) -> Savings
+/// Makes the jumps of these blocks shorter, and then all upper halves go by one pass over the graph.
+fn shorten_each(graph: &mut Graph, blocks: &[u32])
+    requires jumps { All (JumpsByDeadPart graph.old.graph) blocks.now }
+    requires distinct { IsDistinct nat_eq blocks.now }
+    ensures { graph.new.graph ≡ shortened_each blocks.now graph.old.graph }
+{
+    graph.learn();
+    hasten_each(graph, blocks);
+    graph.trim_each(blocks, 1);
+}
+
+/// Rewrites the graph by row C at each of these blocks, and counts them.
+fn count_shortened(graph: &mut Graph, blocks: &[u32], savings: Savings) -> Savings
     requires canonical { IsCanonical graph.old.graph }
     requires jumps { All (JumpsByDeadPart graph.old.graph) blocks.now }
     requires distinct { IsDistinct nat_eq blocks.now }
@@ -125,8 +137,7 @@ fn shorten_each(graph: &mut Graph, blocks: &[u32], savings: Savings) -> Savings
     ensures { IsRewritten IsCandidate described savings result graph.old.graph graph.new.graph }
 {
     graph.learn();
-    hasten_each(graph, blocks);
-    graph.trim_each(blocks, 1);
+    shorten_each(graph, blocks);
     let done = Rewrite {
         row: Row::C,
         saving: blocks.len() as u32,
@@ -149,5 +160,50 @@ pub(crate) fn sweep_calls(
     let live = live(alloc, graph)?;
     let names = block_names(alloc, graph)?;
     let blocks = shortable_blocks(alloc, graph, &live, &names)?;
-    Ok(shorten_each(graph, &blocks, savings))
+    Ok(count_shortened(graph, &blocks, savings))
+}
+
+/// Whether this is a block of the graph that jumps by an upper half which nothing else needs.
+fn is_shortable(graph: &Graph, live: &Liveness, block: u32) -> bool
+    requires { IsLivenessOf graph.now.graph live.now }
+    ensures { IsTrue result ↔ JumpsByDeadPart graph.now.graph block }
+{
+    is_block(graph, block) && jumps_by_dead_part(graph, live, block)
+}
+
+/// How many of these blocks, from the first on, jump by an upper half which nothing else needs, none of them twice.
+fn shortable_first(
+    alloc: Global,
+    graph: &Graph,
+    live: &Liveness,
+    blocks: &[u32],
+) -> Result<usize, Memory>
+    requires { IsLivenessOf graph.now.graph live.now }
+    ensures { IfOk result (AreFirstShortable graph.now.graph blocks.now) }
+{
+    let mut found = Names::new(alloc);
+    for (count, block) in blocks.iter().enumerate() {
+        if found.has(*block) || !is_shortable(graph, live, *block) {
+            return Ok(count);
+        }
+        found.insert(*block)?;
+    }
+    Ok(blocks.len())
+}
+
+/// Rewrites the graph by row C at the first of these blocks, one after another: how many. It looks for live registers once,
+/// and so stops where a block jumps by no upper half that nothing else needs in the graph as it was, or comes again.
+pub fn shorten_first(alloc: Global, graph: &mut Graph, blocks: &[u32]) -> Result<usize, Memory>
+    requires { IsCanonical graph.old.graph }
+    ensures first { IfOk result (AreFirstShortable graph.old.graph blocks.now) }
+    ensures shortened { IfOk result (λ count. AreShortened (take count blocks.now) graph.old.graph graph.new.graph) }
+    ensures lighter { IfOk result (λ count. IsLighter count graph.old.graph graph.new.graph) }
+    ensures slotted { IsSlotted graph.old.graph → IsSlotted graph.new.graph }
+    ensures follows { Follows graph.old.graph graph.new.graph }
+{
+    graph.learn();
+    let live = live(alloc, graph)?;
+    let count = shortable_first(alloc, graph, &live, blocks)?;
+    shorten_each(graph, &blocks[..count]);
+    Ok(count)
 }

@@ -1,18 +1,12 @@
-use Rattle.std.proofs.Common.{arith}
+use Rattle.std.proofs.Common.{ap, ◌∙◌}
+use Rattle.sq_graph.specs.Trimmed.{trimmed_each}
 use Rattle.sq_jumps.proofs.shorten.shorten_each.Goals as goal
-use Rattle.sq_jumps.proofs.ShortenSwept.{few_jumps, all_rewritten}
+use Rattle.sq_jumps.proofs.ShortenSwept.{jumps_there, trimmed_shortened_each}
 
-pub overflow_cast-done : goal.overflow_cast-done
-overflow_cast-done c =
-    let few = few_jumps c.args.graph.now.graph c.args.blocks.now c.args.savings c.learn.ensures.rules c.requires.canonical c.requires.distinct c.requires.jumps in
-    omega (arith, c.requires.words)
-
-pub count-requires : goal.count-requires
-count-requires c =
-    let few = few_jumps c.args.graph.now.graph c.args.blocks.now c.args.savings c.learn.ensures.rules c.requires.canonical c.requires.distinct c.requires.jumps in
-    omega (arith, c.requires.words)
+pub hasten_each-requires : goal.hasten_each-requires
+hasten_each-requires c = jumps_there c.args.graph.now.graph c.args.blocks.now c.requires.jumps
 
 pub returns : goal.returns
 returns c =
-    all_rewritten c.args.graph.now.graph c.args.blocks.now c.args.savings c.learn.ensures.rules c.requires.canonical c.requires.distinct c.requires.jumps c.hasten_each.new.graph.graph c.trim_each.new.self.graph c.count.result c.hasten_each.ensures
-    c.trim_each.ensures.graph c.count.ensures.value
+    c.trim_each.ensures.graph ∙ ap (trimmed_each 1 c.args.blocks.now) c.hasten_each.ensures
+    ∙ trimmed_shortened_each c.args.blocks.now c.args.graph.now.graph c.learn.ensures.rules c.requires.distinct c.requires.jumps
