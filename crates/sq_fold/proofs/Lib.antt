@@ -1,6 +1,7 @@
 mod Bareness
 pub mod Blocks
 mod Finding
+mod Going
 mod Growing
 mod Histories
 mod Leading

@@ -80,7 +80,7 @@ module _ {K L : Type 0} (f : ℕ → K) (g : ℕ → L) (coarser : (i j : ℕ) �
       let target = edge_coarser x.target y.target (ap (λ k. k.2) e) in
       rw (label, next, target) refl
 
-  view_coarser : (x y : Option Node) → option_map (seen_by f) x ≡ option_map (seen_by f) y → option_map (seen_by g) x ≡ option_map (seen_by g) y
+  pub view_coarser : (x y : Option Node) → option_map (seen_by f) x ≡ option_map (seen_by f) y → option_map (seen_by g) x ≡ option_map (seen_by g) y
   view_coarser None None e = refl
   view_coarser None (Some y) e = absurd (cc)
   view_coarser (Some x) None e = absurd (cc)

@@ -5,3 +5,4 @@ pub mod Nodes
 pub mod Partition
 pub mod Stable
 pub mod Walks
+pub mod Ways

@@ -13,6 +13,7 @@ mod nodes;
 mod referring;
 mod rounds;
 mod walking;
+mod ways;
 
 pub use grouping::{Grouping, partition};
 pub use referring::references;

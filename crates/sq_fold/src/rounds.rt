@@ -5,6 +5,7 @@ ghost use Rattle.std.specs.Option.{option_map};
 ghost use Rattle.sq_finger.specs.Numbers.{member_at, AreNumbersOf};
 ghost use Rattle.sq_fold.specs.Stable.{seen_by, keys_by, IsFinerBy, IsCoarsest};
 
+use crate::ways::labelled_by_ways;
 use sq_finger::number_all;
 use sq_num::Memory;
 use std::alloc::Global;
@@ -43,8 +44,8 @@ pub(crate) fn refined(
     number_all(alloc, &keys)
 }
 
-/// The classes of the coarsest stable partition: two nodes have one class exactly where none tells them apart.
-pub fn coarsest(alloc: Global, nodes: &[Node]) -> Result<Vec<Option<u32>>, Memory>
+// The classes of the coarsest stable partition, in rounds.
+fn by_rounds(alloc: Global, nodes: &[Node]) -> Result<Vec<Option<u32>>, Memory>
     requires { length nodes.now < 2 ^ 32 }
     ensures many { IfOk result (λ classes. length classes.items ≡ length nodes.now) }
     ensures some { IfOk result (λ classes. (i : ℕ) → i < length nodes.now → IsSome (member_at classes.items i)) }
@@ -57,4 +58,16 @@ pub fn coarsest(alloc: Global, nodes: &[Node]) -> Result<Vec<Option<u32>>, Memor
         finer = refined(alloc, nodes, &classes)?;
     }
     Ok(classes)
+}
+
+/// The classes of the coarsest stable partition: two nodes have one class exactly where none tells them apart. What comes on
+/// long ways is told apart by labels first, so that there are few rounds.
+pub fn coarsest(alloc: Global, nodes: &[Node]) -> Result<Vec<Option<u32>>, Memory>
+    requires { length nodes.now < 2 ^ 32 }
+    ensures many { IfOk result (λ classes. length classes.items ≡ length nodes.now) }
+    ensures some { IfOk result (λ classes. (i : ℕ) → i < length nodes.now → IsSome (member_at classes.items i)) }
+    ensures coarsest { IfOk result (λ classes. IsCoarsest nodes.now (member_at classes.items)) }
+{
+    let labelled = labelled_by_ways(alloc, nodes)?;
+    by_rounds(alloc, &labelled)
 }

@@ -1,35 +1,31 @@
-use Rattle.std.proofs.Common.{length, ap, sym, subst, ◌∙◌}
-use Rattle.std.specs.Prelude.{IsSome}
+use Rattle.std.proofs.Common.{◌≡◌, ◌<◌, ℕ, length, IsSome, ap, ◌∙◌, subst, arith}
+use Rattle.std.proofs.lemmas.Result.{IfOk-weaker}
 use Rattle.sq_finger.specs.Numbers.{member_at}
-use Rattle.sq_fold.specs.Stable.{IsFinerBy}
-use Rattle.sq_fold.proofs.Refining.{rounds_first, rounds_next, rounds_smaller, rounds_end, finer_many, finer_some, same_numbers}
+use Rattle.sq_fold.specs.Stable.{IsCoarsest}
+use Rattle.sq_fold.proofs.Going.{coarsest_by}
 use Rattle.sq_fold.proofs.rounds.coarsest.Goals as goal
 
-pub loop-alloc-init : goal.loop-alloc-init
-loop-alloc-init c =
-    let made = subst (λ cs. IsFinerBy c.args.nodes.now cs c.in_ok-finer.finer.items) (c.deref.ensures.value ∙ c.new-classes.ensures.items) c.in_ok-finer.ensures in
-    rw c.new-classes.ensures.items (rounds_first c.args.nodes.now c.in_ok-finer.finer.items made)
-
-pub loop-alloc-preserved : goal.loop-alloc-preserved
-loop-alloc-preserved c =
-    let finer = c.loop-alloc.finer.items in
-    let made = subst (λ cs. IsFinerBy c.args.nodes.now cs c.in_ok-finer-2.finer.items) c.deref-in-loop-alloc.ensures.value c.in_ok-finer-2.ensures in
-    rounds_next c.args.nodes.now c.loop-alloc.classes.items finer c.in_ok-finer-2.finer.items c.loop-alloc.invariant made
-
-pub loop-alloc-smaller : goal.loop-alloc-smaller
-loop-alloc-smaller c = rounds_smaller c.args.nodes.now c.loop-alloc.classes.items c.loop-alloc.finer.items c.ne.result c.loop-alloc.invariant c.ne.ensures c.loop-alloc-test.true
+pub by_rounds-requires : goal.by_rounds-requires
+by_rounds-requires c =
+    let many = ap length c.deref.ensures.value ∙ c.in_ok-labelled.ensures.many in
+    let few = c.requires in
+    omega arith
 
 pub returns-clause-many : goal.returns-clause-many
 returns-clause-many c =
-    let same = same_numbers c.loop-alloc.finer.items c.loop-alloc.classes.items c.ne.result c.ne.ensures c.loop-alloc-test.false in
-    ap length (sym same) ∙ finer_many c.args.nodes.now c.loop-alloc.classes.items c.loop-alloc.finer.items c.loop-alloc.invariant.made
-
-pub returns-clause-coarsest : goal.returns-clause-coarsest
-returns-clause-coarsest c =
-    let same = same_numbers c.loop-alloc.finer.items c.loop-alloc.classes.items c.ne.result c.ne.ensures c.loop-alloc-test.false in
-    rounds_end c.args.nodes.now c.loop-alloc.classes.items c.loop-alloc.finer.items c.loop-alloc.invariant same
+    IfOk-weaker c.by_rounds.result (λ classes. length classes.items ≡ length c.deref.result.now) (λ classes. length classes.items ≡ length c.args.nodes.now)
+    (λ classes e. e ∙ ap length c.deref.ensures.value ∙ c.in_ok-labelled.ensures.many)
+    c.by_rounds.ensures.many
 
 pub returns-clause-some : goal.returns-clause-some
 returns-clause-some c =
-    let same = same_numbers c.loop-alloc.finer.items c.loop-alloc.classes.items c.ne.result c.ne.ensures c.loop-alloc-test.false in
-    λ i l. subst (λ cs. IsSome (member_at cs i)) same (finer_some c.args.nodes.now c.loop-alloc.classes.items c.loop-alloc.finer.items c.loop-alloc.invariant.made i l)
+    let many = ap length c.deref.ensures.value ∙ c.in_ok-labelled.ensures.many in
+    IfOk-weaker c.by_rounds.result (λ classes. (i : ℕ) → i < length c.deref.result.now → IsSome (member_at classes.items i)) (λ classes. (i : ℕ) → i < length c.args.nodes.now → IsSome (member_at classes.items i))
+    (λ classes some i l. some i (omega arith))
+    c.by_rounds.ensures.some
+
+pub returns-clause-coarsest : goal.returns-clause-coarsest
+returns-clause-coarsest c =
+    IfOk-weaker c.by_rounds.result (λ classes. IsCoarsest c.deref.result.now (member_at classes.items)) (λ classes. IsCoarsest c.args.nodes.now (member_at classes.items))
+    (λ classes coarsest. coarsest_by c.args.nodes.now c.in_ok-labelled.labelled.items (member_at classes.items) c.in_ok-labelled.ensures (subst (λ ns. IsCoarsest ns (member_at classes.items)) c.deref.ensures.value coarsest))
+    c.by_rounds.ensures.coarsest
