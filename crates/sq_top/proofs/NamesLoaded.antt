@@ -16,7 +16,7 @@ use Rattle.sq_top.specs.Denials.{track_fault_ending}
 use Rattle.sq_top.specs.Endings.{LeavesUnpacked, LeavesPrinted}
 use Rattle.sq_top.specs.RunEndings.{LeavesUnloaded}
 use Rattle.sq_top.specs.CertEndings.{longest_cert}
-use Rattle.sq_top.specs.Tracks.{AreTracksOf, FailsToTrack, AreLinesOf}
+use Rattle.sq_top.specs.Tracks.{AreTracksOf, AgreeWithOutputs, FailsToTrack, AreLinesOf}
 use Rattle.sq_top.specs.NamesEndings.{MayName, TellsNames, LeavesUnnamed, NamesLeft}
 use Rattle.sq_top.proofs.Later.{rose_then}
 
@@ -93,9 +93,10 @@ module _ (input cert : List ℕ) (before after : Outside) (given text : List ℕ
   }
 
 -- the functions of the file that was tracked
-pub lines_told : (bytes text elf : List ℕ) (tracks : List Track) (functions : List NamedFunction) (lines : List ℕ) → elf ≡ bytes → AreTracksOf bytes text tracks → functions ≡ functions_of elf → AreListed functions tracks lines → AreLinesOf bytes text lines
-lines_told bytes text elf tracks functions lines same are named listed = record {
+pub lines_told : (bytes text elf : List ℕ) (tracks : List Track) (functions : List NamedFunction) (lines : List ℕ) → elf ≡ bytes → AreTracksOf bytes text tracks → AgreeWithOutputs bytes text tracks → functions ≡ functions_of elf → AreListed functions tracks lines → AreLinesOf bytes text lines
+lines_told bytes text elf tracks functions lines same are agree named listed = record {
   tracks = tracks;
   are = are;
+  agree = agree;
   listed = subst (λ fs. AreListed fs tracks lines) (named ∙ ap functions_of same) listed;
 }

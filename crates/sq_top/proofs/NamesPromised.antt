@@ -22,15 +22,15 @@ refused_not input cert files refusal (inr long) may = omega (arith, long.1, may.
 -- two causes give one status
 same_status : (input cert : List ℕ) (files : Files) (first second : Ending) → NamesCause input cert first files → NamesCause input cert second files → status_of first ≡ status_of second
 same_status input cert files Done Done one other = refl
-same_status input cert files Done (Differs line) one other = absurd (other.never one.1.are.tracks one.1.are.are)
-same_status input cert files Done (Refused refusal) one other = absurd (refused_not input cert files refusal other one.1.may)
+same_status input cert files Done (Differs line) one other = absurd (other.never one.1 one.2)
+same_status input cert files Done (Refused refusal) one other = absurd (refused_not input cert files refusal other one.0)
 same_status input cert files Done Words one other = absurd other
 same_status input cert files Done (Desk call) one other = absurd other
 same_status input cert files Done Memory one other = absurd other
 same_status input cert files Done Break one other = absurd other
 same_status input cert files Done Limit one other = absurd other
 same_status input cert files Done BadStart one other = absurd other
-same_status input cert files (Differs line) Done one other = absurd (one.never other.1.are.tracks other.1.are.are)
+same_status input cert files (Differs line) Done one other = absurd (one.never other.1 other.2)
 same_status input cert files (Differs line) (Differs more) one other = refl
 same_status input cert files (Differs line) (Refused refusal) one other = absurd (refused_not input cert files refusal other one.may)
 same_status input cert files (Differs line) Words one other = absurd other
@@ -39,7 +39,7 @@ same_status input cert files (Differs line) Memory one other = absurd other
 same_status input cert files (Differs line) Break one other = absurd other
 same_status input cert files (Differs line) Limit one other = absurd other
 same_status input cert files (Differs line) BadStart one other = absurd other
-same_status input cert files (Refused refusal) Done one other = absurd (refused_not input cert files refusal one other.1.may)
+same_status input cert files (Refused refusal) Done one other = absurd (refused_not input cert files refusal one other.0)
 same_status input cert files (Refused refusal) (Differs line) one other = absurd (refused_not input cert files refusal one other.may)
 same_status input cert files (Refused refusal) (Refused more) one other = refl
 same_status input cert files (Refused refusal) Words one other = absurd other
@@ -124,7 +124,7 @@ module _ (words : List (List ℕ)) (ending : Ending) (before after : Outside) (e
 
   pub names_exact_promised : ForNames words (λ input cert. NamesExactly input cert (status_of ending) before after)
   names_exact_promised input cert form files told cause_of causes = names_by_case input cert before after (λ e. (status_of e ≡ status_of cause_of) ⊎ ((status_of e ≡ 2) × MeetsNamesFault input cert files before after) ⊎ (status_of e ≡ 4)) (record {
-    done = λ gone. by_cause Done (gone.0, gone.1 files told);
+    done = λ gone. let named = gone.1 files told in by_cause Done (named.may, named.are.tracks, named.are.are);
     load = λ gone. inr (inl (refl, met_load input cert before after files told gone.1));
     print = λ gone. inr (inl (refl, inr (inr (gone.1, gone.2 files told, gone.0))));
     refused = λ refusal gone. by_cause (Refused refusal) (gone.1 files told);

@@ -53,10 +53,14 @@ module _ (given output cert : List ℕ) (first : Graph) (fit : AllByRecursion (�
   pub proves_not : ((new : Graph) (count : ℕ) → ¬ Leads cert first new count) → (count : ℕ) → ¬ Proves given output cert count
   proves_not never count p = never p.last count (subst (λ g. Leads cert g p.last count) (from_first count p) p.leads)
 
-  pub proves_no_other : (last : Graph) (steps : ℕ) → Leads cert first last steps → output ≢ written given last → (count : ℕ) → ¬ Proves given output cert count
-  proves_no_other last steps leads other count p =
+  -- and it is what is written of the graph to which the text leads
+  pub proves_written : (last : Graph) (steps : ℕ) → Leads cert first last steps → (count : ℕ) → Proves given output cert count → output ≡ written given last
+  proves_written last steps leads count p =
       let same : p.last ≡ last = one_leads cert first p.last last count steps (subst (λ g. Leads cert g p.last count) (from_first count p) p.leads) leads in
-      other (p.output_is ∙ ap (written given) same)
+      p.output_is ∙ ap (written given) same
+
+  pub proves_no_other : (last : Graph) (steps : ℕ) → Leads cert first last steps → output ≢ written given last → (count : ℕ) → ¬ Proves given output cert count
+  proves_no_other last steps leads other count p = other (proves_written last steps leads count p)
 
 -- a lighter graph can be written, and its file is proved
 pub less_fits : (given : List ℕ) (first last : Graph) → FitsFile given first → IsLess first last → CanBeWritten given last

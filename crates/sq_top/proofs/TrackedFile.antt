@@ -11,6 +11,7 @@ use Rattle.sq_num.specs.declared.refusal.Denied.TheVariants.{Memory}
 use Rattle.sq_elf.specs.Text.{text_of}
 use Rattle.sq_graph.specs.Graph.{Graph}
 use Rattle.sq_graph.specs.Parts.{names_of}
+use Rattle.sq_graph.specs.Rules.{IsGraph}
 use Rattle.sq_graph.specs.Slotted.{number_in, IsSlotted}
 use Rattle.sq_layout.specs.Addresses.{Addresses, ArePlaces}
 use Rattle.sq_lift.specs.Flags.{is_flagged}
@@ -18,7 +19,9 @@ use Rattle.sq_lift.specs.Refused.{IsEarlyRefusal}
 use Rattle.sq_lift.specs.Starts.{Starts, slot_at, AreStarts}
 use Rattle.sq_lift.proofs.FilePrograms.{same_test}
 use Rattle.sq_program.specs.Lifted.{lifted}
-use Rattle.sq_lifted.specs.LiftedFiles.{IsLiftedFile}
+use Rattle.sq_write.specs.Written.{written}
+use Rattle.sq_outputs.specs.Writing.{IsWritable}
+use Rattle.sq_lifted.specs.LiftedFiles.{IsLiftedFile, FitsFile}
 use Rattle.sq_lifted.proofs.LiftedFiles.{early_same}
 use Rattle.sq_lifted.proofs.OneReading.{lifted_one}
 use Rattle.sq_names.specs.Functions.{NamedFunction, functions_of}
@@ -26,12 +29,15 @@ use Rattle.sq_names.specs.declared.track.Track.{Track}
 use Rattle.sq_names.specs.declared.track.Track.TheVariants.{At, Gone}
 use Rattle.sq_cert.specs.declared.step.Step.{Step}
 use Rattle.sq_drive.specs.Checking.{Leads, IsFirstFault}
+use Rattle.sq_drive.specs.Replaying.{IsLess}
 use Rattle.sq_drive.specs.Tracking.{carried, standing, by_step, made_by, AreCarried, AreTracked, KeepsStarts}
 use Rattle.sq_drive.proofs.Tracked.{replayed}
 use Rattle.sq_top.specs.declared.tracks.TrackFault.{TrackFault}
 use Rattle.sq_top.specs.declared.tracks.TrackFault.TheVariants.{Denied as DeniedTracks}
 use Rattle.sq_top.specs.Tracking.{begun_by, placed_at}
-use Rattle.sq_top.specs.Tracks.{begun_in, addressed, AreTracksOf, KeepsFileStarts, FailsToTrack}
+use Rattle.sq_top.specs.Tracks.{begun_in, addressed, AreTracksOf, KeepsFileStarts, AgreeWithOutputs, FailsToTrack}
+use Rattle.sq_top.proofs.LighterFile.{lighter_writable}
+use Rattle.sq_top.proofs.ProvedFile.{proves_written}
 use Rattle.sq_top.proofs.TrackedStarts.{file_starts}
 
 length_mapped : {X Y : Type 0} (f : X → Y) (xs : List X) → length (map f xs) ≡ length xs
@@ -139,36 +145,32 @@ module _ (bytes text : List ℕ) (first last : Graph) (file : IsLiftedFile bytes
       in
       omega (arith, few, long)
 
-  pub tracks_found : (places : Addresses) (tracks : List Track) → ArePlaces last (text_of bytes).lo places → tracks ≡ map (carried (placed_at places)) after → AreTracksOf bytes text tracks
-  tracks_found places tracks at is =
-      let same : begun_by starts ≡ begun_in bytes first file = begun_same bytes first file starts are in
-      let began : before ≡ map (begun_in bytes first file) (functions_of bytes) = begin ∙ (λ i. map (same i) (named i)) in
-      tracks_of bytes text first file slotted last after tracks (subst (λ (b : List Track). AreTracked text first last b after) began tracked)
-      (is ∙ (λ i. map (carried (addressed_same last (text_of bytes).lo places at i)) after))
+  begun_first : before ≡ map (begun_in bytes first file) (functions_of bytes)
+  begun_first = begin ∙ (λ i. map (begun_same bytes first file starts are i) (named i))
 
-  -- others would lead to the same graph and places
-  module _ (fit : AllByRecursion (λ b. b < 256) bytes) (begins : (other : Graph) (g : IsLiftedFile bytes other) → AreStarts g.program starts) (one : (new : Graph) (others : List Track) → AreTracked text first new before others → (new ≡ last) × (others ≡ after)) (places : Addresses) (tracks : List Track) (at : ArePlaces last (text_of bytes).lo places) (is : tracks ≡ map (carried (placed_at places)) after) (others : List Track) (t : AreTracksOf bytes text others) where
-    same : t.first ≡ first
-    same = sym t.slotted ∙ lifted_one bytes t.first first fit t.file file ∙ slotted
+  module _ (places : Addresses) (tracks : List Track) (at : ArePlaces last (text_of bytes).lo places) (is : tracks ≡ map (carried (placed_at places)) after) where
+    told : tracks ≡ map (carried (addressed last (text_of bytes).lo)) after
+    told = is ∙ (λ i. map (carried (addressed_same last (text_of bytes).lo places at i)) after)
 
-    began : before ≡ map (begun_in bytes t.first t.file) (functions_of bytes)
-    began = begin ∙ (λ i. map (begun_same bytes t.first t.file starts (begins t.first t.file) i) (named i))
+    pub tracks_found : AreTracksOf bytes text tracks
+    tracks_found = tracks_of bytes text first file slotted last after tracks (subst (λ (b : List Track). AreTracked text first last b after) begun_first tracked) told
 
-    ends : (t.last ≡ last) × (t.places ≡ after)
-    ends = one t.last t.places (subst (λ (g : Graph). AreTracked text g t.last before t.places) same (subst (λ (b : List Track). AreTracked text t.first t.last b t.places) (sym began) t.tracked))
+    -- others would lead to the same graph and places
+    module _ (fit : AllByRecursion (λ b. b < 256) bytes) where
+      pub tracks_one : ((other : Graph) (g : IsLiftedFile bytes other) → AreStarts g.program starts) → ((new : Graph) (others : List Track) → AreTracked text first new before others → (new ≡ last) × (others ≡ after)) → (others : List Track) → AreTracksOf bytes text others → others ≡ tracks
+      tracks_one begins one others t =
+          let same : t.first ≡ first = sym t.slotted ∙ lifted_one bytes t.first first fit t.file file ∙ slotted in
+          let began : before ≡ map (begun_in bytes t.first t.file) (functions_of bytes) = begin ∙ (λ i. map (begun_same bytes t.first t.file starts (begins t.first t.file) i) (named i)) in
+          let ends : (t.last ≡ last) × (t.places ≡ after) =
+          one t.last t.places (subst (λ (g : Graph). AreTracked text g t.last before t.places) same (subst (λ (b : List Track). AreTracked text t.first t.last b t.places) (sym began) t.tracked)) in
+          t.tracks_are ∙ (λ i. map (carried (addressed (ends.0 i) (text_of bytes).lo)) (ends.1 i)) ∙ sym told
 
-    pub tracks_one : others ≡ tracks
-    tracks_one =
-        t.tracks_are
-        ∙ (λ i. map (carried (addressed (ends.0 i) (text_of bytes).lo)) (ends.1 i))
-        ∙ sym (is ∙ (λ i. map (carried (addressed_same last (text_of bytes).lo places at i)) after))
-
-    pub tracks_start : AllZip (KeepsStarts first last) before after → AllZip (KeepsFileStarts t.file.program t.last (text_of bytes).lo) (functions_of bytes) others
-    tracks_start keep =
-        let led : AllZip (KeepsStarts t.first t.last) (map (begun_in bytes t.first t.file) (functions_of bytes)) t.places =
-        subst (λ (g : Graph). AllZip (KeepsStarts g t.last) (map (begun_in bytes t.first t.file) (functions_of bytes)) t.places) (sym same)
-        (subst (λ (g : Graph). AllZip (KeepsStarts first g) (map (begun_in bytes t.first t.file) (functions_of bytes)) t.places) (sym ends.0)
-        (subst (λ (b : List Track). AllZip (KeepsStarts first last) b t.places) began (subst (AllZip (KeepsStarts first last) before) (sym ends.1) keep)))
-        in
-        subst (AllZip (KeepsFileStarts t.file.program t.last (text_of bytes).lo) (functions_of bytes)) (sym t.tracks_are)
-        (file_starts bytes t.first t.file t.slotted fit t.last (text_of bytes).lo (functions_of bytes) t.places led)
+      -- an output that the certificate proves is what is written of the last graph
+      pub tracks_agree : FitsFile bytes first → IsLess first last → IsGraph last → AllZip (KeepsStarts first last) before after → AgreeWithOutputs bytes text tracks
+      tracks_agree fits less rules keep output count proves =
+          let is_written : output ≡ written bytes last = proves_written bytes output text first fit file slotted last (length tracked.steps) (leads_of text first last before after tracked) count proves in
+          let can : IsWritable bytes last = lighter_writable bytes first last less.saved fit file fits less.lighter rules in
+          let led : AllZip (KeepsStarts first last) (map (begun_in bytes first file) (functions_of bytes)) after = subst (λ (b : List Track). AllZip (KeepsStarts first last) b after) begun_first keep in
+          let agree = file_starts bytes first file slotted fit last can (functions_of bytes) after led in
+          subst (λ (o : List ℕ). AllZip (KeepsFileStarts bytes o) (functions_of bytes) tracks) (sym is_written)
+          (subst (AllZip (KeepsFileStarts bytes (written bytes last)) (functions_of bytes)) (sym told) agree)

@@ -2,6 +2,7 @@
 use Rattle.std.specs.Prelude.{◌≡◌, ℕ, ◌⊎◌, List, ◌++◌, codes, decimal, Some}
 use Rattle.sq_num.specs.RefusalTexts.{refusal_text}
 use Rattle.sq_num.specs.declared.refusal.Refusal.{Refusal}
+use Rattle.sq_names.specs.declared.track.Track.{Track}
 use Rattle.sq_command.specs.Commands.{NamesForm, form_of}
 use Rattle.sq_program.specs.FilePrograms.{IsAcceptedFile}
 use Rattle.sq_desk.specs.Outside.{Outside, Files, Rose, Loading, Printing, KeepsPrinted, Prints, ForFiles, content_of}
@@ -11,7 +12,8 @@ use Rattle.sq_top.specs.declared.ending.DeskCall.{DeskCall}
 use Rattle.sq_top.specs.declared.ending.DeskCall.TheVariants.{Load, Store, Print}
 use Rattle.sq_top.specs.Statuses.{status_of, call_text}
 use Rattle.sq_top.specs.Endings.{ComplainsLine}
-use Rattle.sq_top.specs.NamesEndings.{IsNamed, IsUnnamed, IsNamesRefused, TellsNames}
+use Rattle.sq_top.specs.Tracks.{AreTracksOf}
+use Rattle.sq_top.specs.NamesEndings.{MayName, IsNamed, IsUnnamed, IsNamesRefused, TellsNames}
 
 -- P holds of the names where the words are `names IN CERT`
 abbrev pub ForNames : List (List ℕ) → (List ℕ → List ℕ → Type 0) → Type 0
@@ -44,9 +46,9 @@ HasNamesRefusal input cert before after =
     KeepsPrinted before after × (refusal : Refusal) × ForFiles before (λ files. IsNamesRefused input cert files refusal)
     × ComplainsLine (Some (refusal_text refusal ++ codes "\n")) before after
 
--- the cause of an ending of `names` that the files decide
+-- the cause of an ending of `names` that the files decide: done where nothing is refused and CERT tracks the functions of IN
 abbrev pub NamesCause : List ℕ → List ℕ → Ending → Files → Type 0
-NamesCause input cert Done files = (lines : List ℕ) × IsNamed input cert files lines
+NamesCause input cert Done files = MayName input cert files × (tracks : List Track) × AreTracksOf (content_of files input) (content_of files cert) tracks
 NamesCause input cert (Differs line) files = IsUnnamed input cert files line
 NamesCause input cert (Refused refusal) files = IsNamesRefused input cert files refusal
 NamesCause input cert other files = ⊥

@@ -1,16 +1,16 @@
 -- Where the functions of a file go by a certificate.
-use Rattle.std.specs.Prelude.{◌≡◌, ℕ, Bool, List, map, if◌then◌else◌}
-use Rattle.std.specs.List.{Contains}
+use Rattle.std.specs.Prelude.{◌≡◌, ℕ, Bool, List, Some, map, if◌then◌else◌}
+use Rattle.std.specs.List.{AllZip}
 use Rattle.std.specs.Option.{unwrap_or}
+use Rattle.sq_elf.specs.Headers.{entry_of}
+use Rattle.sq_elf.specs.Reading.{word_of}
 use Rattle.sq_elf.specs.Text.{text_of}
-use Rattle.sq_graph.specs.declared.parts.CodeRef.{CodeRef}
 use Rattle.sq_graph.specs.Graph.{Graph}
 use Rattle.sq_graph.specs.Parts.{names_of}
 use Rattle.sq_graph.specs.Places.{block_address}
 use Rattle.sq_graph.specs.Slotted.{number_in, IsSlotted}
-use Rattle.sq_reloc.specs.declared.mark.CodeWord.{CodeWord}
+use Rattle.sq_reloc.specs.Outside.{code_word_at}
 use Rattle.sq_program.specs.Lifted.{lifted}
-use Rattle.sq_program.specs.Programs.{Program}
 use Rattle.sq_names.specs.declared.track.Track.{Track}
 use Rattle.sq_names.specs.declared.track.Track.TheVariants.{At, Gone}
 use Rattle.sq_names.specs.Functions.{NamedFunction, functions_of}
@@ -18,6 +18,7 @@ use Rattle.sq_names.specs.Listing.{AreListed}
 use Rattle.sq_lifted.specs.LiftedFiles.{IsLiftedFile}
 use Rattle.sq_drive.specs.Checking.{IsFirstFault}
 use Rattle.sq_drive.specs.Tracking.{carried, standing, AreTracked}
+use Rattle.sq_top.specs.Proving.{Proves}
 
 -- where a function is in the given file: gone where its word isn't reached, else the block that begins there, else inside one
 abbrev pub begun : (ℕ → Bool) → Graph → NamedFunction → Track
@@ -42,18 +43,24 @@ pub record AreTracksOf (bytes text : List ℕ) (tracks : List Track) : Type 0 wh
   pub tracked : AreTracked text first last (map (begun_in bytes first file) (functions_of bytes)) places
   pub tracks_are : tracks ≡ map (carried (addressed last (text_of bytes).lo)) places
 
--- the word that is written at this address holds that of the block at which a function is
-pub record PointsTo (last : Graph) (lo at : ℕ) (track : Track) : Type 0 where
-  pub word : CodeRef
-  pub within : Contains last.code_words word
-  pub place : word.at ≡ at
-  pub held : track ≡ addressed last lo word.block
+-- a function is where the code word at this address of a file points: at the address that this word is to be, and is
+pub record PointsTo (file : List ℕ) (at : ℕ) (track : Track) : Type 0 where
+  pub to : ℕ
+  pub code_word : code_word_at file at ≡ Some to
+  pub stands : word_of file at ≡ Some to
+  pub held : track ≡ At to
 
--- a function at the entry of the file is tracked to the entry of what is written of the last graph, and one to which a word of
--- data points to where the word at this address points then
-pub record KeepsFileStarts (p : Program) (last : Graph) (lo : ℕ) (function : NamedFunction) (track : Track) : Type 0 where
-  pub entry : function.value ≡ p.entry → track ≡ addressed last lo last.entry
-  pub words : (word : CodeWord) → Contains p.code_words word → function.value ≡ word.to → PointsTo last lo word.at track
+-- a function at the entry of the given file is tracked to the entry of the output, and one to which a code word of the given
+-- file points to where the code word at this address of the output points
+pub record KeepsFileStarts (given output : List ℕ) (function : NamedFunction) (track : Track) : Type 0 where
+  pub entry : function.value ≡ entry_of given → track ≡ At (entry_of output)
+  pub words : (at : ℕ) → code_word_at given at ≡ Some function.value → PointsTo output at track
+
+-- THE TRACKS AGREE WITH THE OUTPUT, whatever output the certificate proves of the file: functions at its entry and those to
+-- which its code words point are tracked to where the output has its entry and these words point
+abbrev pub AgreeWithOutputs : (given text : List ℕ) → List Track → Type 0
+AgreeWithOutputs given text tracks =
+    (output : List ℕ) (count : ℕ) → Proves given output text count → AllZip (KeepsFileStarts given output) (functions_of given) tracks
 
 -- the first line of the certificate that has no form or is no candidate, on the graph of the file
 pub record FailsToTrack (bytes text : List ℕ) (line : ℕ) : Type 0 where
@@ -62,8 +69,9 @@ pub record FailsToTrack (bytes text : List ℕ) (line : ℕ) : Type 0 where
   pub slotted : IsSlotted first
   pub fault : IsFirstFault text first line
 
--- THE LINES of a file and a certificate: those of its functions with their tracks
+-- THE LINES of a file and a certificate: those of its functions with their tracks, which agree with the output
 pub record AreLinesOf (bytes text lines : List ℕ) : Type 0 where
   pub tracks : List Track
   pub are : AreTracksOf bytes text tracks
+  pub agree : AgreeWithOutputs bytes text tracks
   pub listed : AreListed (functions_of bytes) tracks lines

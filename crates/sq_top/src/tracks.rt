@@ -1,22 +1,19 @@
 //! Where the functions of a file go by a certificate.
 
 ghost use Rattle.std.specs.Prelude.{◌≡◌, ◌⊎◌, ℕ, ◌<◌, ◌≤◌, ◌^◌, List, ◌++◌, if◌then◌else◌, length, map, option_map, IfOk, OnOk, Err};
-ghost use Rattle.std.specs.List.{AllZip};
 ghost use Rattle.std.specs.Option.{option_to_list};
 ghost use Rattle.sq_num.specs.declared.refusal.Refusal.{Refusal as Cause};
 ghost use Rattle.sq_num.specs.declared.refusal.Denied.{Denied as Lack};
-ghost use Rattle.sq_elf.specs.Text.{text_of};
 ghost use Rattle.sq_graph.specs.Slotted.{IsSlotted};
 ghost use Rattle.sq_lift.specs.Flags.{is_flagged};
 ghost use Rattle.sq_lift.specs.Starts.{slot_at};
 ghost use Rattle.sq_lifted.specs.LiftedFiles.{IsLiftedFile, FitsFile};
-ghost use Rattle.sq_names.specs.Functions.{functions_of};
 ghost use Rattle.sq_names.specs.Names.{seen};
 ghost use Rattle.sq_names.specs.declared.track.Track.{Track as Place};
 ghost use Rattle.sq_drive.specs.Tracking.{carried, standing};
 ghost use Rattle.sq_program.specs.FilePrograms.{IsRefusalOf};
 ghost use Rattle.sq_top.specs.Tracking.{begun_by, placed_at};
-ghost use Rattle.sq_top.specs.Tracks.{AreTracksOf, KeepsFileStarts, FailsToTrack};
+ghost use Rattle.sq_top.specs.Tracks.{AreTracksOf, AgreeWithOutputs, FailsToTrack};
 
 use crate::reading::{FileGraph, read_graph};
 use sq_drive::track_graph;
@@ -136,7 +133,7 @@ fn track_file(
     requires text { length cert.now ≤ 134217728 }
     ensures tracked { IfOk result (λ tracks. AreTracksOf elf.now cert.now tracks) }
     ensures one { IfOk result (λ tracks. (others : List Place) → AreTracksOf elf.now cert.now others → others ≡ tracks) }
-    ensures starts { IfOk result (λ tracks. (t : AreTracksOf elf.now cert.now tracks) → AllZip (KeepsFileStarts t.file.program t.last (text_of elf.now).lo) (functions_of elf.now) tracks) }
+    ensures agree { IfOk result (λ tracks. AgreeWithOutputs elf.now cert.now tracks) }
     ensures line { (line : ℕ) → result ≡ Err (TrackFault.Line line) → FailsToTrack elf.now cert.now line }
     ensures only { (line : ℕ) → result ≡ Err (TrackFault.Line line) → (tracks : List Place) → ¬ AreTracksOf elf.now cert.now tracks }
     ensures memory { (denied : Lack) → result ≡ Err (TrackFault.Denied denied) → denied ≡ Denied.Memory }
@@ -148,6 +145,7 @@ fn track_file(
     if let Some(line) = track_graph(alloc, graph, cert, &mut tracks)? {
         return Err(TrackFault::Line(line));
     }
+    graph.learn();
     let places = place(alloc, graph, elf.text().lo)?;
     let tracks = at_addresses(alloc, &places, tracks.as_slice())?;
     Ok(Tracks::new(tracks))
@@ -159,7 +157,7 @@ pub fn track(alloc: Global, input: &[u8], cert: &[u8]) -> Result<Tracks, TrackFa
     requires text { length cert.now ≤ 134217728 }
     ensures tracked { IfOk result (λ tracks. AreTracksOf input.now cert.now tracks) }
     ensures one { IfOk result (λ tracks. (others : List Place) → AreTracksOf input.now cert.now others → others ≡ tracks) }
-    ensures starts { IfOk result (λ tracks. (t : AreTracksOf input.now cert.now tracks) → AllZip (KeepsFileStarts t.file.program t.last (text_of input.now).lo) (functions_of input.now) tracks) }
+    ensures agree { IfOk result (λ tracks. AgreeWithOutputs input.now cert.now tracks) }
     ensures line { (line : ℕ) → result ≡ Err (TrackFault.Line line) → FailsToTrack input.now cert.now line }
     ensures only { (line : ℕ) → result ≡ Err (TrackFault.Line line) → (tracks : List Place) → ¬ AreTracksOf input.now cert.now tracks }
     ensures refused { (refusal : Cause) → result ≡ Err (TrackFault.Denied (Denied.Refused refusal)) → IsRefusalOf input.now refusal }

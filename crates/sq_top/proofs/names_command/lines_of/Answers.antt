@@ -33,4 +33,4 @@ returns-in_err-elf-clause-refused c = λ refusal is.
 
 pub returns-clause-lines : goal.returns-clause-lines
 returns-clause-lines c =
-    lines_told c.args.input.now c.args.cert.now c.in_ok-elf.elf c.in_ok-tracks.tracks c.in_ok-names.names c.in_ok-names_text.field-0.items c.in_ok-elf.ensures.read c.in_ok-tracks.ensures.tracked c.in_ok-names.ensures.value c.in_ok-names_text.ensures
+    lines_told c.args.input.now c.args.cert.now c.in_ok-elf.elf c.in_ok-tracks.tracks c.in_ok-names.names c.in_ok-names_text.field-0.items c.in_ok-elf.ensures.read c.in_ok-tracks.ensures.tracked c.in_ok-tracks.ensures.agree c.in_ok-names.ensures.value c.in_ok-names_text.ensures

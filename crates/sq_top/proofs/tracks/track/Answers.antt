@@ -1,15 +1,12 @@
 -- the file is the one that was read, and nothing of it is refused
 use Rattle.std.proofs.Common.{◌≡◌, ℕ, List, inl, inr, Err, IfOk, sym, ap, ◌∙◌, subst}
-use Rattle.std.specs.List.{AllZip}
 use Rattle.std.proofs.lemmas.Result.{err_from_is_err_and}
 use Rattle.sq_num.specs.declared.refusal.Denied.TheVariants.{Refused, Memory}
-use Rattle.sq_elf.specs.Text.{text_of}
-use Rattle.sq_names.specs.Functions.{functions_of}
 use Rattle.sq_names.specs.declared.track.Track.{Track}
 use Rattle.sq_lifted.specs.LiftedFiles.{IsLiftedFile, FitsFile}
 use Rattle.sq_lifted.proofs.Accepting.{not_refused}
 use Rattle.sq_top.specs.declared.tracks.TrackFault.TheVariants.{Denied}
-use Rattle.sq_top.specs.Tracks.{AreTracksOf, KeepsFileStarts, FailsToTrack}
+use Rattle.sq_top.specs.Tracks.{AreTracksOf, AgreeWithOutputs, FailsToTrack}
 use Rattle.sq_top.proofs.LighterFile.{lifted_is_accepted}
 use Rattle.sq_top.proofs.tracks.track.Goals as goal
 
@@ -53,7 +50,5 @@ returns-clause-exact c = λ refusal refused.
 pub returns-clause-one : goal.returns-clause-one
 returns-clause-one c = subst (λ (file : List ℕ). IfOk c.track_file.result (λ tracks. (others : List Track) → AreTracksOf file c.args.cert.now others → others ≡ tracks)) c.in_ok-elf.ensures.read c.track_file.ensures.one
 
-pub returns-clause-starts : goal.returns-clause-starts
-returns-clause-starts c =
-    subst (λ (file : List ℕ). IfOk c.track_file.result (λ tracks. (t : AreTracksOf file c.args.cert.now tracks) → AllZip (KeepsFileStarts t.file.program t.last (text_of file).lo) (functions_of file) tracks)) c.in_ok-elf.ensures.read
-    c.track_file.ensures.starts
+pub returns-clause-agree : goal.returns-clause-agree
+returns-clause-agree c = subst (λ (file : List ℕ). IfOk c.track_file.result (λ tracks. AgreeWithOutputs file c.args.cert.now tracks)) c.in_ok-elf.ensures.read c.track_file.ensures.agree

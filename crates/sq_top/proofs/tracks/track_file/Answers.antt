@@ -6,7 +6,7 @@ use Rattle.sq_layout.specs.Addresses.{ArePlaces}
 use Rattle.sq_drive.specs.Tracking.{carried}
 use Rattle.sq_top.specs.Tracks.{FailsToTrack}
 use Rattle.sq_top.proofs.LighterFile.{small_text}
-use Rattle.sq_top.proofs.TrackedFile.{never_early, track_fails, tracks_not, few_after, tracks_found, tracks_one, tracks_start}
+use Rattle.sq_top.proofs.TrackedFile.{never_early, track_fails, tracks_not, few_after, tracks_found, tracks_one, tracks_agree}
 use Rattle.sq_top.proofs.tracks.track_file.Goals as goal
 
 pub starts-requires-clause-accepted : goal.starts-requires-clause-accepted
@@ -44,12 +44,12 @@ pub returns-clause-one : goal.returns-clause-one
 returns-clause-one c =
     tracks_one c.args.elf.now c.args.cert.now c.args.graph.now.graph c.track_graph.new.graph.graph c.requires.lifted c.requires.slotted c.in_ok-starts.starts (c.in_ok-starts.ensures c.requires.lifted.program c.requires.lifted.lifted.accepted.read.program)
     c.in_ok-tracks.tracks.items c.track_graph.new.tracks.items c.in_ok-names.names c.in_ok-names.ensures.value c.in_ok-tracks.ensures.tracks (c.in_ok-line.ensures.tracked (ap Ok c.in_default.is))
-    (subst (AllByRecursion (λ b. b < 256)) c.bytes.ensures.value c.bytes_fit.ensures) (λ other g. c.in_ok-starts.ensures g.program g.lifted.accepted.read.program) (c.in_ok-line.ensures.one (ap Ok c.in_default.is))
     c.in_ok-places.places c.new.result (subst (λ lo. ArePlaces c.track_graph.new.graph.graph lo c.in_ok-places.places) (ap (λ (t : Text). t.lo) c.text.ensures.value) c.in_ok-places.ensures) (c.new.ensures ∙ c.in_ok-tracks-2.ensures ∙ ap (map (carried _)) c.as_slice.ensures.value)
-
-pub returns-clause-starts : goal.returns-clause-starts
-returns-clause-starts c = λ t.
-    tracks_start c.args.elf.now c.args.cert.now c.args.graph.now.graph c.track_graph.new.graph.graph c.requires.lifted c.requires.slotted c.in_ok-starts.starts (c.in_ok-starts.ensures c.requires.lifted.program c.requires.lifted.lifted.accepted.read.program)
-    c.in_ok-tracks.tracks.items c.track_graph.new.tracks.items c.in_ok-names.names c.in_ok-names.ensures.value c.in_ok-tracks.ensures.tracks (c.in_ok-line.ensures.tracked (ap Ok c.in_default.is))
     (subst (AllByRecursion (λ b. b < 256)) c.bytes.ensures.value c.bytes_fit.ensures) (λ other g. c.in_ok-starts.ensures g.program g.lifted.accepted.read.program) (c.in_ok-line.ensures.one (ap Ok c.in_default.is))
-    c.in_ok-places.places c.new.result (subst (λ lo. ArePlaces c.track_graph.new.graph.graph lo c.in_ok-places.places) (ap (λ (t : Text). t.lo) c.text.ensures.value) c.in_ok-places.ensures) (c.new.ensures ∙ c.in_ok-tracks-2.ensures ∙ ap (map (carried _)) c.as_slice.ensures.value) c.new.result t (c.in_ok-line.ensures.starts (ap Ok c.in_default.is))
+
+pub returns-clause-agree : goal.returns-clause-agree
+returns-clause-agree c =
+    tracks_agree c.args.elf.now c.args.cert.now c.args.graph.now.graph c.track_graph.new.graph.graph c.requires.lifted c.requires.slotted c.in_ok-starts.starts (c.in_ok-starts.ensures c.requires.lifted.program c.requires.lifted.lifted.accepted.read.program)
+    c.in_ok-tracks.tracks.items c.track_graph.new.tracks.items c.in_ok-names.names c.in_ok-names.ensures.value c.in_ok-tracks.ensures.tracks (c.in_ok-line.ensures.tracked (ap Ok c.in_default.is))
+    c.in_ok-places.places c.new.result (subst (λ lo. ArePlaces c.track_graph.new.graph.graph lo c.in_ok-places.places) (ap (λ (t : Text). t.lo) c.text.ensures.value) c.in_ok-places.ensures) (c.new.ensures ∙ c.in_ok-tracks-2.ensures ∙ ap (map (carried _)) c.as_slice.ensures.value)
+    (subst (AllByRecursion (λ b. b < 256)) c.bytes.ensures.value c.bytes_fit.ensures) c.requires.fits (c.in_ok-line.ensures.less (ap Ok c.in_default.is)) c.learn.ensures.rules (c.in_ok-line.ensures.starts (ap Ok c.in_default.is))
