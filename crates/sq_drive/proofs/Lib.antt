@@ -4,6 +4,7 @@ pub mod Moves
 pub mod NotedSteps
 pub mod OneReplay
 pub mod Replays
+pub mod CallRuns
 pub mod Rewrites
 pub mod RowPasses
 pub mod Slots

@@ -1,6 +1,6 @@
 //! The replay of a certificate: each step has to be a candidate of the graph that the steps before it left.
 
-ghost use Rattle.std.specs.Prelude.{◌≡◌, ◌≢◌, ℕ, ◌≤◌, true, false, None, Some, Ok, IfOk, OnOk, length};
+ghost use Rattle.std.specs.Prelude.{◌≡◌, ◌≢◌, ℕ, ◌≤◌, true, false, None, Some, Ok, IfOk, OnOk, length, map, slice_get, take};
 ghost use Rattle.sq_graph.specs.Blocks.{body_of};
 ghost use Rattle.sq_graph.specs.Leaders.{IsCanonical};
 ghost use Rattle.sq_graph.specs.Slotted.{slotted, IsSlotted};
@@ -8,15 +8,18 @@ ghost use Rattle.sq_graph.specs.Canonical.{canonical_of};
 ghost use Rattle.sq_graph.specs.Words.{words_of, most_words};
 ghost use Rattle.sq_follow.specs.Follows.{Follows};
 ghost use Rattle.sq_pass.specs.Rewrites.{IsLighter};
+ghost use Rattle.sq_cert.specs.declared.step.Step.{Step as GivenStep};
+ghost use Rattle.sq_cert.specs.declared.step.Step.TheVariants.{C};
 ghost use Rattle.sq_cert.specs.Steps.{row_of};
 ghost use Rattle.sq_drive.specs.Replay.{blocks_of, procedure_of, other_of, length_of, cut_of, IsGiven, IsTaken, MayStep, IsStep, IsReplay, FailsAt};
-ghost use Rattle.sq_drive.specs.Replaying.{IsLess, move_cut};
+ghost use Rattle.sq_drive.specs.Replaying.{IsLess, AreTaken, move_cut};
 
 use crate::rows::AllRows;
 use sq_cert::Step;
 use sq_chain::{movable, try_move};
 use sq_graph::Graph;
 use sq_isa::Reg;
+use sq_jumps::shorten_first;
 use sq_live::live;
 use sq_lookup::is_block;
 use sq_num::Memory;
@@ -213,6 +216,56 @@ pub fn take_step(alloc: Global, graph: &mut Graph, step: &Step) -> Result<bool, 
     take_row(alloc, graph, cut)
 }
 
+/// The blocks of the steps of row C in front of the first step of another row.
+fn call_blocks(alloc: Global, steps: &[Step]) -> Result<Vec<u32>, Memory>
+    ensures { IfOk result (λ blocks. take (length blocks.items) steps.now ≡ map C blocks.items) }
+{
+    let mut blocks = Vec::new(alloc);
+    for step in steps {
+        let Step::C { block } = step else {
+            return Ok(blocks);
+        };
+        blocks.push(*block)?;
+    }
+    Ok(blocks)
+}
+
+/// Takes the first steps, as long as they are of row C and one look at the whole graph tells that they are candidates: how many.
+fn take_calls(alloc: Global, graph: &mut Graph, steps: &[Step]) -> Result<usize, Memory>
+    requires canonical { IsCanonical graph.old.graph }
+    requires slotted { IsSlotted graph.old.graph }
+    ensures taken { IfOk result (λ count. AreTaken count steps.now graph.old.graph graph.new.graph) }
+    ensures follows { Follows graph.old.graph graph.new.graph }
+{
+    graph.learn();
+    let blocks = call_blocks(alloc, steps)?;
+    if blocks.is_empty() {
+        return Ok(0);
+    }
+    shorten_first(alloc, graph, &blocks)
+}
+
+/// Takes the first steps: some of row C at once, or else one. How many, and 0 where the first is no candidate.
+fn take_first(alloc: Global, graph: &mut Graph, steps: &[Step]) -> Result<usize, Memory>
+    requires canonical { IsCanonical graph.old.graph }
+    requires slotted { IsSlotted graph.old.graph }
+    requires words { words_of graph.old.graph ≤ most_words }
+    requires some { 1 ≤ length steps.now }
+    ensures taken { IfOk result (λ count. AreTaken count steps.now graph.old.graph graph.new.graph) }
+    ensures none { result ≡ Ok 0 → (step : GivenStep) → slice_get steps.now 0 ≡ Some step → ¬ MayStep graph.old.graph step }
+    ensures follows { Follows graph.old.graph graph.new.graph }
+{
+    let calls = take_calls(alloc, graph, steps)?;
+    if calls > 0 {
+        return Ok(calls);
+    }
+    if take_step(alloc, graph, &steps[0])? {
+        Ok(1)
+    } else {
+        Ok(0)
+    }
+}
+
 /// Takes the steps one after another, as long as they are candidates: the number of the first that isn't, or None.
 pub fn replay(alloc: Global, graph: &mut Graph, steps: &[Step]) -> Result<Option<usize>, Memory>
     requires canonical { IsCanonical graph.old.graph }
@@ -223,10 +276,13 @@ pub fn replay(alloc: Global, graph: &mut Graph, steps: &[Step]) -> Result<Option
     ensures lighter { OnOk result (IsLess graph.old.graph graph.new.graph) }
     ensures follows { Follows graph.old.graph graph.new.graph }
 {
-    for (number, step) in steps.iter().enumerate() {
-        if !take_step(alloc, graph, step)? {
+    let mut number = 0;
+    while number < steps.len() {
+        let taken = take_first(alloc, graph, &steps[number..])?;
+        if taken == 0 {
             return Ok(Some(number));
         }
+        number += taken;
     }
     Ok(None)
 }
