@@ -1,14 +1,12 @@
 -- The block in the slot before another one.
-use Rattle.std.proofs.Common.{◌≡◌, ℕ, ◌+◌, ◌==◌, false, if◌then◌else◌, List, [], ◌∷◌, length, Option, None, Some, IsSome, is_some, inl, inr, refl, sym, ap, ◌∙◌, subst}
+use Rattle.std.proofs.Common.{◌≡◌, ℕ, ◌==◌, false, if◌then◌else◌, List, [], ◌∷◌, Option, None, Some, IsSome, is_some, inl, inr, refl, sym, ap, ◌∙◌, subst}
 use Rattle.std.proofs.lemmas.Bool.{cases_Bool, eqb-true, eq-eqb}
 use Rattle.sq_arena.specs.Entries.{HasDistinctKeys, value_of, before, first_key, last_key, next_key, previous_key}
 use Rattle.sq_arena.proofs.EntriesLaws.{distinct_back}
-use Rattle.sq_graph.specs.declared.slot.Slot.{Slot}
 use Rattle.sq_graph.specs.declared.item.Term.{Term}
 use Rattle.sq_graph.specs.Graph.{Block, Graph}
 use Rattle.sq_graph.specs.Blocks.{named, HasBlock, next_of, term_of}
 use Rattle.sq_graph.specs.Rules.{IsGraph}
-use Rattle.sq_graph.specs.Slots.{slot_of, slots_from}
 use Rattle.sq_graph.specs.Terms.{goes_on}
 use Rattle.sq_graph.proofs.Kept.{absent_behind}
 use Rattle.sq_patch.specs.LoneJumps.{IsApart}
@@ -18,20 +16,20 @@ abbrev pub ahead_of : Option ℕ → List Block → ℕ → Option ℕ
 ahead_of d [] k = d
 ahead_of d (b ∷ bs) k = if b.name == k then d else ahead_of (Some b.name) bs k
 
-ahead_in : (x : ℕ × Slot) (n : ℕ) (bs : List Block) (k : ℕ) → last_key (x ∷ before (slots_from n bs) k) ≡ ahead_of (Some x.0) bs k
-ahead_in x n [] k = refl
-ahead_in x n (b ∷ bs) k =
+ahead_in : (x : ℕ × Block) (bs : List Block) (k : ℕ) → last_key (x ∷ before (named bs) k) ≡ ahead_of (Some x.0) bs k
+ahead_in x [] k = refl
+ahead_in x (b ∷ bs) k =
     elim (cases_Bool (b.name == k)) [
       | inl here ↦ rw here refl
-      | inr apart ↦ rw apart (ahead_in (b.name, slot_of n b) (n + length b.items) bs k)
+      | inr apart ↦ rw apart (ahead_in (b.name, b) bs k)
     ]
 
-pub previous_is : (bs : List Block) (k : ℕ) → previous_key (slots_from 0 bs) k ≡ ahead_of None bs k
+pub previous_is : (bs : List Block) (k : ℕ) → previous_key (named bs) k ≡ ahead_of None bs k
 previous_is [] k = refl
 previous_is (b ∷ bs) k =
     elim (cases_Bool (b.name == k)) [
       | inl here ↦ rw here refl
-      | inr apart ↦ rw apart (ahead_in (b.name, slot_of 0 b) (0 + length b.items) bs k)
+      | inr apart ↦ rw apart (ahead_in (b.name, b) bs k)
     ]
 
 none_behind : (bs : List Block) (m : ℕ) → value_of (named bs) m ≡ None → next_key (named bs) m ≡ None
@@ -116,14 +114,14 @@ ahead_if d (b ∷ c ∷ bs) k m distinct e =
 -- INTO WHICH BLOCK NOTHING GOES ON
 
 module _ (g : Graph) (rules : IsGraph g) (block : ℕ) (has : HasBlock g block) where
-  pub none_apart : previous_key (slots_from 0 g.blocks) block ≡ None → IsApart g block
+  pub none_apart : previous_key (named g.blocks) block ≡ None → IsApart g block
   none_apart none = λ m t next is. absurd (some_none (ahead_of None g.blocks block) m (ahead_if None g.blocks block m rules.distinct next) (sym (previous_is g.blocks block) ∙ none))
     where
       some_none : (o : Option ℕ) (j : ℕ) → o ≡ Some j → o ≡ None → ⊥
       some_none o j f e = cc
 
   -- the slot before
-  module _ (m : ℕ) (previous : previous_key (slots_from 0 g.blocks) block ≡ Some m) where
+  module _ (m : ℕ) (previous : previous_key (named g.blocks) block ≡ Some m) where
     pub before_next : next_of g m ≡ Some block
     before_next = next_first g.blocks block m rules.distinct has (sym (previous_is g.blocks block) ∙ previous)
 

@@ -10,14 +10,15 @@ use Rattle.sq_graph.specs.Blocks.{HasBlock, all_items}
 use Rattle.sq_graph.specs.Uses.{code_word_uses, terms_uses, items_uses, uses}
 use Rattle.sq_graph.specs.Cursor.{retargeted_slots, slot_uses}
 use Rattle.sq_graph.specs.CanonicalSlots.{start_of}
-use Rattle.sq_graph.specs.Layout.{graph_of, IsSound}
+use Rattle.sq_graph.specs.Layout.{graph_of}
+use Rattle.sq_graph.proofs.Tight.{IsTight}
 use Rattle.sq_graph.proofs.Eachs.{All-left, All-right}
 use Rattle.sq_graph.proofs.SlotPasses.{contains-retargeted}
 
 -- every name that is used has a slot, before and after the terms go where the starts say
-module _ (old : Inside) (sound : IsSound old) (aims : List (ℕ × Slot)) (there : (name : ℕ) → HasBlock (graph_of old) name → ContainsKey aims name) (same : slot_uses aims ≡ terms_uses (graph_of old).blocks) where
+module _ (old : Inside) (tight : IsTight old) (aims : List (ℕ × Slot)) (there : (name : ℕ) → HasBlock (graph_of old) name → ContainsKey aims name) (same : slot_uses aims ≡ terms_uses (graph_of old).blocks) where
   all_used : All (ContainsKey aims) (uses (graph_of old))
-  all_used = All-weaker (HasBlock (graph_of old)) (ContainsKey aims) there (uses (graph_of old)) sound.rules.named_all
+  all_used = All-weaker (HasBlock (graph_of old)) (ContainsKey aims) there (uses (graph_of old)) tight.rules.named_all
 
   more_used : All (ContainsKey aims) (code_word_uses old.code_words.items ++ (terms_uses (graph_of old).blocks ++ items_uses (all_items (graph_of old))))
   more_used = All-tail (ContainsKey aims) (graph_of old).entry (code_word_uses old.code_words.items ++ (terms_uses (graph_of old).blocks ++ items_uses (all_items (graph_of old)))) all_used
@@ -39,7 +40,7 @@ module _ (old : Inside) (sound : IsSound old) (aims : List (ℕ × Slot)) (there
   pub items_known : All (ContainsKey went) (items_uses old.items.items)
   items_known =
       let g = graph_of old in
-      subst (λ (is : List Item). All (ContainsKey went) (items_uses is)) (sym sound.holds.items)
+      subst (λ (is : List Item). All (ContainsKey went) (items_uses is)) (sym tight.holds.items)
       (All-weaker (ContainsKey aims) (ContainsKey went) still_there (items_uses (all_items g))
       (All-right (ContainsKey aims) (terms_uses g.blocks) (items_uses (all_items g)) rest_used))
 

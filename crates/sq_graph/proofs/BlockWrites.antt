@@ -1,9 +1,9 @@
--- What the fields show after a call that changes blocks and keeps their items where they lie.
-use Rattle.std.proofs.Common.{◌≡◌, ℕ, ◌+◌, ◌-◌, ◌≤◌, ◌==◌, false, List, [], ◌∷◌, ◌++◌, length, take, drop, Option, None, Some, is_some, refl, sym, ap, ◌∙◌, inl, inr, arith, length-append, length-drop, append_assoc}
+-- What the fields show after a call that changes a block and keeps all other items where they lie.
+use Rattle.std.proofs.Common.{◌≡◌, ℕ, ◌+◌, ◌-◌, ◌≤◌, ◌==◌, List, [], ◌∷◌, ◌++◌, length, take, drop, vec_capacity, Vec, Global, None, Some, refl, sym, ap, ◌∙◌, inl, inr, arith, length-append, length-drop, append_assoc}
 use Rattle.std.proofs.lemmas.Bool.{cases_Bool, eq-eqb}
-use Rattle.std.proofs.lemmas.List.{append-nil, length-take-le, take-append-drop}
+use Rattle.std.proofs.lemmas.List.{append-nil, length-take-le, take-append-drop, drop-append-le, take-take, drop-take, drop-drop}
 use Rattle.sq_arena.specs.Arena.{Arena as Listed}
-use Rattle.sq_arena.specs.Entries.{value_of, before, behind, with_value, insert_after}
+use Rattle.sq_arena.specs.Entries.{value_of, before, behind, without, with_value, insert_after}
 use Rattle.sq_arena.proofs.EntriesLemmas.{through-before, split_at as split_at_key}
 use Rattle.sq_graph.specs.declared.item.Item.{Item}
 use Rattle.sq_graph.specs.declared.item.Term.{Term}
@@ -11,108 +11,115 @@ use Rattle.sq_graph.specs.declared.item.Term.TheVariants.{Fall}
 use Rattle.sq_graph.specs.declared.slot.Slot.{Slot}
 use Rattle.sq_graph.specs.declared.graph.Graph.TheInside.{Inside}
 use Rattle.sq_graph.specs.Graph.{Block}
-use Rattle.sq_graph.specs.Blocks.{named, HasBlock, block_items, items_of, items_of_blocks}
+use Rattle.sq_graph.specs.Blocks.{block_items, items_of, items_of_blocks}
+use Rattle.sq_graph.specs.Cursor.{length_of_slots}
 use Rattle.sq_graph.specs.Rules.{IsGraph}
-use Rattle.sq_graph.specs.Operations.{IsNew, with_blocks, with_term, inserted_after, halves, split_at}
-use Rattle.sq_graph.specs.Slots.{slot_of, slots_from}
+use Rattle.sq_graph.specs.Operations.{changed, with_term, inserted_after, halves, split_at, without_block, replaced_items, replaced}
 use Rattle.sq_graph.specs.Layout.{graph_of, IsSound}
-use Rattle.sq_graph.proofs.Located.{IsAt, located, value_of-slots, value_of-slots-none}
-use Rattle.sq_graph.proofs.SlotReads.{block_at}
-use Rattle.sq_graph.proofs.Held.{Shows, limited}
-use Rattle.sq_graph.proofs.CursorLaws.{with_value-split, length-with_value}
-use Rattle.sq_graph.proofs.Changes.{around, start_at, slots_from-changed, items_of_blocks-kept, reslotted}
+use Rattle.sq_graph.proofs.CursorLaws.{value_of-before, with_value-split}
+use Rattle.sq_graph.proofs.Packing.{later_same, ahead_written, length-replaced_items, upto_written, behind_written}
+use Rattle.sq_graph.proofs.SlotPasses.{length_of_slots-append}
+use Rattle.sq_graph.proofs.SlotReads.{reads, apart_found}
+use Rattle.sq_graph.proofs.Laid.{Stands, Lies, lies_changed}
+use Rattle.sq_graph.proofs.Held.{Shows, laid, laid_shows, limits_of}
 
-some_same : {T : Type 0} (a b : T) → Some a ≡ Some b → a ≡ b
-some_same a b same = cc
+-- fields in which the slot of a block has made way for others, and other items lie where its items were
+pub record Rewrites (old new : Inside) (name : ℕ) (slot : Slot) (mid : List (ℕ × Slot)) : Type 0 where
+  pub slots : new.slots.entries ≡ before old.slots.entries name ++ (mid ++ behind old.slots.entries name)
+  pub spare : length mid + new.slots.spare ≡ 1 + old.slots.spare
+  pub ahead : take slot.start new.items.items ≡ take slot.start old.items.items
+  pub later : drop (slot.start + slot.length) new.items.items ≡ drop (slot.start + slot.length) old.items.items
+  pub long : length new.items.items ≡ length old.items.items
+  pub capacity : vec_capacity new.items ≡ vec_capacity old.items
+  pub gaps : new.gaps + length_of_slots mid ≡ old.gaps + slot.length
+  pub blocks_end : new.blocks_end ≡ old.blocks_end
+  pub entry : new.entry ≡ old.entry
+  pub code_words : new.code_words ≡ old.code_words
+  pub bodies : new.bodies ≡ old.bodies
+  pub item_room : new.item_room ≡ old.item_room
+  pub body_room : new.body_room ≡ old.body_room
 
--- a name with no slot is no block's
-pub new_name : (inside : Inside) (name : ℕ) → IsSound inside → value_of inside.slots.entries name ≡ None → IsNew (graph_of inside) name
-new_name inside name sound none =
-    let none_there : is_some (value_of (named (graph_of inside).blocks) name) ≡ false =
-    sym (value_of-slots 0 (graph_of inside).blocks name) ∙ ap (λ es. is_some (value_of es name)) (sym sound.holds.slots) ∙ ap is_some none in
-    absent (value_of (named (graph_of inside).blocks) name) none_there
-  where
-    absent : {T : Type 0} (o : Option T) → is_some o ≡ false → o ≡ None
-    absent None none = refl
-    absent (Some x) none = absurd (cc)
-
--- the slot of a block that has this one
-pub slot_is : (inside : Inside) (name : ℕ) (slot : Slot) (at : IsAt (graph_of inside).blocks name) → IsSound inside → value_of inside.slots.entries name ≡ Some slot → slot ≡ slot_of (start_at (graph_of inside).blocks name at) at.block
-slot_is inside name slot at sound found =
-    some_same slot (slot_of (start_at (graph_of inside).blocks name at) at.block)
-    (sym found ∙ (around inside.slots.entries (graph_of inside).blocks name at sound.holds.slots).slot)
-
-pub set_term_shows : (inside : Inside) (name : ℕ) (slot : Slot) (term : Term) (slots : Listed Slot) → IsSound inside → HasBlock (graph_of inside) name → value_of inside.slots.entries name ≡ Some slot → slots.entries ≡ with_value inside.slots.entries name (record slot { term = term }) → slots.spare ≡ inside.slots.spare → IsGraph (with_term (graph_of inside) name term) → Shows (record inside { slots = slots }) (with_term (graph_of inside) name term)
-set_term_shows inside name slot term slots sound has found is spare rules =
-    let bs = (graph_of inside).blocks in
-    let at = located bs name has in
-    let f : Block → List Block = λ b. record b { term = term } ∷ [] in
-    let m = start_at bs name at in
-    let there = around inside.slots.entries bs name at sound.holds.slots in
-    let same = slot_is inside name slot at sound found in
-    let whole : slots.entries ≡ slots_from 0 at.front ++ (name, record slot { term = term }) ∷ slots_from (m + length at.block.items) at.back =
-    is ∙ with_value-split inside.slots.entries name slot (record slot { term = term }) found
-    ∙ ap (λ es. es ++ (name, record slot { term = term }) ∷ behind inside.slots.entries name) there.front
-    ∙ ap (λ es. slots_from 0 at.front ++ (name, record slot { term = term }) ∷ es) there.back in
-    let e : length (at.block.items ++ []) ≡ length at.block.items = ap (λ is. length is) (append-nil at.block.items) in
-    let target = slots_from-changed f bs name at in
-    reslotted inside slots (with_blocks f bs name) sound
-    (whole
-    ∙ ap (λ s. slots_from 0 at.front ++ (name, record s { term = term }) ∷ slots_from (m + length at.block.items) at.back) same
-    ∙ ap (λ k. slots_from 0 at.front ++ (k, record { start = m; length = length at.block.items; term = term }) ∷ slots_from (m + length at.block.items) at.back) (sym at.has_name)
-    ∙ ap (λ n. slots_from 0 at.front ++ (at.block.name, record { start = m; length = length at.block.items; term = term }) ∷ slots_from (m + n) at.back) (sym e)
-    ∙ sym target)
-    (items_of_blocks-kept f bs name at (append-nil at.block.items))
-    (let limits = limited inside sound in
-    omega (arith, limits.blocks, spare, ap (λ es. length es) is, length-with_value inside.slots.entries name (record slot { term = term })))
+pub rewrites_shows : (old new : Inside) (name : ℕ) (slot : Slot) (mid : List (ℕ × Slot)) (f : Block → List Block) → IsSound old → value_of old.slots.entries name ≡ Some slot → Rewrites old new name slot mid
+    → ((b : Block) → Stands old.items.items slot.start (name, slot) b → Lies new.items.items slot.start mid (f b) (slot.start + slot.length))
+    → IsGraph (changed f (graph_of old) name) → Shows new (changed f (graph_of old) name)
+rewrites_shows old new name slot mid f sound found change there rules =
+    let g = graph_of old in
+    let lays = laid old sound in
+    let limits = limits_of old sound in
+    let whole = split_at_key old.slots.entries name slot found in
+    let fits = apart_found old.slots.entries 0 old.blocks_end name slot sound.gaps.apart found in
+    let lies = lies_changed old.items.items new.items.items f name slot mid old.blocks_end change.ahead change.later there 0 old.slots.entries g.blocks lays.blocks found in
+    let was : length_of_slots old.slots.entries ≡ length_of_slots (before old.slots.entries name) + (slot.length + length_of_slots (behind old.slots.entries name)) =
+    ap length_of_slots whole ∙ length_of_slots-append (before old.slots.entries name) ((name, slot) ∷ behind old.slots.entries name) in
+    let is : length_of_slots new.slots.entries ≡ length_of_slots (before old.slots.entries name) + (length_of_slots mid + length_of_slots (behind old.slots.entries name)) =
+    ap length_of_slots change.slots ∙ length_of_slots-append (before old.slots.entries name) (mid ++ behind old.slots.entries name)
+    ∙ ap (λ n. length_of_slots (before old.slots.entries name) + n) (length_of_slots-append mid (behind old.slots.entries name)) in
+    laid_shows new (changed f g name)
+    (record {
+      blocks = rw (change.slots, change.blocks_end) lies;
+      within = omega (arith, lays.within, change.long, change.blocks_end);
+      counted = omega (arith, lays.counted, was, is, change.gaps, change.blocks_end);
+      behind = rw change.blocks_end (later_same old.items.items new.items.items (slot.start + slot.length) old.blocks_end fits change.later ∙ lays.behind);
+      entry = change.entry;
+      code_words = ap (λ ws. ws.items) change.code_words;
+      bodies = ap (λ bs. bs.items) change.bodies ∙ lays.bodies;
+    })
     rules
+    (record {
+      items = omega (arith, change.long, change.item_room, sound.room.items);
+      item_room = omega (arith, change.capacity, change.item_room, sound.room.item_room);
+      bodies = omega (arith, ap (λ bs. length bs.items) change.bodies, change.body_room, sound.room.bodies);
+      body_room = omega (arith, ap (λ bs. vec_capacity bs) change.bodies, change.body_room, sound.room.body_room);
+    })
+    (record {
+      blocks = omega (arith, limits.blocks, change.spare, ap (λ es. length es) change.slots, ap (λ es. length es) whole, length-append (before old.slots.entries name) (mid ++ behind old.slots.entries name), length-append mid (behind old.slots.entries name), length-append (before old.slots.entries name) ((name, slot) ∷ behind old.slots.entries name));
+      item_room = omega (arith, limits.item_room, change.item_room);
+      body_room = omega (arith, limits.body_room, change.body_room);
+    })
 
--- the slots with one more right behind a block's
-pub insert_slots : (entries : List (ℕ × Slot)) (blocks : List Block) (name : ℕ) (at : IsAt blocks name) (slot : Slot) (new : ℕ) (v : Slot) → entries ≡ slots_from 0 blocks → value_of entries name ≡ Some slot → insert_after entries name (new, v) ≡ slots_from 0 at.front ++ (name, slot) ∷ (new, v) ∷ slots_from (start_at blocks name at + length at.block.items) at.back
-insert_slots entries blocks name at slot new v is found =
-    let there = around entries blocks name at is in
-    let m = start_at blocks name at in
-    ap (λ es. es ++ (new, v) ∷ behind entries name) (through-before entries name slot found)
-    ∙ ap (λ es. (es ++ (name, slot) ∷ []) ++ (new, v) ∷ behind entries name) there.front
-    ∙ ap (λ es. (slots_from 0 at.front ++ (name, slot) ∷ []) ++ (new, v) ∷ es) there.back
-    ∙ append_assoc (slots_from 0 at.front) ((name, slot) ∷ []) ((new, v) ∷ slots_from (m + length at.block.items) at.back)
+-- the same where no item changes
+reslots : (inside : Inside) (name : ℕ) (slot : Slot) (mid : List (ℕ × Slot)) (slots : Listed Slot) (gaps : ℕ) → slots.entries ≡ before inside.slots.entries name ++ (mid ++ behind inside.slots.entries name) → length mid + slots.spare ≡ 1 + inside.slots.spare → gaps + length_of_slots mid ≡ inside.gaps + slot.length
+    → Rewrites inside (record inside { slots = slots; gaps = gaps }) name slot mid
+reslots inside name slot mid slots gaps is spare counted = record {
+  slots = is;
+  spare = spare;
+  ahead = refl;
+  later = refl;
+  long = refl;
+  capacity = refl;
+  gaps = counted;
+  blocks_end = refl;
+  entry = refl;
+  code_words = refl;
+  bodies = refl;
+  item_room = refl;
+  body_room = refl;
+}
 
-length-insert : (entries : List (ℕ × Slot)) (blocks : List Block) (name : ℕ) (at : IsAt blocks name) (slot : Slot) (new : ℕ) (v : Slot) → entries ≡ slots_from 0 blocks → value_of entries name ≡ Some slot → length (insert_after entries name (new, v)) ≡ length entries + 1
-length-insert entries blocks name at slot new v is found =
-    let m = start_at blocks name at in
-    let there = around entries blocks name at is in
-    let old : entries ≡ before entries name ++ (name, slot) ∷ behind entries name = split_at_key entries name slot found in
-    omega (
-      arith,
-      ap (λ es. length es) (insert_slots entries blocks name at slot new v is found),
-      ap (λ es. length es) old,
-      ap (λ es. length es) there.front,
-      ap (λ es. length es) there.back,
-      length-append (slots_from 0 at.front) ((name, slot) ∷ (new, v) ∷ slots_from (m + length at.block.items) at.back),
-      length-append (before entries name) ((name, slot) ∷ behind entries name),
-    )
+pub set_term_shows : (inside : Inside) (name : ℕ) (slot : Slot) (term : Term) (slots : Listed Slot) → IsSound inside → value_of inside.slots.entries name ≡ Some slot → slots.entries ≡ with_value inside.slots.entries name (record slot { term = term }) → slots.spare ≡ inside.slots.spare → IsGraph (with_term (graph_of inside) name term) → Shows (record inside { slots = slots }) (with_term (graph_of inside) name term)
+set_term_shows inside name slot term slots sound found is spare rules =
+    rewrites_shows inside (record inside { slots = slots }) name slot ((name, record slot { term = term }) ∷ []) (λ b. record b { term = term } ∷ []) sound found
+    (reslots inside name slot ((name, record slot { term = term }) ∷ []) slots inside.gaps
+    (is ∙ with_value-split inside.slots.entries name slot (record slot { term = term }) found) (omega (arith, spare)) (omega arith))
+    (λ b st. (record { name = st.name; term = refl; counted = st.counted; above = st.above; items = st.items }, omega arith))
+    rules
 
 -- the slot of a block without items behind this one
 abbrev pub slot_behind : Slot → Term → Slot
 slot_behind slot term = record { start = slot.start + slot.length; length = 0; term = term }
 
-pub insert_shows : (inside : Inside) (name : ℕ) (slot : Slot) (term : Term) (new : ℕ) (slots : Listed Slot) → IsSound inside → HasBlock (graph_of inside) name → value_of inside.slots.entries name ≡ Some slot → slots.entries ≡ insert_after inside.slots.entries name (new, slot_behind slot term) → slots.spare + 1 ≡ inside.slots.spare → IsGraph (inserted_after (graph_of inside) new name term) → Shows (record inside { slots = slots }) (inserted_after (graph_of inside) new name term)
-insert_shows inside name slot term new slots sound has found is spare rules =
-    let bs = (graph_of inside).blocks in
-    let at = located bs name has in
-    let f : Block → List Block = λ b. b ∷ record { name = new; items = []; term = term } ∷ [] in
-    let m = start_at bs name at in
-    let same = slot_is inside name slot at sound found in
-    let limits = limited inside sound in
-    let e : length (at.block.items ++ []) ≡ length at.block.items = ap (λ is. length is) (append-nil at.block.items) in
-    reslotted inside slots (with_blocks f bs name) sound
-    (is ∙ insert_slots inside.slots.entries bs name at slot new (slot_behind slot term) sound.holds.slots found
-    ∙ ap (λ s. slots_from 0 at.front ++ (name, s) ∷ (new, slot_behind s term) ∷ slots_from (m + length at.block.items) at.back) same
-    ∙ ap (λ k. slots_from 0 at.front ++ (k, slot_of m at.block) ∷ (new, slot_behind (slot_of m at.block) term) ∷ slots_from (m + length at.block.items) at.back) (sym at.has_name)
-    ∙ ap (λ n. slots_from 0 at.front ++ (at.block.name, slot_of m at.block) ∷ (new, slot_behind (slot_of m at.block) term) ∷ slots_from (m + n) at.back) (sym e)
-    ∙ sym (slots_from-changed f bs name at))
-    (items_of_blocks-kept f bs name at (append-nil at.block.items))
-    (omega (arith, limits.blocks, spare, ap (λ es. length es) is, length-insert inside.slots.entries bs name at slot new (slot_behind slot term) sound.holds.slots found))
+-- the slots with one more right behind a block's
+insert_slots : (entries : List (ℕ × Slot)) (name : ℕ) (slot : Slot) (new : ℕ) (v : Slot) → value_of entries name ≡ Some slot → insert_after entries name (new, v) ≡ before entries name ++ (name, slot) ∷ (new, v) ∷ behind entries name
+insert_slots entries name slot new v found =
+    ap (λ es. es ++ (new, v) ∷ behind entries name) (through-before entries name slot found)
+    ∙ append_assoc (before entries name) ((name, slot) ∷ []) ((new, v) ∷ behind entries name)
+
+pub insert_shows : (inside : Inside) (name : ℕ) (slot : Slot) (term : Term) (new : ℕ) (slots : Listed Slot) → IsSound inside → value_of inside.slots.entries name ≡ Some slot → slots.entries ≡ insert_after inside.slots.entries name (new, slot_behind slot term) → slots.spare + 1 ≡ inside.slots.spare → IsGraph (inserted_after (graph_of inside) new name term) → Shows (record inside { slots = slots }) (inserted_after (graph_of inside) new name term)
+insert_shows inside name slot term new slots sound found is spare rules =
+    rewrites_shows inside (record inside { slots = slots }) name slot ((name, slot) ∷ (new, slot_behind slot term) ∷ []) (λ b. b ∷ record { name = new; items = []; term = term } ∷ []) sound found
+    (reslots inside name slot ((name, slot) ∷ (new, slot_behind slot term) ∷ []) slots inside.gaps
+    (is ∙ insert_slots inside.slots.entries name slot new (slot_behind slot term) found) (omega (arith, spare)) (omega arith))
+    (λ b st. (st, (record { name = refl; term = refl; counted = refl; above = omega arith; items = refl }, omega arith)))
     rules
 
 with_value-at : (front back : List (ℕ × Slot)) (key : ℕ) (old new : Slot) → value_of front key ≡ None → with_value (front ++ (key, old) ∷ back) key new ≡ front ++ (key, new) ∷ back
@@ -129,36 +136,129 @@ first_half slot at = record { start = slot.start; length = at; term = Fall }
 abbrev pub second_half : Slot → ℕ → Slot
 second_half slot at = record { start = slot.start + at; length = slot.length - at; term = slot.term }
 
--- the items of a block from a place on
-take_length : (at : ℕ) (items : List Item) → at ≤ length items → length (take at items) ≡ at
-take_length at items fits = length-take-le at items fits
-
 pub split_items : (new at : ℕ) (b : Block) → items_of_blocks (halves new at b) ≡ b.items
 split_items new at b = ap (λ is. take at b.items ++ is) (append-nil (drop at b.items)) ∙ take-append-drop at b.items
 
-pub split_shows : (inside : Inside) (name place : ℕ) (slot : Slot) (new : ℕ) (mid slots : Listed Slot) → IsSound inside → HasBlock (graph_of inside) name → place ≤ length (items_of (graph_of inside) name) → value_of inside.slots.entries name ≡ Some slot → mid.entries ≡ insert_after inside.slots.entries name (new, second_half slot place) → mid.spare + 1 ≡ inside.slots.spare → slots.entries ≡ with_value mid.entries name (first_half slot place) → slots.spare ≡ mid.spare → IsGraph (split_at (graph_of inside) new name place) → Shows (record inside { slots = slots }) (split_at (graph_of inside) new name place)
-split_shows inside name place slot new mid slots sound has fits found mid_is mid_spare is spare rules =
-    let bs = (graph_of inside).blocks in
-    let at = located bs name has in
-    let m = start_at bs name at in
-    let same = slot_is inside name slot at sound found in
-    let limits = limited inside sound in
-    let block = ap (λ o. block_items o) (block_at bs name at) in
-    let small : place ≤ length at.block.items = omega (arith, fits, ap (λ is. length is) block) in
-    let e : length (items_of_blocks (halves new place at.block)) ≡ length at.block.items = ap (λ is. length is) (split_items new place at.block) in
-    let taken : length (take place at.block.items) ≡ place = take_length place at.block.items small in
-    let left : length (drop place at.block.items) ≡ length at.block.items - place = length-drop place at.block.items in
-    let inserted = mid_is ∙ insert_slots inside.slots.entries bs name at slot new (second_half slot place) sound.holds.slots found in
-    reslotted inside slots (with_blocks (halves new place) bs name) sound
-    (is
-    ∙ ap (λ es. with_value es name (first_half slot place)) inserted
-    ∙ with_value-at (slots_from 0 at.front) ((new, second_half slot place) ∷ slots_from (m + length at.block.items) at.back) name slot (first_half slot place) (value_of-slots-none 0 at.front name at.ahead)
-    ∙ ap (λ s. slots_from 0 at.front ++ (name, first_half s place) ∷ (new, second_half s place) ∷ slots_from (m + length at.block.items) at.back) same
-    ∙ ap (λ k. slots_from 0 at.front ++ (k, first_half (slot_of m at.block) place) ∷ (new, second_half (slot_of m at.block) place) ∷ slots_from (m + length at.block.items) at.back) (sym at.has_name)
-    ∙ ap (λ n. slots_from 0 at.front ++ (at.block.name, record { start = m; length = n; term = Fall }) ∷ (new, record { start = m + n; length = length at.block.items - place; term = at.block.term }) ∷ slots_from (m + length at.block.items) at.back) (sym taken)
-    ∙ ap (λ n. slots_from 0 at.front ++ (at.block.name, record { start = m; length = length (take place at.block.items); term = Fall }) ∷ (new, record { start = m + length (take place at.block.items); length = n; term = at.block.term }) ∷ slots_from (m + length at.block.items) at.back) (sym left)
-    ∙ ap (λ n. slots_from 0 at.front ++ (at.block.name, record { start = m; length = length (take place at.block.items); term = Fall }) ∷ (new, record { start = m + length (take place at.block.items); length = length (drop place at.block.items); term = at.block.term }) ∷ slots_from (m + n) at.back) (sym e)
-    ∙ sym (slots_from-changed (halves new place) bs name at))
-    (items_of_blocks-kept (halves new place) bs name at (split_items new place at.block))
-    (omega (arith, limits.blocks, spare, mid_spare, ap (λ es. length es) is, length-with_value mid.entries name (first_half slot place), ap (λ es. length es) mid_is, length-insert inside.slots.entries bs name at slot new (second_half slot place) sound.holds.slots found))
+-- a block falls into two where it lies
+stands_split : (xs : List Item) (name new at : ℕ) (slot : Slot) (b : Block) → at ≤ slot.length → Stands xs slot.start (name, slot) b
+    → Lies xs slot.start ((name, first_half slot at) ∷ (new, second_half slot at) ∷ []) (halves new at b) (slot.start + slot.length)
+stands_split xs name new at slot b fits st =
+    let there : at ≤ length b.items = omega (arith, fits, st.counted) in
+    let left : at + (slot.length - at) ≡ slot.length = omega (arith, fits) in (
+      record {
+        name = st.name;
+        term = refl;
+        counted = sym (length-take-le at b.items there);
+        above = omega arith;
+        items = sym (take-take at slot.length (drop slot.start xs) fits) ∙ ap (take at) st.items;
+      },
+      (
+        record {
+          name = refl;
+          term = st.term;
+          counted = omega (arith, st.counted, length-drop at b.items);
+          above = omega arith;
+          items = ap (take (slot.length - at)) (sym (drop-drop at slot.start xs))
+              ∙ sym (drop-take at (slot.length - at) (drop slot.start xs))
+              ∙ ap (λ n. drop at (take n (drop slot.start xs))) left
+              ∙ ap (drop at) st.items;
+        },
+        omega (arith, fits),
+      ),
+    )
+
+pub split_shows : (inside : Inside) (name place : ℕ) (slot : Slot) (new : ℕ) (mid slots : Listed Slot) → IsSound inside → place ≤ length (items_of (graph_of inside) name) → value_of inside.slots.entries name ≡ Some slot → mid.entries ≡ insert_after inside.slots.entries name (new, second_half slot place) → mid.spare + 1 ≡ inside.slots.spare → slots.entries ≡ with_value mid.entries name (first_half slot place) → slots.spare ≡ mid.spare → IsGraph (split_at (graph_of inside) new name place) → Shows (record inside { slots = slots }) (split_at (graph_of inside) new name place)
+split_shows inside name place slot new mid slots sound fits found mid_is mid_spare is spare rules =
+    let read = reads inside name slot sound found in
+    let small : place ≤ slot.length = omega (arith, fits, read.length_is, ap (λ o. length (block_items o)) read.is) in
+    rewrites_shows inside (record inside { slots = slots }) name slot ((name, first_half slot place) ∷ (new, second_half slot place) ∷ []) (halves new place) sound found
+    (reslots inside name slot ((name, first_half slot place) ∷ (new, second_half slot place) ∷ []) slots inside.gaps
+    (is ∙ ap (λ es. with_value es name (first_half slot place)) (mid_is ∙ insert_slots inside.slots.entries name slot new (second_half slot place) found)
+    ∙ with_value-at (before inside.slots.entries name) ((new, second_half slot place) ∷ behind inside.slots.entries name) name slot (first_half slot place) (value_of-before inside.slots.entries name))
+    (omega (arith, spare, mid_spare)) (omega (arith, small)))
+    (λ b st. stands_split inside.items.items name new place slot b small st)
+    rules
+
+pub remove_shows : (inside : Inside) (name : ℕ) (slot : Slot) (slots : Listed Slot) (gaps : ℕ) → IsSound inside → value_of inside.slots.entries name ≡ Some slot → slots.entries ≡ without inside.slots.entries name → slots.spare ≡ inside.slots.spare + 1 → gaps ≡ inside.gaps + slot.length → IsGraph (without_block (graph_of inside) name)
+    → Shows (record inside { slots = slots; gaps = gaps }) (without_block (graph_of inside) name)
+remove_shows inside name slot slots gaps sound found is spare counted rules =
+    rewrites_shows inside (record inside { slots = slots; gaps = gaps }) name slot [] (λ _. []) sound found
+    (reslots inside name slot [] slots gaps is (omega (arith, spare)) (omega (arith, counted)))
+    (λ b st. omega arith)
+    rules
+
+-- FEWER ITEMS
+
+-- items with others from a place on, behind which the next `left` have come
+abbrev pub shrunk_items : List Item → ℕ → ℕ → List Item → ℕ → List Item
+shrunk_items xs at count by left = replaced_items xs at (length by + left) (by ++ take left (drop (at + count) xs))
+
+written_long : (xs by : List Item) (at count left : ℕ) → at + count + left ≤ length xs → length (by ++ take left (drop (at + count) xs)) ≡ length by + left
+written_long xs by at count left fits =
+    omega (arith, length-append by (take left (drop (at + count) xs)), length-take-le left (drop (at + count) xs) (omega (arith, fits, length-drop (at + count) xs)))
+
+pub shrunk_long : (xs by : List Item) (at count left : ℕ) (ys : List Item) → length by ≤ count → at + count + left ≤ length xs → ys ≡ shrunk_items xs at count by left → length ys ≡ length xs
+shrunk_long xs by at count left ys fewer fits is =
+    omega (arith, ap (λ zs. length zs) is, length-replaced_items xs (by ++ take left (drop (at + count) xs)) at (length by + left) (omega (arith, fits, fewer)), written_long xs by at count left fits)
+
+-- the items of a block that is shorter, where it lies
+shrunk_piece : (xs by : List Item) (start at count left : ℕ) → length by ≤ count → start + at + count + left ≤ length xs
+    → take (at + length by + left) (drop start (shrunk_items xs (start + at) count by left)) ≡ replaced_items (take (at + count + left) (drop start xs)) at count by
+shrunk_piece xs by start at count left fewer fits =
+    let later = take left (drop (start + at + count) xs) in
+    let size = written_long xs by (start + at) count left fits in
+    let end : start + (at + length by + left) ≡ start + at + (length by + left) = omega arith in
+    let place : start + (at + count) ≡ start + at + count = omega arith in
+    sym (drop-take start (at + length by + left) (shrunk_items xs (start + at) count by left))
+    ∙ ap (λ n. drop start (take n (shrunk_items xs (start + at) count by left))) end
+    ∙ ap (drop start) (upto_written xs (by ++ later) (start + at) (length by + left) (omega (arith, fits)) size)
+    ∙ drop-append-le start (take (start + at) xs) (by ++ later) (omega (arith, length-take-le (start + at) xs (omega (arith, fits))))
+    ∙ ap (λ ys. ys ++ (by ++ later)) (drop-take start at xs ∙ sym (take-take at (at + count + left) (drop start xs) (omega arith)))
+    ∙ ap (λ ys. take at (take (at + count + left) (drop start xs)) ++ (by ++ ys))
+    (ap (λ n. take left (drop n xs)) (sym place) ∙ ap (take left) (sym (drop-drop (at + count) start xs)) ∙ sym (drop-take (at + count) left (drop start xs)))
+
+pub replace_less_shows : (old : Inside) (name : ℕ) (slot : Slot) (at count left : ℕ) (by : List Item) (slots : Listed Slot) (items : Vec Item Global) (gaps length_now : ℕ) → IsSound old → value_of old.slots.entries name ≡ Some slot
+    → length by ≤ count → at + count + left ≡ slot.length → length_now ≡ at + length by + left
+    → slots.entries ≡ with_value old.slots.entries name (record slot { length = length_now }) → slots.spare ≡ old.slots.spare
+    → items.items ≡ shrunk_items old.items.items (slot.start + at) count by left → vec_capacity items ≡ vec_capacity old.items
+    → gaps ≡ old.gaps + (count - length by) → IsGraph (replaced (graph_of old) name at count by)
+    → Shows (record old { slots = slots; items = items; gaps = gaps }) (replaced (graph_of old) name at count by)
+replace_less_shows old name slot at count left by slots items gaps length_now sound found fewer size now is spare items_are capacity counted rules =
+    let xs = old.items.items in
+    let read = reads old name slot sound found in
+    let fits : slot.start + at + count + left ≤ length old.items.items = omega (arith, read.within, size) in
+    let there : slot.start + at ≤ length old.items.items = omega (arith, fits) in
+    let written = by ++ take left (drop (slot.start + at + count) xs) in
+    let long = written_long xs by (slot.start + at) count left fits in
+    rewrites_shows old (record old { slots = slots; items = items; gaps = gaps }) name slot ((name, record slot { length = length_now }) ∷ []) (λ b. record b { items = replaced_items b.items at count by } ∷ []) sound found
+    (record {
+      slots = is ∙ with_value-split old.slots.entries name slot (record slot { length = length_now }) found;
+      spare = omega (arith, spare);
+      ahead = ap (take slot.start) items_are ∙ ahead_written xs written slot.start (slot.start + at) (length by + left) (omega arith) there;
+      later = ap (drop (slot.start + slot.length)) items_are ∙ behind_written xs written (slot.start + at) (length by + left) (slot.start + slot.length) there long (omega (arith, size, fewer));
+      long = shrunk_long xs by (slot.start + at) count left items.items fewer fits items_are;
+      capacity = capacity;
+      gaps = omega (arith, counted, now, size, fewer);
+      blocks_end = refl;
+      entry = refl;
+      code_words = refl;
+      bodies = refl;
+      item_room = refl;
+      body_room = refl;
+    })
+    (λ b st.
+    let was : take (at + count + left) (drop slot.start old.items.items) ≡ b.items = ap (λ n. take n (drop slot.start old.items.items)) size ∙ st.items in
+    let inside : at + count ≤ length b.items = omega (arith, st.counted, size) in (
+      record {
+        name = st.name;
+        term = st.term;
+        counted = omega (arith, now, size, st.counted, length-replaced_items b.items by at count inside);
+        above = st.above;
+        items = ap (λ ys. take length_now (drop slot.start ys)) items_are
+            ∙ ap (λ n. take n (drop slot.start (shrunk_items xs (slot.start + at) count by left))) now
+            ∙ shrunk_piece xs by slot.start at count left fewer fits
+            ∙ ap (λ ys. replaced_items ys at count by) was;
+      },
+      omega (arith, now, size, fewer),
+    ))
     rules

@@ -20,14 +20,15 @@ use Rattle.sq_graph.specs.Canonical.{joined, canonical_of}
 use Rattle.sq_graph.specs.Bypasses.{passed, all_bypassed}
 use Rattle.sq_graph.specs.Cursor.{ahead_of, rest_from, retargeted_slots, slot_uses, renumbered, length_of_slots}
 use Rattle.sq_graph.specs.CanonicalSlots.{aimed, start_of, full_slots, marked, joined_slots}
-use Rattle.sq_graph.specs.Layout.{graph_of, spare_of, IsSound}
+use Rattle.sq_graph.specs.Layout.{graph_of, spare_of}
 use Rattle.sq_graph.proofs.Sizes.{sizes, same_room}
 use Rattle.sq_graph.proofs.CursorLaws.{from_first}
 use Rattle.sq_graph.proofs.SlotReads.{has_slot}
-use Rattle.sq_graph.proofs.Held.{Shows, shows, limited}
+use Rattle.sq_graph.proofs.Held.{Shows, shows}
+use Rattle.sq_graph.proofs.Tight.{IsTight, limited}
 use Rattle.sq_graph.proofs.Changes.{distinct_slots}
 use Rattle.sq_graph.proofs.MapWrites.{bodies_from-mapped, items_of_bodies-mapped}
-use Rattle.sq_graph.proofs.BlockRemoval.{length-renumbered}
+use Rattle.sq_graph.proofs.Laid.{length-renumbered}
 use Rattle.sq_graph.proofs.Numbering.{renumbered_from_first}
 use Rattle.sq_graph.proofs.Marks.{marked_more}
 use Rattle.sq_graph.proofs.SlotPasses.{start_of-retargeted}
@@ -41,40 +42,40 @@ contains-aimed [] name = refl
 contains-aimed (e ∷ es) name =
     elim (cases_Bool (e.0 == name)) [ inl here ↦ rw here refl | inr apart ↦ rw apart (contains-aimed es name) ]
 
-module _ (old : Inside) (sound : IsSound old) where
+module _ (old : Inside) (tight : IsTight old) where
   -- the slots after each name has been given where its uses go
   pub there : (name : ℕ) → HasBlock (graph_of old) name → ContainsKey (aimed old.slots.entries) name
-  there name has = contains-aimed old.slots.entries name ∙ has_slot old name sound has
+  there name has = contains-aimed old.slots.entries name ∙ has_slot old name tight.sound has
 
   pub distinct_aimed : HasDistinctKeys (aimed old.slots.entries)
-  distinct_aimed = rw (keys-aimed old.slots.entries) (distinct_slots old sound)
+  distinct_aimed = rw (keys-aimed old.slots.entries) (distinct_slots old tight)
 
   same_uses : slot_uses (aimed old.slots.entries) ≡ terms_uses (graph_of old).blocks
-  same_uses = ap (λ es. slot_uses (aimed es)) sound.holds.slots ∙ slot_uses-aimed 0 (graph_of old).blocks
+  same_uses = ap (λ es. slot_uses (aimed es)) tight.holds.slots ∙ slot_uses-aimed 0 (graph_of old).blocks
 
   pub terms_known : All (ContainsKey (aimed old.slots.entries)) (slot_uses (aimed old.slots.entries))
-  terms_known = aiming.terms_known old sound (aimed old.slots.entries) there same_uses
+  terms_known = aiming.terms_known old tight (aimed old.slots.entries) there same_uses
 
   -- and after the terms go there
   abbrev pub passed_slots : List (ℕ × Slot)
   passed_slots = retargeted_slots (start_of (aimed old.slots.entries)) (aimed old.slots.entries)
 
   pub items_known : All (ContainsKey passed_slots) (items_uses old.items.items)
-  items_known = aiming.items_known old sound (aimed old.slots.entries) there same_uses
+  items_known = aiming.items_known old tight (aimed old.slots.entries) there same_uses
 
   pub words_known : All (ContainsKey passed_slots) (code_word_uses old.code_words.items)
-  words_known = aiming.words_known old sound (aimed old.slots.entries) there same_uses
+  words_known = aiming.words_known old tight (aimed old.slots.entries) there same_uses
 
   pub entry_known : ContainsKey passed_slots old.entry
-  entry_known = aiming.entry_known old sound (aimed old.slots.entries) there same_uses
+  entry_known = aiming.entry_known old tight (aimed old.slots.entries) there same_uses
 
   pub distinct_passed : HasDistinctKeys passed_slots
   distinct_passed = rw (keys-retargeted (start_of (aimed old.slots.entries)) (aimed old.slots.entries)) distinct_aimed
 
   starts_aimed : start_of (aimed old.slots.entries) ≡ passed (graph_of old).blocks
   starts_aimed =
-      ap (λ es. start_of (aimed es)) sound.holds.slots
-      ∙ fun_ext (starts_passed 0 (graph_of old).blocks sound.rules.distinct sound.rules.ends)
+      ap (λ es. start_of (aimed es)) tight.holds.slots
+      ∙ fun_ext (starts_passed 0 (graph_of old).blocks tight.rules.distinct tight.rules.ends)
 
   pub starts_are : start_of passed_slots ≡ passed (graph_of old).blocks
   starts_are = fun_ext (start_of-retargeted (start_of (aimed old.slots.entries)) [] (aimed old.slots.entries)) ∙ starts_aimed
@@ -83,13 +84,13 @@ module _ (old : Inside) (sound : IsSound old) where
   pub full_are : full_slots passed_slots ≡ marked_blocks [] (all_bypassed (graph_of old)).blocks
   full_are =
       ap (λ h. full_slots (retargeted_slots h (aimed old.slots.entries))) starts_aimed
-      ∙ ap (λ es. full_slots (retargeted_slots (passed (graph_of old).blocks) (aimed es))) sound.holds.slots
+      ∙ ap (λ es. full_slots (retargeted_slots (passed (graph_of old).blocks) (aimed es))) tight.holds.slots
       ∙ full_slots-blocks (passed (graph_of old).blocks) 0 (graph_of old).blocks
 
   pub distinct_full : HasDistinctKeys (full_slots passed_slots)
   distinct_full =
       let g = all_bypassed (graph_of old) in
-      rw (full_are, keys-marked_blocks [] g.blocks) (all_bypassed_is_graph (graph_of old) sound.rules).distinct
+      rw (full_are, keys-marked_blocks [] g.blocks) (all_bypassed_is_graph (graph_of old) tight.rules).distinct
 
   pub entry_is : start_of passed_slots old.entry ≡ (all_bypassed (graph_of old)).entry
   entry_is = ap (λ f. f old.entry) starts_are
@@ -100,7 +101,7 @@ module _ (old : Inside) (sound : IsSound old) where
   pub items_are : retargeted_items (start_of passed_slots) old.items.items ≡ all_items (all_bypassed (graph_of old))
   items_are =
       ap (λ f. retargeted_items f old.items.items) starts_are
-      ∙ ap (retargeted_items (passed (graph_of old).blocks)) sound.holds.items
+      ∙ ap (retargeted_items (passed (graph_of old).blocks)) tight.holds.items
       ∙ sym (all_bypassed_items (graph_of old))
 
 -- the marks of all uses
@@ -147,20 +148,20 @@ length-aimed : (es : List (ℕ × Slot)) → length (aimed es) ≡ length es
 length-aimed [] = refl
 length-aimed (e ∷ es) = ap suc (length-aimed es)
 
-module _ (old : Inside) (sound : IsSound old) where
+module _ (old : Inside) (tight : IsTight old) where
   -- the items of blocks fit, and those of slots as many
   pub blocks_fit : (us : List ℕ) (es : List (ℕ × Slot)) → es ≡ marked_blocks us (all_bypassed (graph_of old)).blocks → length_of_slots es < 2 ^ 29
   blocks_fit us es is =
       let g = all_bypassed (graph_of old) in
-      let size = sizes old sound in
-      let same : length (all_items g) ≡ length old.items.items =
-      ap (λ xs. length xs) (all_bypassed_items (graph_of old)) ∙ length-map (all_items (graph_of old)) (retargeted_item (passed (graph_of old).blocks)) ∙ size.item_count in
-      omega (arith, ap length_of_slots is, length_of_slots-blocks us g.blocks, length-append (items_of_blocks g.blocks) (items_of_bodies g.procedures), same, size.items, size.item_room)
+      let size = sizes old tight.sound in
+      let same : length (all_items g) ≡ length (all_items (graph_of old)) =
+      ap (λ xs. length xs) (all_bypassed_items (graph_of old)) ∙ length-map (all_items (graph_of old)) (retargeted_item (passed (graph_of old).blocks)) in
+      omega (arith, ap length_of_slots is, length_of_slots-blocks us g.blocks, length-append (items_of_blocks g.blocks) (items_of_bodies g.procedures), same, size.item_count, size.items, size.item_room)
 
   pub canonical_shows : (entry : ℕ) (items : Vec Item Global) (words : Vec CodeRef Global) (slots : Listed Slot) (us : List ℕ) (five : List (ℕ × Slot)) (head : Option ℕ)
-      → entry ≡ start_of (passed_slots old sound) old.entry
-      → items.items ≡ retargeted_items (start_of (passed_slots old sound)) old.items.items → vec_capacity items ≡ vec_capacity old.items
-      → words.items ≡ retargeted_words (start_of (passed_slots old sound)) old.code_words.items
+      → entry ≡ start_of (passed_slots old tight) old.entry
+      → items.items ≡ retargeted_items (start_of (passed_slots old tight)) old.items.items → vec_capacity items ≡ vec_capacity old.items
+      → words.items ≡ retargeted_words (start_of (passed_slots old tight)) old.code_words.items
       → five ≡ marked_blocks us (joined (all_bypassed (graph_of old))).blocks → head ≡ first_key five
       → slots.entries ≡ ahead_of five head ++ renumbered 0 (rest_from five head)
       → length slots.entries + slots.spare ≡ length old.slots.entries + old.slots.spare
@@ -170,28 +171,29 @@ module _ (old : Inside) (sound : IsSound old) where
       let h = joined (all_bypassed g) in
       let new : Inside = record old { slots = slots; items = items; entry = entry; code_words = words } in
       let f = passed g.blocks in
-      let rules : IsGraph h = joined_is_graph (all_bypassed g) (all_bypassed_is_graph g sound.rules) in
-      let limits = limited old sound in
-      let all : items.items ≡ all_items h = items_is ∙ items_are old sound ∙ sym (all_items-joined (all_bypassed g)) in
-      let counted : length items.items ≡ length old.items.items = ap (λ is. length is) items_is ∙ length-map old.items.items (retargeted_item (start_of (passed_slots old sound))) in
+      let rules : IsGraph h = joined_is_graph (all_bypassed g) (all_bypassed_is_graph g tight.rules) in
+      let limits = limited old tight in
+      let all : items.items ≡ all_items h = items_is ∙ items_are old tight ∙ sym (all_items-joined (all_bypassed g)) in
+      let counted : length items.items ≡ length old.items.items = ap (λ is. length is) items_is ∙ length-map old.items.items (retargeted_item (start_of (passed_slots old tight))) in
       let bodies : length (items_of_bodies h.procedures) ≡ length (items_of_bodies g.procedures) =
       ap (λ is. length is) (items_of_bodies-mapped (retargeted_item f) (λ t. t) g.procedures) ∙ length-map (items_of_bodies g.procedures) (retargeted_item f) in
-      subst (λ (k : Graph). Shows new k) (sym (canonical_is_joined g sound.rules))
+      subst (λ (k : Graph). Shows new k) (sym (canonical_is_joined g tight.rules))
       (shows new h
       (record {
         slots = slots_is ∙ renumbered_from_first five head head_is ∙ ap (renumbered 0) five_is ∙ renumbered-blocks us 0 h.blocks;
         items = all;
-        block_items = omega (arith, sound.holds.block_items, counted, bodies, ap (λ is. length is) all, ap (λ is. length is) sound.holds.items, length-append (items_of_blocks h.blocks) (items_of_bodies h.procedures), length-append (items_of_blocks g.blocks) (items_of_bodies g.procedures));
-        entry = entry_is' ∙ entry_is old sound;
-        code_words = words_is ∙ words_are old sound;
-        bodies = sound.holds.bodies ∙ sym (bodies_from-mapped (retargeted_item f) (λ t. t) 0 g.procedures);
+        blocks_end = omega (arith, tight.holds.blocks_end, counted, bodies, ap (λ is. length is) all, ap (λ is. length is) tight.holds.items, length-append (items_of_blocks h.blocks) (items_of_bodies h.procedures), length-append (items_of_blocks g.blocks) (items_of_bodies g.procedures));
+        gaps = tight.holds.gaps;
+        entry = entry_is' ∙ entry_is old tight;
+        code_words = words_is ∙ words_are old tight;
+        bodies = tight.holds.bodies ∙ sym (bodies_from-mapped (retargeted_item f) (λ t. t) 0 g.procedures);
       })
       rules
       (record {
-        items = omega (arith, counted, sound.room.items);
-        item_room = omega (arith, capacity, sound.room.item_room);
-        bodies = sound.room.bodies;
-        body_room = sound.room.body_room;
+        items = omega (arith, counted, tight.room.items);
+        item_room = omega (arith, capacity, tight.room.item_room);
+        bodies = tight.room.bodies;
+        body_room = tight.room.body_room;
       })
       (record {
         blocks = omega (arith, total, limits.blocks);
@@ -199,12 +201,12 @@ module _ (old : Inside) (sound : IsSound old) where
         body_room = limits.body_room;
       }))
 
-  pub passed_is : (aims terms : List (ℕ × Slot)) → aims ≡ aimed old.slots.entries → terms ≡ retargeted_slots (start_of aims) aims → terms ≡ passed_slots old sound
+  pub passed_is : (aims terms : List (ℕ × Slot)) → aims ≡ aimed old.slots.entries → terms ≡ retargeted_slots (start_of aims) aims → terms ≡ passed_slots old tight
   passed_is aims terms aims_is terms_is = terms_is ∙ ap (λ es. retargeted_slots (start_of es) es) aims_is
 
   -- a slot that goes is to spare
   pub slots_total : (terms full marks joins slots : Listed Slot) (head : Option ℕ) (us : List ℕ)
-      → terms.entries ≡ passed_slots old sound → full.entries ≡ marked_blocks [] (all_bypassed (graph_of old)).blocks → marks.entries ≡ marked_blocks us (all_bypassed (graph_of old)).blocks
+      → terms.entries ≡ passed_slots old tight → full.entries ≡ marked_blocks [] (all_bypassed (graph_of old)).blocks → marks.entries ≡ marked_blocks us (all_bypassed (graph_of old)).blocks
       → terms.spare ≡ old.slots.spare → length full.entries + full.spare ≡ length terms.entries + terms.spare → marks.spare ≡ full.spare → length joins.entries + joins.spare ≡ length marks.entries + marks.spare
       → head ≡ first_key joins.entries → slots.entries ≡ ahead_of joins.entries head ++ renumbered 0 (rest_from joins.entries head) → slots.spare ≡ joins.spare
       → length slots.entries + slots.spare ≡ length old.slots.entries + old.slots.spare
@@ -219,19 +221,19 @@ module _ (old : Inside) (sound : IsSound old) where
 
   -- what is spare afterwards
   pub canonical_spare : (new : Inside) → Shows new (canonical_of (graph_of old)) → length new.slots.entries + new.slots.spare ≡ length old.slots.entries + old.slots.spare
-      → length new.items.items ≡ length old.items.items → new.item_room ≡ old.item_room → spare_of new ≡ record { blocks = old.slots.spare + length (graph_of old).blocks - length (graph_of new).blocks; items = (spare_of old).items; procedures = new.body_room - length new.bodies.items }
-  canonical_spare new shown total items room =
+      → length new.items.items ≡ length old.items.items → new.item_room ≡ old.item_room → new.gaps ≡ old.gaps → spare_of new ≡ record { blocks = old.slots.spare + length (graph_of old).blocks - length (graph_of new).blocks; items = (spare_of old).items; procedures = new.body_room - length new.bodies.items }
+  canonical_spare new shown total items room gaps =
       same_room (spare_of new) (record { blocks = old.slots.spare + length (graph_of old).blocks - length (graph_of new).blocks; items = (spare_of old).items; procedures = new.body_room - length new.bodies.items })
-      (omega (arith, total, (sizes old sound).block_count, (sizes new shown.sound).block_count))
-      (omega (arith, items, room))
+      (omega (arith, total, (sizes old tight.sound).block_count, (sizes new shown.sound).block_count))
+      (omega (arith, items, room, gaps))
       refl
 
   pub canonical_kept : (new : Inside) → Shows new (canonical_of (graph_of old)) → length new.slots.entries + new.slots.spare ≡ length old.slots.entries + old.slots.spare
-      → length new.items.items ≡ length old.items.items → new.item_room ≡ old.item_room → new.body_room - length new.bodies.items ≡ (spare_of old).procedures → Covers (spare_of new) (spare_of old)
-  canonical_kept new shown total items room procedures =
+      → length new.items.items ≡ length old.items.items → new.item_room ≡ old.item_room → new.gaps ≡ old.gaps → new.body_room - length new.bodies.items ≡ (spare_of old).procedures → Covers (spare_of new) (spare_of old)
+  canonical_kept new shown total items room gaps procedures =
       record {
-        blocks = omega (arith, total, (sizes old sound).block_count, (sizes new shown.sound).block_count, ap (λ h. length h.blocks) shown.is, canonical_length (graph_of old) sound.rules);
-        items = omega (arith, items, room);
+        blocks = omega (arith, total, (sizes old tight.sound).block_count, (sizes new shown.sound).block_count, ap (λ h. length h.blocks) shown.is, canonical_length (graph_of old) tight.rules);
+        items = omega (arith, items, room, gaps);
         procedures = omega (arith, procedures);
       }
 

@@ -1,28 +1,26 @@
 -- A list of blocks in which the block of a name is replaced by a list of blocks.
-use Rattle.std.proofs.Common.{◌≡◌, ℕ, ◌+◌, ◌<◌, ◌^◌, ◌==◌, List, [], ◌∷◌, ◌++◌, length, None, Some, refl, sym, ap, ◌∙◌, inl, inr, arith}
+use Rattle.std.proofs.Common.{◌≡◌, ℕ, ◌+◌, ◌==◌, List, [], ◌∷◌, ◌++◌, length, None, Some, refl, sym, ap, ◌∙◌, inl, inr, arith}
 use Rattle.std.proofs.lemmas.Bool.{cases_Bool, eq-eqb}
-use Rattle.sq_arena.specs.Arena.{Arena as Listed}
 use Rattle.sq_arena.specs.Entries.{keys, HasDistinctKeys, value_of, before, behind}
 use Rattle.sq_arena.proofs.EntriesLaws.{before-append, behind-append}
 use Rattle.sq_graph.specs.declared.slot.Slot.{Slot}
 use Rattle.sq_graph.specs.declared.graph.Graph.TheInside.{Inside}
 use Rattle.sq_graph.specs.Graph.{Block}
-use Rattle.sq_graph.specs.Blocks.{named, items_of_blocks, items_of_bodies}
-use Rattle.sq_graph.specs.Rules.{IsGraph}
+use Rattle.sq_graph.specs.Blocks.{named, items_of_blocks}
 use Rattle.sq_graph.specs.Operations.{with_blocks}
 use Rattle.sq_graph.specs.Slots.{slot_of, slots_from}
-use Rattle.sq_graph.specs.Layout.{graph_of, IsSound}
+use Rattle.sq_graph.specs.Layout.{graph_of}
 use Rattle.sq_graph.proofs.Located.{IsAt, items_of_blocks-append, slots_from-append, value_of-slots-none, value_of-at}
-use Rattle.sq_graph.proofs.Held.{Shows, shows, limited}
+use Rattle.sq_graph.proofs.Tight.{IsTight}
 
 pub keys-slots : (n : ℕ) (bs : List Block) → keys (slots_from n bs) ≡ keys (named bs)
 keys-slots n [] = refl
 keys-slots n (b ∷ rest) = ap (λ ks. b.name ∷ ks) (keys-slots (n + length b.items) rest)
 
-pub distinct_slots : (inside : Inside) → IsSound inside → HasDistinctKeys inside.slots.entries
-distinct_slots inside sound =
-    let same : keys inside.slots.entries ≡ keys (named (graph_of inside).blocks) = ap (λ es. keys es) sound.holds.slots ∙ keys-slots 0 (graph_of inside).blocks in
-    rw same sound.rules.distinct
+pub distinct_slots : (inside : Inside) → IsTight inside → HasDistinctKeys inside.slots.entries
+distinct_slots inside tight =
+    let same : keys inside.slots.entries ≡ keys (named (graph_of inside).blocks) = ap (λ es. keys es) tight.holds.slots ∙ keys-slots 0 (graph_of inside).blocks in
+    rw same tight.rules.distinct
 
 with_blocks-front : (f : Block → List Block) (front : List Block) (b : Block) (back : List Block) (name : ℕ) → b.name ≡ name → value_of (named front) name ≡ None → with_blocks f (front ++ b ∷ back) name ≡ front ++ (f b ++ back)
 with_blocks-front f [] b back name is ahead = rw (eq-eqb b.name name is)
@@ -80,26 +78,3 @@ around entries blocks name at is =
       front = rw whole (before-append (slots_from 0 at.front) (slots_from (m + length at.block.items) at.back) name (slot_of m at.block) absent);
       back = rw whole (behind-append (slots_from 0 at.front) (slots_from (m + length at.block.items) at.back) name (slot_of m at.block) absent);
     }
-
--- fields whose slots are those of other blocks with the same items
-pub reslotted : (inside : Inside) (slots : Listed Slot) (blocks : List Block) → IsSound inside → slots.entries ≡ slots_from 0 blocks → items_of_blocks blocks ≡ items_of_blocks (graph_of inside).blocks → length slots.entries + slots.spare < 2 ^ 29 → IsGraph (record (graph_of inside) { blocks = blocks }) → Shows (record inside { slots = slots }) (record (graph_of inside) { blocks = blocks })
-reslotted inside slots blocks sound is items small rules =
-    let holds = sound.holds in
-    let limits = limited inside sound in
-    shows (record inside { slots = slots }) (record (graph_of inside) { blocks = blocks })
-    (record {
-      slots = is;
-      items = holds.items ∙ ap (λ is. is ++ items_of_bodies (graph_of inside).procedures) (sym items);
-      block_items = holds.block_items ∙ ap (λ is. length is) (sym items);
-      entry = holds.entry;
-      code_words = holds.code_words;
-      bodies = holds.bodies;
-    })
-    rules
-    (record {
-      items = sound.room.items;
-      item_room = sound.room.item_room;
-      bodies = sound.room.bodies;
-      body_room = sound.room.body_room;
-    })
-    (record { blocks = small; item_room = limits.item_room; body_room = limits.body_room })

@@ -84,13 +84,14 @@ pub parts_show : (ps : List BlockPart) (items : List Item) (entry : ℕ) (ws : L
     → LengthsFit ps items qs → IsGraph (graph_of_parts ps items entry ws qs) → IsSmall (count_of (graph_of_parts ps items entry ws qs))
     → new.slots.entries ≡ at_positions 0 (part_slots 0 ps) → new.slots.spare ≡ 0
     → new.items.items ≡ items
-    → new.block_items ≡ length_of_blocks ps
+    → new.blocks_end ≡ length_of_blocks ps
+    → new.gaps ≡ 0
     → new.entry ≡ entry
     → new.code_words.items ≡ ws
     → new.bodies.items ≡ part_bodies 0 qs
     → new.item_room ≡ length new.items.items → new.body_room ≡ length new.bodies.items
     → Shows new (graph_of_parts ps items entry ws qs)
-parts_show ps items entry ws qs new fits rules small slots spare items_are block_items entry_is words bodies item_room body_room =
+parts_show ps items entry ws qs new fits rules small slots spare items_are blocks_end gaps entry_is words bodies item_room body_room =
     let g = graph_of_parts ps items entry ws qs in
     let enough : length_of_blocks ps ≤ length items = omega (arith, fits) in
     let rest : length_of_bodies qs ≡ length (drop (length_of_blocks ps) items) = omega (arith, fits, length-drop (length_of_blocks ps) items) in
@@ -101,7 +102,8 @@ parts_show ps items entry ws qs new fits rules small slots spare items_are block
     (record {
       slots = slots ∙ slots_of_parts 0 0 ps items enough;
       items = items_are ∙ sym all;
-      block_items = block_items ∙ sym blocks_long;
+      blocks_end = blocks_end ∙ sym blocks_long;
+      gaps = gaps;
       entry = entry_is;
       code_words = words;
       bodies = bodies ∙ part_bodies-procedures 0 qs (drop (length_of_blocks ps) items) (omega (arith, rest));

@@ -3,6 +3,9 @@ pub mod SlotReads
 pub mod BodyReads
 pub mod Sizes
 pub mod Held
+pub mod Laid
+pub mod Closing
+pub mod Tight
 mod MatchExamples
 pub mod Eachs
 pub mod Mapped
@@ -27,7 +30,6 @@ pub mod ItemWrites
 pub mod Packing
 pub mod Trimming
 pub mod BodyLowers
-pub mod BlockRemoval
 pub mod ProcedureWrites
 pub mod ProcedureRemoval
 pub mod PartLoops

@@ -3,7 +3,7 @@ use Rattle.std.proofs.Common.{◌≡◌, ℕ, ◌+◌, ◌==◌, false, List, []
 use Rattle.std.proofs.lemmas.Bool.{cases_Bool, eqb-true, eq-eqb}
 use Rattle.std.proofs.lemmas.List.{take_at, drop_at}
 use Rattle.std.proofs.lemmas.List.Concat.{flat_map-append}
-use Rattle.sq_arena.specs.Entries.{value_of, first_key, next_key}
+use Rattle.sq_arena.specs.Entries.{value_of}
 use Rattle.sq_graph.specs.Graph.{Block}
 use Rattle.sq_graph.specs.Blocks.{named, items_of_blocks}
 use Rattle.sq_graph.specs.Slots.{slot_of, slots_from}
@@ -72,21 +72,6 @@ value_of-at (e ∷ front) back key value ahead =
     elim (cases_Bool (e.0 == key)) [
       | inl here ↦ absurd (cc (rw here at ahead))
       | inr apart ↦ rw apart (value_of-at front back key value (rw apart at ahead))
-    ]
-
-first_key-slots : (n : ℕ) (bs : List Block) → first_key (slots_from n bs) ≡ first_key (named bs)
-first_key-slots n [] = refl
-first_key-slots n (b ∷ rest) = refl
-
-pub first-slots : (n : ℕ) (bs : List Block) → first_key (slots_from n bs) ≡ first_key (named bs)
-first-slots n bs = first_key-slots n bs
-
-pub next-slots : (n : ℕ) (bs : List Block) (name : ℕ) → next_key (slots_from n bs) name ≡ next_key (named bs) name
-next-slots n [] name = refl
-next-slots n (b ∷ rest) name =
-    elim (cases_Bool (b.name == name)) [
-      | inl here ↦ rw here (first_key-slots (n + length b.items) rest)
-      | inr apart ↦ rw apart (next-slots (n + length b.items) rest name)
     ]
 
 -- the items of the middle of three parts

@@ -9,8 +9,9 @@ use Rattle.sq_graph.specs.Graph.{Block, Procedure, Graph}
 use Rattle.sq_graph.specs.Blocks.{items_of_blocks, items_of_bodies}
 use Rattle.sq_graph.specs.Rules.{IsGraph}
 use Rattle.sq_graph.specs.Slots.{slots_from, bodies_from}
-use Rattle.sq_graph.specs.Layout.{graph_of, Holds, HasRoom, IsSound}
-use Rattle.sq_graph.proofs.Held.{IsLimited, Shows, shows, limited}
+use Rattle.sq_graph.specs.Layout.{graph_of, Holds, HasRoom}
+use Rattle.sq_graph.proofs.Held.{IsLimited, Shows, shows}
+use Rattle.sq_graph.proofs.Tight.{IsTight, limited}
 
 module _ (h : Item → Item) (t : Term → Term) where
   abbrev pub mapped_block : Block → Block
@@ -53,11 +54,11 @@ module _ (h : Item → Item) (t : Term → Term) where
   pub mapped_holds : (old new : Inside) (g0 g : Graph) → Holds old g0 → HasRoom old → IsLimited old
       → new.slots.entries ≡ mapped_slots old.slots.entries → new.slots.spare ≡ old.slots.spare
       → new.items.items ≡ map h old.items.items → vec_capacity new.items ≡ vec_capacity old.items
-      → new.block_items ≡ old.block_items → new.bodies ≡ old.bodies → new.item_room ≡ old.item_room → new.body_room ≡ old.body_room
+      → new.blocks_end ≡ old.blocks_end → new.gaps ≡ old.gaps → new.bodies ≡ old.bodies → new.item_room ≡ old.item_room → new.body_room ≡ old.body_room
       → g.blocks ≡ map mapped_block g0.blocks → g.procedures ≡ map mapped_procedure g0.procedures
       → new.entry ≡ g.entry → new.code_words.items ≡ g.code_words
       → IsGraph g → Shows new g
-  mapped_holds old new g0 g holds room limits slots spare items capacity block_items bodies item_room body_room blocks procedures entry code_words rules =
+  mapped_holds old new g0 g holds room limits slots spare items capacity blocks_end gaps bodies item_room body_room blocks procedures entry code_words rules =
       let counted : length new.items.items ≡ length old.items.items = ap (λ is. length is) items ∙ length-map old.items.items h in
       shows new g
       (record {
@@ -65,7 +66,8 @@ module _ (h : Item → Item) (t : Term → Term) where
         items = items ∙ ap (map h) holds.items ∙ sym (items-mapped g0.blocks g0.procedures)
             ∙ ap (λ bs. items_of_blocks bs ++ items_of_bodies (map mapped_procedure g0.procedures)) (sym blocks)
             ∙ ap (λ ps. items_of_blocks g.blocks ++ items_of_bodies ps) (sym procedures);
-        block_items = block_items ∙ holds.block_items ∙ sym (length-map (items_of_blocks g0.blocks) h) ∙ sym (ap (λ is. length is) (items_of_blocks-mapped g0.blocks)) ∙ ap (λ bs. length (items_of_blocks bs)) (sym blocks);
+        blocks_end = blocks_end ∙ holds.blocks_end ∙ sym (length-map (items_of_blocks g0.blocks) h) ∙ sym (ap (λ is. length is) (items_of_blocks-mapped g0.blocks)) ∙ ap (λ bs. length (items_of_blocks bs)) (sym blocks);
+        gaps = gaps ∙ holds.gaps;
         entry = entry;
         code_words = code_words;
         bodies = ap (λ bs. bs.items) bodies ∙ holds.bodies ∙ sym (bodies_from-mapped 0 g0.procedures) ∙ ap (bodies_from 0) (sym procedures);
@@ -83,11 +85,11 @@ module _ (h : Item → Item) (t : Term → Term) where
         body_room = omega (arith, limits.body_room, body_room);
       })
 
-  pub mapped_shows : (old new : Inside) (g : Graph) → IsSound old
+  pub mapped_shows : (old new : Inside) (g : Graph) → IsTight old
       → new.slots.entries ≡ mapped_slots old.slots.entries → new.slots.spare ≡ old.slots.spare
       → new.items.items ≡ map h old.items.items → vec_capacity new.items ≡ vec_capacity old.items
-      → new.block_items ≡ old.block_items → new.bodies ≡ old.bodies → new.item_room ≡ old.item_room → new.body_room ≡ old.body_room
+      → new.blocks_end ≡ old.blocks_end → new.gaps ≡ old.gaps → new.bodies ≡ old.bodies → new.item_room ≡ old.item_room → new.body_room ≡ old.body_room
       → g.blocks ≡ map mapped_block (graph_of old).blocks → g.procedures ≡ map mapped_procedure (graph_of old).procedures
       → new.entry ≡ g.entry → new.code_words.items ≡ g.code_words
       → IsGraph g → Shows new g
-  mapped_shows old new g sound = mapped_holds old new (graph_of old) g sound.holds sound.room (limited old sound)
+  mapped_shows old new g tight = mapped_holds old new (graph_of old) g tight.holds tight.room (limited old tight)

@@ -18,13 +18,14 @@ use Rattle.sq_graph.specs.Slots.{slots_from}
 use Rattle.sq_graph.specs.Cursor.{renumbered, length_of_slots}
 use Rattle.sq_graph.specs.Numbered.{IsNumbered}
 use Rattle.sq_graph.specs.Pieces.{exchanged, moved_piece}
-use Rattle.sq_graph.specs.Layout.{graph_of, IsSound}
+use Rattle.sq_graph.specs.Layout.{graph_of}
 use Rattle.sq_graph.proofs.Located.{named-append}
 use Rattle.sq_graph.proofs.SlotReads.{block_at}
 use Rattle.sq_graph.proofs.Sizes.{sizes}
-use Rattle.sq_graph.proofs.Held.{Shows, shows, limited}
+use Rattle.sq_graph.proofs.Held.{Shows, shows}
+use Rattle.sq_graph.proofs.Tight.{IsTight, limited}
 use Rattle.sq_graph.proofs.ItemWrites.{Placed, renumbered-slots, length_of_slots-slots}
-use Rattle.sq_graph.proofs.BlockRemoval.{length-renumbered}
+use Rattle.sq_graph.proofs.Laid.{length-renumbered}
 use Rattle.sq_graph.proofs.BlockMoves.{like_slots, like_run, like_moved, like_numbered, pair_items, pair_items-append, pair_items-is, pair_items-named, through-in, behind-in, through-out, behind-out, exchanged_pieces}
 use Rattle.sq_graph.proofs.RunMoves.{upto_last, behind_run, some_or_none}
 
@@ -192,23 +193,23 @@ length_moved es first last after is_run =
       length-append A C,
     )
 
-pub move_shows : (old : Inside) (first last after start end place : ℕ) (slots : Listed Slot) (items : Vec Item Global) → IsSound old
+pub move_shows : (old : Inside) (first last after start end place : ℕ) (slots : Listed Slot) (items : Vec Item Global) → IsTight old
     → IsRun (named (graph_of old).blocks) first last → ContainsKey (without_run (named (graph_of old).blocks) first last) after
     → start ≡ length (pair_items (before (named (graph_of old).blocks) first)) → end ≡ length (pair_items (through (named (graph_of old).blocks) last)) → place ≡ length (pair_items (through (named (graph_of old).blocks) after))
     → slots.entries ≡ renumbered 0 (move_run_after old.slots.entries first last after) → slots.spare ≡ old.slots.spare
     → items.items ≡ moved_piece old.items.items start end place → vec_capacity items ≡ vec_capacity old.items → length items.items ≡ length old.items.items
     → IsGraph (moved_after (graph_of old) first last after)
     → Shows (record old { slots = slots; items = items }) (moved_after (graph_of old) first last after)
-move_shows old first last after start end place slots items sound is_run there start_is end_is place_is entries spare is capacity counted rules =
+move_shows old first last after start end place slots items tight is_run there start_is end_is place_is entries spare is capacity counted rules =
     let g = graph_of old in
     let ps = named g.blocks in
     let qs = move_run_after (named g.blocks) first last after in
-    let limits = limited old sound in
-    let m = moves (named g.blocks) first last after (items_of_bodies g.procedures) sound.rules.distinct is_run there in
+    let limits = limited old tight in
+    let m = moves (named g.blocks) first last after (items_of_bodies g.procedures) tight.rules.distinct is_run there in
     let like = like_moved first last after (slots_from 0 g.blocks) (named g.blocks) (like_slots 0 g.blocks) in
-    let run_there : IsRun old.slots.entries first last = rw sound.holds.slots (like_run first last (slots_from 0 g.blocks) (named g.blocks) (like_slots 0 g.blocks) is_run) in
+    let run_there : IsRun old.slots.entries first last = rw tight.holds.slots (like_run first last (slots_from 0 g.blocks) (named g.blocks) (like_slots 0 g.blocks) is_run) in
     let many = length_moved old.slots.entries first last after run_there in
-    let whole : old.items.items ≡ pair_items (named g.blocks) ++ items_of_bodies g.procedures = sound.holds.items ∙ ap (λ is. is ++ items_of_bodies g.procedures) (sym (pair_items-named g.blocks)) in
+    let whole : old.items.items ≡ pair_items (named g.blocks) ++ items_of_bodies g.procedures = tight.holds.items ∙ ap (λ is. is ++ items_of_bodies g.procedures) (sym (pair_items-named g.blocks)) in
     let all : items.items ≡ items_of_blocks (map (λ p. p.1) qs) ++ items_of_bodies g.procedures =
     is ∙ ap (λ xs. moved_piece xs start end place) whole
     ∙ ap (λ n. moved_piece (pair_items ps ++ items_of_bodies g.procedures) n end place) (start_is ∙ sym m.start_is)
@@ -218,29 +219,30 @@ move_shows old first last after start end place slots items sound is_run there s
     ∙ ap (λ is. is ++ items_of_bodies g.procedures) (sym (pair_items-is qs)) in
     shows (record old { slots = slots; items = items }) (moved_after g first last after)
     (record {
-      slots = entries ∙ ap (λ es. renumbered 0 (move_run_after es first last after)) sound.holds.slots ∙ like_numbered 0 (move_run_after (slots_from 0 g.blocks) first last after) qs like;
+      slots = entries ∙ ap (λ es. renumbered 0 (move_run_after es first last after)) tight.holds.slots ∙ like_numbered 0 (move_run_after (slots_from 0 g.blocks) first last after) qs like;
       items = all;
-      block_items = omega (arith, sound.holds.block_items, counted, ap (λ xs. length xs) all, ap (λ xs. length xs) sound.holds.items, length-append (items_of_blocks (map (λ p. p.1) qs)) (items_of_bodies g.procedures), length-append (items_of_blocks g.blocks) (items_of_bodies g.procedures));
-      entry = sound.holds.entry;
-      code_words = sound.holds.code_words;
-      bodies = sound.holds.bodies;
+      blocks_end = omega (arith, tight.holds.blocks_end, counted, ap (λ xs. length xs) all, ap (λ xs. length xs) tight.holds.items, length-append (items_of_blocks (map (λ p. p.1) qs)) (items_of_bodies g.procedures), length-append (items_of_blocks g.blocks) (items_of_bodies g.procedures));
+      gaps = tight.holds.gaps;
+      entry = tight.holds.entry;
+      code_words = tight.holds.code_words;
+      bodies = tight.holds.bodies;
     })
     rules
     (record {
-      items = omega (arith, counted, sound.room.items);
-      item_room = omega (arith, capacity, sound.room.item_room);
-      bodies = sound.room.bodies;
-      body_room = sound.room.body_room;
+      items = omega (arith, counted, tight.room.items);
+      item_room = omega (arith, capacity, tight.room.item_room);
+      bodies = tight.room.bodies;
+      body_room = tight.room.body_room;
     })
     (record { blocks = omega (arith, limits.blocks, spare, many, ap (λ es. length es) entries, length-renumbered 0 (move_run_after old.slots.entries first last after)); item_room = limits.item_room; body_room = limits.body_room })
 
 -- the slots have their starts, and as many items as the vector at most
-pub slots_numbered : (old : Inside) → IsSound old → IsNumbered 0 old.slots.entries
-slots_numbered old sound =
-    ap (renumbered 0) sound.holds.slots ∙ renumbered-slots 0 0 (graph_of old).blocks ∙ sym sound.holds.slots
+pub slots_numbered : (old : Inside) → IsTight old → IsNumbered 0 old.slots.entries
+slots_numbered old tight =
+    ap (renumbered 0) tight.holds.slots ∙ renumbered-slots 0 0 (graph_of old).blocks ∙ sym tight.holds.slots
 
-pub slots_fit : (old : Inside) → IsSound old → length_of_slots old.slots.entries < 2 ^ 32
-slots_fit old sound =
+pub slots_fit : (old : Inside) → IsTight old → length_of_slots old.slots.entries < 2 ^ 32
+slots_fit old tight =
     let g = graph_of old in
-    let size = sizes old sound in
-    omega (arith, ap length_of_slots sound.holds.slots, length_of_slots-slots 0 g.blocks, ap (λ xs. length xs) sound.holds.items, length-append (items_of_blocks g.blocks) (items_of_bodies g.procedures), size.items, size.item_room)
+    let size = sizes old tight.sound in
+    omega (arith, ap length_of_slots tight.holds.slots, length_of_slots-slots 0 g.blocks, ap (λ xs. length xs) tight.holds.items, length-append (items_of_blocks g.blocks) (items_of_bodies g.procedures), size.items, size.item_room)

@@ -1,6 +1,6 @@
 -- Items that are moved together.
 use Rattle.std.proofs.Common.{◌≡◌, ℕ, ◌+◌, ◌-◌, ◌≤◌, List, [], ◌∷◌, ◌++◌, length, take, drop, Option, None, Some, refl, sym, ap, ◌∙◌, subst, arith, append_assoc, length-append, length-drop}
-use Rattle.std.proofs.lemmas.List.{append-nil, length-take-le, take_at, drop_at, drop-drop}
+use Rattle.std.proofs.lemmas.List.{append-nil, length-take-le, take-append-le, take-take, take_at, drop_at, drop-drop}
 use Rattle.sq_arena.specs.Entries.{HasDistinctKeys, value_of, behind, starting_at, first_key, next_key}
 use Rattle.sq_arena.proofs.EntriesLemmas.{starting_at-behind}
 use Rattle.sq_graph.specs.declared.item.Item.{Item}
@@ -9,7 +9,6 @@ use Rattle.sq_graph.specs.Operations.{replaced_items}
 use Rattle.sq_graph.specs.Cursor.{IsPlace, rest_from, length_of_slots}
 use Rattle.sq_graph.specs.Packed.{pieces_of, AreApart}
 use Rattle.sq_graph.proofs.CursorLaws.{from_first, next_in}
-use Rattle.sq_graph.proofs.ItemWrites.{length-replaced_items}
 
 -- the items up to a place and those behind are there, and more is to be moved
 pub record Packs (es : List (ℕ × Slot)) (end : ℕ) (old now : List Item) (place : Option ℕ) (count : ℕ) : Type 0 where
@@ -36,7 +35,7 @@ packs_first es end old apart =
       long = refl;
     }
 
-apart_low : (es : List (ℕ × Slot)) (low end : ℕ) → AreApart es low end → low ≤ end
+pub apart_low : (es : List (ℕ × Slot)) (low end : ℕ) → AreApart es low end → low ≤ end
 apart_low [] low end apart = apart
 apart_low (e ∷ es) low end apart = let rest = apart_low es (e.1.start + e.1.length) end apart.1 in let first = apart.0 in omega arith
 
@@ -57,13 +56,21 @@ packs_fit es end old now key v count packs found =
       within = apart_low (behind es key) (v.start + v.length) end there.1;
     }
 
+pub length-replaced_items : (xs by : List Item) (at count : ℕ) → at + count ≤ length xs → length (replaced_items xs at count by) + count ≡ length xs + length by
+length-replaced_items xs by at count fits =
+    omega (arith, fits, length-append (take at xs) (by ++ drop (at + count) xs), length-append by (drop (at + count) xs), length-take-le at xs (omega (arith, fits)), length-drop (at + count) xs)
+
 -- items that are written over the same number
-upto_written : (xs by : List Item) (at count : ℕ) → at ≤ length xs → length by ≡ count → take (at + count) (replaced_items xs at count by) ≡ take at xs ++ by
+pub ahead_written : (xs by : List Item) (n at count : ℕ) → n ≤ at → at ≤ length xs → take n (replaced_items xs at count by) ≡ take n xs
+ahead_written xs by n at count before fits =
+    take-append-le n (take at xs) (by ++ drop (at + count) xs) (omega (arith, before, length-take-le at xs fits)) ∙ take-take n at xs before
+
+pub upto_written : (xs by : List Item) (at count : ℕ) → at ≤ length xs → length by ≡ count → take (at + count) (replaced_items xs at count by) ≡ take at xs ++ by
 upto_written xs by at count fits size =
     ap (take (at + count)) (sym (append_assoc (take at xs) by (drop (at + count) xs)))
     ∙ take_at (take at xs ++ by) (drop (at + count) xs) (at + count) (omega (arith, length-append (take at xs) by, length-take-le at xs fits, size))
 
-behind_written : (xs by : List Item) (at count from : ℕ) → at ≤ length xs → length by ≡ count → at + count ≤ from → drop from (replaced_items xs at count by) ≡ drop from xs
+pub behind_written : (xs by : List Item) (at count from : ℕ) → at ≤ length xs → length by ≡ count → at + count ≤ from → drop from (replaced_items xs at count by) ≡ drop from xs
 behind_written xs by at count from fits size later =
     let n = at + count in
     let split : at + count + (from - (at + count)) ≡ from = omega (arith, later) in
@@ -76,7 +83,7 @@ behind_written xs by at count from fits size later =
     ∙ drop-drop (from - n) n xs
     ∙ ap (λ k. drop k xs) split
 
-later_same : (old now : List Item) (low from : ℕ) → low ≤ from → drop low now ≡ drop low old → drop from now ≡ drop from old
+pub later_same : (old now : List Item) (low from : ℕ) → low ≤ from → drop low now ≡ drop low old → drop from now ≡ drop from old
 later_same old now low from later same =
     let split : low + (from - low) ≡ from = omega (arith, later) in
     ap (λ k. drop k now) (sym split) ∙ sym (drop-drop (from - low) low now) ∙ ap (drop (from - low)) same ∙ drop-drop (from - low) low old ∙ ap (λ k. drop k old) split

@@ -16,8 +16,9 @@ use Rattle.sq_graph.specs.Redirected.{goes_to, redirected_each}
 use Rattle.sq_graph.specs.Aims.{homed, target_or_start, aimed_each}
 use Rattle.sq_graph.specs.Cursor.{ahead_of, rest_from, retargeted_slots, slot_uses, renumbered, length_of_slots}
 use Rattle.sq_graph.specs.CanonicalSlots.{start_of}
-use Rattle.sq_graph.specs.Layout.{graph_of, IsSound}
+use Rattle.sq_graph.specs.Layout.{graph_of}
 use Rattle.sq_graph.proofs.Held.{Shows}
+use Rattle.sq_graph.proofs.Tight.{IsTight}
 use Rattle.sq_graph.proofs.SlotReads.{has_slot}
 use Rattle.sq_graph.proofs.Changes.{distinct_slots}
 use Rattle.sq_graph.proofs.MapWrites.{mapped_shows}
@@ -29,7 +30,7 @@ use Rattle.sq_graph.proofs.Restarting.{slot_uses-slots, distinct-restarted, cont
 use Rattle.sq_graph.proofs.CanonicalShows.{length_from_first}
 use Rattle.sq_graph.proofs.Aiming as aiming
 
-module _ (old : Inside) (blocks : List ℕ) (sound : IsSound old) where
+module _ (old : Inside) (blocks : List ℕ) (tight : IsTight old) where
   abbrev home : ℕ → Slot → ℕ
   home name slot = name
 
@@ -44,17 +45,17 @@ module _ (old : Inside) (blocks : List ℕ) (sound : IsSound old) where
   goes = goes_to (graph_of old) blocks
 
   there : (name : ℕ) → HasBlock (graph_of old) name → ContainsKey aims name
-  there name has = contains-restarted (target_or_start blocks) (homed old.slots.entries) name ∙ contains-restarted home old.slots.entries name ∙ has_slot old name sound has
+  there name has = contains-restarted (target_or_start blocks) (homed old.slots.entries) name ∙ contains-restarted home old.slots.entries name ∙ has_slot old name tight.sound has
 
   same_uses : slot_uses aims ≡ terms_uses (graph_of old).blocks
   same_uses =
       slot_uses-restarted (target_or_start blocks) (homed old.slots.entries)
       ∙ slot_uses-restarted home old.slots.entries
-      ∙ ap slot_uses sound.holds.slots
+      ∙ ap slot_uses tight.holds.slots
       ∙ slot_uses-slots 0 (graph_of old).blocks
 
   pub distinct_homed : HasDistinctKeys (homed old.slots.entries)
-  distinct_homed = distinct-restarted home old.slots.entries (distinct_slots old sound)
+  distinct_homed = distinct-restarted home old.slots.entries (distinct_slots old tight)
 
   pub distinct_aims : HasDistinctKeys aims
   distinct_aims = distinct-restarted (target_or_start blocks) (homed old.slots.entries) distinct_homed
@@ -63,20 +64,20 @@ module _ (old : Inside) (blocks : List ℕ) (sound : IsSound old) where
   distinct_went = rw (keys-retargeted (start_of aims) aims) distinct_aims
 
   pub terms_known : All (ContainsKey aims) (slot_uses aims)
-  terms_known = aiming.terms_known old sound aims there same_uses
+  terms_known = aiming.terms_known old tight aims there same_uses
 
   pub items_known : All (ContainsKey went) (items_uses old.items.items)
-  items_known = aiming.items_known old sound aims there same_uses
+  items_known = aiming.items_known old tight aims there same_uses
 
   pub words_known : All (ContainsKey went) (code_word_uses old.code_words.items)
-  words_known = aiming.words_known old sound aims there same_uses
+  words_known = aiming.words_known old tight aims there same_uses
 
   pub entry_known : ContainsKey went old.entry
-  entry_known = aiming.entry_known old sound aims there same_uses
+  entry_known = aiming.entry_known old tight aims there same_uses
 
   starts_go : start_of aims ≡ goes
   starts_go =
-      ap (λ es. start_of (aimed_each blocks (homed es))) sound.holds.slots ∙ fun_ext (starts_aimed blocks 0 (graph_of old).blocks)
+      ap (λ es. start_of (aimed_each blocks (homed es))) tight.holds.slots ∙ fun_ext (starts_aimed blocks 0 (graph_of old).blocks)
 
   pub went_go : start_of went ≡ goes
   went_go = fun_ext (start_of-retargeted (start_of aims) [] aims) ∙ starts_go
@@ -94,14 +95,14 @@ module _ (old : Inside) (blocks : List ℕ) (sound : IsSound old) where
         length_of_slots-retargeted (start_of aims) aims,
         length_of_slots-restarted (target_or_start blocks) (homed old.slots.entries),
         length_of_slots-restarted home old.slots.entries,
-        slots_fit old sound,
+        slots_fit old tight,
       )
 
   -- only the terms are others
   numbered_is : renumbered 0 went ≡ retargeted_slots goes old.slots.entries
   numbered_is =
       renumbered-retargeted (start_of aims) 0 aims
-      ∙ ap (retargeted_slots (start_of aims)) (renumbered-restarted (target_or_start blocks) 0 (homed old.slots.entries) ∙ renumbered-restarted home 0 old.slots.entries ∙ slots_numbered old sound)
+      ∙ ap (retargeted_slots (start_of aims)) (renumbered-restarted (target_or_start blocks) 0 (homed old.slots.entries) ∙ renumbered-restarted home 0 old.slots.entries ∙ slots_numbered old tight)
       ∙ ap (λ h. retargeted_slots h old.slots.entries) starts_go
 
   pub redirect_shows : (entry : ℕ) (items : Vec Item Global) (words : Vec CodeRef Global) (slots : Listed Slot) (terms : List (ℕ × Slot)) (head : Option ℕ)
@@ -112,11 +113,11 @@ module _ (old : Inside) (blocks : List ℕ) (sound : IsSound old) where
       → Shows (record old { slots = slots; items = items; entry = entry; code_words = words }) (redirected_each blocks (graph_of old))
   redirect_shows entry items words slots terms head terms_is head_is slots_is spare items_are capacity words_are entry_is rules =
       let f : start_of terms ≡ goes = ap start_of terms_is ∙ went_go in
-      mapped_shows (retargeted_item goes) (retargeted_term goes) old (record old { slots = slots; items = items; entry = entry; code_words = words }) (redirected_each blocks (graph_of old)) sound
+      mapped_shows (retargeted_item goes) (retargeted_term goes) old (record old { slots = slots; items = items; entry = entry; code_words = words }) (redirected_each blocks (graph_of old)) tight
       (slots_is ∙ renumbered_from_first terms head head_is ∙ ap (renumbered 0) terms_is ∙ numbered_is)
       spare
       (items_are ∙ ap (λ h. retargeted_items h old.items.items) f)
-      capacity refl refl refl refl refl refl
+      capacity refl refl refl refl refl refl refl
       (entry_is ∙ ap (λ h. h old.entry) f)
       (words_are ∙ ap (λ h. retargeted_words h old.code_words.items) f)
       rules

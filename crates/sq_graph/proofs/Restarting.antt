@@ -3,7 +3,7 @@ use Rattle.std.proofs.Common.{◌≡◌, ℕ, ◌+◌, ◌==◌, Bool, true, fal
 use Rattle.std.specs.Option.{unwrap_or}
 use Rattle.std.proofs.lemmas.List.{length-map}
 use Rattle.std.proofs.lemmas.Bool.{cases_Bool, eqb-true, eqb-false, eq-eqb, ne_eqb}
-use Rattle.sq_arena.specs.Entries.{keys, HasDistinctKeys, value_of, before, behind, starting_at, with_value, next_key}
+use Rattle.sq_arena.specs.Entries.{keys, HasDistinctKeys, value_of, before, behind, with_value, next_key}
 use Rattle.sq_arena.proofs.EntriesLemmas.{starting_at-behind}
 use Rattle.sq_isa.specs.Registers.{is_among}
 use Rattle.sq_graph.specs.declared.slot.Slot.{Slot}

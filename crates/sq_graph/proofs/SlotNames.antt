@@ -1,5 +1,5 @@
 -- Slots that are named by their positions.
-use Rattle.std.proofs.Common.{◌≡◌, ℕ, suc, ◌+◌, ◌<◌, ◌↔◌, None, ◌^◌, ◌==◌, List, [], ◌∷◌, ◌++◌, map, drop, length, Option, Some, IsSome, vec_capacity, inl, inr, refl, sym, ap, ◌∙◌, subst, arith, append_assoc}
+use Rattle.std.proofs.Common.{◌≡◌, ℕ, suc, ◌+◌, ◌<◌, ◌↔◌, None, ◌^◌, ◌==◌, List, [], ◌∷◌, ◌++◌, map, length, Option, Some, IsSome, vec_capacity, inl, inr, refl, sym, ap, ◌∙◌, subst, arith, append_assoc}
 use Rattle.std.specs.List.{All, AllByRecursion}
 use Rattle.std.specs.Option.{unwrap_or}
 use Rattle.std.proofs.lemmas.Bool.{cases_Bool}
@@ -21,12 +21,14 @@ use Rattle.sq_graph.specs.Cursor.{IsPlace, ahead_of, rest_from, retargeted_slots
 use Rattle.sq_graph.specs.Numbered.{AreNumbered, with_positions}
 use Rattle.sq_graph.specs.CanonicalSlots.{start_of}
 use Rattle.sq_graph.specs.Slots.{slots_from}
-use Rattle.sq_graph.specs.Layout.{blocks_of, graph_of, Holds, IsSound}
+use Rattle.sq_graph.specs.Layout.{graph_of, Holds}
+use Rattle.sq_graph.specs.Packed.{blocks_of}
 use Rattle.sq_graph.proofs.Eachs.{All-left, All-right}
 use Rattle.sq_graph.proofs.CursorLaws.{steps, from_first, next_in}
 use Rattle.sq_graph.proofs.SlotWalks.{started}
 use Rattle.sq_graph.proofs.SlotReads.{has_slot}
-use Rattle.sq_graph.proofs.Held.{Shows, shows, limited}
+use Rattle.sq_graph.proofs.Held.{Shows, shows}
+use Rattle.sq_graph.proofs.Tight.{IsTight, limited}
 use Rattle.sq_graph.proofs.MapWrites.{bodies_from-mapped}
 use Rattle.sq_graph.proofs.RetargetRules.{items_of_blocks-other, all_items-other}
 use Rattle.sq_graph.proofs.Renamed.{names_there, renamed_rules}
@@ -166,9 +168,9 @@ positions-uses k start (b ∷ bs) = ap (λ us. term_uses b.term ++ us) (position
 
 block_names : (es : List (ℕ × Slot)) (items : List Item) → keys es ≡ map (λ b. b.name) (blocks_of es items)
 block_names [] items = refl
-block_names (e ∷ es) items = ap (λ ks. e.0 ∷ ks) (block_names es (drop e.1.length items))
+block_names (e ∷ es) items = ap (λ ks. e.0 ∷ ks) (block_names es items)
 
-module _ (old : Inside) (sound : IsSound old) where
+module _ (old : Inside) (tight : IsTight old) where
   -- the slots with their positions
   abbrev pub places : List (ℕ × Slot)
   places = with_positions 0 old.slots.entries
@@ -177,10 +179,10 @@ module _ (old : Inside) (sound : IsSound old) where
   new_name = start_of places
 
   there : (name : ℕ) → HasBlock (graph_of old) name → ContainsKey places name
-  there name has = contains-with_positions 0 old.slots.entries name (has_slot old name sound has)
+  there name has = contains-with_positions 0 old.slots.entries name (has_slot old name tight.sound has)
 
   all_used : All (ContainsKey places) (uses (graph_of old))
-  all_used = All-weaker (HasBlock (graph_of old)) (ContainsKey places) there (uses (graph_of old)) sound.rules.named_all
+  all_used = All-weaker (HasBlock (graph_of old)) (ContainsKey places) there (uses (graph_of old)) tight.rules.named_all
 
   more_used : All (ContainsKey places) (code_word_uses old.code_words.items ++ (terms_uses (graph_of old).blocks ++ items_uses (all_items (graph_of old))))
   more_used = All-tail (ContainsKey places) (graph_of old).entry (code_word_uses old.code_words.items ++ (terms_uses (graph_of old).blocks ++ items_uses (all_items (graph_of old)))) all_used
@@ -190,12 +192,12 @@ module _ (old : Inside) (sound : IsSound old) where
 
   pub terms_known : (entries : List (ℕ × Slot)) → entries ≡ at_positions 0 (values old.slots.entries) → All (ContainsKey places) (slot_uses entries)
   terms_known entries is =
-      subst (λ us. All (ContainsKey places) us) (sym (ap slot_uses (is ∙ ap (λ es. at_positions 0 (values es)) sound.holds.slots) ∙ positions-uses 0 0 (graph_of old).blocks))
+      subst (λ us. All (ContainsKey places) us) (sym (ap slot_uses (is ∙ ap (λ es. at_positions 0 (values es)) tight.holds.slots) ∙ positions-uses 0 0 (graph_of old).blocks))
       (All-left (ContainsKey places) (terms_uses (graph_of old).blocks) (items_uses (all_items (graph_of old))) behind_words)
 
   pub items_known : All (ContainsKey places) (items_uses old.items.items)
   items_known =
-      subst (λ (is : List Item). All (ContainsKey places) (items_uses is)) (sym sound.holds.items)
+      subst (λ (is : List Item). All (ContainsKey places) (items_uses is)) (sym tight.holds.items)
       (All-right (ContainsKey places) (terms_uses (graph_of old).blocks) (items_uses (all_items (graph_of old))) behind_words)
 
   pub words_known : All (ContainsKey places) (code_word_uses old.code_words.items)
@@ -206,42 +208,43 @@ module _ (old : Inside) (sound : IsSound old) where
 
   -- a block's new name is its position
   name_is : (n : ℕ) → HasBlock (graph_of old) n → new_name n ≡ position_in (names_of (graph_of old)) n
-  name_is n has = ap (λ es. start_of (with_positions 0 es) n) sound.holds.slots ∙ number_start 0 0 n (graph_of old).blocks has
+  name_is n has = ap (λ es. start_of (with_positions 0 es) n) tight.holds.slots ∙ number_start 0 0 n (graph_of old).blocks has
 
   -- where each slot stands under its position, they show it already
   pub slotted_already : AreNumbered (λ n. n) 0 (keys old.slots.entries) → slotted (graph_of old) ≡ graph_of old
   slotted_already are =
-      named_by_positions (graph_of old) sound.rules (subst (AreNumbered (λ n. n) 0) (block_names old.slots.entries old.items.items) are)
+      named_by_positions (graph_of old) tight.rules (subst (AreNumbered (λ n. n) 0) (block_names old.slots.entries old.items.items) are)
 
   -- the fields show the slotted graph
   pub slotted_shows : (new : Inside)
       → new.slots.entries ≡ retargeted_slots new_name (at_positions 0 (values old.slots.entries)) → new.slots.spare ≡ old.slots.spare
       → new.items.items ≡ retargeted_items new_name old.items.items → vec_capacity new.items ≡ vec_capacity old.items
       → new.code_words.items ≡ retargeted_words new_name old.code_words.items → new.entry ≡ new_name old.entry
-      → new.block_items ≡ old.block_items → new.bodies ≡ old.bodies → new.item_room ≡ old.item_room → new.body_room ≡ old.body_room
+      → new.blocks_end ≡ old.blocks_end → new.gaps ≡ old.gaps → new.bodies ≡ old.bodies → new.item_room ≡ old.item_room → new.body_room ≡ old.body_room
       → Shows new (slotted (graph_of old))
-  slotted_shows new slots spare items capacity words entry block_items bodies item_room body_room =
-      let same : renamed new_name (graph_of old) ≡ slotted (graph_of old) = renamed_by_same new_name (position_in (names_of (graph_of old))) (graph_of old) sound.rules name_is in
-      let rules = renamed_rules (position_in (names_of (graph_of old))) (graph_of old) (positions_apart (graph_of old)) sound.rules in
-      let limits = limited old sound in
+  slotted_shows new slots spare items capacity words entry blocks_end gaps bodies item_room body_room =
+      let same : renamed new_name (graph_of old) ≡ slotted (graph_of old) = renamed_by_same new_name (position_in (names_of (graph_of old))) (graph_of old) tight.rules name_is in
+      let rules = renamed_rules (position_in (names_of (graph_of old))) (graph_of old) (positions_apart (graph_of old)) tight.rules in
+      let limits = limited old tight in
       let counted : length new.items.items ≡ length old.items.items = ap length items ∙ length-map old.items.items (retargeted_item new_name) in
       let count : length new.slots.entries ≡ length old.slots.entries =
       ap length slots ∙ length-map {B = ℕ × Slot} (at_positions 0 (values old.slots.entries)) (λ e. (e.0, record e.1 { term = retargeted_term new_name e.1.term })) ∙ length-at_positions 0 (values old.slots.entries) ∙ length-map {B = Slot} old.slots.entries (λ e. e.1) in
       shows new (slotted (graph_of old))
       (subst (Holds new) same (record {
-        slots = slots ∙ ap (λ es. retargeted_slots new_name (at_positions 0 (values es))) sound.holds.slots ∙ slots_named new_name 0 0 (graph_of old).blocks are_numbered;
-        items = items ∙ ap (retargeted_items new_name) sound.holds.items ∙ sym (all_items-other new_name (λ b. new_name b.name) (graph_of old));
-        block_items = block_items ∙ sound.holds.block_items ∙ sym (length-map (items_of_blocks (graph_of old).blocks) (retargeted_item new_name)) ∙ sym (ap length (items_of_blocks-other new_name (λ b. new_name b.name) (graph_of old).blocks));
+        slots = slots ∙ ap (λ es. retargeted_slots new_name (at_positions 0 (values es))) tight.holds.slots ∙ slots_named new_name 0 0 (graph_of old).blocks are_numbered;
+        items = items ∙ ap (retargeted_items new_name) tight.holds.items ∙ sym (all_items-other new_name (λ b. new_name b.name) (graph_of old));
+        blocks_end = blocks_end ∙ tight.holds.blocks_end ∙ sym (length-map (items_of_blocks (graph_of old).blocks) (retargeted_item new_name)) ∙ sym (ap length (items_of_blocks-other new_name (λ b. new_name b.name) (graph_of old).blocks));
+        gaps = gaps ∙ tight.holds.gaps;
         entry = entry;
         code_words = words;
-        bodies = ap (λ (v : _). v.items) bodies ∙ sound.holds.bodies ∙ sym (bodies_from-mapped (retargeted_item new_name) (λ t. t) 0 (graph_of old).procedures);
+        bodies = ap (λ (v : _). v.items) bodies ∙ tight.holds.bodies ∙ sym (bodies_from-mapped (retargeted_item new_name) (λ t. t) 0 (graph_of old).procedures);
       }))
       rules
       (record {
-        items = omega (arith, counted, sound.room.items, item_room);
-        item_room = omega (arith, sound.room.item_room, item_room, capacity);
-        bodies = omega (arith, ap (λ bs. length bs.items) bodies, sound.room.bodies, body_room);
-        body_room = omega (arith, sound.room.body_room, body_room, ap (λ bs. vec_capacity bs) bodies);
+        items = omega (arith, counted, tight.room.items, item_room);
+        item_room = omega (arith, tight.room.item_room, item_room, capacity);
+        bodies = omega (arith, ap (λ bs. length bs.items) bodies, tight.room.bodies, body_room);
+        body_room = omega (arith, tight.room.body_room, body_room, ap (λ bs. vec_capacity bs) bodies);
       })
       (record {
         blocks = omega (arith, limits.blocks, spare, count);
@@ -254,4 +257,4 @@ module _ (old : Inside) (sound : IsSound old) where
       numbers (b ∷ bs) k has are = (name_is b.name has.0 ∙ are.0, numbers bs (k + 1) has.1 are.1)
 
       are_numbered : AreNumbered new_name 0 (names_of (graph_of old))
-      are_numbered = numbers (graph_of old).blocks 0 (names_there (graph_of old).blocks) (positions_numbered (graph_of old) sound.rules)
+      are_numbered = numbers (graph_of old).blocks 0 (names_there (graph_of old).blocks) (positions_numbered (graph_of old) tight.rules)

@@ -1,18 +1,54 @@
 -- What the fields of a graph tell of a block.
-use Rattle.std.proofs.Common.{◌≡◌, ℕ, ◌+◌, ◌≤◌, List, ◌∷◌, ◌++◌, length, take, drop, Some, is_some, sym, ap, ◌∙◌, arith, length-append, append_assoc}
-use Rattle.sq_arena.specs.Entries.{value_of, ContainsKey}
+use Rattle.std.proofs.Common.{◌≡◌, ℕ, ◌+◌, ◌≤◌, ◌==◌, false, List, [], ◌∷◌, ◌++◌, length, take, drop, Option, None, Some, is_some, refl, sym, ap, ◌∙◌, subst, inl, inr, arith, length-drop, append_assoc}
+use Rattle.std.proofs.lemmas.Bool.{cases_Bool, eqb-true}
+use Rattle.std.proofs.lemmas.List.{length-take-le}
+use Rattle.sq_arena.specs.Entries.{value_of, ContainsKey, first_key, next_key}
 use Rattle.sq_graph.specs.declared.item.Item.{Item}
 use Rattle.sq_graph.specs.declared.slot.Slot.{Slot}
 use Rattle.sq_graph.specs.declared.graph.Graph.TheInside.{Inside}
 use Rattle.sq_graph.specs.Graph.{Block}
-use Rattle.sq_graph.specs.Blocks.{named, block_of, HasBlock, items_of_blocks, items_of_bodies}
-use Rattle.sq_graph.specs.Slots.{slot_of, slots_from}
+use Rattle.sq_graph.specs.Blocks.{named, block_of, HasBlock, first_of, next_of, items_of_blocks}
+use Rattle.sq_graph.specs.Operations.{IsNew}
+use Rattle.sq_graph.specs.Packed.{blocks_of, AreApart}
 use Rattle.sq_graph.specs.Layout.{graph_of, IsSound}
-use Rattle.sq_graph.proofs.Located.{IsAt, located, named-append, items_of_blocks-append, slots_from-append, value_of-slots, value_of-slots-none, value_of-at, middle}
+use Rattle.sq_graph.proofs.Packing.{apart_low}
+use Rattle.sq_graph.proofs.Located.{IsAt, named-append, items_of_blocks-append, value_of-at}
+
+-- the arena has the same keys
+value_of-blocks : (es : List (ℕ × Slot)) (xs : List Item) (name : ℕ) → is_some (value_of es name) ≡ is_some (value_of (named (blocks_of es xs)) name)
+value_of-blocks [] xs name = refl
+value_of-blocks (e ∷ es) xs name =
+    elim (cases_Bool (e.0 == name)) [ inl here ↦ rw here | inr apart ↦ rw apart (value_of-blocks es xs name) ]
 
 pub has_slot : (inside : Inside) (name : ℕ) → IsSound inside → HasBlock (graph_of inside) name → ContainsKey inside.slots.entries name
-has_slot inside name sound has =
-    rw sound.holds.slots (value_of-slots 0 (graph_of inside).blocks name ∙ has)
+has_slot inside name sound has = value_of-blocks inside.slots.entries inside.items.items name ∙ has
+
+-- a name with no slot is no block's
+pub new_name : (inside : Inside) (name : ℕ) → value_of inside.slots.entries name ≡ None → IsNew (graph_of inside) name
+new_name inside name none =
+    absent (value_of (named (graph_of inside).blocks) name) (sym (value_of-blocks inside.slots.entries inside.items.items name) ∙ ap is_some none)
+  where
+    absent : {T : Type 0} (o : Option T) → is_some o ≡ false → o ≡ None
+    absent None none = refl
+    absent (Some x) none = absurd (cc)
+
+first_key-blocks : (es : List (ℕ × Slot)) (xs : List Item) → first_key es ≡ first_key (named (blocks_of es xs))
+first_key-blocks [] xs = refl
+first_key-blocks (e ∷ es) xs = refl
+
+pub first_shows : (inside : Inside) → first_key inside.slots.entries ≡ first_of (graph_of inside)
+first_shows inside = first_key-blocks inside.slots.entries inside.items.items
+
+next_key-blocks : (es : List (ℕ × Slot)) (xs : List Item) (name : ℕ) → next_key es name ≡ next_key (named (blocks_of es xs)) name
+next_key-blocks [] xs name = refl
+next_key-blocks (e ∷ es) xs name =
+    elim (cases_Bool (e.0 == name)) [
+      | inl here ↦ rw here (first_key-blocks es xs)
+      | inr apart ↦ rw apart (next_key-blocks es xs name)
+    ]
+
+pub next_shows : (inside : Inside) (name : ℕ) → next_key inside.slots.entries name ≡ next_of (graph_of inside) name
+next_shows inside name = next_key-blocks inside.slots.entries inside.items.items name
 
 -- the slot of a block shows the block
 pub record Reads (inside : Inside) (name : ℕ) (slot : Slot) : Type 0 where
@@ -22,15 +58,6 @@ pub record Reads (inside : Inside) (name : ℕ) (slot : Slot) : Type 0 where
   pub term_is : slot.term ≡ block.term
   pub within : slot.start + slot.length ≤ length inside.items.items
   pub slice : take slot.length (drop slot.start inside.items.items) ≡ block.items
-
--- the place of a block among slots
-pub slot_at : (n : ℕ) (blocks : List Block) (name : ℕ) (at : IsAt blocks name) → value_of (slots_from n blocks) name ≡ Some (slot_of (n + length (items_of_blocks at.front)) at.block)
-slot_at n blocks name at =
-    let m = n + length (items_of_blocks at.front) in
-    ap (λ bs. value_of (slots_from n bs) name) at.whole
-    ∙ ap (λ es. value_of es name) (slots_from-append n at.front (at.block ∷ at.back))
-    ∙ ap (λ k. value_of (slots_from n at.front ++ (k, slot_of m at.block) ∷ slots_from (m + length at.block.items) at.back) name) at.has_name
-    ∙ value_of-at (slots_from n at.front) (slots_from (m + length at.block.items) at.back) name (slot_of m at.block) (value_of-slots-none n at.front name at.ahead)
 
 pub block_at : (blocks : List Block) (name : ℕ) (at : IsAt blocks name) → value_of (named blocks) name ≡ Some at.block
 block_at blocks name at =
@@ -47,32 +74,35 @@ items_around blocks name at rest =
     ∙ append_assoc (items_of_blocks at.front) (at.block.items ++ items_of_blocks at.back) rest
     ∙ ap (λ is. items_of_blocks at.front ++ is) (append_assoc at.block.items (items_of_blocks at.back) rest)
 
+block_found : (es : List (ℕ × Slot)) (xs : List Item) (name : ℕ) (slot : Slot) → value_of es name ≡ Some slot → value_of (named (blocks_of es xs)) name ≡ Some (record { name = name; items = take slot.length (drop slot.start xs); term = slot.term })
+block_found [] xs name slot found = absurd (cc)
+block_found (e ∷ es) xs name slot found =
+    elim (cases_Bool (e.0 == name)) [
+      | inl here ↦
+          let value : e.1 ≡ slot = cc (rw here at found) in
+          rw here (λ i. Some (record { name = eqb-true e.0 name here i; items = take (value i).length (drop (value i).start xs); term = (value i).term }))
+      | inr apart ↦ rw apart (block_found es xs name slot (rw apart at found))
+    ]
+
+pub apart_found : (es : List (ℕ × Slot)) (low end name : ℕ) (slot : Slot) → AreApart es low end → value_of es name ≡ Some slot → slot.start + slot.length ≤ end
+apart_found [] low end name slot apart found = absurd (cc)
+apart_found (e ∷ es) low end name slot apart found =
+    elim (cases_Bool (e.0 == name)) [
+      | inl here ↦
+          let value : e.1 ≡ slot = cc (rw here at found) in
+          subst (λ (s : Slot). s.start + s.length ≤ end) value (apart_low es (e.1.start + e.1.length) end apart.1)
+      | inr elsewhere ↦ apart_found es (e.1.start + e.1.length) end name slot apart.1 (rw elsewhere at found)
+    ]
+
 pub reads : (inside : Inside) (name : ℕ) (slot : Slot) → IsSound inside → value_of inside.slots.entries name ≡ Some slot → Reads inside name slot
 reads inside name slot sound found =
-    let g = graph_of inside in
-    let in_slots : value_of (slots_from 0 g.blocks) name ≡ Some slot = ap (λ es. value_of es name) (sym sound.holds.slots) ∙ found in
-    let has : HasBlock g name = sym (value_of-slots 0 g.blocks name) ∙ ap is_some in_slots in
-    let at = located g.blocks name has in
-    let m = length (items_of_blocks at.front) in
-    let same : slot ≡ slot_of (0 + m) at.block = some_same slot (slot_of (0 + m) at.block) (sym in_slots ∙ slot_at 0 g.blocks name at) in
-    let start : slot.start ≡ m = ap (λ s. s.start) same ∙ zero_left m in
-    let size : slot.length ≡ length at.block.items = ap (λ s. s.length) same in
-    let whole = sound.holds.items ∙ items_around g.blocks name at (items_of_bodies g.procedures) in
+    let fits = apart_found inside.slots.entries 0 inside.blocks_end name slot sound.gaps.apart found in
+    let within : slot.start + slot.length ≤ length inside.items.items = omega (arith, fits, sound.gaps.within) in
     record {
-      block = at.block;
-      is = block_at g.blocks name at;
-      length_is = size;
-      term_is = ap (λ s. s.term) same;
-      within = omega (arith, ap (λ is. length is) whole, length-append (items_of_blocks at.front) (at.block.items ++ (items_of_blocks at.back ++ items_of_bodies g.procedures)), length-append at.block.items (items_of_blocks at.back ++ items_of_bodies g.procedures));
-      slice =
-          ap (λ is. take slot.length (drop slot.start is)) whole
-          ∙ ap (λ n. take n (drop slot.start (items_of_blocks at.front ++ (at.block.items ++ (items_of_blocks at.back ++ items_of_bodies g.procedures))))) size
-          ∙ ap (λ n. take (length at.block.items) (drop n (items_of_blocks at.front ++ (at.block.items ++ (items_of_blocks at.back ++ items_of_bodies g.procedures))))) start
-          ∙ middle (items_of_blocks at.front) at.block.items (items_of_blocks at.back ++ items_of_bodies g.procedures);
+      block = record { name = name; items = take slot.length (drop slot.start inside.items.items); term = slot.term };
+      is = block_found inside.slots.entries inside.items.items name slot found;
+      length_is = sym (length-take-le slot.length (drop slot.start inside.items.items) (omega (arith, within, length-drop slot.start inside.items.items)));
+      term_is = refl;
+      within = within;
+      slice = refl;
     }
-  where
-    some_same : (a b : Slot) → Some a ≡ Some b → a ≡ b
-    some_same a b same = cc
-
-    zero_left : (n : ℕ) → 0 + n ≡ n
-    zero_left n = omega arith

@@ -1,21 +1,15 @@
 -- How a `Graph` lies in its fields. No public clause cites this module.
-use Rattle.std.specs.Prelude.{◌≡◌, ℕ, ◌-◌, ◌≤◌, List, [], ◌∷◌, take, drop, length, vec_capacity}
+use Rattle.std.specs.Prelude.{◌≡◌, ◌+◌, ◌-◌, ◌≤◌, List, [], ◌∷◌, take, drop, length, vec_capacity}
 use Rattle.sq_graph.specs.declared.item.Item.{Item}
-use Rattle.sq_graph.specs.declared.slot.Slot.{Slot}
 use Rattle.sq_graph.specs.declared.slot.Body.{Body}
 use Rattle.sq_graph.specs.declared.parts.Room.{Room}
 use Rattle.sq_graph.specs.declared.graph.Graph.TheInside.{Inside}
-use Rattle.sq_graph.specs.Graph.{Block, Procedure, Graph}
-use Rattle.sq_graph.specs.Blocks.{items_of_blocks, all_items}
+use Rattle.sq_graph.specs.Graph.{Procedure, Graph}
+use Rattle.sq_graph.specs.Blocks.{items_of_blocks, items_of_bodies, all_items}
 use Rattle.sq_graph.specs.Rules.{IsGraph}
 use Rattle.sq_graph.specs.Room.{GraphAndRoom, IsSmall, total_of}
 use Rattle.sq_graph.specs.Slots.{slots_from, bodies_from}
-
--- the blocks that have these items in order
-abbrev pub blocks_of : List (ℕ × Slot) → List Item → List Block
-blocks_of [] items = []
-blocks_of (e ∷ rest) items =
-    record { name = e.0; items = take e.1.length items; term = e.1.term } ∷ blocks_of rest (drop e.1.length items)
+use Rattle.sq_graph.specs.Packed.{blocks_of, HasGaps}
 
 -- the procedures that have these items in order
 abbrev pub procedures_of : List Body → List Item → List Procedure
@@ -29,25 +23,26 @@ graph_of inside =
       blocks = blocks_of inside.slots.entries inside.items.items;
       entry = inside.entry;
       code_words = inside.code_words.items;
-      procedures = procedures_of inside.bodies.items (drop inside.block_items inside.items.items);
+      procedures = procedures_of inside.bodies.items (drop inside.blocks_end inside.items.items);
     }
 
 abbrev pub spare_of : Inside → Room
 spare_of inside =
     record {
       blocks = inside.slots.spare;
-      items = inside.item_room - length inside.items.items;
+      items = inside.item_room + inside.gaps - length inside.items.items;
       procedures = inside.body_room - length inside.bodies.items;
     }
 
 abbrev pub shown : Inside → GraphAndRoom
 shown inside = record { graph = graph_of inside; spare = spare_of inside }
 
--- the fields hold this graph
+-- the fields hold this graph, with no gap
 pub record Holds (inside : Inside) (g : Graph) : Type 0 where
   pub slots : inside.slots.entries ≡ slots_from 0 g.blocks
   pub items : inside.items.items ≡ all_items g
-  pub block_items : inside.block_items ≡ length (items_of_blocks g.blocks)
+  pub blocks_end : inside.blocks_end ≡ length (items_of_blocks g.blocks)
+  pub gaps : inside.gaps ≡ 0
   pub entry : inside.entry ≡ g.entry
   pub code_words : inside.code_words.items ≡ g.code_words
   pub bodies : inside.bodies.items ≡ bodies_from 0 g.procedures
@@ -59,8 +54,11 @@ pub record HasRoom (inside : Inside) : Type 0 where
   pub bodies : length inside.bodies.items ≤ inside.body_room
   pub body_room : inside.body_room ≤ vec_capacity inside.bodies
 
+-- the blocks lie apart, and behind them are the bodies
 pub record IsSound (inside : Inside) : Type 0 where
-  pub holds : Holds inside (graph_of inside)
+  pub gaps : HasGaps inside.slots.entries inside.items.items inside.blocks_end inside.gaps
+  pub behind : drop inside.blocks_end inside.items.items ≡ items_of_bodies (graph_of inside).procedures
+  pub bodies : inside.bodies.items ≡ bodies_from 0 (graph_of inside).procedures
   pub rules : IsGraph (graph_of inside)
   pub room : HasRoom inside
   pub small : IsSmall (total_of (shown inside))

@@ -1,7 +1,12 @@
 -- Slots whose items don't lie one right behind another. No public clause cites this module.
-use Rattle.std.specs.Prelude.{ℕ, ◌+◌, ◌-◌, ◌≤◌, ◌==◌, if◌then◌else◌, List, [], ◌∷◌, ◌++◌, take, drop}
+use Rattle.std.specs.Prelude.{◌≡◌, ℕ, ◌+◌, ◌-◌, ◌≤◌, ◌==◌, if◌then◌else◌, List, [], ◌∷◌, ◌++◌, take, drop, length, Vec, vec_capacity}
+use Rattle.std.specs.Global.{Global}
+use Rattle.sq_arena.specs.Arena.{Arena}
+use Rattle.sq_arena.specs.Entries.{HasDistinctKeys}
 use Rattle.sq_graph.specs.declared.item.Item.{Item}
 use Rattle.sq_graph.specs.declared.slot.Slot.{Slot}
+use Rattle.sq_graph.specs.Graph.{Block}
+use Rattle.sq_graph.specs.Cursor.{length_of_slots}
 
 -- the slot of the name is shorter by so many
 abbrev pub cut_slot : ℕ → List (ℕ × Slot) → ℕ → List (ℕ × Slot)
@@ -23,3 +28,25 @@ pieces_of items (e ∷ rest) = take e.1.length (drop e.1.start items) ++ pieces_
 abbrev pub AreApart : List (ℕ × Slot) → ℕ → ℕ → Type 0
 AreApart [] low end = low ≤ end
 AreApart (e ∷ rest) low end = (low ≤ e.1.start) × AreApart rest (e.1.start + e.1.length) end
+
+-- the blocks whose items lie at their slots
+abbrev pub blocks_of : List (ℕ × Slot) → List Item → List Block
+blocks_of [] items = []
+blocks_of (e ∷ rest) items =
+    record { name = e.0; items = take e.1.length (drop e.1.start items); term = e.1.term } ∷ blocks_of rest items
+
+-- the slots lie apart among the items, ahead of `end`, and so many items ahead of `end` lie in none
+pub record HasGaps (entries : List (ℕ × Slot)) (items : List Item) (end gaps : ℕ) : Type 0 where
+  pub distinct : HasDistinctKeys entries
+  pub apart : AreApart entries 0 end
+  pub within : end ≤ length items
+  pub counted : gaps + length_of_slots entries ≡ end
+
+-- the blocks are the same with other gaps, and so is what lies behind them
+pub record KeepsBlocks (old : Arena Slot) (old_items : Vec Item Global) (old_end old_gaps : ℕ) (new : Arena Slot) (new_items : Vec Item Global) (new_end new_gaps : ℕ) : Type 0 where
+  pub gaps : HasGaps new.entries new_items.items new_end new_gaps
+  pub blocks : blocks_of new.entries new_items.items ≡ blocks_of old.entries old_items.items
+  pub behind : drop new_end new_items.items ≡ drop old_end old_items.items
+  pub fewer : new_gaps ≤ old_gaps
+  pub spare : new.spare ≡ old.spare
+  pub capacity : vec_capacity new_items ≡ vec_capacity old_items

@@ -1,5 +1,5 @@
 -- How the blocks and procedures of a graph stand in its arena and its vectors.
-use Rattle.std.specs.Prelude.{ℕ, ◌+◌, ◌-◌, List, [], ◌∷◌, length}
+use Rattle.std.specs.Prelude.{ℕ, ◌+◌, ◌-◌, List, [], ◌∷◌, map, length}
 use Rattle.sq_graph.specs.declared.slot.Slot.{Slot}
 use Rattle.sq_graph.specs.declared.slot.Body.{Body}
 use Rattle.sq_graph.specs.Graph.{Block, Procedure}
@@ -12,7 +12,15 @@ abbrev pub slots_from : ℕ → List Block → List (ℕ × Slot)
 slots_from start [] = []
 slots_from start (b ∷ rest) = (b.name, slot_of start b) ∷ slots_from (start + length b.items) rest
 
--- the same of procedures, from the first body on
+-- each block under its name, wherever its items are
+abbrev pub slots_of : List Block → List (ℕ × Slot)
+slots_of blocks = map (λ b. (b.name, slot_of 0 b)) blocks
+
+-- the slots, but for where they start
+abbrev pub without_starts : List (ℕ × Slot) → List (ℕ × Slot)
+without_starts entries = map (λ e. (e.0, record e.1 { start = 0 })) entries
+
+-- the procedures, each with the place where its body starts, from the first body on
 abbrev pub bodies_from : ℕ → List Procedure → List Body
 bodies_from start [] = []
 bodies_from start (p ∷ rest) =

@@ -6,6 +6,7 @@ ghost use Rattle.sq_graph.specs.Rules.{IsGraph};
 ghost use Rattle.sq_graph.specs.Operations.{IsNew, with_term, inserted_after, split_at, redirected, redirected_calls};
 ghost use Rattle.sq_graph.specs.Words.{words_of};
 
+use crate::gaps::close_gaps;
 use crate::graph::Graph;
 use crate::item::Term;
 use crate::rename::{self, Rename, Swap};
@@ -79,6 +80,12 @@ impl Graph {
         ensures graph { self.new.graph ≡ redirected self.old.graph from to }
         ensures spare { self.new.spare ≡ self.old.spare }
     {
+        close_gaps(
+            &mut self.slots,
+            &mut self.items,
+            &mut self.blocks_end,
+            &mut self.gaps,
+        );
         let swap = Swap { from, to };
         slots::retarget(&mut self.slots, &swap);
         rename::retarget_items(&mut self.items, &swap);
@@ -92,6 +99,12 @@ impl Graph {
         ensures graph { self.new.graph ≡ redirected_calls self.old.graph from to }
         ensures spare { self.new.spare ≡ self.old.spare }
     {
+        close_gaps(
+            &mut self.slots,
+            &mut self.items,
+            &mut self.blocks_end,
+            &mut self.gaps,
+        );
         rename::recall_items(&mut self.items, &Swap { from, to });
     }
 }

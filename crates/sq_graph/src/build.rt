@@ -23,7 +23,7 @@ impl Graph {
         ensures graph { IfOk result (λ made. made.graph ≡ graph_of_parts parts.now.blocks.now parts.now.items.now parts.now.entry parts.now.code_words.now parts.now.procedures.now) }
         ensures spare { IfOk result (λ made. made.spare ≡ no_room) }
     {
-        let (blocks, block_items) = slots_of(alloc, parts.blocks)?;
+        let (blocks, blocks_end) = slots_of(alloc, parts.blocks)?;
         let Ok(slots) = Arena::from_values(alloc, &blocks) else {
             return Err(Memory);
         };
@@ -35,7 +35,8 @@ impl Graph {
         Ok(Graph {
             slots,
             items,
-            block_items,
+            blocks_end,
+            gaps: 0,
             entry: parts.entry,
             code_words,
             bodies,

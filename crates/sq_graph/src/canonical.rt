@@ -13,6 +13,7 @@ ghost use Rattle.sq_graph.specs.Canonical.{canonical_of};
 ghost use Rattle.sq_graph.specs.Words.{words_of};
 ghost use Rattle.sq_graph.specs.CanonicalSlots.{is_bare_slot, aimed, start_of, full_slots, marked, joined_slot_onto, joined_slots};
 
+use crate::gaps::close_gaps;
 use crate::graph::Graph;
 use crate::item::{Item, Term};
 use crate::parts::CodeRef;
@@ -32,6 +33,12 @@ impl Graph {
         ensures canonical { IsCanonical self.new.graph }
         ensures words { words_of self.new.graph ≡ words_of self.old.graph }
     {
+        close_gaps(
+            &mut self.slots,
+            &mut self.items,
+            &mut self.blocks_end,
+            &mut self.gaps,
+        );
         aim(&mut self.slots);
         retarget_terms(&mut self.slots);
         let aims = Aims { slots: &self.slots };

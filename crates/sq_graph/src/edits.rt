@@ -8,15 +8,16 @@ ghost use Rattle.sq_graph.specs.Uses.{calls};
 ghost use Rattle.sq_graph.specs.Rules.{IsGraph};
 ghost use Rattle.sq_graph.specs.Operations.{replaced, call_of, called_at, called_body, inlined, outlined, without_block, without_procedure};
 
+use crate::gaps::{close_gaps, make_room};
 use crate::graph::Graph;
 use crate::item::Item;
 use crate::rename::{self, Lower};
-use crate::slot::Body;
+use crate::slot::{Body, Slot};
 use crate::{pieces, slots};
 use sq_isa::Reg;
 
 impl Graph {
-    /// Replaces the `count` items from place `at` on by others.
+    /// Replaces the `count` items from place `at` on by others. Where they are no more, no other block is touched.
     pub fn replace(&mut self, block: u32, at: u32, count: u32, by: &[Item])
         requires block { HasBlock self.old.graph block }
         requires there { at + count ≤ length (items_of self.old.graph block) }
@@ -25,12 +26,28 @@ impl Graph {
         ensures graph { self.new.graph ≡ replaced self.old.graph block at count by.now }
         ensures spare { self.new.spare ≡ record self.old.spare { items = self.old.spare.items + count - length by.now } }
     {
+        if by.len() <= count as usize {
+            let slot = slots::slot(&self.slots, block);
+            let end = slot.start + slot.length;
+            pieces::replace_within(&mut self.items, slot.start + at, count, by, end);
+            let gap = count - by.len() as u32;
+            let length = slot.length - gap;
+            slots::set(&mut self.slots, block, Slot { length, ..slot });
+            self.gaps += gap;
+            return;
+        }
+        close_gaps(
+            &mut self.slots,
+            &mut self.items,
+            &mut self.blocks_end,
+            &mut self.gaps,
+        );
         let slot = slots::slot(&self.slots, block);
         let added = by.len() as u32;
         pieces::replace(&mut self.items, slot.start + at, count, by);
         slots::resize(&mut self.slots, block, slot, slot.length - count + added);
-        let others = self.block_items - count;
-        self.block_items = others + added;
+        let others = self.blocks_end - count;
+        self.blocks_end = others + added;
     }
 
     /// Replaces the Out at this place by its procedure's body.
@@ -42,15 +59,21 @@ impl Graph {
         ensures graph { self.new.graph ≡ inlined self.old.graph block at }
         ensures spare { self.new.spare ≡ record self.old.spare { items = self.old.spare.items + 1 - length (called_body self.old.graph (called_at self.old.graph block at)) } }
     {
+        close_gaps(
+            &mut self.slots,
+            &mut self.items,
+            &mut self.blocks_end,
+            &mut self.gaps,
+        );
         let slot = slots::slot(&self.slots, block);
         let place = slot.start + at;
         let procedure = called(self.items[place as usize]).unwrap();
         let body = self.bodies[procedure as usize];
-        let from = self.block_items + body.start;
+        let from = self.blocks_end + body.start;
         pieces::replace_by_copy(&mut self.items, place, from, body.length);
         slots::resize(&mut self.slots, block, slot, slot.length - 1 + body.length);
-        let others = self.block_items - 1;
-        self.block_items = others + body.length;
+        let others = self.blocks_end - 1;
+        self.blocks_end = others + body.length;
     }
 
     /// Makes a copy of the `count` items from place `at` on the last procedure, and returns its number. The
@@ -66,8 +89,16 @@ impl Graph {
         ensures graph { self.new.graph ≡ outlined self.old.graph block at count link }
         ensures spare { self.new.spare ≡ record self.old.spare { items = self.old.spare.items - count; procedures = self.old.spare.procedures - 1 } }
     {
+        make_room(
+            &mut self.slots,
+            &mut self.items,
+            &mut self.blocks_end,
+            &mut self.gaps,
+            self.item_room,
+            count,
+        );
         let slot = slots::slot(&self.slots, block);
-        let start = self.items.len() as u32 - self.block_items;
+        let start = self.items.len() as u32 - self.blocks_end;
         pieces::append_copy(&mut self.items, slot.start + at, count);
         let number = self.bodies.len() as u32;
         self.bodies.push_reserved(Body {
@@ -85,11 +116,8 @@ impl Graph {
         ensures graph { self.new.graph ≡ without_block self.old.graph block }
         ensures spare { self.new.spare ≡ record self.old.spare { blocks = self.old.spare.blocks + 1; items = self.old.spare.items + length (items_of self.old.graph block) } }
     {
-        let slot = slots::slot(&self.slots, block);
-        let left = self.block_items - slot.length;
-        pieces::cut(&mut self.items, slot.start, slot.length);
-        slots::remove(&mut self.slots, block, slot);
-        self.block_items = left;
+        let slot = self.slots.unlink(block);
+        self.gaps += slot.length;
     }
 
     /// Takes the procedure out, which no Out uses. The numbers above it fall by one, in each Out too.
@@ -100,8 +128,14 @@ impl Graph {
         ensures graph { self.new.graph ≡ without_procedure self.old.graph procedure }
         ensures spare { self.new.spare ≡ record self.old.spare { items = self.old.spare.items + length (body_of self.old.graph procedure); procedures = self.old.spare.procedures + 1 } }
     {
+        close_gaps(
+            &mut self.slots,
+            &mut self.items,
+            &mut self.blocks_end,
+            &mut self.gaps,
+        );
         let body = self.bodies.remove(procedure as usize);
-        let from = self.block_items + body.start;
+        let from = self.blocks_end + body.start;
         pieces::cut(&mut self.items, from, body.length);
         lower_starts(&mut self.bodies, procedure, body.length);
         rename::recall_items(&mut self.items, &Lower { gone: procedure });

@@ -4,7 +4,7 @@ ghost use Rattle.std.specs.Prelude.{◌≡◌, ℕ, ◌+◌, ◌<◌, ◌≤◌,
 ghost use Rattle.sq_graph.specs.Blocks.{HasBlock, HasProcedure, first_of, next_of, items_of, term_of, body_of, link_of};
 ghost use Rattle.sq_graph.specs.Rules.{IsGraph};
 ghost use Rattle.sq_graph.specs.Room.{IsSmall, sum_of, count_of, total_of, Covers};
-ghost use Rattle.sq_graph.specs.Slots.{slots_from};
+ghost use Rattle.sq_graph.specs.Slots.{slots_of, without_starts};
 ghost use Rattle.sq_graph.specs.Words.{words_of};
 
 use crate::item::{Item, Term};
@@ -23,10 +23,12 @@ use std::marker::Model;
 #[derive(Drop)]
 pub struct Graph {
     pub(crate) slots: Arena<Slot>,
-    // The items of the blocks in layout order, and behind them the bodies of the procedures.
+    // The items of the blocks in layout order, with gaps between them, and behind them the bodies of the procedures.
     pub(crate) items: Vec<Item>,
-    // How many of the items are the blocks'.
-    pub(crate) block_items: u32,
+    // Where the blocks' part of the items ends, and the bodies begin.
+    pub(crate) blocks_end: u32,
+    // How many of the items in that part are no block's.
+    pub(crate) gaps: u32,
     pub(crate) entry: u32,
     pub(crate) code_words: Vec<CodeRef>,
     pub(crate) bodies: Vec<Body>,
@@ -120,7 +122,7 @@ impl Graph {
         ensures { result.now ≡ body_of self.now.graph procedure }
     {
         let body = self.bodies[procedure as usize];
-        piece(&self.items, self.block_items + body.start, body.length)
+        piece(&self.items, self.blocks_end + body.start, body.length)
     }
 
     /// The register that holds where a procedure returns to.
@@ -138,7 +140,7 @@ impl Graph {
     {
         Room {
             blocks: self.slots.spare(),
-            items: self.item_room - self.items.len() as u32,
+            items: self.item_room + self.gaps - self.items.len() as u32,
             procedures: self.body_room - self.bodies.len() as u32,
         }
     }
@@ -153,7 +155,8 @@ impl Graph {
         ensures kept { Covers self.new.spare self.old.spare }
     {
         self.slots.reserve(room.blocks).map_err(|_| Memory)?;
-        self.item_room = vectors::reserve(&mut self.items, self.item_room, room.items)?;
+        let more = room.items.saturating_sub(self.gaps);
+        self.item_room = vectors::reserve(&mut self.items, self.item_room, more)?;
         self.body_room = vectors::reserve(&mut self.bodies, self.body_room, room.procedures)?;
         Ok(())
     }
@@ -168,7 +171,8 @@ impl Graph {
         Ok(Graph {
             slots,
             items: vectors::copy(alloc, &self.items, self.item_room)?,
-            block_items: self.block_items,
+            blocks_end: self.blocks_end,
+            gaps: self.gaps,
             entry: self.entry,
             code_words: vectors::copy(alloc, &self.code_words, 0)?,
             bodies: vectors::copy(alloc, &self.bodies, self.body_room)?,
@@ -177,9 +181,10 @@ impl Graph {
         })
     }
 
-    /// The arena in which the blocks stand, one pair for each block, in layout order: the key is its name.
+    /// The arena in which the blocks stand, one pair for each block, in layout order: the key is its name. Where the
+    /// items of a block start is not said.
     pub fn links(&self) -> &Arena<Slot>
-        ensures blocks { result.now.entries ≡ slots_from 0 self.now.graph.blocks }
+        ensures blocks { without_starts result.now.entries ≡ slots_of self.now.graph.blocks }
         ensures spare { result.now.spare ≡ self.now.spare.blocks }
     {
         &self.slots

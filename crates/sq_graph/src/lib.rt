@@ -10,6 +10,7 @@ mod blocks;
 mod build;
 mod canonical;
 mod edits;
+mod gaps;
 mod graph;
 mod item;
 pub mod laws;

@@ -6,6 +6,7 @@ ghost use Rattle.sq_graph.specs.Blocks.{named};
 ghost use Rattle.sq_graph.specs.Rules.{IsGraph};
 ghost use Rattle.sq_graph.specs.Operations.{moved_after};
 
+use crate::gaps::close_gaps;
 use crate::graph::Graph;
 use crate::{pieces, slots};
 
@@ -18,6 +19,12 @@ impl Graph {
         ensures graph { self.new.graph ≡ moved_after self.old.graph first last after }
         ensures spare { self.new.spare ≡ self.old.spare }
     {
+        close_gaps(
+            &mut self.slots,
+            &mut self.items,
+            &mut self.blocks_end,
+            &mut self.gaps,
+        );
         let first_slot = slots::slot(&self.slots, first);
         let last_slot = slots::slot(&self.slots, last);
         let after_slot = slots::slot(&self.slots, after);

@@ -6,6 +6,7 @@ ghost use Rattle.sq_graph.specs.Numbered.{AreNumbered, with_positions};
 ghost use Rattle.sq_graph.specs.Slotted.{slotted};
 
 use crate::canonical::Aims;
+use crate::gaps::close_gaps;
 use crate::graph::Graph;
 use crate::rename::{self, Rename};
 use crate::slot::Slot;
@@ -21,6 +22,12 @@ impl Graph {
         ensures spare { self.new.spare ≡ self.old.spare }
         ensures err { OnErr result (self.new ≡ self.old) }
     {
+        close_gaps(
+            &mut self.slots,
+            &mut self.items,
+            &mut self.blocks_end,
+            &mut self.gaps,
+        );
         if is_in_order(&self.slots) {
             return Ok(());
         }

@@ -77,17 +77,24 @@ pub(crate) fn replace(items: &mut Vec<Item>, at: u32, count: u32, by: &[Item])
     ensures items { items.new.items ≡ replaced_items items.old.items at count by.now }
     ensures capacity { vec_capacity items.old ≤ vec_capacity items.new }
 {
-    let added = by.len() as u32;
-    if added <= count {
-        cut(items, at, count - added);
-        overwrite(items, at, by);
-        return;
-    }
     cut(items, at, count);
     if items.extend_from_slice(by).is_err() {
         unreachable!();
     }
-    raise(items, at, added);
+    raise(items, at, by.len() as u32);
+}
+
+/// Puts no more items in the place of some, and moves those behind them down that lie ahead of `end`.
+pub(crate) fn replace_within(items: &mut Vec<Item>, at: u32, count: u32, by: &[Item], end: u32)
+    requires fewer { length by.now ≤ count }
+    requires there { at + count ≤ end }
+    requires end { end ≤ vec_len items.old }
+    ensures items { items.new.items ≡ replaced_items items.old.items at (length by.now + (end - (at + count))) (by.now ++ take (end - (at + count)) (drop (at + count) items.old.items)) }
+    ensures capacity { vec_capacity items.new ≡ vec_capacity items.old }
+{
+    let from = at + count;
+    copy_down(items, from, end - from, at + by.len() as u32);
+    overwrite(items, at, by);
 }
 
 /// Appends a copy of so many items from this place on.

@@ -8,6 +8,7 @@ ghost use Rattle.sq_graph.specs.Redirected.{redirected_each};
 ghost use Rattle.sq_graph.specs.Aims.{homed, aimed_each};
 
 use crate::canonical::{Aims, retarget_terms};
+use crate::gaps::close_gaps;
 use crate::graph::Graph;
 use crate::rename::{self, Rename};
 use crate::slot::Slot;
@@ -22,6 +23,12 @@ impl Graph {
         ensures graph { self.new.graph ≡ redirected_each blocks.now self.old.graph }
         ensures spare { self.new.spare ≡ self.old.spare }
     {
+        close_gaps(
+            &mut self.slots,
+            &mut self.items,
+            &mut self.blocks_end,
+            &mut self.gaps,
+        );
         aim_home(&mut self.slots);
         aim_each(&mut self.slots, blocks);
         retarget_terms(&mut self.slots);

@@ -82,22 +82,6 @@ pub(crate) fn resize(slots: &mut Arena<Slot>, name: u32, slot: Slot, length: u32
     }
 }
 
-/// Takes out a block with its slot, and gives those behind it their starts.
-pub(crate) fn remove(slots: &mut Arena<Slot>, name: u32, slot: Slot)
-    requires distinct { HasDistinctKeys slots.old.entries }
-    requires slot { value_of slots.old.entries name ≡ Some slot }
-    requires numbered { renumbered (slot.start + slot.length) (behind slots.old.entries name) ≡ behind slots.old.entries name }
-    requires fits { slot.start + length_of_slots (behind slots.old.entries name) < 2 ^ 32 }
-    ensures entries { slots.new.entries ≡ before slots.old.entries name ++ renumbered slot.start (behind slots.old.entries name) }
-    ensures spare { slots.new.spare ≡ slots.old.spare + 1 }
-{
-    let next = slots.next(name);
-    slots.unlink(name);
-    if slot.length != 0 {
-        renumber(slots, next, slot.start);
-    }
-}
-
 /// Moves the blocks from `first` to `last` right behind `after`, and gives them and those that they pass their
 /// starts. The other slots stay as they are.
 pub(crate) fn move_run(slots: &mut Arena<Slot>, first: u32, last: u32, after: u32)

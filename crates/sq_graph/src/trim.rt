@@ -8,10 +8,10 @@ ghost use Rattle.sq_graph.specs.Cursor.{length_of_slots};
 ghost use Rattle.sq_graph.specs.Trimmed.{trimmed_each};
 ghost use Rattle.sq_graph.specs.Packed.{cut_slot, cut_slots, pieces_of, AreApart};
 
+use crate::gaps::pack;
 use crate::graph::Graph;
-use crate::item::Item;
 use crate::slot::Slot;
-use crate::{pieces, slots};
+use crate::slots;
 use sq_arena::Arena;
 
 impl Graph {
@@ -23,8 +23,9 @@ impl Graph {
         ensures rules { IsGraph self.new.graph }
     {
         trim_slots(&mut self.slots, blocks, most);
-        let end = self.block_items;
-        self.block_items = pack(&mut self.items, &self.slots, end);
+        let end = self.blocks_end;
+        self.blocks_end = pack(&mut self.items, &self.slots, end);
+        self.gaps = 0;
         let head = self.slots.first();
         slots::renumber(&mut self.slots, head, 0);
     }
@@ -47,25 +48,4 @@ fn trim_slots(slots: &mut Arena<Slot>, names: &[u32], most: u32)
     for name in names {
         trim_slot(slots, *name, most);
     }
-}
-
-// Moves the items of the slots together, and those from `end` on right behind them. Returns how many items slots have.
-fn pack(items: &mut Vec<Item>, slots: &Arena<Slot>, end: u32) -> u32
-    requires distinct { HasDistinctKeys slots.now.entries }
-    requires apart { AreApart slots.now.entries 0 end }
-    requires end { end ≤ vec_len items.old }
-    ensures count { result ≡ length_of_slots slots.now.entries }
-    ensures items { items.new.items ≡ pieces_of items.old.items slots.now.entries ++ drop end items.old.items }
-    ensures capacity { vec_capacity items.new ≡ vec_capacity items.old }
-{
-    let mut count = 0;
-    let mut place = slots.first();
-    while let Some(name) = place {
-        let found = slots::slot(slots, name);
-        pieces::copy_down(items, found.start, found.length, count);
-        count += found.length;
-        place = slots.next(name);
-    }
-    pieces::cut(items, count, end - count);
-    count
 }

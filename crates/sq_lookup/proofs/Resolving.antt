@@ -1,12 +1,7 @@
 -- What names resolve to, hop by hop.
 use Rattle.std.proofs.Common.{◌≡◌, ℕ, zero, suc, ◌+◌, ◌-◌, ◌<◌, ◌≤◌, arith, ◌==◌, ◌||◌, Bool, true, false, List, [], ◌∷◌, length, Option, None, Some, refl, ap, ◌∙◌}
 use Rattle.sq_graph.specs.Graph.{Block, Graph}
-use Rattle.sq_graph.specs.Slots.{slots_from}
 use Rattle.sq_graph.specs.Resolve.{jump_from, leads_to, is_on_cycle, resolved_within}
-
-pub length-slots : (n : ℕ) (bs : List Block) → length (slots_from n bs) ≡ length bs
-length-slots n [] = refl
-length-slots n (b ∷ bs) = ap suc (length-slots (n + length b.items) bs)
 
 -- what at most so many hops and one more tell
 abbrev hop : Graph → ℕ → ℕ → Option ℕ → Bool

@@ -1,6 +1,7 @@
 use Rattle.std.proofs.Common.{◌+◌, ◌-◌, ◌∙◌, length, sym, ap, arith}
 use Rattle.sq_graph.specs.Resolve.{resolved_within}
-use Rattle.sq_lookup.proofs.Resolving.{length-slots, resolves_here, resolves_last, resolves_on, one_left, none_left}
+use Rattle.sq_graph.proofs.LinkReads.{length-links}
+use Rattle.sq_lookup.proofs.Resolving.{resolves_here, resolves_last, resolves_on, one_left, none_left}
 use Rattle.sq_lookup.proofs.Targets.{jump_there}
 use Rattle.sq_lookup.proofs.lone_jumps.resolve.Goals as goal
 
@@ -18,7 +19,7 @@ pub loop-hop-preserved : goal.loop-hop-preserved
 loop-hop-preserved c =
     let g = c.args.graph.now.graph in
     let jump = sym c.jump_from.ensures ∙ c.in-Some.is in
-    let count = c.len-hop-end.ensures.value ∙ ap (λ es. length es) c.links.ensures.blocks ∙ length-slots 0 g.blocks in
+    let count = c.len-hop-end.ensures.value ∙ length-links c.links.result.now.entries g.blocks c.links.ensures.blocks in
     let left = one_left (length g.blocks) c.loop-hop._hop (omega (arith, count)) in
     record {
       there = jump_there g c.loop-hop.at c.in-Some.to c.learn.ensures.rules jump;
@@ -31,5 +32,5 @@ loop-hop-preserved c =
 pub returns : goal.returns
 returns c =
     let g = c.args.graph.now.graph in
-    let count = c.len-hop-end.ensures.value ∙ ap (λ es. length es) c.links.ensures.blocks ∙ length-slots 0 g.blocks in
+    let count = c.len-hop-end.ensures.value ∙ length-links c.links.result.now.entries g.blocks c.links.ensures.blocks in
     sym (c.loop-hop.invariant.same ∙ ap (λ n. resolved_within g n c.loop-hop.at) (none_left (length g.blocks) c.loop-hop._hop (omega (arith, count))))

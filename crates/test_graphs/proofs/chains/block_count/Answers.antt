@@ -1,6 +1,6 @@
-use Rattle.std.proofs.Common.{ap, arith, length}
-use Rattle.sq_graph.proofs.Sizes.{length-slots_from}
+use Rattle.std.proofs.Common.{arith}
+use Rattle.sq_graph.proofs.LinkReads.{length-links}
 use Rattle.test_graphs.proofs.chains.block_count.Goals as goal
 
 pub returns : goal.returns
-returns c = omega (arith, c.len.ensures.value, ap (λ es. length es) c.links.ensures.blocks, length-slots_from 0 c.args.graph.now.graph.blocks)
+returns c = omega (arith, c.len.ensures.value, length-links c.links.result.now.entries c.args.graph.now.graph.blocks c.links.ensures.blocks)

@@ -36,5 +36,5 @@ returns c =
     let inside : c.args.procedure < length c.self.inside.bodies.items = omega (arith, size.counted, there) in
     let found = slice_get_read c.self.inside.bodies.items _ c.args.procedure _ c.self.inside.bodies.ok.0 (omega (arith, inside, c.self.inside.bodies.ok.0)) c.index-body.ensures in
     let shows = reads_body c.self.inside c.args.procedure c.index-body.result.now c.self.invariant found in
-    c.piece.ensures ∙ ap (λ is. take c.index-body.result.now.length (drop (c.self.inside.block_items + c.index-body.result.now.start) is)) c.deref.ensures.value
+    c.piece.ensures ∙ ap (λ is. take c.index-body.result.now.length (drop (c.self.inside.blocks_end + c.index-body.result.now.start) is)) c.deref.ensures.value
     ∙ shows.slice ∙ rw (← c.self.view_is) (sym (ap procedure_body shows.is))

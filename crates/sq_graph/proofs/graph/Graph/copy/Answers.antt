@@ -1,19 +1,20 @@
 use Rattle.std.proofs.Common.{◌∙◌, length, refl, ap, arith}
 use Rattle.sq_graph.specs.declared.graph.Graph.TheInside.{Inside}
-use Rattle.sq_graph.proofs.Held.{kept, limited}
+use Rattle.sq_graph.proofs.Held.{kept, limits_of}
 use Rattle.sq_graph.proofs.graph.Graph.copy.Goals as goal
 
 pub invariant_of-result : goal.invariant_of-result
 invariant_of-result c =
     let old = c.self.invariant in
-    let limits = limited c.self.inside c.self.invariant in
+    let limits = limits_of c.self.inside c.self.invariant in
     let items = c.in_ok-copy.ensures.items ∙ c.deref.ensures.value in
     let bodies = c.in_ok-copy-3.ensures.items ∙ c.deref-3.ensures.value in
     let spare = ap (λ slots. slots.spare) c.in-Ok.ensures in
     let new : Inside = record {
       slots = c.in-Ok.slots;
       items = c.in_ok-copy.field-0;
-      block_items = c.self.inside.block_items;
+      blocks_end = c.self.inside.blocks_end;
+      gaps = c.self.inside.gaps;
       entry = c.self.inside.entry;
       code_words = c.in_ok-copy-2.field-0;
       bodies = c.in_ok-copy-3.field-0;
@@ -24,7 +25,8 @@ invariant_of-result c =
     (record {
       slots = ap (λ slots. slots.entries) c.in-Ok.ensures;
       items = items;
-      block_items = refl;
+      blocks_end = refl;
+      gaps = refl;
       entry = refl;
       code_words = c.in_ok-copy-2.ensures.items ∙ c.deref-2.ensures.value;
       bodies = bodies;

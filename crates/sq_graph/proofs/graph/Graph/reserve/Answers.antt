@@ -12,7 +12,7 @@ pub reserve-requires-2 : goal.reserve-requires-2
 reserve-requires-2 c =
     let size = sizes c.self.inside c.self.invariant in
     let small = rw (← c.self.view_is) at c.requires in
-    omega (arith, size.item_count, small.items, c.self.inside.items.ok.0)
+    omega (arith, size.item_count, size.items, size.item_room, small.items, c.saturating_sub-more.ensures, c.self.inside.items.ok.0)
 
 pub reserve-requires-3 : goal.reserve-requires-3
 reserve-requires-3 c =

@@ -6,3 +6,8 @@ pub overflow_cast-result-2 : goal.overflow_cast-result-2
 overflow_cast-result-2 c =
     let size = sizes c.self.inside c.self.invariant in
     omega (arith, size.bodies, size.body_room, c.len-2.ensures, c.self.inside.bodies.ok.0)
+
+pub overflow_add-result : goal.overflow_add-result
+overflow_add-result c =
+    let size = sizes c.self.inside c.self.invariant in
+    omega (arith, size.item_room, size.gaps, size.blocks_end, size.items)

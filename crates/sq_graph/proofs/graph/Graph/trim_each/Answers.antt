@@ -29,7 +29,7 @@ returns-clause-graph c =
 pub returns-clause-spare : goal.returns-clause-spare
 returns-clause-spare c =
     let change = trims c.self.inside c.args.most c.args.blocks.now c.trim_slots.new.slots c.renumber.new.slots c.pack-self-inside.new.items c.pack-self-inside.result c.first-head.result c.trim_slots.ensures.entries c.trim_slots.ensures.spare c.first-head.ensures c.renumber.ensures.entries c.renumber.ensures.spare c.pack-self-inside.ensures.items c.pack-self-inside.ensures.capacity c.pack-self-inside.ensures.count in
-    let new : Inside = record c.self.inside { slots = c.renumber.new.slots; items = c.pack-self-inside.new.items; block_items = c.pack-self-inside.result } in
+    let new : Inside = record c.self.inside { slots = c.renumber.new.slots; items = c.pack-self-inside.new.items; blocks_end = c.pack-self-inside.result; gaps = 0 } in
     trim_spare c.self.inside new c.args.most c.args.blocks.now c.self.invariant change
     ∙ ap (λ v. record v.spare { items = v.spare.items + length (all_items v.graph) - length (all_items (graph_of new)) }) c.self.view_is
 

@@ -1,7 +1,7 @@
 use Rattle.std.proofs.Common.{◌≡◌, length, vec_capacity}
 use Rattle.sq_graph.specs.Cursor.{rest_from}
 use Rattle.sq_graph.proofs.Packing.{Packs}
-use Rattle.sq_graph.proofs.trim.pack.Given as goal
+use Rattle.sq_graph.proofs.gaps.pack.Given as goal
 
 abbrev pub invariant-loop-place : goal.invariant-loop-place
 invariant-loop-place l = record {

@@ -2,7 +2,7 @@ use Rattle.std.proofs.Common.{◌∙◌, ap, length, arith}
 use Rattle.sq_arena.proofs.EntriesLemmas.{starting_at-behind}
 use Rattle.sq_graph.proofs.CursorLaws.{next_in}
 use Rattle.sq_graph.proofs.Packing.{packs_fit, packs_step, packs_all}
-use Rattle.sq_graph.proofs.trim.pack.Goals as goal
+use Rattle.sq_graph.proofs.gaps.pack.Goals as goal
 
 pub copy_down-requires-clause-down : goal.copy_down-requires-clause-down
 copy_down-requires-clause-down c =
