@@ -1,6 +1,6 @@
 -- What names resolve to, hop by hop.
-use Rattle.std.proofs.Common.{◌≡◌, ℕ, zero, suc, ◌+◌, ◌-◌, ◌<◌, ◌≤◌, arith, ◌==◌, ◌||◌, Bool, true, false, List, [], ◌∷◌, length, Option, None, Some, refl, ap, ◌∙◌}
-use Rattle.sq_graph.specs.Graph.{Block, Graph}
+use Rattle.std.proofs.Common.{◌≡◌, ℕ, zero, suc, ◌+◌, ◌-◌, ◌<◌, ◌≤◌, arith, ◌==◌, ◌||◌, Bool, true, false, Option, None, Some, refl, ap, ◌∙◌}
+use Rattle.sq_graph.specs.Graph.{Graph}
 use Rattle.sq_graph.specs.Resolve.{jump_from, leads_to, is_on_cycle, resolved_within}
 
 -- what at most so many hops and one more tell
