@@ -29,6 +29,7 @@ pub mod WindowsApplying
 pub mod WindowsApart
 pub mod WindowsLast
 pub mod WindowsBlocks
+pub mod WindowsHalves
 pub mod WindowsMaking
 pub mod WindowsThin
 pub mod WindowsFinding

@@ -1,8 +1,7 @@
 -- The occurrences of a procedure's body become calls, block by block, in each block from the right.
-use Rattle.std.proofs.Common.{◌≡◌, ◌≢◌, ℕ, zero, suc, nat_eq, ◌==◌, true, false, ◌+◌, ◌≤◌, ◌<◌, List, [], ◌∷◌, ◌++◌, map, reverse, take, drop, length, Option, None, Some, inl, inr, refl, sym, ap, ◌∙◌, subst, arith, length-append}
+use Rattle.std.proofs.Common.{◌≡◌, ◌≢◌, ℕ, nat_eq, ◌==◌, true, false, List, [], ◌∷◌, ◌++◌, map, reverse, length, Option, None, Some, inl, inr, refl, sym, ap, ◌∙◌, subst}
 use Rattle.std.specs.List.{All, Contains, IsDistinct}
 use Rattle.std.proofs.lemmas.Bool.{cases_Bool, eqb-false}
-use Rattle.std.proofs.lemmas.List.{take_all, reverse-append, length-take, length-drop, length-take-le}
 use Rattle.std.proofs.lemmas.List.Elements.{All-nil, All-cons, All-head, All-tail, All-from_recursion}
 use Rattle.std.proofs.lemmas.Map.Keys.{IsDistinct-head, IsDistinct-tail}
 use Rattle.sq_arena.specs.Entries.{keys, starting_at, next_key}
@@ -20,122 +19,9 @@ use Rattle.sq_layout.proofs.Standing.{block_of-changed}
 use Rattle.sq_patch.specs.Calls.{called_there}
 use Rattle.sq_outline.specs.declared.sites.Site.{Site}
 use Rattle.sq_outline.specs.Sites.{called_each, MatchesAt, MayCallEach}
-use Rattle.sq_outline.specs.WindowsPlaces.{in_block, places_from, occurrences_in, calls_among, calls_for}
-use Rattle.sq_outline.proofs.Early.{first_part}
-use Rattle.sq_outline.proofs.Standing.{next_calls, still_block, still_rules, items_here}
-use Rattle.sq_outline.proofs.WindowsApart.{Stands, all_front, apart_front, still_all, places_stand}
-use Rattle.sq_outline.proofs.WindowsLast.{last_in, cut_before}
-
--- ONE BLOCK
-
--- the occurrences among the first items of a block, from the right
-abbrev pub left_in : ℕ → ℕ → ℕ → Graph → List Site
-left_in block procedure end g = map (in_block block) (reverse (occurrences_in (body_of g procedure) (take end (items_of g block))))
-
--- they are left to be made calls, for the graph that is to come
-pub record AreLeftIn (result : Graph) (block procedure end : ℕ) (g : Graph) : Type 0 where
-  pub there : HasBlock g block
-  pub within : end ≤ length (items_of g block)
-  pub may : MayCallEach g (left_in block procedure end g) procedure
-  pub same : result ≡ called_each (left_in block procedure end g) procedure g
-
-module _ (g : Graph) (block procedure : ℕ) where
-  abbrev whole : List Site
-  whole = map (in_block block) (reverse (occurrences_in (body_of g procedure) (items_of g block)))
-
-  pub all_left : (end : ℕ) → end ≡ length (items_of g block) → HasBlock g block → MayCallEach g whole procedure → AreLeftIn (called_each whole procedure g) block procedure end g
-  all_left end is there may =
-      let same : take end (items_of g block) ≡ items_of g block = take_all end (items_of g block) (omega (arith, is)) in
-      let sites : left_in block procedure end g ≡ whole = ap (λ (items : List Item). map (in_block block) (reverse (occurrences_in (body_of g procedure) items))) same in
-      record {
-        there = there;
-        within = omega (arith, is);
-        may = subst (λ ss. MayCallEach g ss procedure) (sym sites) may;
-        same = ap (λ ss. called_each ss procedure g) (sym sites);
-      }
-
-pub none_left : (result : Graph) (block procedure end : ℕ) (g : Graph) → AreLeftIn result block procedure end g → occurrences_in (body_of g procedure) (take end (items_of g block)) ≡ [] → result ≡ g
-none_left result block procedure end g left none = left.same ∙ ap (λ ps. called_each (map (in_block block) (reverse ps)) procedure g) none
-
--- the last of them becomes one
-module _ (result : Graph) (block procedure end at : ℕ) (before : List ℕ) (g : Graph) (rules : IsGraph g) (left : AreLeftIn result block procedure end g)
-    (last : occurrences_in (body_of g procedure) (take end (items_of g block)) ≡ before ++ at ∷ []) where
-  abbrev window : List Item
-  window = body_of g procedure
-
-  abbrev items : List Item
-  items = items_of g block
-
-  abbrev site : Site
-  site = in_block block at
-
-  abbrev rest : List Site
-  rest = map (in_block block) (reverse before)
-
-  abbrev h : Graph
-  h = called_there g block at procedure
-
-  sites_are : left_in block procedure end g ≡ in_block block at ∷ map (in_block block) (reverse before)
-  sites_are = ap (λ ps. map (in_block block) (reverse ps)) last ∙ ap (map (in_block block)) (reverse-append before (at ∷ []))
-
-  may_each : MayCallEach g (site ∷ rest) procedure
-  may_each = subst (λ ss. MayCallEach g ss procedure) sites_are left.may
-
-  pub last_matches : MatchesAt g procedure site
-  last_matches = All-head (MatchesAt g procedure) site rest may_each.matching
-
-  some : 1 ≤ length (body_of g procedure)
-  some = left.may.some
-
-  -- the window fits there
-  stands : Stands (body_of g procedure) (take end (items_of g block)) at
-  stands =
-      let first = take end (items_of g block) in
-      last_in (Stands window first) before at
-      (subst (λ ps. All (Stands window first) ps) last (still_all (Stands window first) (length window) 0 (places_from window 0 first) (places_stand window first 0 first refl (omega arith))))
-
-  pub sooner : at < end
-  sooner =
-      let first = take end (items_of g block) in
-      omega (arith, some, ap (λ (is : List Item). length is) stands.1, length-take (length window) (drop at first), length-drop at first, length-take end items)
-
-  ahead : take at (items_of h block) ≡ take at (take end (items_of g block))
-  ahead =
-      let there : at ≤ length (items_of g block) = let l = left.within in omega (arith, sooner) in
-      ap (λ (is : List Item). take at is) (items_here g site procedure rules last_matches)
-      ∙ first_part items (Out procedure ∷ drop (at + length window) items) at at (omega arith) there
-      ∙ sym (first_part_of at end items (omega (arith, sooner)))
-    where
-      first_part_of : (m k : ℕ) (xs : List Item) → m ≤ k → take m (take k xs) ≡ take m xs
-      first_part_of zero k xs l = refl
-      first_part_of (suc m) zero xs l = absurd (omega (arith, l))
-      first_part_of (suc m) (suc k) [] l = refl
-      first_part_of (suc m) (suc k) (x ∷ xs) l = ap (λ ys. x ∷ ys) (first_part_of m k xs (omega (arith, l)))
-
-  left_are : left_in block procedure at h ≡ rest
-  left_are =
-      ap (λ (is : List Item). map (in_block block) (reverse (occurrences_in window is))) ahead
-      ∙ ap (λ ps. map (in_block block) (reverse ps)) (cut_before window some (take end items) before at last)
-
-  pub one_less : AreLeftIn result block procedure at h
-  one_less = record {
-    there = still_block g site procedure rules last_matches block left.there;
-    within =
-        let l = left.within in
-        let there : at ≤ length (items_of g block) = omega (arith, sooner) in
-        omega (
-          arith,
-          ap (λ (is : List Item). length is) (items_here g site procedure rules last_matches),
-          length-append (take at items) (Out procedure ∷ drop (at + length window) items),
-          length-take-le at items there,
-        );
-    may = subst (λ ss. MayCallEach h ss procedure) (sym left_are) (next_calls g site rest procedure rules may_each);
-    same = left.same ∙ ap (λ ss. called_each ss procedure g) sites_are ∙ ap (λ ss. called_each ss procedure h) (sym left_are);
-  }
-
--- the graph to come
-abbrev pub block_called : Graph → ℕ → ℕ → Graph
-block_called g block procedure = called_each (map (in_block block) (reverse (occurrences_in (body_of g procedure) (items_of g block)))) procedure g
+use Rattle.sq_outline.specs.WindowsPlaces.{in_block, occurrences_in, calls_among, calls_for}
+use Rattle.sq_outline.proofs.Standing.{next_calls, still_rules}
+use Rattle.sq_outline.proofs.WindowsApart.{all_front, apart_front}
 
 abbrev pub all_called : Graph → ℕ → Graph
 all_called g procedure = called_each (calls_for g (body_of g procedure)) procedure g
@@ -175,7 +61,7 @@ keys_stay (site ∷ sites) procedure g =
     keys_stay sites procedure (called_there g site.block site.at procedure)
     ∙ same_names (λ b. record b { items = replaced_items b.items site.at (length (body_of g procedure)) (Out procedure ∷ []) }) g.blocks site.block (λ b. refl)
 
-body_stays : (sites : List Site) (procedure : ℕ) (g : Graph) → body_of (called_each sites procedure g) procedure ≡ body_of g procedure
+pub body_stays : (sites : List Site) (procedure : ℕ) (g : Graph) → body_of (called_each sites procedure g) procedure ≡ body_of g procedure
 body_stays [] procedure g = refl
 body_stays (site ∷ sites) procedure g = body_stays sites procedure (called_there g site.block site.at procedure)
 

@@ -1,11 +1,11 @@
 -- Where items stand in blocks, and their occurrences, which don't overlap.
-use Rattle.std.specs.Prelude.{◌≡◌, ℕ, ◌+◌, ◌≤◌, Bool, nat_lt, if◌then◌else◌, List, [], ◌∷◌, map, reverse, take, length}
+use Rattle.std.specs.Prelude.{◌≡◌, ℕ, ◌+◌, ◌≤◌, Bool, nat_lt, if◌then◌else◌, List, [], ◌∷◌, map, reverse, take, drop, length}
 use Rattle.std.specs.List.{flat_map, slice_range}
 use Rattle.std.specs.Cmp.Lexicographic.{pointwise}
 use Rattle.sq_graph.specs.contracts.item.ItemPartialEq.TheImpl as item_eq
 use Rattle.sq_graph.specs.declared.item.Item.{Item}
 use Rattle.sq_graph.specs.Graph.{Graph}
-use Rattle.sq_graph.specs.Blocks.{items_of}
+use Rattle.sq_graph.specs.Blocks.{items_of, body_of}
 use Rattle.sq_graph.specs.Parts.{names_of}
 use Rattle.sq_outline.specs.declared.sites.Site.{Site}
 
@@ -49,3 +49,11 @@ calls_among g window names = flat_map (λ block. map (in_block block) (reverse (
 
 abbrev pub calls_for : Graph → List Item → List Site
 calls_for g window = calls_among g window (names_of g)
+
+-- those among these items that begin from a place on, where one may begin
+abbrev pub occurrences_from : List Item → ℕ → List Item → List ℕ
+occurrences_from window first items = apart_from (length window) first (places_from window first (drop first items))
+
+-- those of a procedure's body in a block from a place on, up to another, from the right
+abbrev pub calls_between : Graph → ℕ → ℕ → ℕ → ℕ → List Site
+calls_between g block procedure first end = map (in_block block) (reverse (occurrences_from (body_of g procedure) first (take end (items_of g block))))

@@ -4,11 +4,11 @@
 //!              b: w; ..                         b: jal l,p; ..
 //!                                               p: w; jr l
 
-ghost use Rattle.std.specs.Prelude.{◌≡◌, ◌+◌, ◌<◌, ◌≤◌, ◌^◌, ◌++◌, ◌∷◌, ℕ, List, [], MatchOption, length, map, reverse};
+ghost use Rattle.std.specs.Prelude.{◌≡◌, ◌+◌, ◌<◌, ◌≤◌, ◌^◌, ◌++◌, ◌∷◌, ℕ, List, MatchOption, length, map, max, reverse};
 ghost use Rattle.sq_graph.specs.Blocks.{HasBlock, items_of, body_of};
 ghost use Rattle.sq_graph.specs.Room.{KeepsTotal, Covers};
 ghost use Rattle.sq_outline.specs.Sites.{MayCallEach, called_each};
-ghost use Rattle.sq_outline.specs.WindowsPlaces.{occurrences_in, in_block, calls_for};
+ghost use Rattle.sq_outline.specs.WindowsPlaces.{occurrences_in, occurrences_from, in_block, calls_between, calls_for};
 ghost use Rattle.sq_outline.specs.WindowsMade.{items_at, IsWindowMade, window_made, room_for_window};
 
 use crate::call::call;
@@ -16,19 +16,53 @@ use crate::windows::stands::begins;
 use sq_graph::{Graph, Item};
 use sq_isa::Reg;
 
-/// The last occurrence of the window among these items.
-fn last_occurrence(window: &[Item], items: &[Item]) -> Option<usize>
-    ensures { MatchOption result (occurrences_in window.now items.now ≡ []) (λ at. (before : List ℕ) × (occurrences_in window.now items.now ≡ before ++ at ∷ [])) }
+/// The last occurrence of the window that begins before the middle, of those from the first place on. Those behind it begin in
+/// the right half.
+fn last_in_left_half(window: &[Item], items: &[Item], first: usize, middle: usize) -> Option<usize>
+    requires order { first ≤ middle }
+    requires within { middle ≤ length items.now }
+    ensures { MatchOption result
+        (occurrences_from window.now first items.now ≡ occurrences_from window.now middle items.now)
+        (λ at. (before : List ℕ) × (occurrences_from window.now first items.now ≡ before ++ at ∷ occurrences_from window.now (max middle (at + length window.now)) items.now)) }
 {
     let mut last = None;
-    let mut end = 0;
-    for at in 0..items.len() {
+    let mut end = first;
+    for at in first..middle {
         if at >= end && begins(window, &items[at..]) {
             last = Some(at);
             end = at + window.len();
         }
     }
     last
+}
+
+/// Makes the occurrences of a procedure's body among the items of a block from the first place up to the end calls of it, from
+/// the right: those of the right half, then the last one of the left half, then those before it. Which places are occurrences
+/// is seen from the left alone; by halves it takes no memory to go from the right.
+fn call_between(graph: &mut Graph, block: u32, procedure: u32, first: usize, end: usize)
+    requires block { HasBlock graph.old.graph block }
+    requires order { first ≤ end }
+    requires within { end ≤ length (items_of graph.old.graph block) }
+    requires may { MayCallEach graph.old.graph (calls_between graph.old.graph block procedure first end) procedure }
+    ensures graph { graph.new.graph ≡ called_each (calls_between graph.old.graph block procedure first end) procedure graph.old.graph }
+    ensures total { KeepsTotal graph.old graph.new }
+{
+    graph.learn();
+    let window = graph.body(procedure);
+    let n = window.len();
+    if end - first < n {
+        return;
+    }
+    let middle = end - (end - first) / 2;
+    match last_in_left_half(window, &graph.items(block)[..end], first, middle) {
+        None => call_between(graph, block, procedure, middle, end),
+        Some(at) => {
+            call_between(graph, block, procedure, middle.max(at + n), end);
+            graph.learn();
+            call(graph, block, at as u32, procedure);
+            call_between(graph, block, procedure, first, at);
+        }
+    }
 }
 
 /// Makes the occurrences of a procedure's body in a block calls of it, from the right.
@@ -38,14 +72,8 @@ fn call_in_block(graph: &mut Graph, block: u32, procedure: u32)
     ensures graph { graph.new.graph ≡ called_each (map (in_block block) (reverse (occurrences_in (body_of graph.old.graph procedure) (items_of graph.old.graph block)))) procedure graph.old.graph }
     ensures total { KeepsTotal graph.old graph.new }
 {
-    graph.learn();
-    let mut end = graph.items(block).len();
-    while let Some(at) = last_occurrence(graph.body(procedure), &graph.items(block)[..end]) {
-        graph.learn();
-        call(graph, block, at as u32, procedure);
-        graph.learn();
-        end = at;
-    }
+    let end = graph.items(block).len();
+    call_between(graph, block, procedure, 0, end);
 }
 
 /// The same in each block.

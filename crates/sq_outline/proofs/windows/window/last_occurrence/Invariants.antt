@@ -1,5 +1,0 @@
-use Rattle.sq_outline.proofs.WindowsLast.{AreKnown}
-use Rattle.sq_outline.proofs.windows.window.last_occurrence.Given as goal
-
-abbrev pub invariant-loop-at : goal.invariant-loop-at
-invariant-loop-at l = AreKnown l.window l.items l.at l.end l.last
