@@ -1,7 +1,8 @@
 -- What stands in a list before a place from which on it is changed, and what is left of a list behind each step of a walk.
-use Rattle.std.proofs.Common.{◌≡◌, ℕ, zero, suc, ◌+◌, ◌≤◌, ◌<◌, List, [], ◌∷◌, ◌++◌, take, drop, length, get_or, add-one, refl, sym, ap, subst, arith}
+use Rattle.std.proofs.Common.{◌≡◌, ℕ, zero, suc, ◌+◌, ◌-◌, ◌≤◌, ◌<◌, List, [], ◌∷◌, ◌++◌, reverse, take, drop, length, get_or, add-one, refl, sym, ap, ◌∙◌, subst, arith}
 use Rattle.std.specs.List.{All}
 use Rattle.std.proofs.Math.Seq.{drop-cons, take-suc}
+use Rattle.std.proofs.lemmas.List.{reverse-append}
 use Rattle.std.proofs.lemmas.List.Elements.{All-push}
 
 pub first_part : {X : Type 0} (xs ys : List X) (at m : ℕ) → m ≤ at → at ≤ length xs → take m (take at xs ++ ys) ≡ take m xs
@@ -25,3 +26,14 @@ pub one_more : {X : Type 0} (P : X → Type 0) (xs : List X) (i : ℕ) (d : X) �
 one_more {X} P xs i d there all next =
     let is : take (i + 1) xs ≡ take i xs ++ get_or xs i d ∷ [] = rw add-one (take-suc xs i d there) in
     subst (λ (ys : List X). All P ys) (sym is) (All-push P (take i xs) (get_or xs i d) all next)
+
+-- the last of the first ones, where so many at the end are done
+pub last_left : {X : Type 0} (xs : List X) (i : ℕ) (d : X) → i < length xs → reverse (take (length xs - i) xs) ≡ get_or xs (length xs - 1 - i) d ∷ reverse (take (length xs - (i + 1)) xs)
+last_left xs i d there =
+    let k = length xs - 1 - i in
+    let more : length xs - i ≡ suc (length xs - 1 - i) = omega (arith, there) in
+    let less : length xs - 1 - i ≡ length xs - (i + 1) = omega (arith, there) in
+    ap (λ j. reverse (take j xs)) more
+    ∙ ap reverse (take-suc xs k d (omega (arith, there)))
+    ∙ reverse-append (take k xs) (get_or xs k d ∷ [])
+    ∙ ap (λ j. get_or xs k d ∷ reverse (take j xs)) less

@@ -30,6 +30,7 @@ pub mod WindowsApart
 pub mod WindowsLast
 pub mod WindowsBlocks
 pub mod WindowsHalves
+pub mod WindowsOrder
 pub mod WindowsMaking
 pub mod WindowsThin
 pub mod WindowsFinding

@@ -113,7 +113,7 @@ apart_left n (first ∷ sites) site apart before = (
   apart_left n sites site apart.1 (All-tail (λ other. EndsBefore n site other) first sites before),
 )
 
-block_apart : (n block : ℕ) (places : List ℕ) → Spaced n places → AreApart n (map (in_block block) (reverse places))
+pub block_apart : (n block : ℕ) (places : List ℕ) → Spaced n places → AreApart n (map (in_block block) (reverse places))
 block_apart n block [] spaced = tt
 block_apart n block (at ∷ places) spaced =
     let site : Site = in_block block at in
@@ -124,7 +124,7 @@ block_apart n block (at ∷ places) spaced =
     (subst (λ (ss : List Site). AreApart n ss) (sym (map-append (in_block block) (reverse places) (at ∷ []))) (apart_left n (map (in_block block) (reverse places)) site (block_apart n block places spaced.1) before))
 
 -- of different blocks
-apart_append : (n : ℕ) (xs ys : List Site) → AreApart n xs → AreApart n ys → All (λ x. All (λ y. EndsBefore n y x) ys) xs → AreApart n (xs ++ ys)
+pub apart_append : (n : ℕ) (xs ys : List Site) → AreApart n xs → AreApart n ys → All (λ x. All (λ y. EndsBefore n y x) ys) xs → AreApart n (xs ++ ys)
 apart_append n [] ys a b cross = b
 apart_append n (x ∷ xs) ys a b cross = (
   All-append (λ other. EndsBefore n other x) xs ys a.0 (All-head (λ z. All (λ y. EndsBefore n y z) ys) x xs cross),

@@ -1,5 +1,5 @@
 -- A window becomes a procedure, and its occurrences calls of it.
-use Rattle.std.proofs.Common.{◌≡◌, ℕ, false, ◌+◌, ◌*◌, ◌≤◌, ◌<◌, List, [], ◌∷◌, drop, length, get_or, slice_get, Some, inl, refl, sym, ap, ◌∙◌, subst, arith, length-append}
+use Rattle.std.proofs.Common.{◌≡◌, ℕ, false, ◌+◌, ◌*◌, ◌≤◌, ◌<◌, List, [], ◌∷◌, reverse, drop, length, get_or, slice_get, Some, inl, refl, sym, ap, ◌∙◌, subst, arith, length-append}
 use Rattle.std.specs.List.{All, slice_range}
 use Rattle.std.proofs.lemmas.List.{length-take, length-drop}
 use Rattle.std.proofs.lemmas.List.Elements.{All-weaker}
@@ -38,7 +38,8 @@ use Rattle.sq_outline.proofs.Linking.{link_may, link_some, link_below}
 use Rattle.sq_outline.proofs.Making.{saved_words, last_there, same_some}
 use Rattle.sq_outline.proofs.Plainness.{NoCalls, plain_free}
 use Rattle.sq_outline.proofs.Standing.{AreCalls, sites_called}
-use Rattle.sq_outline.proofs.WindowsApart.{all_unmapped, calls_all, calls_apart, as_many, all_stand, blocks_there}
+use Rattle.sq_outline.proofs.WindowsApart.{all_reversed, all_unmapped, calls_all, calls_apart, as_many, all_stand, blocks_there}
+use Rattle.sq_outline.proofs.WindowsOrder.{back_apart, any_order}
 use Rattle.sq_outline.proofs.WindowsCalling.{callable_matches}
 
 module _ (g : Graph) (block at n link saving : ℕ) (rules : IsGraph g) (can : IsWindowMade g block at n link saving) where
@@ -136,8 +137,11 @@ module _ (g : Graph) (block at n link saving : ℕ) (rules : IsGraph g) (can : I
       let dead = all_unmapped (IsDeadAt g link) (behind_by n) places may.dead in
       λ k d l. record { there = there k d l; stands = stand k d l; dead = dead k d l }
 
+  each_matches : All (MatchesAt og number) places
+  each_matches = All-weaker IsFree (MatchesAt og number) (λ site free. matches_new site free.there free.stands free.dead) places all_free
+
   all_match : All (MatchesAt og number) sites
-  all_match = calls_all g window (MatchesAt og number) (names_of g) (All-weaker IsFree (MatchesAt og number) (λ site free. matches_new site free.there free.stands free.dead) places all_free)
+  all_match = calls_all g window (MatchesAt og number) (names_of g) each_matches
 
   led : LedThere g og
   led m cond a b to e = inl (cond, a, b, e)
@@ -151,6 +155,17 @@ module _ (g : Graph) (block at n link saving : ℕ) (rules : IsGraph g) (can : I
     apart = calls_apart g window (length (body_of og number)) (names_of g) (ap length new_body) (names_distinct g rules);
     matching = all_match;
   }
+
+  -- from the last one on they are made calls, too, with the same result
+  pub may_call_back : MayCallEach og (reverse (occurrences g (items_at g block at n))) number
+  may_call_back = record {
+    some = may_call.some;
+    apart = back_apart g window (length (body_of og number)) (names_of g) (ap length new_body) (names_distinct g rules);
+    matching = all_reversed (MatchesAt og number) places each_matches;
+  }
+
+  pub calls_back : called_each (reverse (occurrences g (items_at g block at n))) number og ≡ window_made g block at n link
+  calls_back = any_order g window (names_of g) (names_distinct g rules) number og
 
   -- the procedure's body is the window
   pub calls_may : MayCallEach og (calls_for og (body_of og number)) number

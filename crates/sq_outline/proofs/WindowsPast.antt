@@ -1,17 +1,14 @@
 -- What was dead before some items became calls is dead there still.
-use Rattle.std.proofs.Common.{◌≡◌, ◌≢◌, ℕ, nat_eq, false, ◌+◌, ◌-◌, ◌≤◌, ◌<◌, ◌⊎◌, List, [], ◌∷◌, ◌++◌, map, reverse, take, drop, length, IsSome, inl, inr, refl, sym, ap, ◌∙◌, subst, arith, length-append, append_assoc, eq-eqb}
-use Rattle.std.specs.List.{All, IsDistinct}
-use Rattle.std.proofs.lemmas.Bool.{cases_eq, cases_lt, eqb-false, ne_eqb, lt-ltb, le-ltb}
-use Rattle.std.proofs.lemmas.List.{append-nil, map-append, reverse-append, length-take-le, length-drop}
-use Rattle.std.proofs.lemmas.List.Elements.{All-head, All-tail, All-from_recursion}
-use Rattle.std.proofs.lemmas.Map.Keys.{IsDistinct-head, IsDistinct-tail}
+use Rattle.std.proofs.Common.{◌≡◌, ℕ, ◌+◌, ◌-◌, ◌≤◌, ◌<◌, ◌⊎◌, List, [], ◌∷◌, ◌++◌, map, reverse, take, drop, length, IsSome, inl, inr, refl, sym, ap, ◌∙◌, subst, arith, length-append, append_assoc, eq-eqb}
+use Rattle.std.proofs.lemmas.Bool.{cases_eq, cases_lt, ne_eqb, lt-ltb, le-ltb}
+use Rattle.std.proofs.lemmas.List.{append-nil, length-take-le, length-drop}
+use Rattle.std.proofs.lemmas.List.Elements.{All-head}
 use Rattle.sq_graph.specs.declared.item.Item.{Item}
 use Rattle.sq_graph.specs.declared.item.Item.TheVariants.{Out}
 use Rattle.sq_graph.specs.Graph.{Graph}
 use Rattle.sq_graph.specs.Blocks.{HasBlock, block_items, items_of, body_of}
 use Rattle.sq_graph.specs.Lines.{place_lines}
 use Rattle.sq_graph.specs.Operations.{outlined}
-use Rattle.sq_graph.specs.Parts.{names_of}
 use Rattle.sq_graph.specs.Rules.{IsGraph}
 use Rattle.sq_graph.specs.Walks.{IsLive}
 use Rattle.sq_live.specs.Liveness.{IsLivenessOf}
@@ -20,16 +17,14 @@ use Rattle.sq_patch.proofs.StayingDead.{outline_dead, match_dead, match_moves_de
 use Rattle.sq_outline.specs.declared.sites.Site.{Site}
 use Rattle.sq_outline.specs.declared.windows.past.Shift.{Shift}
 use Rattle.sq_outline.specs.Sites.{called_each, MatchesAt, MayCallEach}
-use Rattle.sq_outline.specs.WindowsPlaces.{occurrences_in, in_block, occurrences_among, occurrences, calls_among, calls_for}
+use Rattle.sq_outline.specs.WindowsPlaces.{in_block, occurrences}
 use Rattle.sq_outline.specs.WindowsMade.{items_at, IsWindowMade, window_made}
 use Rattle.sq_outline.specs.WindowsInside.{MayCallInside, called_inside}
 use Rattle.sq_outline.specs.Called.{call_saving}
 use Rattle.sq_outline.specs.WindowsPast.{before_call, was_at, shift_of, IsPast, KeepsPast}
-use Rattle.sq_outline.proofs.Choosing.{names_distinct}
 use Rattle.sq_outline.proofs.Standing.{elsewhere, items_here, one_call, next_calls}
-use Rattle.sq_outline.proofs.WindowsApart.{reversed_cons}
 use Rattle.sq_outline.proofs.WindowsCalling.{callable_matches}
-use Rattle.sq_outline.proofs.WindowsMaking.{window_rules, may_call, new_body, long}
+use Rattle.sq_outline.proofs.WindowsMaking.{window_rules, may_call_back, calls_back, new_body, long}
 
 -- WHERE PLACES WERE
 
@@ -169,75 +164,7 @@ each_past (site ∷ sites) g procedure live ss rules may past =
 pub past_itself : (g : Graph) (live : List (ℕ × List ℕ)) → IsLivenessOf g live → IsPast g live []
 past_itself g live lives = record { before = g; lives = lives; there = λ b has. has; within = λ b p has l. l; dead = λ b p r has l gone. gone }
 
--- THE CALLS OF A WINDOW, IN ANY ORDER OF BLOCKS
-
-module _ (gone : ℕ) where
-  abbrev turn : List Site → ℕ → ℕ → ℕ
-  turn sites block place = was_at (map (shift_of gone) sites) block place
-
-  turn_append : (xs ys : List Site) (block place : ℕ) → turn (xs ++ ys) block place ≡ turn xs block (turn ys block place)
-  turn_append xs ys block place =
-      ap (λ (ss : List Shift). was_at ss block place) (map-append (shift_of gone) xs ys) ∙ was_append (map (shift_of gone) xs) (map (shift_of gone) ys) block place
-
-  -- the calls in another block
-  other_block : (ps : List ℕ) (m block place : ℕ) → m ≢ block → turn (map (in_block m) ps) block place ≡ place
-  other_block [] m block place apart = refl
-  other_block (p ∷ ps) m block place apart = rw (ne_eqb m block apart) (other_block ps m block place apart)
-
-  map_reversed : (m : ℕ) (ps : List ℕ) → reverse (map (in_block m) ps) ≡ map (in_block m) (reverse ps)
-  map_reversed m [] = refl
-  map_reversed m (p ∷ ps) =
-      reversed_cons (in_block m p) (map (in_block m) ps)
-      ∙ ap (λ (ss : List Site). ss ++ in_block m p ∷ []) (map_reversed m ps)
-      ∙ sym (map-append (in_block m) (reverse ps) (p ∷ []))
-      ∙ ap (map (in_block m)) (sym (reversed_cons p ps))
-
-  module _ (g : Graph) (w : List Item) where
-    abbrev here : ℕ → List Site
-    here m = map (in_block m) (reverse (occurrences_in w (items_of g m)))
-
-    -- the first block's come last
-    first_last : (m : ℕ) (names : List ℕ) (block place : ℕ) → turn (reverse (occurrences_among g w (m ∷ names))) block place ≡ turn (reverse (occurrences_among g w names)) block (turn (here m) block place)
-    first_last m names block place =
-        let own = map (in_block m) (occurrences_in w (items_of g m)) in
-        ap (λ (ss : List Site). turn ss block place) (reverse-append own (occurrences_among g w names) ∙ ap (λ (ss : List Site). reverse (occurrences_among g w names) ++ ss) (map_reversed m (occurrences_in w (items_of g m))))
-        ∙ turn_append (reverse (occurrences_among g w names)) (here m) block place
-
-    none_there : (names : List ℕ) (block place : ℕ) → All (λ other. nat_eq block other ≡ false) names → turn (reverse (occurrences_among g w names)) block place ≡ place
-    none_there [] block place all = refl
-    none_there (m ∷ names) block place all =
-        let apart : m ≢ block = λ e. eqb-false block m (All-head (λ other. nat_eq block other ≡ false) m names all) (sym e) in
-        first_last m names block place
-        ∙ ap (turn (reverse (occurrences_among g w names)) block) (other_block (reverse (occurrences_in w (items_of g m))) m block place apart)
-        ∙ none_there names block place (All-tail (λ other. nat_eq block other ≡ false) m names all)
-
-    same_turn : (names : List ℕ) (block place : ℕ) → IsDistinct nat_eq names → turn (calls_among g w names) block place ≡ turn (reverse (occurrences_among g w names)) block place
-    same_turn [] block place distinct = refl
-    same_turn (m ∷ names) block place distinct =
-        let unlike : All (λ other. nat_eq m other ≡ false) names = All-from_recursion (λ other. nat_eq m other ≡ false) names (IsDistinct-head nat_eq m names distinct) in
-        let rest = IsDistinct-tail nat_eq m names distinct in
-        let again = same_turn names block place rest in
-        turn_append (here m) (calls_among g w names) block place
-        ∙ ap (turn (here m) block) again
-        ∙ elim (cases_eq m block) [
-          | inl same ↦
-              let none : (q : ℕ) → turn (reverse (occurrences_among g w names)) block q ≡ q = λ q. none_there names block q (subst (λ k. All (λ other. nat_eq k other ≡ false) names) same unlike) in
-              ap (turn (here m) block) (none place) ∙ sym (none (turn (here m) block place))
-          | inr apart ↦
-              other_block (reverse (occurrences_in w (items_of g m))) m block (turn (reverse (occurrences_among g w names)) block place) apart
-              ∙ ap (turn (reverse (occurrences_among g w names)) block) (sym (other_block (reverse (occurrences_in w (items_of g m))) m block place apart))
-        ]
-        ∙ sym (first_last m names block place)
-
--- what is known goes by where places were alone
-past_alike : (g : Graph) (live : List (ℕ × List ℕ)) (ss ts : List Shift) → ((block place : ℕ) → was_at ss block place ≡ was_at ts block place) → IsPast g live ss → IsPast g live ts
-past_alike g live ss ts same past = record {
-  before = past.before;
-  lives = past.lives;
-  there = past.there;
-  within = λ b p has l. subst (λ k. k ≤ length (items_of past.before b)) (same b p) (past.within b p has l);
-  dead = λ b p r has l gone. past.dead b p r has l (subst (λ k. ¬ IsLive past.before r (place_lines past.before b k)) (sym (same b p)) gone);
-}
+-- THE CALLS OF A WINDOW
 
 outline_past : (g : Graph) (block at size link : ℕ) (live : List (ℕ × List ℕ)) (ss : List Shift) → IsGraph g → IsPast g live ss → IsPast (outlined g block at size link) live ss
 outline_past g block at size link live ss rules past = record {
@@ -255,15 +182,10 @@ window_past g block at n link saving live ss rules made past =
     let og = outlined g block at n link in
     let number = length g.procedures in
     let size : length (body_of (outlined g block at n link) (length g.procedures)) ≡ n = ap length (new_body g block at n link saving rules made) ∙ long g block at n link saving rules made in
-    let each = each_past (calls_for g w) og number live ss (window_rules g block at n link saving rules made) (may_call g block at n link saving rules made) (outline_past g block at n link live ss rules past) in
-    let calls : IsPast (window_made g block at n link) live (ss ++ map (shift_of (n - 1)) (calls_for g (items_at g block at n))) =
-    subst (λ k. IsPast (window_made g block at n link) live (ss ++ map (shift_of (k - 1)) (calls_for g (items_at g block at n)))) size each in
-    past_alike (window_made g block at n link) live (ss ++ map (shift_of (n - 1)) (calls_for g w)) (ss ++ map (shift_of (n - 1)) (reverse (occurrences g w)))
-    (λ b p.
-    was_append ss (map (shift_of (n - 1)) (calls_for g w)) b p
-    ∙ ap (was_at ss b) (same_turn (n - 1) g w (names_of g) b p (names_distinct g rules))
-    ∙ sym (was_append ss (map (shift_of (n - 1)) (reverse (occurrences g w))) b p))
-    calls
+    let each =
+    each_past (reverse (occurrences g w)) og number live ss (window_rules g block at n link saving rules made) (may_call_back g block at n link saving rules made) (outline_past g block at n link live ss rules past) in
+    subst (λ (k : Graph). IsPast k live (ss ++ map (shift_of (n - 1)) (reverse (occurrences g (items_at g block at n))))) (calls_back g block at n link saving rules made)
+    (subst (λ k. IsPast (called_each (reverse (occurrences g (items_at g block at n))) (length g.procedures) (outlined g block at n link)) live (ss ++ map (shift_of (k - 1)) (reverse (occurrences g (items_at g block at n))))) size each)
 
 -- THE REWRITES
 

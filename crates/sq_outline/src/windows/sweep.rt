@@ -22,7 +22,7 @@ use crate::windows::heads::heads;
 use crate::windows::inside::{may_call_still, procedure_inside};
 use crate::windows::past::{Shift, note_calls};
 use crate::windows::search::{classes_in_line, standing};
-use crate::windows::window::make_window;
+use crate::windows::window::make_window_at;
 use sq_finger::{Groups, WindowAt, all_places, number_items, number_longer_runs, window_laws};
 use sq_graph::{Graph, Room};
 use sq_live::{Liveness, live};
@@ -261,7 +261,7 @@ fn rewrite_window(
         items: n,
         procedures: 1,
     })?;
-    make_window(graph, found.first.block, found.first.at, n, found.link);
+    make_window_at(graph, sites, found.first, n, found.link);
     let done = Rewrite {
         row: Row::W,
         saving: found.saving,

@@ -31,8 +31,8 @@ count-requires c =
 
 pub returns-clause-rewritten : goal.returns-clause-rewritten
 returns-clause-rewritten c =
-    let h = c.make_window.new.graph.graph in
-    let is = subst (λ (k : Graph). h ≡ window_made k c.args.found.first.block c.args.found.first.at c.args.n c.args.found.link) c.reserve.ensures.graph c.make_window.ensures.graph in
+    let h = c.make_window_at.new.graph.graph in
+    let is = subst (λ (k : Graph). h ≡ window_made k c.args.found.first.block c.args.found.first.at c.args.n c.args.found.link) c.reserve.ensures.graph c.make_window_at.ensures.graph in
     window_rewritten c.args.graph.now.graph h c.args.found.first.block c.args.found.first.at c.args.n c.args.found.link c.args.found.saving c.args.savings c.count.result c.learn.ensures.rules c.requires.canonical c.requires.made is c.count.ensures.value
 
 pub returns-clause-follows : goal.returns-clause-follows
@@ -40,6 +40,6 @@ returns-clause-follows c = (returns-clause-rewritten c).lighter.follows
 
 pub returns-clause-past : goal.returns-clause-past
 returns-clause-past c =
-    let h = c.make_window.new.graph.graph in
-    let is = subst (λ (k : Graph). h ≡ window_made k c.args.found.first.block c.args.found.first.at c.args.n c.args.found.link) c.reserve.ensures.graph c.make_window.ensures.graph in
+    let h = c.make_window_at.new.graph.graph in
+    let is = subst (λ (k : Graph). h ≡ window_made k c.args.found.first.block c.args.found.first.at c.args.n c.args.found.link) c.reserve.ensures.graph c.make_window_at.ensures.graph in
     made_past c.args.graph.now.graph h c.args.found.first.block c.args.found.first.at c.args.n c.args.found.link c.args.found.saving c.args.sites.now _ _ c.learn.ensures.rules c.requires.made c.requires.sites c.in_ok-note_calls.ensures is
