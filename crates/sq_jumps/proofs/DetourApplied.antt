@@ -36,15 +36,23 @@ use Rattle.sq_jumps.proofs.Ruled.{IsEntered, ends_without, without_rules}
 pub detour_to : (g : Graph) (block to found : ℕ) → IsDetourTo g block to → jump_from g block ≡ Some found → IsDetourTo g block found
 detour_to g block to found leads e = let same : to ≡ found = let f : Some to ≡ Some found = sym leads.jump ∙ e in cc in subst (IsDetourTo g block) same leads
 
+-- a lone Jump, once its target has its names
+module _ (g : Graph) (block to : ℕ) (jump : jump_from g block ≡ Some to) where
+  pub lone_redirected : IsGraph g → IsGraph (redirected g block to)
+  lone_redirected rules = redirected_rules g block to rules (jump_there g block to rules jump)
+
+  pub lone_there : HasBlock (redirected g block to) block
+  lone_there = ap is_some (block_of-retargeted (swapped block to) g.blocks block ∙ ap (option_map (retargeted_block (swapped block to))) (lone g block to jump).found)
+
 module _ (g : Graph) (block to : ℕ) (rules : IsGraph g) (leads : IsDetourTo g block to) where
   abbrev h : Graph
   h = redirected g block to
 
   pub detour_redirected : IsGraph (redirected g block to)
-  detour_redirected = redirected_rules g block to rules (jump_there g block to rules leads.jump)
+  detour_redirected = lone_redirected g block to leads.jump rules
 
   pub detour_there : HasBlock (redirected g block to) block
-  detour_there = ap is_some (block_of-retargeted (swapped block to) g.blocks block ∙ ap (option_map (retargeted_block (swapped block to))) (lone g block to leads.jump).found)
+  detour_there = lone_there g block to leads.jump
 
   detour_entered : IsEntered (redirected g block to) block
   detour_entered before t next e = by_term (term_of g before) refl

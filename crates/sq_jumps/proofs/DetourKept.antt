@@ -11,6 +11,7 @@ use Rattle.sq_graph.specs.Operations.{with_blocks, without_block}
 use Rattle.sq_graph.specs.Rules.{IsGraph, last_goes_on}
 use Rattle.sq_graph.specs.Terms.{goes_on}
 use Rattle.sq_graph.specs.Uses.{uses, term_uses, items_uses, terms_uses, code_word_uses}
+use Rattle.sq_graph.specs.Resolve.{jump_from}
 use Rattle.sq_patch.specs.LoneJumps.{IsDetourTo, without_jump}
 use Rattle.sq_jumps.specs.Detour.{IsDetour, without_detour}
 use Rattle.sq_lookup.proofs.Targets.{lone, IsLone, has_lone}
@@ -50,7 +51,7 @@ among_other f (u ∷ us) n e =
       | inr later ↦ or_right (f u == f n) (is_among (map f us) (f n)) (among_other f us n later)
     ]
 
-follows-other : (f : ℕ → ℕ) (bs : List Block) (n : ℕ) → follows_a_term (map (retargeted_block f) bs) n ≡ follows_a_term bs n
+pub follows-other : (f : ℕ → ℕ) (bs : List Block) (n : ℕ) → follows_a_term (map (retargeted_block f) bs) n ≡ follows_a_term bs n
 follows-other f [] n = refl
 follows-other f (b ∷ []) n = refl
 follows-other f (b ∷ next ∷ bs) n =
@@ -58,12 +59,12 @@ follows-other f (b ∷ next ∷ bs) n =
     ∙ ap (λ fall. goes_on b.term && not fall && next.name == n || follows_a_term (map (retargeted_block f) (next ∷ bs)) n) (is_fall-other f b.term)
     ∙ ap (λ later. goes_on b.term && not (is_fall b.term) && next.name == n || later) (follows-other f (next ∷ bs) n)
 
-falls-other : (f : ℕ → ℕ) (leads : ℕ → Bool) (bs : List Block) → FallsIntoLeaders leads bs → FallsIntoLeaders leads (map (retargeted_block f) bs)
+pub falls-other : (f : ℕ → ℕ) (leads : ℕ → Bool) (bs : List Block) → FallsIntoLeaders leads bs → FallsIntoLeaders leads (map (retargeted_block f) bs)
 falls-other f leads [] falls = tt
 falls-other f leads (b ∷ []) falls = tt
 falls-other f leads (b ∷ next ∷ bs) falls = (λ fall. falls.0 (sym (is_fall-other f b.term) ∙ fall), falls-other f leads (next ∷ bs) falls.1)
 
-solid-other : (f : ℕ → ℕ) (bs : List Block) → All (λ b. is_bare b ≡ false) bs → All (λ b. is_bare b ≡ false) (map (retargeted_block f) bs)
+pub solid-other : (f : ℕ → ℕ) (bs : List Block) → All (λ b. is_bare b ≡ false) bs → All (λ b. is_bare b ≡ false) (map (retargeted_block f) bs)
 solid-other f bs all =
     All-map {X = Block} (λ b. is_bare b ≡ false) (retargeted_block f) bs
     (All-weaker {X = Block} (λ b. is_bare b ≡ false) (λ b. is_bare (retargeted_block f b) ≡ false) (λ b solid. is_bare-other f b ∙ solid) bs all)
@@ -123,7 +124,7 @@ module _ (name to : ℕ) (back : List Block) where
   behind_front b [] n e = absurd (cc)
   behind_front b (next ∷ bs) n e = or_right (goes_on b.term && not (is_fall b.term) && next.name == n) (follows_a_term (next ∷ bs) n) e
 
-  follows_still : (front : List Block) (n : ℕ) → (name == n) ≡ false → follows_a_term (front ++ jumping ∷ back) n ≡ true → follows_a_term (front ++ back) n ≡ true
+  pub follows_still : (front : List Block) (n : ℕ) → (name == n) ≡ false → follows_a_term (front ++ jumping ∷ back) n ≡ true → follows_a_term (front ++ back) n ≡ true
   follows_still [] n apart e = sym (follows_back back n) ∙ e
   follows_still (c ∷ []) n apart e =
       let own = goes_on c.term && not (is_fall c.term) in
@@ -138,7 +139,7 @@ module _ (name to : ℕ) (back : List Block) where
         | inr later ↦ or_right own (follows_a_term (d ∷ (front ++ back)) n) (follows_still (d ∷ front) n apart later)
       ]
 
-  solid_still : (front : List Block) → All (λ c. is_bare c ≡ false) (front ++ jumping ∷ back) → All (λ c. is_bare c ≡ false) (front ++ back)
+  pub solid_still : (front : List Block) → All (λ c. is_bare c ≡ false) (front ++ jumping ∷ back) → All (λ c. is_bare c ≡ false) (front ++ back)
   solid_still front all =
       let P : Block → Type 0 = λ c. is_bare c ≡ false in
       All-append P front back (All-left P front (jumping ∷ back) all) (All-tail P jumping back (All-right P front (jumping ∷ back) all))
@@ -160,10 +161,10 @@ module _ (name to : ℕ) (back : List Block) where
         (λ fall. more d.name (absent_tail d front name later).0 (falls.0 fall), falls_still (d ∷ front) later ends falls.1)
 
   module _ (g : Graph) (front : List Block) where
-    abbrev before : Graph
+    abbrev pub before : Graph
     before = record g { blocks = front ++ jumping ∷ back }
 
-    abbrev after : Graph
+    abbrev pub after : Graph
     after = record g { blocks = front ++ back }
 
     used_left : (n : ℕ) → (to == n) ≡ false → is_among (uses before) n ≡ true → is_among (uses after) n ≡ true
@@ -185,17 +186,23 @@ module _ (name to : ℕ) (back : List Block) where
     f = swapped name to
 
     -- names of the Jump are its target's now
-    pub used_still : (n : ℕ) → (to == name) ≡ false → (n == name) ≡ false → is_among (uses before) name ≡ true → is_among (uses before) n ≡ true → is_among (uses (retargeted f after)) n ≡ true
+    pub target_used : (to == name) ≡ false → is_among (uses before) name ≡ true → is_among (uses (retargeted f after)) to ≡ true
+    target_used other e =
+        let is : f name ≡ to = ap (λ t. if t then to else name) (eq-eqb name name refl) in
+        ap (λ us. is_among us to) (uses-other f (λ b. b.name) after)
+        ∙ subst (λ k. is_among (map f (uses after)) k ≡ true) is (among_other f (uses after) name (used_left name other e))
+
+    pub used_elsewhere : (n : ℕ) → (to == n) ≡ false → (n == name) ≡ false → is_among (uses before) n ≡ true → is_among (uses (retargeted f after)) n ≡ true
+    used_elsewhere n away apart e =
+        let is : f n ≡ n = ap (λ t. if t then to else n) apart in
+        ap (λ us. is_among us n) (uses-other f (λ b. b.name) after)
+        ∙ subst (λ k. is_among (map f (uses after)) k ≡ true) is (among_other f (uses after) n (used_left n away e))
+
+    used_still : (n : ℕ) → (to == name) ≡ false → (n == name) ≡ false → is_among (uses before) name ≡ true → is_among (uses before) n ≡ true → is_among (uses (retargeted f after)) n ≡ true
     used_still n other apart named_it e =
-        let all : uses (retargeted f after) ≡ map f (uses after) = uses-other f (λ b. b.name) after in
-        ap (λ us. is_among us n) all
-        ∙ elim (cases_Bool (to == n)) [
-          | inl here ↦
-              let is : f name ≡ n = ap (λ t. if t then to else name) (eq-eqb name name refl) ∙ eqb-true to n here in
-              subst (λ k. is_among (map f (uses after)) k ≡ true) is (among_other f (uses after) name (used_left name other named_it))
-          | inr away ↦
-              let is : f n ≡ n = ap (λ t. if t then to else n) apart in
-              subst (λ k. is_among (map f (uses after)) k ≡ true) is (among_other f (uses after) n (used_left n away e))
+        elim (cases_Bool (to == n)) [
+          | inl here ↦ subst (λ k. is_among (uses (retargeted f after)) k ≡ true) (eqb-true to n here) (target_used other named_it)
+          | inr away ↦ used_elsewhere n away apart e
         ]
 
     leads_still : (to == name) ≡ false → is_among (uses before) name ≡ true → (n : ℕ) → (n == name) ≡ false → is_leader before n ≡ true → is_leader (retargeted f after) n ≡ true
@@ -217,54 +224,50 @@ module _ (name to : ℕ) (back : List Block) where
 
 -- WHERE IT STANDS
 
-module _ (g : Graph) (block to : ℕ) (rules : IsGraph g) (leads : IsDetourTo g block to) where
+module _ (g : Graph) (block to : ℕ) (rules : IsGraph g) (jump : jump_from g block ≡ Some to) where
   alone : IsLone g block to
-  alone = lone g block to leads.jump
+  alone = lone g block to jump
 
-  spot : IsAt g.blocks block
+  pub spot : IsAt g.blocks block
   spot = located g.blocks block (has_lone g block to alone)
 
   same_block : spot.block ≡ alone.block
   same_block = let same : Some spot.block ≡ Some alone.block = sym (block_at g.blocks block spot) ∙ alone.found in cc
 
-  is_jump : spot.block ≡ jumping block to spot.back
+  pub is_jump : spot.block ≡ jumping block to spot.back
   is_jump = same_block ∙ (λ i. record { name = (sym (ap (λ (c : Block). c.name) same_block) ∙ spot.has_name) i; items = alone.items i; term = alone.term i })
 
-  whole : g.blocks ≡ spot.front ++ jumping block to spot.back ∷ spot.back
+  pub whole : g.blocks ≡ spot.front ++ jumping block to spot.back ∷ spot.back
   whole = spot.whole ∙ ap (λ b. spot.front ++ b ∷ spot.back) is_jump
 
   gone : with_blocks (λ b. []) g.blocks block ≡ spot.front ++ spot.back
   gone = with_blocks-at (λ b. []) g.blocks block spot
 
-  other : (to == block) ≡ false
-  other = ne_eqb to block leads.other
-
-  behind : value_of (named spot.back) block ≡ None
+  pub behind : value_of (named spot.back) block ≡ None
   behind =
       absent_behind (block, jumping block to spot.back) (named spot.back)
       (distinct_back (named spot.front) (named (jumping block to spot.back ∷ spot.back))
       (subst (λ (es : List (ℕ × Block)). HasDistinctKeys es) (ap named whole ∙ named-append spot.front (jumping block to spot.back ∷ spot.back)) rules.distinct))
 
-  ends : last_goes_on spot.front ≡ false
-  ends = front_ends g (jumping block to spot.back) spot.back rules leads.apart [] spot.front (sym whole)
-
-  moved : without_jump g block to ≡ retargeted (swapped block to) (record g { blocks = spot.front ++ spot.back })
+  pub moved : without_jump g block to ≡ retargeted (swapped block to) (record g { blocks = spot.front ++ spot.back })
   moved =
       without-retargeted (swapped block to) g block
       ∙ ap (λ bs. retargeted (swapped block to) (record g { blocks = bs })) gone
 
-  -- a name is used still, but for the block's own
-  pub name_used : (n : ℕ) → (n == block) ≡ false → is_among (uses g) block ≡ true → is_among (uses g) n ≡ true → is_among (uses (without_jump g block to)) n ≡ true
-  name_used n apart named_it e =
-      let as_whole : (k : ℕ) → is_among (uses g) k ≡ true → is_among (uses (record g { blocks = spot.front ++ jumping block to spot.back ∷ spot.back })) k ≡ true =
-      λ k is. subst (λ bs. is_among (uses (record g { blocks = bs })) k ≡ true) whole is in
-      subst (λ (h : Graph). is_among (uses h) n ≡ true) (sym moved) (used_still block to spot.back g spot.front n other apart (as_whole block named_it) (as_whole n e))
+  -- a name is used still, but for the block's own and its target's
+  pub name_used : (n : ℕ) → (to == n) ≡ false → (n == block) ≡ false → is_among (uses g) n ≡ true → is_among (uses (without_jump g block to)) n ≡ true
+  name_used n away apart e =
+      subst (λ (h : Graph). is_among (uses h) n ≡ true) (sym moved)
+      (used_elsewhere block to spot.back g spot.front n away apart (subst (λ bs. is_among (uses (record g { blocks = bs })) n ≡ true) whole e))
 
-  pub detour_canonical : is_among (uses g) block ≡ true → IsCanonical g → IsCanonical (without_jump g block to)
-  detour_canonical named_it canonical =
-      subst IsCanonical (sym moved)
-      (detour_kept block to spot.back g spot.front other (subst (λ bs. is_among (uses (record g { blocks = bs })) block ≡ true) whole named_it) spot.ahead behind ends
-      (subst (λ bs. IsCanonical (record g { blocks = bs })) whole canonical))
+pub detour_canonical : (g : Graph) (block to : ℕ) → IsGraph g → IsDetourTo g block to → is_among (uses g) block ≡ true → IsCanonical g → IsCanonical (without_jump g block to)
+detour_canonical g block to rules leads named_it canonical =
+    let at = spot g block to rules leads.jump in
+    let is = whole g block to rules leads.jump in
+    let ends : last_goes_on at.front ≡ false = front_ends g (jumping block to at.back) at.back rules leads.apart [] at.front (sym is) in
+    subst IsCanonical (sym (moved g block to rules leads.jump))
+    (detour_kept block to at.back g at.front (ne_eqb to block leads.other) (subst (λ bs. is_among (uses (record g { blocks = bs })) block ≡ true) is named_it) at.ahead (behind g block to rules leads.jump) ends
+    (subst (λ bs. IsCanonical (record g { blocks = bs })) is canonical))
 
 -- IN A SWEEP
 

@@ -102,12 +102,12 @@ module _ (leads : ℕ → Bool) where
   fewer_fall (b ∷ []) ys into = tt
   fewer_fall (b ∷ next ∷ xs) ys into = (into.0, fewer_fall (next ∷ xs) ys into.1)
 
-none_bypassed : (bs : List Block) (g : Graph) → All (λ b. is_bare b ≡ false) bs → bypassed_each bs g ≡ g
+pub none_bypassed : (bs : List Block) (g : Graph) → All (λ b. is_bare b ≡ false) bs → bypassed_each bs g ≡ g
 none_bypassed [] g none = refl
 none_bypassed (b ∷ bs) g none =
     rw (All-head {X = Block} (λ c. is_bare c ≡ false) b bs none) (none_bypassed bs g (All-tail {X = Block} (λ c. is_bare c ≡ false) b bs none))
 
-solid_joined : (g : Graph) → All (λ b. is_bare b ≡ false) g.blocks → canonical_of g ≡ joined g
+pub solid_joined : (g : Graph) → All (λ b. is_bare b ≡ false) g.blocks → canonical_of g ≡ joined g
 solid_joined g none = ap joined (none_bypassed g.blocks g none)
 
 -- USES, WHATEVER STANDS BEHIND

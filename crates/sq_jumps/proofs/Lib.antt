@@ -14,8 +14,9 @@ pub mod FallJoined
 pub mod DetourApplied
 pub mod DetourTests
 pub mod DetourKept
-pub mod DetoursApart
-pub mod DetoursGo
+pub mod LoneFalls
+pub mod LoneApart
+pub mod LoneGo
 pub mod InvertApplied
 pub mod InvertTests
 pub mod InvertKept

@@ -11,7 +11,7 @@ use Rattle.sq_graph.specs.Leaders.{IsCanonical}
 use Rattle.sq_graph.specs.Parts.{names_of}
 use Rattle.sq_graph.specs.Renames.{renamed_block}
 use Rattle.sq_graph.specs.Rules.{IsGraph}
-use Rattle.sq_graph.specs.Slotted.{position_in, slotted, IsSlotted}
+use Rattle.sq_graph.specs.Slotted.{position_in, IsSlotted}
 use Rattle.sq_graph.proofs.Slotting.{AreNumbered, positions_numbered, named_by_positions}
 use Rattle.sq_lookup.specs.Names.{is_listed, Adds}
 use Rattle.sq_pass.specs.Rewrites.{IsLighter}
@@ -19,7 +19,7 @@ use Rattle.sq_pass.proofs.Rewriting.{lighter_itself, lighter_through}
 use Rattle.sq_jumps.specs.Shorten.{JumpsByDeadPart, shortened_at, shortened_each, AreShortened, AreFirstShortable}
 use Rattle.sq_jumps.proofs.ShortenSwept.{shorten_names, shorten_rules_at, shorten_canonical_at, shorten_lighter, shorten_others, distinct_pushed}
 use Rattle.sq_jumps.proofs.Adding.{is_listed-append}
-use Rattle.sq_jumps.proofs.DetoursApart.{none_of_two}
+use Rattle.sq_jumps.proofs.LoneApart.{none_of_two}
 use Rattle.sq_jumps.proofs.UnreachedGo.{contains_listed}
 
 -- NAMES ARE KEPT

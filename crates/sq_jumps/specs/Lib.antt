@@ -3,6 +3,7 @@ pub mod Fall
 pub mod Unreached
 pub mod UnreachedClear
 pub mod Detour
+pub mod Lone
 pub mod Invert
 pub mod Shorten
 pub mod Candidates

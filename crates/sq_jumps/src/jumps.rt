@@ -21,9 +21,10 @@ ghost use Rattle.sq_jumps.specs.Invert.{BranchesOverJump};
 ghost use Rattle.sq_jumps.specs.Candidates.{HasRow, IsJumpCut, rewritten};
 
 use crate::cut::{cut_at, no_register, only_block};
-use crate::detour::{is_detour, remove_detour, sweep_detours};
+use crate::detour::{is_detour, remove_detour};
 use crate::fall::{fall, jumps_to_next, sweep_falls};
 use crate::invert::{branches_over_jump, invert, sweep_branches};
+use crate::lone::sweep_lone_jumps;
 use crate::shorten::{jumps_by_dead_part, shorten, sweep_calls};
 use crate::survey::{Survey, survey_of};
 use crate::sweep::sweep_jumps;
@@ -245,8 +246,8 @@ impl Pass for Jumps {
     /// J3 that the first four walks leave, a look at each word a few times.
     fn sweep(&self, alloc: Global, graph: &mut Graph, savings: Savings) -> Result<Savings, Memory> {
         let after_calls = sweep_calls(alloc, graph, savings)?;
-        let after_detours = sweep_detours(alloc, graph, after_calls)?;
-        let after_branches = sweep_branches(alloc, graph, after_detours)?;
+        let after_lone = sweep_lone_jumps(alloc, graph, after_calls)?;
+        let after_branches = sweep_branches(alloc, graph, after_lone)?;
         let after_falls = sweep_falls(alloc, graph, after_branches)?;
         sweep_jumps(alloc, graph, after_falls)
     }

@@ -9,6 +9,7 @@ mod detour;
 mod fall;
 mod invert;
 mod jumps;
+mod lone;
 mod proposals;
 mod shorten;
 mod survey;

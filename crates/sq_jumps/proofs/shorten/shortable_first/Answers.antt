@@ -1,4 +1,4 @@
-use Rattle.std.proofs.Common.{◌≡◌, ◌+◌, length, sym, ◌∙◌, subst, arith}
+use Rattle.std.proofs.Common.{◌≡◌, length, sym, ◌∙◌, subst, arith}
 use Rattle.sq_jumps.specs.Shorten.{AreFirstShortable}
 use Rattle.sq_jumps.proofs.ShortenRuns.{found_first_none, found_first_more, first_here, first_all}
 use Rattle.sq_jumps.proofs.shorten.shortable_first.Goals as goal

@@ -1,8 +1,8 @@
-use Rattle.sq_jumps.specs.Detour.{AreChosen}
+use Rattle.sq_jumps.specs.Lone.{AreChosen}
 use Rattle.sq_lookup.specs.Names.{Adds}
 use Rattle.std.proofs.Common.{[], ◌∷◌}
-use Rattle.sq_jumps.proofs.DetoursApart.{on_ok, chosen_more}
-use Rattle.sq_jumps.proofs.detour.choose.Goals as goal
+use Rattle.sq_jumps.proofs.LoneApart.{on_ok, chosen_more}
+use Rattle.sq_jumps.proofs.lone.choose.Goals as goal
 
 pub returns : goal.returns
 returns c =

@@ -1,4 +1,4 @@
--- Detours of which none leads to another don't disturb one another.
+-- Lone Jumps of which none leads to another don't disturb one another.
 use Rattle.std.proofs.Common.{Result, Ok, Err, ◌≡◌, ◌≢◌, ◌⊎◌, ℕ, ◌==◌, Bool, true, false, ◌||◌, if◌then◌else◌, nat_eq, List, [], ◌∷◌, ◌++◌, map, length, Option, None, Some, is_some, inl, inr, refl, sym, ap, ◌∙◌, subst}
 use Rattle.std.specs.Prelude.{option_map, OnOk}
 use Rattle.std.proofs.lemmas.Bool.{cases_Bool, eqb-true, eqb-false, eq-eqb, ne_eqb, or_left, or_right}
@@ -18,16 +18,19 @@ use Rattle.sq_graph.specs.Resolve.{jump_of, lone_jump, jump_from}
 use Rattle.sq_graph.specs.Rules.{IsGraph}
 use Rattle.sq_graph.specs.Terms.{goes_on}
 use Rattle.sq_graph.specs.Uses.{uses}
-use Rattle.sq_patch.specs.LoneJumps.{without_jump}
+use Rattle.sq_patch.specs.LoneJumps.{IsDetourTo, without_jump}
 use Rattle.sq_layout.specs.Branches.{BranchReaches}
 use Rattle.sq_lookup.specs.Names.{is_listed, Adds}
 use Rattle.sq_jumps.specs.UnreachedClear.{AreOnce}
-use Rattle.sq_jumps.specs.Detour.{without_detour, IsDetour, GoTogether, GoesToo, AreChosen}
+use Rattle.sq_jumps.specs.Fall.{JumpsToNext}
+use Rattle.sq_jumps.specs.Detour.{IsDetour}
+use Rattle.sq_jumps.specs.Lone.{IsNamedDetour, IsBypassable, GoTogether, GoesToo, AreChosen}
 use Rattle.sq_lookup.specs.Addresses.{address_of}
 use Rattle.sq_jumps.specs.Surveys.{ReachesBy, ReachesWithout}
 use Rattle.sq_layout.proofs.Standing.{block_of-without, block_of-retargeted}
 use Rattle.sq_lookup.proofs.Targets.{has_term, jump_there, lone, lone_term}
-use Rattle.sq_jumps.proofs.DetourApplied.{detour_made, detour_shrinks, detour_redirected, detour_rules}
+use Rattle.sq_jumps.proofs.DetourApplied.{detour_to, detour_shrinks, detour_rules, lone_redirected}
+use Rattle.sq_jumps.proofs.LoneFalls.{next_other, over_rules}
 use Rattle.sq_jumps.proofs.Blocks.{retargeted_before, gone_block, goes_on-retargeted, next-redirected}
 use Rattle.sq_jumps.proofs.Distances.{detour_near}
 use Rattle.sq_jumps.proofs.Booleans.{or_cases}
@@ -51,8 +54,8 @@ lone_jump-retargeted : (f : ℕ → ℕ) (o : Option Block) → lone_jump (optio
 lone_jump-retargeted f None = refl
 lone_jump-retargeted f (Some b) = jump_of-retargeted f b.items b.term
 
--- the slot behind a block, or the one that went
-next_before : (bs : List Block) (gone m n : ℕ) → m ≢ gone → next_key (named (with_blocks (λ b. []) bs gone)) m ≡ Some n → (next_key (named bs) m ≡ Some n) ⊎ (next_key (named bs) m ≡ Some gone)
+-- the slot behind a block was that, or stood behind the one that went
+next_before : (bs : List Block) (gone m n : ℕ) → m ≢ gone → next_key (named (with_blocks (λ b. []) bs gone)) m ≡ Some n → (next_key (named bs) m ≡ Some n) ⊎ ((next_key (named bs) m ≡ Some gone) × (next_key (named bs) gone ≡ Some n))
 next_before [] gone m n other e = inl e
 next_before (b ∷ bs) gone m n other e =
     elim (cases_Bool (b.name == gone)) [
@@ -61,18 +64,39 @@ next_before (b ∷ bs) gone m n other e =
           inl (rw apart (rw here at e))
       | inr away ↦
           elim (cases_Bool (b.name == m)) [
-            | inl this ↦ rw this (first_before bs (rw (away, this) at e))
-            | inr that ↦ rw that (next_before bs gone m n other (rw (away, that) at e))
+            | inl this ↦ rw (this, away) (first_before bs (rw (away, this) at e))
+            | inr that ↦ rw (that, away) (next_before bs gone m n other (rw (away, that) at e))
           ]
     ]
   where
-    first_before : (bs : List Block) → first_key (named (with_blocks (λ b. []) bs gone)) ≡ Some n → (first_key (named bs) ≡ Some n) ⊎ (first_key (named bs) ≡ Some gone)
+    first_before : (bs : List Block) → first_key (named (with_blocks (λ b. []) bs gone)) ≡ Some n → (first_key (named bs) ≡ Some n) ⊎ ((first_key (named bs) ≡ Some gone) × (next_key (named bs) gone ≡ Some n))
     first_before [] e = inl e
     first_before (c ∷ bs) e =
         elim (cases_Bool (c.name == gone)) [
-          | inl here ↦ inr (ap Some (eqb-true c.name gone here))
+          | inl here ↦ inr (ap Some (eqb-true c.name gone here), rw here (rw here at e))
           | inr away ↦ inl (rw away at e)
         ]
+
+-- the slot behind a block stays, where it isn't the one that went
+next_after : (bs : List Block) (gone m n : ℕ) → m ≢ gone → n ≢ gone → next_key (named bs) m ≡ Some n → next_key (named (with_blocks (λ b. []) bs gone)) m ≡ Some n
+next_after [] gone m n other stays e = absurd (cc)
+next_after (b ∷ bs) gone m n other stays e =
+    elim (cases_Bool (b.name == gone)) [
+      | inl here ↦
+          let apart : (b.name == m) ≡ false = ne_eqb b.name m (λ same. other (sym same ∙ eqb-true b.name gone here)) in
+          rw here (rw apart at e)
+      | inr away ↦
+          elim (cases_Bool (b.name == m)) [
+            | inl this ↦ rw (away, this) (first_after bs (rw this at e))
+            | inr that ↦ rw (away, that) (next_after bs gone m n other stays (rw that at e))
+          ]
+    ]
+  where
+    first_after : (bs : List Block) → first_key (named bs) ≡ Some n → first_key (named (with_blocks (λ b. []) bs gone)) ≡ Some n
+    first_after [] e = absurd (cc)
+    first_after (c ∷ bs) e =
+        let same : c.name ≡ n = cc in
+        rw (ne_eqb c.name gone (λ is. stays (sym same ∙ is))) (ap Some same)
 
 length-retargeted : (f : ℕ → ℕ) (o : Option Block) → length (block_items (option_map (retargeted_block f) o)) ≡ length (block_items o)
 length-retargeted f None = refl
@@ -86,9 +110,22 @@ some_before : (f : ℕ → ℕ) (o : Option Block) → is_some (option_map (reta
 some_before f None e = e
 some_before f (Some b) e = refl
 
--- TWO DETOURS
+-- WHAT GOES
 
-module _ (g : Graph) (gone : ℕ) (rules : IsGraph g) (d : IsDetour g gone) where
+-- the rules hold once it went
+pub bypassed_rules : (g : Graph) (n : ℕ) → IsGraph g → (d : IsBypassable g n) → IsGraph (without_jump g n d.to)
+bypassed_rules g n rules d =
+    elim d.way [
+      | inl slot ↦ over_rules g n d.to rules d.jump slot
+      | inr named ↦ detour_rules g n d.to rules (leads_to named)
+    ]
+  where
+    leads_to : IsNamedDetour g n → IsDetourTo g n d.to
+    leads_to named = detour_to g n named.detour.to d.to named.detour.leads d.jump
+
+-- TWO LONE JUMPS
+
+module _ (g : Graph) (gone : ℕ) (rules : IsGraph g) (d : IsBypassable g gone) where
   abbrev to : ℕ
   to = d.to
 
@@ -99,10 +136,10 @@ module _ (g : Graph) (gone : ℕ) (rules : IsGraph g) (d : IsDetour g gone) wher
   h = without_jump g gone d.to
 
   left : IsGraph h
-  left = detour_rules g gone to rules d.leads
+  left = bypassed_rules g gone rules d
 
   is_gone : block_of h gone ≡ None
-  is_gone = gone_block (map (retargeted_block f) g.blocks) gone (detour_redirected g gone to rules d.leads).distinct
+  is_gone = gone_block (map (retargeted_block f) g.blocks) gone (lone_redirected g gone to d.jump rules).distinct
 
   block_left : (n : ℕ) → n ≢ gone → block_of h n ≡ option_map (retargeted_block f) (block_of g n)
   block_left n other = block_of-without (map (retargeted_block f) g.blocks) gone n other ∙ block_of-retargeted f g.blocks n
@@ -113,12 +150,26 @@ module _ (g : Graph) (gone : ℕ) (rules : IsGraph g) (d : IsDetour g gone) wher
   kept : (n : ℕ) → n ≢ gone → f n ≡ n
   kept n other = ap (λ t. if t then to else n) (ne_eqb n gone other)
 
+  next_left : (n next : ℕ) → n ≢ gone → next ≢ gone → next_of g n ≡ Some next → next_of h n ≡ Some next
+  next_left n next other stays e = next_after (map (retargeted_block f) g.blocks) gone n next other stays (next-redirected g gone to n ∙ e)
+
+  -- nothing goes on into the slot behind it but for what went on into it
+  ends_before : (n before : ℕ) (was : Term) → n ≢ d.to → next_of g before ≡ Some gone → next_of g gone ≡ Some n → term_of g before ≡ Some was → goes_on was ≡ false
+  ends_before n before was not_target into behind e =
+      elim d.way [
+        | inl slot ↦ absurd (not_target (let same : Some n ≡ Some d.to = sym behind ∙ slot in cc))
+        | inr named ↦ named.detour.leads.apart before was into e
+      ]
+
+  jump : (n target : ℕ) → n ≢ gone → target ≢ gone → jump_from g n ≡ Some target → jump_from h n ≡ Some target
+  jump n target other stays e = ap lone_jump (block_left n other) ∙ lone_jump-retargeted f (block_of g n) ∙ ap (option_map f) e ∙ ap Some (kept target stays)
+
   module _ (n : ℕ) (other : n ≢ gone) (p : IsDetour g n) (target_other : p.to ≢ gone) (not_target : n ≢ d.to) where
     abbrev target : ℕ
     target = p.to
 
-    jump : jump_from h n ≡ Some target
-    jump = ap lone_jump (block_left n other) ∙ lone_jump-retargeted f (block_of g n) ∙ ap (option_map f) p.leads.jump ∙ ap Some (kept target target_other)
+    jump_left : jump_from h n ≡ Some target
+    jump_left = jump n target other target_other p.leads.jump
 
     apart : (before : ℕ) (term : Term) → next_of h before ≡ Some n → term_of h before ≡ Some term → goes_on term ≡ false
     apart before term next e =
@@ -128,7 +179,7 @@ module _ (g : Graph) (gone : ℕ) (rules : IsGraph g) (d : IsDetour g gone) wher
         same
         ∙ elim (next_before (map (retargeted_block f) g.blocks) gone before n here next) [
           | inl own ↦ p.leads.apart before was.0 (sym (next-redirected g gone to before) ∙ own) was.1
-          | inr that ↦ d.leads.apart before was.0 (sym (next-redirected g gone to before) ∙ that) was.1
+          | inr that ↦ ends_before n before was.0 not_target (sym (next-redirected g gone to before) ∙ that.0) (sym (next-redirected g gone to gone) ∙ that.1) was.1
         ]
 
     near : (from : ℕ) (cond : Cond) (a b : ℕ) → term_of h from ≡ Some (Branch cond a b n) → BranchReaches (without_jump h n target) from target
@@ -139,8 +190,8 @@ module _ (g : Graph) (gone : ℕ) (rules : IsGraph g) (d : IsDetour g gone) wher
         let branch : term_of g from ≡ Some (Branch cond a b n) = subst (λ k. term_of g from ≡ Some (Branch cond a b k)) (named_before was.0 was.2) was.1 in
         let reach : ReachesWithout g n from target = (detour_near g n from target cond a b p.leads.jump branch (jump_there g n target rules p.leads.jump) p.leads.other).0 (p.near from cond a b branch) in
         let same : length (items_of h from) ≡ length (items_of g from) = ap (λ o. length (block_items o)) (block_left from away) ∙ length-retargeted f (block_of g from) in
-        (detour_near h n from target cond a b jump e (jump_there h n target left jump) p.leads.other).1
-        (without_still g h from n target rules.distinct (detour_shrinks g gone to) left here jump (subst (λ k. ReachesBy (address_of g) k n from target) (sym same) reach))
+        (detour_near h n from target cond a b jump_left e (jump_there h n target left jump_left) p.leads.other).1
+        (without_still g h from n target rules.distinct (detour_shrinks g gone to) left here jump_left (subst (λ k. ReachesBy (address_of g) k n from target) (sym same) reach))
       where
         named_before : (old : ℕ) → f old ≡ n → old ≡ n
         named_before old is =
@@ -150,9 +201,9 @@ module _ (g : Graph) (gone : ℕ) (rules : IsGraph g) (d : IsDetour g gone) wher
             ]
 
     pub detour_still : IsDetour h n
-    detour_still = record { to = target; leads = record { jump = jump; other = p.leads.other; apart = apart }; near = near }
+    detour_still = record { to = target; leads = record { jump = jump_left; other = p.leads.other; apart = apart }; near = near }
 
--- DETOURS THAT GO TOGETHER
+-- LONE JUMPS THAT GO TOGETHER
 
 -- a name in a list, by the test of tables
 pub among_listed : (xs : List ℕ) (n : ℕ) → is_among xs n ≡ is_listed xs n
@@ -175,53 +226,69 @@ none_of_two false b e = (refl, e)
 
 -- once the first went, the others go together still
 module _ (g : Graph) (gone : ℕ) (rest : List ℕ) (rules : IsGraph g) (t : GoTogether g (gone ∷ rest)) where
-  pub first : IsDetour g gone
-  first = t.detours gone (here_listed gone rest)
+  pub first : IsBypassable g gone
+  first = t.go gone (here_listed gone rest)
 
   pub aside : is_listed (gone ∷ rest) first.to ≡ false
-  aside = t.apart gone first.to (here_listed gone rest) first.leads.jump
+  aside = t.apart gone first.to (here_listed gone rest) first.jump
 
   module _ (n : ℕ) (listed : is_listed rest n ≡ true) where
     too : is_listed (gone ∷ rest) n ≡ true
     too = or_right (nat_eq n gone) (is_listed rest n) listed
 
-    detour : IsDetour g n
-    detour = t.detours n too
-
-    target_aside : is_listed (gone ∷ rest) detour.to ≡ false
-    target_aside = t.apart n detour.to too detour.leads.jump
+    own : IsBypassable g n
+    own = t.go n too
 
     not_gone : n ≢ gone
     not_gone same = absurd (let none : is_listed rest n ≡ false = ap (is_listed rest) same ∙ t.once.0 in cc)
 
-    not_to : detour.to ≢ gone
-    not_to same = absurd (let none : is_listed (gone ∷ rest) gone ≡ false = ap (is_listed (gone ∷ rest)) (sym same) ∙ target_aside in let some = here_listed gone rest in cc)
+    -- where it leads
+    aim_stays : (to : ℕ) → jump_from g n ≡ Some to → to ≢ gone
+    aim_stays to e same = absurd (let none : is_listed (gone ∷ rest) gone ≡ false = ap (is_listed (gone ∷ rest)) (sym same) ∙ t.apart n to too e in let some = here_listed gone rest in cc)
 
     no_target : n ≢ first.to
     no_target same = absurd (let none : is_listed (gone ∷ rest) n ≡ false = ap (is_listed (gone ∷ rest)) same ∙ aside in let some : is_listed (gone ∷ rest) n ≡ true = too in cc)
 
-    still : IsDetour (without_jump g gone first.to) n
-    still = detour_still g gone rules first n not_gone detour not_to no_target
+    jump_still : jump_from (without_jump g gone first.to) n ≡ Some own.to
+    jump_still = jump g gone rules first n own.to not_gone (aim_stays own.to own.jump) own.jump
 
     pub term_still : term_of (without_jump g gone first.to) n ≡ term_of g n
     term_still =
         let h = without_jump g gone first.to in
-        lone_term h n detour.to (lone h n detour.to (jump g gone rules first n not_gone detour not_to no_target)) ∙ sym (lone_term g n detour.to (lone g n detour.to detour.leads.jump))
+        lone_term h n own.to (lone h n own.to jump_still) ∙ sym (lone_term g n own.to (lone g n own.to own.jump))
 
-    used_still : is_among (uses (without_jump g gone first.to)) n ≡ true
-    used_still = name_used g gone first.to rules first.leads n (ne_eqb n gone not_gone) (t.are_named gone (here_listed gone rest)) (t.are_named n too)
+    named_still : IsNamedDetour g n → IsNamedDetour (without_jump g gone first.to) n
+    named_still p = record {
+      detour = detour_still g gone rules first n not_gone p.detour (aim_stays p.detour.to p.detour.leads.jump) no_target;
+      is_named = name_used g gone first.to rules first.jump n (ne_eqb first.to n (λ same. no_target (sym same))) (ne_eqb n gone not_gone) p.is_named;
+    }
+
+    still : IsBypassable (without_jump g gone first.to) n
+    still = record {
+      to = own.to;
+      jump = jump_still;
+      other = own.other;
+      way = elim own.way [ inl slot ↦ inl (next_left g gone rules first n own.to not_gone (aim_stays own.to own.jump) slot) | inr named ↦ inr (named_still named) ];
+    }
 
     apart_still : (to : ℕ) → jump_from (without_jump g gone first.to) n ≡ Some to → is_listed rest to ≡ false
     apart_still to e =
-        let same : to ≡ detour.to = let f : Some to ≡ Some detour.to = sym e ∙ jump g gone rules first n not_gone detour not_to no_target in cc in
-        ap (is_listed rest) same ∙ (none_of_two (nat_eq detour.to gone) (is_listed rest detour.to) target_aside).1
+        let same : to ≡ own.to = let f : Some to ≡ Some own.to = sym e ∙ jump_still in cc in
+        ap (is_listed rest) same ∙ (none_of_two (nat_eq own.to gone) (is_listed rest own.to) (t.apart n own.to too own.jump)).1
 
-  pub rest_together : (k : Graph) → k ≡ without_detour g gone → GoTogether k rest
-  rest_together k is =
-      subst (λ (m : Graph). GoTogether m rest) (sym (is ∙ detour_made g gone first.to first.leads.jump))
-      (record { detours = still; are_named = used_still; apart = λ n to listed. apart_still n listed to; once = t.once.1 })
+  pub rest_together : GoTogether (without_jump g gone first.to) rest
+  rest_together = record { go = still; apart = λ n to listed. apart_still n listed to; once = t.once.1 }
 
 -- WHICH BLOCKS ARE CHOSEN
+
+pub next_bypassable : (g : Graph) (block to : ℕ) → IsGraph g → jump_from g block ≡ Some to → JumpsToNext g block → IsBypassable g block
+next_bypassable g block to rules jump j =
+    let same : j.to ≡ to = let f : Some (Jump j.to) ≡ Some (Jump to) = sym j.jump ∙ lone_term g block to (lone g block to jump) in cc in
+    let slot : next_of g block ≡ Some to = j.next ∙ ap Some same in
+    record { to = to; jump = jump; other = next_other g block to rules jump slot; way = inl slot }
+
+pub detour_bypassable : (g : Graph) (block : ℕ) → IsDetour g block → is_among (uses g) block ≡ true → IsBypassable g block
+detour_bypassable g block d named = record { to = d.to; jump = d.leads.jump; other = d.leads.other; way = inr (record { detour = d; is_named = named }) }
 
 alone_is : (block n : ℕ) → is_listed (block ∷ []) n ≡ true → n ≡ block
 alone_is block n e = elim (or_cases (nat_eq n block) (is_listed [] n) e) [ inl here ↦ eqb-true n block here | inr none ↦ absurd (cc) ]
@@ -245,7 +312,7 @@ pub none_chosen : (g : Graph) (blocks gone aims : List ℕ) → blocks ≡ [] �
 none_chosen g blocks gone aims no_blocks none =
     subst (λ bs. AreChosen g bs gone aims) (sym no_blocks)
     (record {
-      together = record { detours = λ n e. absurd (cc); are_named = λ n e. absurd (cc); apart = λ n to e. absurd (cc); once = tt };
+      together = record { go = λ n e. absurd (cc); apart = λ n to e. absurd (cc); once = tt };
       listed = λ n. ap (λ ns. is_listed ns n) none;
       aimed = λ n to e. absurd (let no : is_listed gone n ≡ false = ap (λ ns. is_listed ns n) none in cc);
     })
@@ -266,8 +333,8 @@ module _ (g : Graph) (blocks more gone gone' aims aims' : List ℕ) (block to : 
 
   not_itself : to ≢ block
   not_itself e =
-      let target : to ≡ too.detour.to = let f : Some to ≡ Some too.detour.to = sym too.jump ∙ too.detour.leads.jump in cc in
-      too.detour.leads.other (sym target ∙ e)
+      let target : to ≡ too.goes.to = let f : Some to ≡ Some too.goes.to = sym too.jump ∙ too.goes.jump in cc in
+      too.goes.other (sym target ∙ e)
 
   apart_too : (n k : ℕ) → is_listed more n ≡ true → jump_from g n ≡ Some k → is_listed more k ≡ false
   apart_too n k e leads =
@@ -286,8 +353,7 @@ module _ (g : Graph) (blocks more gone gone' aims aims' : List ℕ) (block to : 
   pub chosen_more : AreChosen g more gone' aims'
   chosen_more = record {
     together = record {
-      detours = λ n e. elim (either n e) [ inl old ↦ c.together.detours n old | inr now ↦ subst (IsDetour g) (sym now) too.detour ];
-      are_named = λ n e. elim (either n e) [ inl old ↦ c.together.are_named n old | inr now ↦ subst (λ k. is_among (uses g) k ≡ true) (sym now) too.is_named ];
+      go = λ n e. elim (either n e) [ inl old ↦ c.together.go n old | inr now ↦ subst (IsBypassable g) (sym now) too.goes ];
       apart = apart_too;
       once = subst AreOnce (sym pushed) (once_more blocks block c.together.once (sym (c.listed block) ∙ too.is_new));
     };

@@ -1,6 +1,6 @@
 use Rattle.std.proofs.Common.{ap, is_some, ◌∙◌}
 use Rattle.sq_live.proofs.Layouts.{block_at}
-use Rattle.sq_jumps.proofs.detour.detours_together.Goals as goal
+use Rattle.sq_jumps.proofs.lone.jumps_together.Goals as goal
 
 pub choose-requires-clause-block : goal.choose-requires-clause-block
 choose-requires-clause-block c =
