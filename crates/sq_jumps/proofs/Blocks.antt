@@ -13,7 +13,7 @@ use Rattle.sq_graph.specs.Terms.{goes_on}
 use Rattle.sq_lookup.proofs.Targets.{has_term}
 use Rattle.std.specs.Prelude.{option_map}
 use Rattle.sq_arena.specs.Entries.{first_key, next_key, value_of, HasDistinctKeys}
-use Rattle.sq_graph.specs.Renames.{retargeted_term, retargeted_block, retargeted, swapped}
+use Rattle.sq_graph.specs.Renames.{retargeted_term, retargeted_block, swapped}
 use Rattle.sq_graph.proofs.Located.{located}
 use Rattle.sq_graph.proofs.SlotReads.{block_at}
 use Rattle.sq_graph.proofs.SplitRules.{last_goes_on-append}
@@ -70,11 +70,8 @@ names-retargeted f (b ∷ bs) = ap (λ ks. b.name ∷ ks) (names-retargeted f bs
 pub next-term : (g : Graph) (block n : ℕ) (t : Term) → next_of (with_term g block t) n ≡ next_of g n
 next-term g block n t = next_names (with_blocks (λ b. record b { term = t } ∷ []) g.blocks block) g.blocks n (names-changed (λ b. record b { term = t }) g.blocks block (λ b. refl))
 
-pub next-retargeted : (f : ℕ → ℕ) (g : Graph) (n : ℕ) → next_of (retargeted f g) n ≡ next_of g n
-next-retargeted f g n = next_names (map (retargeted_block f) g.blocks) g.blocks n (names-retargeted f g.blocks)
-
 pub next-redirected : (g : Graph) (from to n : ℕ) → next_of (redirected g from to) n ≡ next_of g n
-next-redirected g from to n = next-retargeted (swapped from to) g n
+next-redirected g from to n = next_names (map (retargeted_block (swapped from to)) g.blocks) g.blocks n (names-retargeted (swapped from to) g.blocks)
 
 pub record HasFirst (bs : List Block) (name : ℕ) : Type 0 where
   pub block : Block

@@ -22,9 +22,11 @@ use Rattle.sq_patch.specs.LoneJumps.{IsDetourTo, without_jump}
 use Rattle.sq_layout.specs.Branches.{BranchReaches}
 use Rattle.sq_lookup.specs.Names.{is_listed, Adds}
 use Rattle.sq_jumps.specs.UnreachedClear.{AreOnce}
+use Rattle.sq_pass.specs.declared.cut.Row.{Row}
+use Rattle.sq_pass.specs.declared.cut.Row.TheVariants.{J1, J2}
 use Rattle.sq_jumps.specs.Fall.{JumpsToNext}
 use Rattle.sq_jumps.specs.Detour.{IsDetour}
-use Rattle.sq_jumps.specs.Lone.{IsNamedDetour, IsBypassable, GoTogether, GoesToo, AreChosen}
+use Rattle.sq_jumps.specs.Lone.{IsNamedDetour, IsBypassable, GoTogether, IsFree, AreChosen}
 use Rattle.sq_lookup.specs.Addresses.{address_of}
 use Rattle.sq_jumps.specs.Surveys.{ReachesBy, ReachesWithout}
 use Rattle.sq_layout.proofs.Standing.{block_of-without, block_of-retargeted}
@@ -113,11 +115,11 @@ some_before f (Some b) e = refl
 -- WHAT GOES
 
 -- the rules hold once it went
-pub bypassed_rules : (g : Graph) (n : ℕ) → IsGraph g → (d : IsBypassable g n) → IsGraph (without_jump g n d.to)
-bypassed_rules g n rules d =
+pub bypassed_rules : (row : Row) (g : Graph) (n : ℕ) → IsGraph g → (d : IsBypassable row g n) → IsGraph (without_jump g n d.to)
+bypassed_rules row g n rules d =
     elim d.way [
-      | inl slot ↦ over_rules g n d.to rules d.jump slot
-      | inr named ↦ detour_rules g n d.to rules (leads_to named)
+      | inl falls ↦ over_rules g n d.to rules d.jump falls.1
+      | inr leads ↦ detour_rules g n d.to rules (leads_to leads.1)
     ]
   where
     leads_to : IsNamedDetour g n → IsDetourTo g n d.to
@@ -125,7 +127,7 @@ bypassed_rules g n rules d =
 
 -- TWO LONE JUMPS
 
-module _ (g : Graph) (gone : ℕ) (rules : IsGraph g) (d : IsBypassable g gone) where
+module _ (row : Row) (g : Graph) (gone : ℕ) (rules : IsGraph g) (d : IsBypassable row g gone) where
   abbrev to : ℕ
   to = d.to
 
@@ -136,7 +138,7 @@ module _ (g : Graph) (gone : ℕ) (rules : IsGraph g) (d : IsBypassable g gone) 
   h = without_jump g gone d.to
 
   left : IsGraph h
-  left = bypassed_rules g gone rules d
+  left = bypassed_rules row g gone rules d
 
   is_gone : block_of h gone ≡ None
   is_gone = gone_block (map (retargeted_block f) g.blocks) gone (lone_redirected g gone to d.jump rules).distinct
@@ -157,8 +159,8 @@ module _ (g : Graph) (gone : ℕ) (rules : IsGraph g) (d : IsBypassable g gone) 
   ends_before : (n before : ℕ) (was : Term) → n ≢ d.to → next_of g before ≡ Some gone → next_of g gone ≡ Some n → term_of g before ≡ Some was → goes_on was ≡ false
   ends_before n before was not_target into behind e =
       elim d.way [
-        | inl slot ↦ absurd (not_target (let same : Some n ≡ Some d.to = sym behind ∙ slot in cc))
-        | inr named ↦ named.detour.leads.apart before was into e
+        | inl falls ↦ absurd (not_target (let same : Some n ≡ Some d.to = sym behind ∙ falls.1 in cc))
+        | inr leads ↦ leads.1.detour.leads.apart before was into e
       ]
 
   jump : (n target : ℕ) → n ≢ gone → target ≢ gone → jump_from g n ≡ Some target → jump_from h n ≡ Some target
@@ -225,8 +227,8 @@ none_of_two true b e = absurd (cc)
 none_of_two false b e = (refl, e)
 
 -- once the first went, the others go together still
-module _ (g : Graph) (gone : ℕ) (rest : List ℕ) (rules : IsGraph g) (t : GoTogether g (gone ∷ rest)) where
-  pub first : IsBypassable g gone
+module _ (row : Row) (g : Graph) (gone : ℕ) (rest : List ℕ) (rules : IsGraph g) (t : GoTogether row g (gone ∷ rest)) where
+  pub first : IsBypassable row g gone
   first = t.go gone (here_listed gone rest)
 
   pub aside : is_listed (gone ∷ rest) first.to ≡ false
@@ -236,7 +238,7 @@ module _ (g : Graph) (gone : ℕ) (rest : List ℕ) (rules : IsGraph g) (t : GoT
     too : is_listed (gone ∷ rest) n ≡ true
     too = or_right (nat_eq n gone) (is_listed rest n) listed
 
-    own : IsBypassable g n
+    own : IsBypassable row g n
     own = t.go n too
 
     not_gone : n ≢ gone
@@ -250,7 +252,7 @@ module _ (g : Graph) (gone : ℕ) (rest : List ℕ) (rules : IsGraph g) (t : GoT
     no_target same = absurd (let none : is_listed (gone ∷ rest) n ≡ false = ap (is_listed (gone ∷ rest)) same ∙ aside in let some : is_listed (gone ∷ rest) n ≡ true = too in cc)
 
     jump_still : jump_from (without_jump g gone first.to) n ≡ Some own.to
-    jump_still = jump g gone rules first n own.to not_gone (aim_stays own.to own.jump) own.jump
+    jump_still = jump row g gone rules first n own.to not_gone (aim_stays own.to own.jump) own.jump
 
     pub term_still : term_of (without_jump g gone first.to) n ≡ term_of g n
     term_still =
@@ -259,16 +261,20 @@ module _ (g : Graph) (gone : ℕ) (rest : List ℕ) (rules : IsGraph g) (t : GoT
 
     named_still : IsNamedDetour g n → IsNamedDetour (without_jump g gone first.to) n
     named_still p = record {
-      detour = detour_still g gone rules first n not_gone p.detour (aim_stays p.detour.to p.detour.leads.jump) no_target;
+      detour = detour_still row g gone rules first n not_gone p.detour (aim_stays p.detour.to p.detour.leads.jump) no_target;
       is_named = name_used g gone first.to rules first.jump n (ne_eqb first.to n (λ same. no_target (sym same))) (ne_eqb n gone not_gone) p.is_named;
     }
 
-    still : IsBypassable (without_jump g gone first.to) n
+    still : IsBypassable row (without_jump g gone first.to) n
     still = record {
       to = own.to;
       jump = jump_still;
       other = own.other;
-      way = elim own.way [ inl slot ↦ inl (next_left g gone rules first n own.to not_gone (aim_stays own.to own.jump) slot) | inr named ↦ inr (named_still named) ];
+      way =
+          elim own.way [
+            | inl falls ↦ inl (falls.0, next_left row g gone rules first n own.to not_gone (aim_stays own.to own.jump) falls.1)
+            | inr leads ↦ inr (leads.0, named_still leads.1)
+          ];
     }
 
     apart_still : (to : ℕ) → jump_from (without_jump g gone first.to) n ≡ Some to → is_listed rest to ≡ false
@@ -276,19 +282,23 @@ module _ (g : Graph) (gone : ℕ) (rest : List ℕ) (rules : IsGraph g) (t : GoT
         let same : to ≡ own.to = let f : Some to ≡ Some own.to = sym e ∙ jump_still in cc in
         ap (is_listed rest) same ∙ (none_of_two (nat_eq own.to gone) (is_listed rest own.to) (t.apart n own.to too own.jump)).1
 
-  pub rest_together : GoTogether (without_jump g gone first.to) rest
+  pub rest_together : GoTogether row (without_jump g gone first.to) rest
   rest_together = record { go = still; apart = λ n to listed. apart_still n listed to; once = t.once.1 }
 
 -- WHICH BLOCKS ARE CHOSEN
 
-pub next_bypassable : (g : Graph) (block to : ℕ) → IsGraph g → jump_from g block ≡ Some to → JumpsToNext g block → IsBypassable g block
-next_bypassable g block to rules jump j =
-    let same : j.to ≡ to = let f : Some (Jump j.to) ≡ Some (Jump to) = sym j.jump ∙ lone_term g block to (lone g block to jump) in cc in
-    let slot : next_of g block ≡ Some to = j.next ∙ ap Some same in
-    record { to = to; jump = jump; other = next_other g block to rules jump slot; way = inl slot }
+pub next_bypassable : (g : Graph) (block : ℕ) → IsGraph g → is_some (jump_from g block) ≡ true → JumpsToNext g block → IsBypassable J1 g block
+next_bypassable g block rules some j = by_target (jump_from g block) refl
+  where
+    by_target : (o : Option ℕ) → jump_from g block ≡ o → IsBypassable J1 g block
+    by_target None is = absurd (let none : is_some (jump_from g block) ≡ false = ap is_some is in cc)
+    by_target (Some to) is =
+        let same : j.to ≡ to = let f : Some (Jump j.to) ≡ Some (Jump to) = sym j.jump ∙ lone_term g block to (lone g block to is) in cc in
+        let slot : next_of g block ≡ Some to = j.next ∙ ap Some same in
+        record { to = to; jump = is; other = next_other g block to rules is slot; way = inl (refl, slot) }
 
-pub detour_bypassable : (g : Graph) (block : ℕ) → IsDetour g block → is_among (uses g) block ≡ true → IsBypassable g block
-detour_bypassable g block d named = record { to = d.to; jump = d.leads.jump; other = d.leads.other; way = inr (record { detour = d; is_named = named }) }
+pub detour_bypassable : (g : Graph) (block : ℕ) → IsDetour g block → is_among (uses g) block ≡ true → IsBypassable J2 g block
+detour_bypassable g block d named = record { to = d.to; jump = d.leads.jump; other = d.leads.other; way = inr (refl, record { detour = d; is_named = named }) }
 
 alone_is : (block n : ℕ) → is_listed (block ∷ []) n ≡ true → n ≡ block
 alone_is block n e = elim (or_cases (nat_eq n block) (is_listed [] n) e) [ inl here ↦ eqb-true n block here | inr none ↦ absurd (cc) ]
@@ -308,16 +318,16 @@ pub on_ok : {X : Type 0} (r : Result X Memory) (P Q : Type 0) → (P → Q) → 
 on_ok (Ok x) P Q leads p = leads p
 on_ok (Err memory) P Q leads p = p
 
-pub none_chosen : (g : Graph) (blocks gone aims : List ℕ) → blocks ≡ [] → gone ≡ [] → AreChosen g blocks gone aims
-none_chosen g blocks gone aims no_blocks none =
-    subst (λ bs. AreChosen g bs gone aims) (sym no_blocks)
+pub none_chosen : (row : Row) (g : Graph) (blocks gone aims : List ℕ) → blocks ≡ [] → gone ≡ [] → AreChosen row g blocks gone aims
+none_chosen row g blocks gone aims no_blocks none =
+    subst (λ bs. AreChosen row g bs gone aims) (sym no_blocks)
     (record {
       together = record { go = λ n e. absurd (cc); apart = λ n to e. absurd (cc); once = tt };
       listed = λ n. ap (λ ns. is_listed ns n) none;
       aimed = λ n to e. absurd (let no : is_listed gone n ≡ false = ap (λ ns. is_listed ns n) none in cc);
     })
 
-module _ (g : Graph) (blocks more gone gone' aims aims' : List ℕ) (block to : ℕ) (c : AreChosen g blocks gone aims) (too : GoesToo g gone aims block to) (pushed : more ≡ blocks ++ block ∷ []) (set : Adds (block ∷ []) gone gone') (led : Adds (to ∷ []) aims aims') where
+module _ (row : Row) (g : Graph) (blocks more gone gone' aims aims' : List ℕ) (block to : ℕ) (c : AreChosen row g blocks gone aims) (goes : IsBypassable row g block) (too : IsFree g gone aims block to) (pushed : more ≡ blocks ++ block ∷ []) (set : Adds (block ∷ []) gone gone') (led : Adds (to ∷ []) aims aims') where
   more_is : (n : ℕ) → is_listed more n ≡ (is_listed blocks n || is_listed (block ∷ []) n)
   more_is n = ap (λ ns. is_listed ns n) pushed ∙ is_listed-append blocks (block ∷ []) n
 
@@ -333,8 +343,8 @@ module _ (g : Graph) (blocks more gone gone' aims aims' : List ℕ) (block to : 
 
   not_itself : to ≢ block
   not_itself e =
-      let target : to ≡ too.goes.to = let f : Some to ≡ Some too.goes.to = sym too.jump ∙ too.goes.jump in cc in
-      too.goes.other (sym target ∙ e)
+      let target : to ≡ goes.to = let f : Some to ≡ Some goes.to = sym too.jump ∙ goes.jump in cc in
+      goes.other (sym target ∙ e)
 
   apart_too : (n k : ℕ) → is_listed more n ≡ true → jump_from g n ≡ Some k → is_listed more k ≡ false
   apart_too n k e leads =
@@ -350,10 +360,10 @@ module _ (g : Graph) (blocks more gone gone' aims aims' : List ℕ) (block to : 
             rw (none, alone_not block k (λ s. not_itself (sym is_to ∙ s))) refl
       ]
 
-  pub chosen_more : AreChosen g more gone' aims'
+  pub chosen_more : AreChosen row g more gone' aims'
   chosen_more = record {
     together = record {
-      go = λ n e. elim (either n e) [ inl old ↦ c.together.go n old | inr now ↦ subst (IsBypassable g) (sym now) too.goes ];
+      go = λ n e. elim (either n e) [ inl old ↦ c.together.go n old | inr now ↦ subst (IsBypassable row g) (sym now) goes ];
       apart = apart_too;
       once = subst AreOnce (sym pushed) (once_more blocks block c.together.once (sym (c.listed block) ∙ too.is_new));
     };

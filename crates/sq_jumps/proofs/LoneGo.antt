@@ -7,56 +7,53 @@ use Rattle.sq_num.specs.declared.packed.Savings.{Savings}
 use Rattle.sq_isa.specs.Registers.{is_among}
 use Rattle.sq_graph.specs.declared.item.Term.TheVariants.{Jump}
 use Rattle.sq_graph.specs.Graph.{Graph}
-use Rattle.sq_graph.specs.Blocks.{HasBlock, block_of, block_term, next_of, term_of}
+use Rattle.sq_graph.specs.Blocks.{HasBlock, term_of}
 use Rattle.sq_graph.specs.Leaders.{IsCanonical}
 use Rattle.sq_graph.specs.Operations.{redirected, without_block}
 use Rattle.sq_graph.specs.Redirected.{named_by, goes_to, redirected_each}
-use Rattle.sq_graph.specs.Renames.{retargeted, retargeted_block, retargeted_term, swapped}
+use Rattle.sq_graph.specs.Renames.{retargeted, retargeted_block, swapped}
 use Rattle.sq_graph.specs.Rules.{IsGraph}
 use Rattle.sq_graph.specs.Words.{words_of}
 use Rattle.sq_graph.proofs.Bypassing.{retargeted_twice, retargeted_same}
 use Rattle.sq_graph.proofs.OperationRules.{retargeted_rules}
 use Rattle.sq_layout.proofs.Standing.{block_of-retargeted}
 use Rattle.sq_lookup.specs.Names.{is_listed}
-use Rattle.sq_lookup.proofs.Targets.{jump_there, lone, lone_term, IsLone}
+use Rattle.sq_lookup.proofs.Targets.{jump_there, lone, lone_term}
 use Rattle.sq_patch.specs.LoneJumps.{without_jump}
 use Rattle.sq_num.specs.Saved.{words_saved}
 use Rattle.sq_pass.specs.declared.cut.Row.{Row}
-use Rattle.sq_pass.specs.declared.cut.Row.TheVariants.{J1, J2}
 use Rattle.sq_pass.specs.Counted.{counted}
 use Rattle.sq_pass.specs.Rewrites.{IsRewritten}
 use Rattle.sq_pass.proofs.Rewriting.{rewritten_itself, rewritten_through}
 use Rattle.sq_jumps.specs.Candidates.{IsCandidate, described}
-use Rattle.sq_jumps.specs.Fall.{JumpsToNext}
-use Rattle.sq_jumps.specs.Lone.{IsBypassable, GoesBy, GoTogether}
-use Rattle.sq_jumps.proofs.Blocks.{next-retargeted}
+use Rattle.sq_jumps.specs.Lone.{IsBypassable, GoTogether}
 use Rattle.sq_jumps.proofs.DetourApplied.{detour_made, detour_applied}
 use Rattle.sq_jumps.proofs.DetourKept.{without-retargeted, detour_rewritten}
 use Rattle.sq_jumps.proofs.FallApplied.{fall_applied}
 use Rattle.sq_jumps.proofs.LoneFalls.{over_rewritten}
 use Rattle.sq_jumps.proofs.LoneApart.{none_of_two, among_listed, bypassed_rules, first, aside, term_still, rest_together}
 
-jump_term : (g : Graph) (n : ℕ) (d : IsBypassable g n) → term_of g n ≡ Some (Jump d.to)
-jump_term g n d = lone_term g n d.to (lone g n d.to d.jump)
+jump_term : (row : Row) (g : Graph) (n : ℕ) (d : IsBypassable row g n) → term_of g n ≡ Some (Jump d.to)
+jump_term row g n d = lone_term g n d.to (lone g n d.to d.jump)
 
 -- the rules hold once the uses went
-pub together_rules : (g : Graph) (blocks : List ℕ) → IsGraph g → GoTogether g blocks → IsGraph (redirected_each blocks g)
-together_rules g blocks rules t = retargeted_rules (goes_to g blocks) g rules there
+pub together_rules : (row : Row) (g : Graph) (blocks : List ℕ) → IsGraph g → GoTogether row g blocks → IsGraph (redirected_each blocks g)
+together_rules row g blocks rules t = retargeted_rules (goes_to g blocks) g rules there
   where
     there : (k : ℕ) → HasBlock g k → HasBlock g (goes_to g blocks k)
     there k has =
         elim (cases_Bool (is_among blocks k)) [
           | inl listed ↦
               let d = t.go k (sym (among_listed blocks k) ∙ listed) in
-              rw listed (subst (λ o. HasBlock g (named_by k o)) (sym (jump_term g k d)) (jump_there g k d.to rules d.jump))
+              rw listed (subst (λ o. HasBlock g (named_by k o)) (sym (jump_term row g k d)) (jump_there g k d.to rules d.jump))
           | inr other ↦ rw other has
         ]
 
 -- THE FIRST GOES
 
-module _ (g : Graph) (gone : ℕ) (rest : List ℕ) (rules : IsGraph g) (t : GoTogether g (gone ∷ rest)) where
+module _ (row : Row) (g : Graph) (gone : ℕ) (rest : List ℕ) (rules : IsGraph g) (t : GoTogether row g (gone ∷ rest)) where
   abbrev to : ℕ
-  to = (first g gone rest rules t).to
+  to = (first row g gone rest rules t).to
 
   abbrev h : Graph
   h = without_jump g gone to
@@ -64,10 +61,10 @@ module _ (g : Graph) (gone : ℕ) (rest : List ℕ) (rules : IsGraph g) (t : GoT
   gone_goes : goes_to h rest (swapped gone to gone) ≡ goes_to g (gone ∷ rest) gone
   gone_goes =
       let itself : (gone == gone) ≡ true = eq-eqb gone gone refl in
-      let stays : is_among rest to ≡ false = among_listed rest to ∙ (none_of_two (nat_eq to gone) (is_listed rest to) (aside g gone rest rules t)).1 in
+      let stays : is_among rest to ≡ false = among_listed rest to ∙ (none_of_two (nat_eq to gone) (is_listed rest to) (aside row g gone rest rules t)).1 in
       ap (λ b. goes_to h rest (if b then to else gone)) itself
       ∙ ap (λ b. if b then named_by to (term_of h to) else to) stays
-      ∙ sym (ap (λ b. if b || is_among rest gone then named_by gone (term_of g gone) else gone) itself ∙ ap (named_by gone) (jump_term g gone (first g gone rest rules t)))
+      ∙ sym (ap (λ b. if b || is_among rest gone then named_by gone (term_of g gone) else gone) itself ∙ ap (named_by gone) (jump_term row g gone (first row g gone rest rules t)))
 
   each_goes : (n : ℕ) → goes_to h rest (swapped gone to n) ≡ goes_to g (gone ∷ rest) n
   each_goes n =
@@ -77,7 +74,7 @@ module _ (g : Graph) (gone : ℕ) (rest : List ℕ) (rules : IsGraph g) (t : GoT
             let other : (n == gone) ≡ false = ne_eqb n gone (λ same. eqb-false gone n apart (sym same)) in
             ap (λ b. goes_to h rest (if b then to else n)) other
             ∙ elim (cases_Bool (is_among rest n)) [
-              | inl listed ↦ rw (apart, listed) (ap (named_by n) (term_still g gone rest rules t n (sym (among_listed rest n) ∙ listed)))
+              | inl listed ↦ rw (apart, listed) (ap (named_by n) (term_still row g gone rest rules t n (sym (among_listed rest n) ∙ listed)))
               | inr none ↦ rw (apart, none) refl
             ]
       ]
@@ -92,51 +89,43 @@ module _ (g : Graph) (gone : ℕ) (rest : List ℕ) (rules : IsGraph g) (t : GoT
 -- ONE REWRITE
 
 -- each takes a word
-one_word : (g : Graph) (n : ℕ) → IsGraph g → IsBypassable g n → 1 ≤ words_of g
-one_word g n rules d =
+one_word : (row : Row) (g : Graph) (n : ℕ) → IsGraph g → IsBypassable row g n → 1 ≤ words_of g
+one_word row g n rules d =
     elim d.way [
-      | inl slot ↦ let fall = fall_applied g n rules (record { to = d.to; jump = jump_term g n d; next = slot }) in omega (arith, fall.words)
-      | inr named ↦ omega (arith, (detour_applied g n rules named.detour).words)
+      | inl falls ↦ omega (arith, (fall_applied g n rules (record { to = d.to; jump = jump_term row g n d; next = falls.1 })).words)
+      | inr leads ↦ omega (arith, (detour_applied g n rules leads.1.detour).words)
     ]
 
 -- by its row it goes
-bypass_rewritten : (g h : Graph) (n : ℕ) (row : Row) (before after : Savings) → IsGraph g → IsCanonical g → (d : IsBypassable g n) → GoesBy g n row → h ≡ without_jump g n d.to → after ≡ counted before row 1 → IsRewritten IsCandidate described before after g h
-bypass_rewritten g h n row before after rules canonical d by is counts = elim by [ inl falls ↦ fallen falls | inr leads ↦ gone leads ]
-  where
-    fallen : (row ≡ J1) × JumpsToNext g n → IsRewritten IsCandidate described before after g h
-    fallen falls =
-        let same : falls.1.to ≡ d.to = let f : Some (Jump falls.1.to) ≡ Some (Jump d.to) = sym falls.1.jump ∙ jump_term g n d in cc in
-        over_rewritten g n d.to rules d.jump (falls.1.next ∙ ap Some same) h before after canonical is (counts ∙ ap (λ r. counted before r 1) falls.0)
-
-    gone : (row ≡ J2) × (¬ JumpsToNext g n) → IsRewritten IsCandidate described before after g h
-    gone leads =
-        elim d.way [
-          | inl slot ↦ absurd (leads.1 (record { to = d.to; jump = jump_term g n d; next = slot }))
-          | inr named ↦
-              detour_rewritten g h n before after rules canonical named.detour named.is_named (is ∙ sym (detour_made g n d.to d.jump))
-              (counts ∙ ap (λ r. counted before r 1) leads.0)
-        ]
+bypass_rewritten : (row : Row) (g h : Graph) (n : ℕ) (before after : Savings) → IsGraph g → IsCanonical g → (d : IsBypassable row g n) → h ≡ without_jump g n d.to → after ≡ counted before row 1 → IsRewritten IsCandidate described before after g h
+bypass_rewritten row g h n before after rules canonical d is counts =
+    elim d.way [
+      | inl falls ↦ over_rewritten g n d.to rules d.jump falls.1 h before after canonical is (counts ∙ ap (λ r. counted before r 1) falls.0)
+      | inr leads ↦
+          detour_rewritten g h n before after rules canonical leads.1.detour leads.1.is_named (is ∙ sym (detour_made g n d.to d.jump))
+          (counts ∙ ap (λ r. counted before r 1) leads.0)
+    ]
 
 -- ALL GO
 
 -- some went by one rewrite each, and the others have given their uses away
-pub record Goes (old now : Graph) (before after : Savings) (rest : List ℕ) : Type 0 where
+pub record Goes (row : Row) (old now : Graph) (before after : Savings) (rest : List ℕ) : Type 0 where
   pub left : Graph
   pub rules : IsGraph left
   pub rewritten : IsRewritten IsCandidate described before after old left
-  pub together : GoTogether left rest
+  pub together : GoTogether row left rest
   pub is : now ≡ redirected_each rest left
 
-pub none_gone : (g now : Graph) (before : Savings) (blocks : List ℕ) → IsGraph g → IsCanonical g → GoTogether g blocks → now ≡ redirected_each blocks g → Goes g now before before blocks
-none_gone g now before blocks rules canonical t is =
+pub none_gone : (row : Row) (g now : Graph) (before : Savings) (blocks : List ℕ) → IsGraph g → IsCanonical g → GoTogether row g blocks → now ≡ redirected_each blocks g → Goes row g now before before blocks
+none_gone row g now before blocks rules canonical t is =
     record { left = g; rules = rules; rewritten = rewritten_itself IsCandidate described before g canonical; together = t; is = is }
 
-module _ (old now : Graph) (before after : Savings) (n : ℕ) (rest : List ℕ) (goes : Goes old now before after (n ∷ rest)) where
+module _ (row : Row) (old now : Graph) (before after : Savings) (n : ℕ) (rest : List ℕ) (goes : Goes row old now before after (n ∷ rest)) where
   abbrev g : Graph
   g = goes.left
 
-  abbrev d : IsBypassable g n
-  d = first g n rest goes.rules goes.together
+  abbrev d : IsBypassable row g n
+  d = first row g n rest goes.rules goes.together
 
   abbrev f : ℕ → ℕ
   f = goes_to g (n ∷ rest)
@@ -144,55 +133,30 @@ module _ (old now : Graph) (before after : Savings) (n : ℕ) (rest : List ℕ) 
   abbrev next : Graph
   next = without_jump g n d.to
 
-  alone : IsLone g n d.to
-  alone = lone g n d.to d.jump
-
-  found : block_of now n ≡ Some (retargeted_block f alone.block)
-  found = ap (λ (k : Graph). block_of k n) goes.is ∙ block_of-retargeted f g.blocks n ∙ ap (option_map (retargeted_block f)) alone.found
-
   pub there : HasBlock now n
-  there = ap is_some found
-
-  -- it leads where it led, and stands where it stood
-  term_now : term_of now n ≡ Some (Jump d.to)
-  term_now =
-      let stays : is_among (n ∷ rest) d.to ≡ false = among_listed (n ∷ rest) d.to ∙ aside g n rest goes.rules goes.together in
-      ap block_term found ∙ ap (λ t. Some (retargeted_term f t)) alone.term ∙ ap (λ b. Some (Jump (if b then named_by d.to (term_of g d.to) else d.to))) stays
-
-  next_now : next_of now n ≡ next_of g n
-  next_now = ap (λ (k : Graph). next_of k n) goes.is ∙ next-retargeted f g n
-
-  goes_by : (row : Row) → GoesBy now n row → GoesBy g n row
-  goes_by row by =
-      elim by [
-        | inl falls ↦
-            let same : falls.1.to ≡ d.to = let e : Some (Jump falls.1.to) ≡ Some (Jump d.to) = sym falls.1.jump ∙ term_now in cc in
-            inl (falls.0, record { to = d.to; jump = jump_term g n d; next = sym next_now ∙ falls.1.next ∙ ap Some same })
-        | inr leads ↦
-            inr (leads.0, λ j. leads.1
-            (let same : j.to ≡ d.to = let e : Some (Jump j.to) ≡ Some (Jump d.to) = sym j.jump ∙ jump_term g n d in cc in
-            record { to = d.to; jump = term_now; next = next_now ∙ j.next ∙ ap Some same }))
-      ]
+  there =
+      subst (λ (k : Graph). HasBlock k n) (sym goes.is)
+      (ap is_some (block_of-retargeted f g.blocks n ∙ ap (option_map (retargeted_block f)) (lone g n d.to d.jump).found))
 
   next_is : without_block now n ≡ redirected_each rest next
-  next_is = ap (λ k. without_block k n) goes.is ∙ first_goes g n rest goes.rules goes.together
+  next_is = ap (λ k. without_block k n) goes.is ∙ first_goes row g n rest goes.rules goes.together
 
   next_rules : IsGraph next
-  next_rules = bypassed_rules g n goes.rules d
+  next_rules = bypassed_rules row g n goes.rules d
 
-  next_together : GoTogether next rest
-  next_together = rest_together g n rest goes.rules goes.together
+  next_together : GoTogether row next rest
+  next_together = rest_together row g n rest goes.rules goes.together
 
   pub rules_left : IsGraph (without_block now n)
-  rules_left = subst IsGraph (sym next_is) (together_rules next rest next_rules next_together)
+  rules_left = subst IsGraph (sym next_is) (together_rules row next rest next_rules next_together)
 
   -- it can be counted
   pub fits : words_saved after + 1 ≤ words_of old + words_saved before
-  fits = omega (arith, one_word g n goes.rules d, goes.rewritten.total, goes.rewritten.lighter.words)
+  fits = omega (arith, one_word row g n goes.rules d, goes.rewritten.total, goes.rewritten.lighter.words)
 
-  pub one_gone : (row : Row) (more : Savings) (new : Graph) → GoesBy now n row → more ≡ counted after row 1 → new ≡ without_block now n → Goes old new before more rest
-  one_gone row more new by counts is =
-      let one = bypass_rewritten g next n row after more goes.rules goes.rewritten.lighter.canonical d (goes_by row by) refl counts in
+  pub one_gone : (more : Savings) (new : Graph) → more ≡ counted after row 1 → new ≡ without_block now n → Goes row old new before more rest
+  one_gone more new counts is =
+      let one = bypass_rewritten row g next n after more goes.rules goes.rewritten.lighter.canonical d refl counts in
       record {
         left = next;
         rules = next_rules;
@@ -201,5 +165,5 @@ module _ (old now : Graph) (before after : Savings) (n : ℕ) (rest : List ℕ) 
         is = is ∙ next_is;
       }
 
-pub all_gone : (old now : Graph) (before after : Savings) → Goes old now before after [] → IsRewritten IsCandidate described before after old now
-all_gone old now before after goes = subst (IsRewritten IsCandidate described before after old) (sym (goes.is ∙ retargeted_same goes.left)) goes.rewritten
+pub all_gone : (row : Row) (old now : Graph) (before after : Savings) → Goes row old now before after [] → IsRewritten IsCandidate described before after old now
+all_gone row old now before after goes = subst (IsRewritten IsCandidate described before after old) (sym (goes.is ∙ retargeted_same goes.left)) goes.rewritten
