@@ -32,7 +32,7 @@ use Rattle.sq_jumps.specs.Surveys.{ReachesBy, ReachesWithout}
 use Rattle.sq_layout.proofs.Standing.{block_of-without, block_of-retargeted}
 use Rattle.sq_lookup.proofs.Targets.{has_term, jump_there, lone, lone_term}
 use Rattle.sq_jumps.proofs.DetourApplied.{detour_to, detour_shrinks, detour_rules, lone_redirected}
-use Rattle.sq_jumps.proofs.LoneFalls.{next_other, over_rules}
+use Rattle.sq_jumps.proofs.LoneFalls.{next_other, lone_fall_rules}
 use Rattle.sq_jumps.proofs.Blocks.{retargeted_before, gone_block, goes_on-retargeted, next-redirected}
 use Rattle.sq_jumps.proofs.Distances.{detour_near}
 use Rattle.sq_jumps.proofs.Booleans.{or_cases}
@@ -118,7 +118,7 @@ some_before f (Some b) e = refl
 pub bypassed_rules : (row : Row) (g : Graph) (n : ℕ) → IsGraph g → (d : IsBypassable row g n) → IsGraph (without_jump g n d.to)
 bypassed_rules row g n rules d =
     elim d.way [
-      | inl falls ↦ over_rules g n d.to rules d.jump falls.1
+      | inl falls ↦ lone_fall_rules g n d.to rules d.jump falls.1
       | inr leads ↦ detour_rules g n d.to rules (leads_to leads.1)
     ]
   where

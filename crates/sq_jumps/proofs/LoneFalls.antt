@@ -126,8 +126,8 @@ module _ (name : ℕ) (n : Block) (rest : List Block) (back_apart : value_of (na
           | inr follows_it ↦ or_right used follows (follows-other f (front ++ n ∷ rest) n.name ∙ follows_over front front_apart follows_it)
         ]
 
-    pub over_kept : IsCanonical old → IsCanonical left
-    over_kept canonical = record {
+    pub lone_fall_kept : IsCanonical old → IsCanonical left
+    lone_fall_kept canonical = record {
       no_bare = solid-other f (front ++ n ∷ rest) (solid_still name n.name (n ∷ rest) front canonical.no_bare);
       leaders = falls-other f (is_leader left) (front ++ n ∷ rest) (falls_over (is_leader old) (is_leader left) leads_elsewhere target_leads front front_apart target_apart once canonical.leaders);
     }
@@ -175,8 +175,8 @@ module _ (g : Graph) (block to : ℕ) (rules : IsGraph g) (jump : jump_from g bl
   next_other same = absurd (let apart : (n.name == block) ≡ false = (absent_tail n rest block absent).0 in let here : (n.name == block) ≡ true = eq-eqb n.name block (next.has_name ∙ same) in cc)
 
   -- the rules hold once it went
-  pub over_rules : IsGraph (without_jump g block to)
-  over_rules =
+  pub lone_fall_rules : IsGraph (without_jump g block to)
+  lone_fall_rules =
       without_block_rules (redirected g block to) block (lone_redirected g block to jump rules) (lone_there g block to jump) (redirected_unused g block to next_other)
       (ap is_some (next-redirected g block to block ∙ slot))
 
@@ -197,10 +197,10 @@ module _ (g : Graph) (block to : ℕ) (rules : IsGraph g) (jump : jump_from g bl
   target_once : value_of (named rest) n.name ≡ None
   target_once = absent_behind (n.name, n) (named rest) (distinct_back (named (front ++ jumping block n.name (n ∷ rest) ∷ [])) ((n.name, n) ∷ named rest) keyed)
 
-  pub over_canonical : IsCanonical g → IsCanonical (without_jump g block to)
-  over_canonical canonical =
+  pub lone_fall_canonical : IsCanonical g → IsCanonical (without_jump g block to)
+  lone_fall_canonical canonical =
       let left : IsCanonical (retargeted (swapped block n.name) (record g { blocks = front ++ n ∷ rest })) =
-      over_kept block n rest absent g front (spot g block to rules jump).ahead target_apart target_once (subst (λ bs. IsCanonical (record g { blocks = bs })) whole_is canonical) in
+      lone_fall_kept block n rest absent g front (spot g block to rules jump).ahead target_apart target_once (subst (λ bs. IsCanonical (record g { blocks = bs })) whole_is canonical) in
       subst IsCanonical
       (ap (λ k. retargeted (swapped block k) (record g { blocks = front ++ n ∷ rest })) next.has_name
       ∙ ap (λ bs. retargeted (swapped block to) (record g { blocks = front ++ bs })) (sym next.is)
@@ -228,7 +228,7 @@ module _ (g : Graph) (block to : ℕ) (rules : IsGraph g) (jump : jump_from g bl
       let solid : All Solid (front ++ jumping block to back ∷ back) = subst (λ bs. All Solid bs) (whole g block to rules jump) canonical.no_bare in
       let ahead : All Solid front = All-left Solid front (jumping block to back ∷ back) solid in
       let later : All Solid back = All-tail Solid (jumping block to back) back (All-right Solid front (jumping block to back ∷ back) solid) in
-      let k = over_canonical canonical in
+      let k = lone_fall_canonical canonical in
       ap joined
       (ap (λ bs. bypassed_each bs (falling g block)) fallen
       ∙ bypassed_behind front (bare ∷ back) (falling g block) ahead
@@ -237,8 +237,8 @@ module _ (g : Graph) (block to : ℕ) (rules : IsGraph g) (jump : jump_from g bl
       ∙ sym (solid_joined (without_jump g block to) k.no_bare)
       ∙ canonical_again (without_jump g block to) k
 
-  pub over_rewritten : (h : Graph) (was now : Savings) → IsCanonical g → h ≡ without_jump g block to → now ≡ counted was J1 1 → IsRewritten IsCandidate described was now g h
-  over_rewritten h was now canonical is counts =
+  pub lone_fall_rewritten : (h : Graph) (was now : Savings) → IsCanonical g → h ≡ without_jump g block to → now ≡ counted was J1 1 → IsRewritten IsCandidate described was now g h
+  lone_fall_rewritten h was now canonical is counts =
       let mid_rules = fall_rules g block to rules jumps.jump slot in
       let made : h ≡ canonical_of (falling g block) = is ∙ sym (canonical_is canonical) in
-      row_rewritten J1 block was now g (falling g block) h jumps (fall_applied g block rules jumps) mid_rules made (subst IsCanonical (sym is) (over_canonical canonical)) (ap words_of made ∙ canonical_keeps_words (falling g block) mid_rules) counts
+      row_rewritten J1 block was now g (falling g block) h jumps (fall_applied g block rules jumps) mid_rules made (subst IsCanonical (sym is) (lone_fall_canonical canonical)) (ap words_of made ∙ canonical_keeps_words (falling g block) mid_rules) counts

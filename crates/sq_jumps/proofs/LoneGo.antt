@@ -30,7 +30,7 @@ use Rattle.sq_jumps.specs.Lone.{IsBypassable, GoTogether}
 use Rattle.sq_jumps.proofs.DetourApplied.{detour_made, detour_applied}
 use Rattle.sq_jumps.proofs.DetourKept.{without-retargeted, detour_rewritten}
 use Rattle.sq_jumps.proofs.FallApplied.{fall_applied}
-use Rattle.sq_jumps.proofs.LoneFalls.{over_rewritten}
+use Rattle.sq_jumps.proofs.LoneFalls.{lone_fall_rewritten}
 use Rattle.sq_jumps.proofs.LoneApart.{none_of_two, among_listed, bypassed_rules, first, aside, term_still, rest_together}
 
 jump_term : (row : Row) (g : Graph) (n : ℕ) (d : IsBypassable row g n) → term_of g n ≡ Some (Jump d.to)
@@ -100,7 +100,7 @@ one_word row g n rules d =
 bypass_rewritten : (row : Row) (g h : Graph) (n : ℕ) (before after : Savings) → IsGraph g → IsCanonical g → (d : IsBypassable row g n) → h ≡ without_jump g n d.to → after ≡ counted before row 1 → IsRewritten IsCandidate described before after g h
 bypass_rewritten row g h n before after rules canonical d is counts =
     elim d.way [
-      | inl falls ↦ over_rewritten g n d.to rules d.jump falls.1 h before after canonical is (counts ∙ ap (λ r. counted before r 1) falls.0)
+      | inl falls ↦ lone_fall_rewritten g n d.to rules d.jump falls.1 h before after canonical is (counts ∙ ap (λ r. counted before r 1) falls.0)
       | inr leads ↦
           detour_rewritten g h n before after rules canonical leads.1.detour leads.1.is_named (is ∙ sym (detour_made g n d.to d.jump))
           (counts ∙ ap (λ r. counted before r 1) leads.0)

@@ -243,13 +243,12 @@ impl Pass for Jumps {
     }
 
     /// A few looks at the whole graph; for each round of lone Jumps one at all uses of names; and for each candidate of J1,
-    /// J2 and J3 that the first five walks leave, a look at each word a few times.
+    /// J2 and J3 that the other walks leave, a look at each word a few times.
     fn sweep(&self, alloc: Global, graph: &mut Graph, savings: Savings) -> Result<Savings, Memory> {
         let after_calls = sweep_calls(alloc, graph, savings)?;
         let after_detours = sweep_lone_jumps(alloc, graph, Row::J2, after_calls)?;
         let after_branches = sweep_branches(alloc, graph, after_detours)?;
         let after_falls = sweep_falls(alloc, graph, after_branches)?;
-        let after_lone_falls = sweep_lone_jumps(alloc, graph, Row::J1, after_falls)?;
-        sweep_jumps(alloc, graph, after_lone_falls)
+        sweep_jumps(alloc, graph, after_falls)
     }
 }

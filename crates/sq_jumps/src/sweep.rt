@@ -13,6 +13,7 @@ ghost use Rattle.sq_pass.specs.Rewrites.{IsRewritten};
 
 use crate::fall::jumps_to_next;
 use crate::jumps::{apply_row, jump_row};
+use crate::lone::sweep_lone_jumps;
 use crate::survey::survey_of;
 use sq_graph::Graph;
 use sq_live::block_names;
@@ -95,8 +96,8 @@ fn rewrite_each(
     Ok(after)
 }
 
-/// Rewrites the graph at the blocks that are candidates of J1, J2 and J3 when it begins, in layout order. It looks at the
-/// whole graph once, and then for each of these blocks.
+/// Rewrites the graph at the blocks that are candidates of J1, J2 and J3 when it begins: first at lone Jumps to the next slot,
+/// many at once, and then at the others, in layout order. It looks at the whole graph once, and then for each of the others.
 pub(crate) fn sweep_jumps(
     alloc: Global,
     graph: &mut Graph,
@@ -108,5 +109,9 @@ pub(crate) fn sweep_jumps(
     ensures follows { Follows graph.old.graph graph.new.graph }
 {
     let blocks = jump_blocks(alloc, graph)?;
-    rewrite_each(alloc, graph, &blocks, savings)
+    if blocks.is_empty() {
+        return Ok(savings);
+    }
+    let after_falls = sweep_lone_jumps(alloc, graph, Row::J1, savings)?;
+    rewrite_each(alloc, graph, &blocks, after_falls)
 }

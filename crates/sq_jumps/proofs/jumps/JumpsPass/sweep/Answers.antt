@@ -18,13 +18,6 @@ returns-in_err-after_falls-clause-follows c =
     let branches = graph_follows_through c.args.graph.now.graph c.sweep_lone_jumps.new.graph.graph c.sweep_branches.new.graph.graph detours c.sweep_branches.ensures.follows in
     graph_follows_through c.args.graph.now.graph c.sweep_branches.new.graph.graph c.sweep_falls.new.graph.graph branches c.sweep_falls.ensures.follows
 
-pub returns-in_err-after_lone_falls-clause-follows : goal.returns-in_err-after_lone_falls-clause-follows
-returns-in_err-after_lone_falls-clause-follows c =
-    let detours = graph_follows_through c.args.graph.now.graph c.sweep_calls.new.graph.graph c.sweep_lone_jumps.new.graph.graph c.sweep_calls.ensures.follows c.sweep_lone_jumps.ensures.follows in
-    let branches = graph_follows_through c.args.graph.now.graph c.sweep_lone_jumps.new.graph.graph c.sweep_branches.new.graph.graph detours c.sweep_branches.ensures.follows in
-    let falls = graph_follows_through c.args.graph.now.graph c.sweep_branches.new.graph.graph c.sweep_falls.new.graph.graph branches c.sweep_falls.ensures.follows in
-    graph_follows_through c.args.graph.now.graph c.sweep_falls.new.graph.graph c.sweep_lone_jumps-2.new.graph.graph falls c.sweep_lone_jumps-2.ensures.follows
-
 pub returns-clause-rewritten : goal.returns-clause-rewritten
 returns-clause-rewritten c =
     let old = c.args.graph.now.graph in
@@ -32,13 +25,11 @@ returns-clause-rewritten c =
     let detours = rewritten_through IsCandidate described savings c.in_ok-after_calls.after_calls c.in_ok-after_detours.after_detours old c.sweep_calls.new.graph.graph c.sweep_lone_jumps.new.graph.graph c.in_ok-after_calls.ensures.rewritten c.in_ok-after_detours.ensures.rewritten in
     let branches = rewritten_through IsCandidate described savings c.in_ok-after_detours.after_detours c.in_ok-after_branches.after_branches old c.sweep_lone_jumps.new.graph.graph c.sweep_branches.new.graph.graph detours c.in_ok-after_branches.ensures.rewritten in
     let falls = rewritten_through IsCandidate described savings c.in_ok-after_branches.after_branches c.in_ok-after_falls.after_falls old c.sweep_branches.new.graph.graph c.sweep_falls.new.graph.graph branches c.in_ok-after_falls.ensures.rewritten in
-    let lone_falls = rewritten_through IsCandidate described savings c.in_ok-after_falls.after_falls c.in_ok-after_lone_falls.after_lone_falls old c.sweep_falls.new.graph.graph c.sweep_lone_jumps-2.new.graph.graph falls c.in_ok-after_lone_falls.ensures.rewritten in
-    swept_on savings c.in_ok-after_lone_falls.after_lone_falls old c.sweep_lone_jumps-2.new.graph.graph c.sweep_jumps.new.graph.graph c.sweep_jumps.result lone_falls c.sweep_jumps.ensures.rewritten
+    swept_on savings c.in_ok-after_falls.after_falls old c.sweep_falls.new.graph.graph c.sweep_jumps.new.graph.graph c.sweep_jumps.result falls c.sweep_jumps.ensures.rewritten
 
 pub returns-clause-follows : goal.returns-clause-follows
 returns-clause-follows c =
     let detours = graph_follows_through c.args.graph.now.graph c.sweep_calls.new.graph.graph c.sweep_lone_jumps.new.graph.graph c.sweep_calls.ensures.follows c.sweep_lone_jumps.ensures.follows in
     let branches = graph_follows_through c.args.graph.now.graph c.sweep_lone_jumps.new.graph.graph c.sweep_branches.new.graph.graph detours c.sweep_branches.ensures.follows in
     let falls = graph_follows_through c.args.graph.now.graph c.sweep_branches.new.graph.graph c.sweep_falls.new.graph.graph branches c.sweep_falls.ensures.follows in
-    let lone_falls = graph_follows_through c.args.graph.now.graph c.sweep_falls.new.graph.graph c.sweep_lone_jumps-2.new.graph.graph falls c.sweep_lone_jumps-2.ensures.follows in
-    graph_follows_through c.args.graph.now.graph c.sweep_lone_jumps-2.new.graph.graph c.sweep_jumps.new.graph.graph lone_falls c.sweep_jumps.ensures.follows
+    graph_follows_through c.args.graph.now.graph c.sweep_falls.new.graph.graph c.sweep_jumps.new.graph.graph falls c.sweep_jumps.ensures.follows
