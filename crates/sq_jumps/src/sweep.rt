@@ -12,6 +12,7 @@ ghost use Rattle.sq_pass.specs.declared.cut.Row.{Row as RowName};
 ghost use Rattle.sq_pass.specs.Rewrites.{IsRewritten};
 
 use crate::fall::jumps_to_next;
+use crate::invert::sweep_branches;
 use crate::jumps::{apply_row, jump_row};
 use crate::lone::sweep_lone_jumps;
 use crate::survey::survey_of;
@@ -96,8 +97,22 @@ fn rewrite_each(
     Ok(after)
 }
 
-/// Rewrites the graph at the blocks that are candidates of J1, J2 and J3 when it begins: first at lone Jumps to the next slot,
-/// many at once, and then at the others, in layout order. It looks at the whole graph once, and then for each of the others.
+/// Rewrites the graph by the walks that take many candidates of J2, J3, or J1 at lone Jumps, by one look: those that came to be
+/// near since words behind them went.
+fn sweep_many(alloc: Global, graph: &mut Graph, savings: Savings) -> Result<Savings, Memory>
+    requires canonical { IsCanonical graph.old.graph }
+    requires words { words_of graph.old.graph + words_saved savings ≤ most_words }
+    ensures rewritten { IfOk result (λ after. IsRewritten IsCandidate described savings after graph.old.graph graph.new.graph) }
+    ensures follows { Follows graph.old.graph graph.new.graph }
+{
+    let after_detours = sweep_lone_jumps(alloc, graph, Row::J2, savings)?;
+    let after_branches = sweep_branches(alloc, graph, after_detours)?;
+    sweep_lone_jumps(alloc, graph, Row::J1, after_branches)
+}
+
+/// Rewrites the graph where blocks are candidates of J1, J2 and J3 when it begins: first by walks that take many of them at
+/// once, and then at those that are left, in layout order. It looks at the whole graph a few times, and then for each of
+/// these.
 pub(crate) fn sweep_jumps(
     alloc: Global,
     graph: &mut Graph,
@@ -112,6 +127,6 @@ pub(crate) fn sweep_jumps(
     if blocks.is_empty() {
         return Ok(savings);
     }
-    let after_falls = sweep_lone_jumps(alloc, graph, Row::J1, savings)?;
-    rewrite_each(alloc, graph, &blocks, after_falls)
+    let after_walks = sweep_many(alloc, graph, savings)?;
+    rewrite_each(alloc, graph, &blocks, after_walks)
 }

@@ -15,8 +15,8 @@ returns-then-is_empty-clause-follows c = graph_follows_itself c.args.graph.now.g
 
 pub returns-clause-rewritten : goal.returns-clause-rewritten
 returns-clause-rewritten c =
-    swept_on c.args.savings c.in_ok-after_falls.after_falls c.args.graph.now.graph c.sweep_lone_jumps.new.graph.graph c.rewrite_each.new.graph.graph c.rewrite_each.result c.in_ok-after_falls.ensures.rewritten c.rewrite_each.ensures.rewritten
+    swept_on c.args.savings c.in_ok-after_walks.after_walks c.args.graph.now.graph c.sweep_many.new.graph.graph c.rewrite_each.new.graph.graph c.rewrite_each.result c.in_ok-after_walks.ensures.rewritten c.rewrite_each.ensures.rewritten
 
 pub returns-clause-follows : goal.returns-clause-follows
 returns-clause-follows c =
-    graph_follows_through c.args.graph.now.graph c.sweep_lone_jumps.new.graph.graph c.rewrite_each.new.graph.graph c.sweep_lone_jumps.ensures.follows c.rewrite_each.ensures.follows
+    graph_follows_through c.args.graph.now.graph c.sweep_many.new.graph.graph c.rewrite_each.new.graph.graph c.sweep_many.ensures.follows c.rewrite_each.ensures.follows

@@ -1,0 +1,20 @@
+use Rattle.sq_follow.proofs.Following.{graph_follows_through}
+use Rattle.sq_pass.proofs.Rewriting.{rewritten_through}
+use Rattle.sq_jumps.specs.Candidates.{IsCandidate, described}
+use Rattle.sq_jumps.proofs.sweep.sweep_many.Goals as goal
+use Rattle.sq_jumps.proofs.Rewritten.{swept_on}
+
+pub returns-in_err-after_branches-clause-follows : goal.returns-in_err-after_branches-clause-follows
+returns-in_err-after_branches-clause-follows c =
+    graph_follows_through c.args.graph.now.graph c.sweep_lone_jumps.new.graph.graph c.sweep_branches.new.graph.graph c.sweep_lone_jumps.ensures.follows c.sweep_branches.ensures.follows
+
+pub returns-clause-rewritten : goal.returns-clause-rewritten
+returns-clause-rewritten c =
+    let old = c.args.graph.now.graph in
+    let branches = rewritten_through IsCandidate described c.args.savings c.in_ok-after_detours.after_detours c.in_ok-after_branches.after_branches old c.sweep_lone_jumps.new.graph.graph c.sweep_branches.new.graph.graph c.in_ok-after_detours.ensures.rewritten c.in_ok-after_branches.ensures.rewritten in
+    swept_on c.args.savings c.in_ok-after_branches.after_branches old c.sweep_branches.new.graph.graph c.sweep_lone_jumps-2.new.graph.graph c.sweep_lone_jumps-2.result branches c.sweep_lone_jumps-2.ensures.rewritten
+
+pub returns-clause-follows : goal.returns-clause-follows
+returns-clause-follows c =
+    let branches = graph_follows_through c.args.graph.now.graph c.sweep_lone_jumps.new.graph.graph c.sweep_branches.new.graph.graph c.sweep_lone_jumps.ensures.follows c.sweep_branches.ensures.follows in
+    graph_follows_through c.args.graph.now.graph c.sweep_branches.new.graph.graph c.sweep_lone_jumps-2.new.graph.graph branches c.sweep_lone_jumps-2.ensures.follows
