@@ -171,7 +171,7 @@ module _ {X : Type 0} where
 
   -- ---- what is in them
 
-  abbrev Numbered : ℕ → List (Option ℕ) → List X → X → Type 0
+  abbrev pub Numbered : ℕ → List (Option ℕ) → List X → X → Type 0
   Numbered n numbers xs x = (i : ℕ) × ((slice_get numbers i ≡ Some (Some n)) × (slice_get xs i ≡ Some x))
 
   numbered_member : (n : ℕ) (numbers : List (Option ℕ)) (xs : List X) (x : X) → Numbered n numbers xs x → (j : ℕ) × (slice_get (members_of n numbers xs) j ≡ Some x)
@@ -209,7 +209,7 @@ module _ {X : Type 0} where
   pub at_contains : (xs : List X) (i : ℕ) (x : X) → slice_get xs i ≡ Some x → Contains xs x
   at_contains xs i x e = (i, slice_get_within xs i x e, get_or_from_slice_get xs i x x e)
 
-  in_numbered : (numbers : List (Option ℕ)) (xs : List X) (n : ℕ) (x : X) → IsIn (groups_of numbers xs) n x → Numbered n numbers xs x
+  pub in_numbered : (numbers : List (Option ℕ)) (xs : List X) (n : ℕ) (x : X) → IsIn (groups_of numbers xs) n x → Numbered n numbers xs x
   in_numbered numbers xs n x (group, (at, there)) =
       let c = length-map-range_with_len (λ k. members_of k numbers xs) 0 (group_count numbers) in
       let l : n < group_count numbers = let l = slice_get_within (groups_of numbers xs) n group at in omega arith in
@@ -217,7 +217,7 @@ module _ {X : Type 0} where
       let h = contains_at group x there in
       member_numbered n numbers xs x h.0 (subst (λ g. slice_get g h.0 ≡ Some x) e h.1)
 
-  numbered_in : (numbers : List (Option ℕ)) (xs : List X) (n : ℕ) (x : X) → Numbered n numbers xs x → IsIn (groups_of numbers xs) n x
+  pub numbered_in : (numbers : List (Option ℕ)) (xs : List X) (n : ℕ) (x : X) → Numbered n numbers xs x → IsIn (groups_of numbers xs) n x
   numbered_in numbers xs n x h =
       let l : n < group_count numbers = let l = counted numbers h.0 n h.1.0 in omega arith in
       let c = length-map-range_with_len (λ k. members_of k numbers xs) 0 (group_count numbers) in

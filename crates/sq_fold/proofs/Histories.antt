@@ -1,5 +1,5 @@
 -- The rounds so far, and what tells two places apart after one of them.
-use Rattle.std.proofs.Common.{◌≡◌, ℕ, suc, ◌+◌, List, [], ◌∷◌, ◌++◌, Option, sym, ap, ◌∙◌, subst}
+use Rattle.std.proofs.Common.{◌≡◌, ℕ, suc, List, [], ◌∷◌, ◌++◌, Option, sym, ap, ◌∙◌, subst}
 use Rattle.sq_fold.specs.declared.rounds.Node.{Node}
 use Rattle.sq_fold.specs.Stable.{after, rounds_to, IsFinerBy, AreAllRounds}
 use Rattle.sq_fold.proofs.Refining.{Rounds, rounds_first, rounds_next}

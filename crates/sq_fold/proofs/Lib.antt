@@ -1,7 +1,7 @@
 mod Bareness
 pub mod Blocks
 mod Finding
-mod Going
+mod Relabelling
 mod Growing
 mod Histories
 mod Leading
@@ -11,3 +11,4 @@ mod Places
 pub mod Referred
 mod Refining
 mod Shapes
+mod Splits

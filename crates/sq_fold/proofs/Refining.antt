@@ -8,8 +8,10 @@ use lib.Pointwise.{pointwise}
 use Rattle.std.specs.Cmp.{IsEquivalence}
 use Rattle.std.specs.Option.{option_map, option_eq}
 use Rattle.sq_finger.specs.Exact.{IsExact}
+use Rattle.sq_finger.specs.Groups.{group_count}
 use Rattle.sq_finger.specs.Numbers.{member_at, AreNumbers}
 use Rattle.sq_finger.proofs.Exactness.{exact_number, exact_option}
+use Rattle.sq_finger.proofs.Grouping.{count_below}
 use Rattle.sq_finger.proofs.Keyed.{equivalence}
 use Rattle.sq_finger.proofs.Numbering.{numbers_are}
 use Rattle.sq_finger.proofs.Telling.{numbers_of_keys}
@@ -53,6 +55,9 @@ are_numbers nodes classes finer made = subst (AreNumbers is_same_key (keys_by no
 
 pub finer_many : (nodes : List Node) (classes finer : List (Option ℕ)) → IsFinerBy nodes classes finer → length finer ≡ length nodes
 finer_many nodes classes finer made = (are_numbers nodes classes finer made).many ∙ length-map nodes (λ node. Some (seen_by (member_at classes) node))
+
+pub finer_count : (nodes : List Node) (classes finer : List (Option ℕ)) → IsFinerBy nodes classes finer → group_count finer ≤ length nodes
+finer_count nodes classes finer made = count_below finer (length nodes) (λ i n e. subst (λ m. n < m) (length-map nodes (λ node. Some (seen_by (member_at classes) node))) ((are_numbers nodes classes finer made).below i n e))
 
 pub same_view : (nodes : List Node) (classes finer : List (Option ℕ)) → IsFinerBy nodes classes finer → (i j : ℕ) → (member_at finer i ≡ member_at finer j) ↔ (view nodes (member_at classes) i ≡ view nodes (member_at classes) j)
 same_view nodes classes finer made i j =

@@ -5,6 +5,7 @@
 //! they are of different classes; and that `references` are those of a block in order.
 #![tactic(auto)]
 
+mod classes;
 mod grouping;
 mod history;
 mod indexing;
@@ -12,8 +13,8 @@ mod labelling;
 mod nodes;
 mod referring;
 mod rounds;
+mod splitting;
 mod walking;
-mod ways;
 
 pub use grouping::{Grouping, partition};
 pub use referring::references;

@@ -5,7 +5,8 @@ ghost use Rattle.std.specs.Option.{option_map};
 ghost use Rattle.sq_finger.specs.Numbers.{member_at, AreNumbersOf};
 ghost use Rattle.sq_fold.specs.Stable.{seen_by, keys_by, IsFinerBy, IsCoarsest};
 
-use crate::ways::labelled_by_ways;
+use crate::classes::class_of;
+use crate::splitting::labelled_by_classes;
 use sq_finger::number_all;
 use sq_num::Memory;
 use std::alloc::Global;
@@ -23,7 +24,7 @@ fn class_at(classes: &[Option<u32>], place: Option<u32>) -> Option<Option<u32>>
     ensures { result ≡ option_map (member_at classes.now) place }
 {
     let Some(place) = place else { return None };
-    Some(classes.get(place as usize).copied().flatten())
+    Some(class_of(classes, place))
 }
 
 // What tells the nodes apart once their classes are known; one round more.
@@ -68,6 +69,6 @@ pub fn coarsest(alloc: Global, nodes: &[Node]) -> Result<Vec<Option<u32>>, Memor
     ensures some { IfOk result (λ classes. (i : ℕ) → i < length nodes.now → IsSome (member_at classes.items i)) }
     ensures coarsest { IfOk result (λ classes. IsCoarsest nodes.now (member_at classes.items)) }
 {
-    let labelled = labelled_by_ways(alloc, nodes)?;
+    let labelled = labelled_by_classes(alloc, nodes)?;
     by_rounds(alloc, &labelled)
 }

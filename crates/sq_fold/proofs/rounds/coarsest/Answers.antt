@@ -2,7 +2,7 @@ use Rattle.std.proofs.Common.{◌≡◌, ◌<◌, ℕ, length, IsSome, ap, ◌�
 use Rattle.std.proofs.lemmas.Result.{IfOk-weaker}
 use Rattle.sq_finger.specs.Numbers.{member_at}
 use Rattle.sq_fold.specs.Stable.{IsCoarsest}
-use Rattle.sq_fold.proofs.Going.{coarsest_by}
+use Rattle.sq_fold.proofs.Relabelling.{coarsest_by}
 use Rattle.sq_fold.proofs.rounds.coarsest.Goals as goal
 
 pub by_rounds-requires : goal.by_rounds-requires

@@ -1,4 +1,4 @@
-use Rattle.std.proofs.Common.{◌≡◌, ◌-◌, suc, length, Some, sym, subst, arith}
+use Rattle.std.proofs.Common.{◌≡◌, ◌-◌, suc, length, sym, subst, arith}
 use Rattle.std.specs.HashMap.{get}
 use Rattle.sq_finger.specs.Classes.{is_same_kind}
 use Rattle.sq_fold.proofs.Levels.{Walking, walking_first, walking_next, walking_end, walking_stuck, walking_zero, some_rounds}

@@ -1,5 +1,5 @@
-use Rattle.sq_fold.proofs.Going.{LabelledTo}
-use Rattle.sq_fold.proofs.ways.with_labels.Given as goal
+use Rattle.sq_fold.proofs.Relabelling.{LabelledTo}
+use Rattle.sq_fold.proofs.splitting.with_labels.Given as goal
 
 abbrev pub invariant-loop-i : goal.invariant-loop-i
 invariant-loop-i l = LabelledTo l.nodes l.labels l.i l.found.items
