@@ -14,7 +14,7 @@ some_same e = cc
 
 -- ---- lists
 
-get_past : {X : Type 0} (xs : List X) (i : ℕ) → length xs ≤ i → slice_get xs i ≡ None
+pub get_past : {X : Type 0} (xs : List X) (i : ℕ) → length xs ≤ i → slice_get xs i ≡ None
 get_past [] i l = refl
 get_past (x ∷ xs) zero l = absurd (omega arith)
 get_past (x ∷ xs) (suc i) l = get_past xs i (omega arith)
@@ -24,7 +24,7 @@ get_front [] ys i l = absurd (omega arith)
 get_front (x ∷ xs) ys zero l = refl
 get_front (x ∷ xs) ys (suc i) l = get_front xs ys i (omega arith)
 
-get_last : {X : Type 0} (xs : List X) (x : X) → slice_get (xs ++ x ∷ []) (length xs) ≡ Some x
+pub get_last : {X : Type 0} (xs : List X) (x : X) → slice_get (xs ++ x ∷ []) (length xs) ≡ Some x
 get_last [] x = refl
 get_last (y ∷ xs) x = get_last xs x
 

@@ -17,6 +17,7 @@ use Rattle.sq_fold.specs.declared.rounds.Node.{Node}
 use Rattle.sq_fold.specs.Splitting.{AreTogether, AreSound, IsWhole, HasWholeClasses, AreListed, AreLeft, ArePut, IsSplit, LeadsTo, AreSources, AreInGroups, node_by, labelled}
 use Rattle.sq_fold.specs.Stable.{seen_by, view, IsFinerBy}
 use Rattle.sq_fold.proofs.Refining.{same_view, view_coarser, finer_many}
+use Rattle.sq_fold.proofs.Relabelling.{get_past, get_last}
 
 some_same : {X : Type 0} {x y : X} → Some x ≡ Some y → x ≡ y
 some_same e = cc
@@ -28,19 +29,10 @@ there [] i l = absurd (omega arith)
 there (x ∷ xs) zero l = (x, refl)
 there (x ∷ xs) (suc i) l = there xs i (omega arith)
 
-past : {X : Type 0} (xs : List X) (i : ℕ) → length xs ≤ i → slice_get xs i ≡ None
-past [] i l = refl
-past (x ∷ xs) zero l = absurd (omega arith)
-past (x ∷ xs) (suc i) l = past xs i (omega arith)
-
 get_front : {X : Type 0} (xs ys : List X) (i : ℕ) (x : X) → slice_get xs i ≡ Some x → slice_get (xs ++ ys) i ≡ Some x
 get_front [] ys i x e = absurd (cc)
 get_front (y ∷ xs) ys zero x e = e
 get_front (y ∷ xs) ys (suc i) x e = get_front xs ys i x e
-
-get_last : {X : Type 0} (xs : List X) (x : X) → slice_get (xs ++ x ∷ []) (length xs) ≡ Some x
-get_last [] x = refl
-get_last (y ∷ xs) x = get_last xs x
 
 get_set_same : {X : Type 0} (xs : List X) (i : ℕ) (x : X) → i < length xs → slice_get (set xs i x) i ≡ Some x
 get_set_same [] i x l = absurd (omega arith)
@@ -119,7 +111,7 @@ module _ (nodes : List Node) where
     | inl m ↦ m
     | inr m ↦
         let a = there nodes i l in
-        absurd (let e = sym (ap (option_map (seen_by other)) a.1) ∙ stable i j same ∙ ap (option_map (seen_by other)) (past nodes j m) in cc)
+        absurd (let e = sym (ap (option_map (seen_by other)) a.1) ∙ stable i j same ∙ ap (option_map (seen_by other)) (get_past nodes j m) in cc)
   ]
 
   edge_on : (other : ℕ → ℕ) (o p : Option ℕ) (k : ℕ) → option_map other o ≡ option_map other p → o ≡ Some k → (l : ℕ) × ((p ≡ Some l) × (other k ≡ other l))
@@ -159,9 +151,6 @@ module _ (nodes : List Node) where
     | inr d ↦ Contains-append_right xs ys j (also i j t d)
   ]
 
-  pub whole_none : IsWhole nodes []
-  whole_none i j t c = absurd (let l = c.1 in omega arith)
-
   -- ---- sound classes
 
   pub first_sound : (numbers : List (Option ℕ)) → IsFinerBy nodes [] numbers → AreSound nodes numbers
@@ -192,7 +181,7 @@ module _ (nodes : List Node) where
   }
     where
       nothing : (i : ℕ) → length nodes ≤ i → member_at new i ≡ None
-      nothing i l = ap option_flatten (past new i (let m = put.many in let k = sound.many in omega arith))
+      nothing i l = ap option_flatten (get_past new i (let m = put.many in let k = sound.many in omega arith))
 
   -- ---- parts
 
@@ -214,10 +203,10 @@ module _ (nodes : List Node) where
           ∙ same (sound.above i j t) (ap (λ s. s.1) seen) (ap (λ s. s.2) seen)
           ∙ sym (seen_at j b.0 (ap (λ o. unwrap_or o none) b.1))
       | inr l ↦
-          seen_at i none (ap (λ o. unwrap_or o none) (past nodes i l)) ∙ same (sound.above i j t) refl refl
+          seen_at i none (ap (λ o. unwrap_or o none) (get_past nodes i l)) ∙ same (sound.above i j t) refl refl
           ∙ sym (elim (cases_lt j (length nodes)) [
             | inl m ↦ absurd (let k = together_within j i (together_back i j t) m in omega arith)
-            | inr m ↦ seen_at j none (ap (λ o. unwrap_or o none) (past nodes j m))
+            | inr m ↦ seen_at j none (ap (λ o. unwrap_or o none) (get_past nodes j m))
           ])
     ]
       where
@@ -275,9 +264,6 @@ left_whole lists classes class list left listed is are i j e c =
     let was = listed j class f in
     (are j).1 (subst (λ l. Contains l j) (some_same (sym was.1.0 ∙ is)) was.1.1, f)
 
-pub none_whole : (classes : List (Option ℕ)) → HasWholeClasses classes []
-none_whole classes i j e c = absurd (let l = c.1 in omega arith)
-
 -- ---- what comes so far
 
 contains_next : (xs : List ℕ) (k x : ℕ) → slice_get xs k ≡ Some x → (y : ℕ) → Contains (take (k + 1) xs) y ↔ (Contains (take k xs) y ⊎ (x ≡ y))
@@ -321,13 +307,6 @@ module _ (list : List ℕ) (classes : List (Option ℕ)) (class : ℕ) where
     )
 
 -- places that are put
-
-pub put_first : (class : ℕ) (old : List (Option ℕ)) → ArePut [] class old old
-put_first class old = record {
-  many = refl;
-  put = λ i l c. nothing_yet i c;
-  kept = λ i none. refl;
-}
 
 module _ (places : List ℕ) (class : ℕ) (old now : List (Option ℕ)) (k place : ℕ) (at : slice_get places k ≡ Some place) (are : ArePut (take k places) class old now) where
   pub put_more : place < length now → ArePut (take (k + 1) places) class old (set now place (Some class))

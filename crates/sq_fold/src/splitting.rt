@@ -146,8 +146,8 @@ fn split(
     Ok(changed)
 }
 
-// Classes in rounds that look only at what goes on to a node whose class was split: of the two parts the smaller counts as
-// changed. Each round but the last one splits a class, so there are no more of them than nodes.
+// Classes in rounds that look only at what goes on to a change: of two parts of a class the smaller has changed. Each round
+// but the last one splits a class, so there are no more of them than nodes; and no more nodes lead to a change than there are.
 fn split_classes(alloc: Global, nodes: &[Node]) -> Result<Classes, Memory>
     requires { length nodes.now < 2 ^ 32 }
     ensures { IfOk result (AreSound nodes.now) }
