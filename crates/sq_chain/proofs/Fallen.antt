@@ -15,10 +15,10 @@ use Rattle.sq_graph.specs.Soundness.{IsSound}
 use Rattle.sq_graph.proofs.Changes.{with_blocks-at}
 use Rattle.sq_graph.proofs.Located.{named-append}
 use Rattle.sq_graph.proofs.OperationRules.{with_term_rules}
-use Rattle.sq_follow.specs.Follows.{Follows}
-use Rattle.sq_follow.proofs.Following.{graph_follows_itself, graph_follows_through}
+use Rattle.law_follow.specs.Follows.{Follows}
+use Rattle.law_follow.proofs.Following.{graph_follows_itself, graph_follows_through}
 use Rattle.sq_lookup.proofs.Targets.{has_term}
-use Rattle.sq_patch.proofs.OneBlock.{fall_follows, fall_sound}
+use Rattle.law_patch.proofs.OneBlock.{fall_follows, fall_sound}
 use Rattle.sq_chain.specs.Moves.{JumpsToNext, fallen_term, fallen_blocks, fallen}
 use Rattle.sq_chain.proofs.Near.{here, found_here}
 use Rattle.sq_chain.proofs.OneMore.{slot_behind}

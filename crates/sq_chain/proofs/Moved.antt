@@ -23,11 +23,11 @@ use Rattle.sq_graph.specs.Words.{block_words, words_of}
 use Rattle.sq_graph.proofs.AlikeGraphs.{alike_itself}
 use Rattle.sq_graph.proofs.CanonicalReach.{canonical_in_reach}
 use Rattle.sq_graph.proofs.RenamedReach.{alike_words}
-use Rattle.sq_follow.specs.Follows.{Follows}
-use Rattle.sq_follow.proofs.Following.{graph_follows_through}
+use Rattle.law_follow.specs.Follows.{Follows}
+use Rattle.law_follow.proofs.Following.{graph_follows_through}
 use Rattle.sq_lookup.proofs.Targets.{has_term, name_listed}
-use Rattle.sq_patch.proofs.Joining.{canonical_follows, canonical_sound}
-use Rattle.sq_patch.proofs.Reordering.{reorder_follows, reorder_sound}
+use Rattle.law_patch.proofs.Joining.{canonical_follows, canonical_sound}
+use Rattle.law_patch.proofs.Reordering.{reorder_follows, reorder_sound}
 use Rattle.sq_pass.specs.declared.cut.Cut.{Cut}
 use Rattle.sq_pass.specs.declared.cut.Row.TheVariants.{L}
 use Rattle.sq_pass.specs.Applied.{KeepsNames, IsApplied}

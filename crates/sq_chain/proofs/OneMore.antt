@@ -25,12 +25,12 @@ use Rattle.sq_graph.proofs.OperationRules.{with_term_rules, inserted_after_rules
 use Rattle.sq_graph.proofs.RulesByBlock.{BlockStands, IsByBlock, by_block, all_named}
 use Rattle.sq_graph.proofs.SlotReads.{block_at}
 use Rattle.sq_graph.proofs.SplitRules.{keeps_names, last_goes_on-append}
-use Rattle.sq_follow.specs.Follows.{Follows}
-use Rattle.sq_follow.proofs.Following.{graph_follows_through}
+use Rattle.law_follow.specs.Follows.{Follows}
+use Rattle.law_follow.proofs.Following.{graph_follows_through}
 use Rattle.sq_lookup.proofs.Targets.{has_term, branch_there}
-use Rattle.sq_patch.specs.LoneJumps.{IsOverJump, exchanged}
-use Rattle.sq_patch.proofs.Exchanging.{exchange_follows, exchange_sound}
-use Rattle.sq_patch.proofs.Inserting.{insert_follows, insert_sound}
+use Rattle.law_patch.specs.LoneJumps.{IsOverJump, exchanged}
+use Rattle.law_patch.proofs.Exchanging.{exchange_follows, exchange_sound}
+use Rattle.law_patch.proofs.Inserting.{insert_follows, insert_sound}
 use Rattle.sq_chain.proofs.Over.{not_new}
 use Rattle.sq_chain.specs.Widening.{jumped_over, over_jump}
 

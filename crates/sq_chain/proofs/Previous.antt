@@ -9,7 +9,7 @@ use Rattle.sq_graph.specs.Blocks.{named, HasBlock, next_of, term_of}
 use Rattle.sq_graph.specs.Rules.{IsGraph}
 use Rattle.sq_graph.specs.Terms.{goes_on}
 use Rattle.sq_graph.proofs.Kept.{absent_behind}
-use Rattle.sq_patch.specs.LoneJumps.{IsApart}
+use Rattle.law_patch.specs.LoneJumps.{IsApart}
 
 -- the name before the block of this name, where this one is before the first
 abbrev pub ahead_of : Option ℕ → List Block → ℕ → Option ℕ

@@ -19,8 +19,8 @@ use Rattle.sq_graph.proofs.Located.{value_of-at}
 use Rattle.sq_graph.proofs.OperationRules.{moved_after_rules}
 use Rattle.sq_layout.proofs.Shrinking.{block_with}
 use Rattle.sq_lookup.proofs.Targets.{targets_there}
-use Rattle.sq_patch.specs.Inserts.{AreReordered}
-use Rattle.sq_patch.specs.LoneJumps.{IsApart}
+use Rattle.law_patch.specs.Inserts.{AreReordered}
+use Rattle.law_patch.specs.LoneJumps.{IsApart}
 use Rattle.sq_chain.specs.Moves.{end_of, chain_end, IsMovable}
 
 -- the last of these blocks, if there is one, doesn't go on

@@ -14,8 +14,8 @@ use Rattle.sq_graph.specs.Rules.{IsGraph}
 use Rattle.sq_graph.specs.Soundness.{IsSound}
 use Rattle.sq_graph.proofs.Located.{named-append}
 use Rattle.sq_graph.proofs.SplitRules.{keeps_names}
-use Rattle.sq_follow.specs.Follows.{Follows}
-use Rattle.sq_follow.proofs.Following.{graph_follows_itself, graph_follows_through}
+use Rattle.law_follow.specs.Follows.{Follows}
+use Rattle.law_follow.proofs.Following.{graph_follows_itself, graph_follows_through}
 use Rattle.sq_live.proofs.Layouts.{IsBlockAt}
 use Rattle.sq_lookup.proofs.Targets.{has_term}
 use Rattle.sq_chain.specs.Widening.{EndsInBranch, jumped_over, over_jump, widened_blocks, widened_by, IsWidened, IsOneWider}

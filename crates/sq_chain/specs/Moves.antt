@@ -10,7 +10,7 @@ use Rattle.sq_graph.specs.Parts.{names_of}
 use Rattle.sq_graph.specs.Rules.{IsGraph}
 use Rattle.sq_graph.specs.Terms.{goes_on}
 use Rattle.sq_graph.specs.Words.{words_of}
-use Rattle.sq_patch.specs.LoneJumps.{IsApart}
+use Rattle.law_patch.specs.LoneJumps.{IsApart}
 use Rattle.sq_chain.specs.Least.{least_widened}
 
 -- the name of the first of these blocks that doesn't go on to its next slot

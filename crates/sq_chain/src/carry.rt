@@ -11,7 +11,7 @@ ghost use Rattle.std.specs.Prelude.{◌≡◌, ◌↔◌, ◌+◌, IsTrue};
 ghost use Rattle.sq_graph.specs.Blocks.{HasBlock};
 ghost use Rattle.sq_graph.specs.Soundness.{IsSound};
 ghost use Rattle.sq_graph.specs.Words.{words_of};
-ghost use Rattle.sq_follow.specs.Follows.{Follows};
+ghost use Rattle.law_follow.specs.Follows.{Follows};
 ghost use Rattle.sq_chain.specs.Moves.{IsMovable, JumpsToNext, carried, fallen};
 
 use crate::chain::end_of_chain;

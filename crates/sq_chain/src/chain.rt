@@ -3,7 +3,7 @@
 ghost use Rattle.std.specs.Prelude.{◌≡◌, ◌↔◌, ℕ, None, Some, IsTrue};
 ghost use Rattle.sq_graph.specs.Blocks.{HasBlock};
 ghost use Rattle.sq_graph.specs.Rules.{IsGraph};
-ghost use Rattle.sq_patch.specs.LoneJumps.{IsApart};
+ghost use Rattle.law_patch.specs.LoneJumps.{IsApart};
 ghost use Rattle.sq_chain.specs.Moves.{chain_end, IsInChain, IsMovable};
 
 use sq_graph::{Graph, Term};

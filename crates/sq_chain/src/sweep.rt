@@ -4,7 +4,7 @@ ghost use Rattle.std.specs.Prelude.{◌≤◌, ◌+◌, IfOk};
 ghost use Rattle.sq_num.specs.Saved.{words_saved};
 ghost use Rattle.sq_graph.specs.Leaders.{IsCanonical};
 ghost use Rattle.sq_graph.specs.Words.{words_of, most_words};
-ghost use Rattle.sq_follow.specs.Follows.{Follows};
+ghost use Rattle.law_follow.specs.Follows.{Follows};
 ghost use Rattle.sq_pass.specs.Rewrites.{IsRewritten};
 ghost use Rattle.sq_chain.specs.Candidates.{IsCandidate, described};
 
@@ -46,7 +46,7 @@ fn sweep_behind(
 /// Moves chains by one look over the blocks in layout order, each where the pair is movable and each Branch reaches then,
 /// and makes the graph canonical after each. It makes no copy of the graph. It may leave moves: those that widen a Branch
 /// and save words still, and those of pairs that came to be movable behind the look.
-#[tactic(auto, using(sq_follow::proofs::Following::graph_follows_through))]
+#[tactic(auto, using(law_follow::proofs::Following::graph_follows_through))]
 pub fn sweep_moves(alloc: Global, graph: &mut Graph, savings: Savings) -> Result<Savings, Memory>
     requires canonical { IsCanonical graph.old.graph }
     requires words { words_of graph.old.graph + words_saved savings ≤ most_words }

@@ -13,7 +13,7 @@ ghost use Rattle.sq_graph.specs.Parts.{names_of};
 ghost use Rattle.sq_graph.specs.Places.{IsInReach};
 ghost use Rattle.sq_graph.specs.Soundness.{IsSound};
 ghost use Rattle.sq_graph.specs.Words.{words_of};
-ghost use Rattle.sq_follow.specs.Follows.{Follows};
+ghost use Rattle.law_follow.specs.Follows.{Follows};
 ghost use Rattle.sq_lookup.specs.Names.{is_listed};
 ghost use Rattle.sq_pass.specs.Applied.{KeepsNames};
 ghost use Rattle.sq_chain.specs.Widening.{EndsInBranch, IsOneWider, size_of, IsWidened};

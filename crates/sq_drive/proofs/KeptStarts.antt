@@ -32,8 +32,8 @@ use Rattle.sq_pass.specs.declared.cut.Row.TheVariants as row_is
 use Rattle.sq_cert.specs.declared.step.Step.{Step}
 use Rattle.sq_cert.specs.declared.step.Step.TheVariants.{J2, J3}
 use Rattle.sq_cert.specs.Steps.{row_of}
-use Rattle.sq_patch.specs.Calls.{called_there}
-use Rattle.sq_patch.specs.LoneJumps.{without_jump}
+use Rattle.law_patch.specs.Calls.{called_there}
+use Rattle.law_patch.specs.LoneJumps.{without_jump}
 use Rattle.sq_chain.specs.Candidates.{moved_by}
 use Rattle.sq_jumps.specs.Candidates.{HasRow}
 use Rattle.sq_jumps.specs.Detour.{IsDetour, without_detour, without_detour_to}

@@ -14,8 +14,8 @@ use Rattle.sq_graph.proofs.AlikeCanonical.{alike_canonical}
 use Rattle.sq_graph.proofs.CanonicalLaws.{canonical_is_graph}
 use Rattle.sq_graph.proofs.RenamedReach.{alike_words}
 use Rattle.sq_graph.proofs.Slotting.{one_slotted}
-use Rattle.sq_follow.specs.Follows.{Follows}
-use Rattle.sq_follow.proofs.Following.{graph_follows_itself}
+use Rattle.law_follow.specs.Follows.{Follows}
+use Rattle.law_follow.proofs.Following.{graph_follows_itself}
 use Rattle.sq_lookup.proofs.Targets.{has_term, targets_there}
 use Rattle.sq_pass.specs.declared.cut.Cut.{Cut}
 use Rattle.sq_pass.specs.declared.cut.Row.TheVariants.{U, L}

@@ -17,8 +17,8 @@ use Rattle.sq_graph.specs.Room.{IsSmall, sum_of, count_of}
 use Rattle.sq_graph.specs.Rules.{IsGraph}
 use Rattle.sq_graph.specs.Soundness.{IsSound}
 use Rattle.sq_graph.specs.Words.{block_words, procedure_words, words_of, most_words}
-use Rattle.sq_follow.specs.Follows.{Follows}
-use Rattle.sq_patch.proofs.Joining.{canonical_follows, canonical_sound}
+use Rattle.law_follow.specs.Follows.{Follows}
+use Rattle.law_patch.proofs.Joining.{canonical_follows, canonical_sound}
 use Rattle.sq_pass.specs.Applied.{IsWithin}
 use Rattle.sq_pass.specs.Rewrites.{IsLighter}
 

@@ -8,7 +8,7 @@ use Rattle.sq_graph.specs.Slotted.{position_in, slotted}
 use Rattle.sq_graph.proofs.RenamedReach.{alike_words, alike_in_reach}
 use Rattle.sq_graph.proofs.RenamedSound.{canonical_kept, sound_kept}
 use Rattle.sq_graph.proofs.Slotting.{positions_apart, slotted_alike}
-use Rattle.sq_patch.proofs.Renaming.{rename_follows}
+use Rattle.law_patch.proofs.Renaming.{rename_follows}
 use Rattle.sq_pass.specs.Rewrites.{IsLighter}
 
 -- it is what the graph was

@@ -5,7 +5,7 @@ ghost use Rattle.sq_graph.specs.Graph.{Graph as Parts};
 ghost use Rattle.sq_graph.specs.Leaders.{IsCanonical};
 ghost use Rattle.sq_graph.specs.Slotted.{IsSlotted};
 ghost use Rattle.sq_graph.specs.Words.{words_of, most_words};
-ghost use Rattle.sq_follow.specs.Follows.{Follows};
+ghost use Rattle.law_follow.specs.Follows.{Follows};
 ghost use Rattle.sq_drive.specs.Checking.{Leads, IsFirstFault};
 ghost use Rattle.sq_drive.specs.Replaying.{IsLess};
 

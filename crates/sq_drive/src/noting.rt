@@ -6,7 +6,7 @@ ghost use Rattle.sq_graph.specs.Parts.{names_of};
 ghost use Rattle.sq_graph.specs.Leaders.{IsCanonical};
 ghost use Rattle.sq_graph.specs.Slotted.{IsSlotted};
 ghost use Rattle.sq_graph.specs.Words.{words_of, most_words};
-ghost use Rattle.sq_follow.specs.Follows.{Follows};
+ghost use Rattle.law_follow.specs.Follows.{Follows};
 ghost use Rattle.sq_pass.specs.declared.cut.Cut.{Cut as Told};
 ghost use Rattle.sq_pass.specs.Rewrites.{IsRewrite, IsRewritten, IsLighter};
 ghost use Rattle.sq_cert.specs.Steps.{numbers_of, HasForm};

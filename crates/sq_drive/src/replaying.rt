@@ -6,7 +6,7 @@ ghost use Rattle.sq_graph.specs.Leaders.{IsCanonical};
 ghost use Rattle.sq_graph.specs.Slotted.{slotted, IsSlotted};
 ghost use Rattle.sq_graph.specs.Canonical.{canonical_of};
 ghost use Rattle.sq_graph.specs.Words.{words_of, most_words};
-ghost use Rattle.sq_follow.specs.Follows.{Follows};
+ghost use Rattle.law_follow.specs.Follows.{Follows};
 ghost use Rattle.sq_pass.specs.Rewrites.{IsLighter};
 ghost use Rattle.sq_cert.specs.declared.step.Step.{Step as GivenStep};
 ghost use Rattle.sq_cert.specs.declared.step.Step.TheVariants.{C};

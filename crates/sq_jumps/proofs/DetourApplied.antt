@@ -9,7 +9,7 @@ use Rattle.sq_graph.specs.Operations.{redirected, without_block}
 use Rattle.sq_graph.specs.Resolve.{jump_from}
 use Rattle.sq_graph.specs.Rules.{IsGraph}
 use Rattle.sq_graph.specs.Terms.{goes_on}
-use Rattle.sq_patch.specs.LoneJumps.{IsDetourTo, without_jump}
+use Rattle.law_patch.specs.LoneJumps.{IsDetourTo, without_jump}
 use Rattle.sq_layout.specs.Branches.{BranchReaches}
 use Rattle.sq_jumps.specs.Detour.{IsDetour, without_detour_to, without_detour}
 use Rattle.sq_lookup.proofs.Targets.{jump_there, lone}
@@ -22,8 +22,8 @@ use Rattle.sq_graph.specs.Room.{count_of, sum_of}
 use Rattle.sq_graph.proofs.OperationRules.{redirected_rules, redirected_unused}
 use Rattle.sq_layout.proofs.Standing.{block_of-retargeted, block_of-without}
 use Rattle.sq_graph.proofs.AlikeGraphs.{alike_itself}
-use Rattle.sq_patch.proofs.Detouring.{detour_follows, detour_sound}
-use Rattle.sq_patch.proofs.Saving.{detour_saves}
+use Rattle.law_patch.proofs.Detouring.{detour_follows, detour_sound}
+use Rattle.law_patch.proofs.Saving.{detour_saves}
 use Rattle.sq_pass.specs.Applied.{IsApplied}
 use Rattle.sq_layout.specs.Shrinks.{Shrinks}
 use Rattle.sq_layout.specs.Reach.{LedThere}

@@ -12,7 +12,7 @@ use Rattle.sq_graph.specs.Rules.{IsGraph, last_goes_on}
 use Rattle.sq_graph.specs.Terms.{goes_on}
 use Rattle.sq_graph.specs.Uses.{uses, term_uses, items_uses, terms_uses, code_word_uses}
 use Rattle.sq_graph.specs.Resolve.{jump_from}
-use Rattle.sq_patch.specs.LoneJumps.{IsDetourTo, without_jump}
+use Rattle.law_patch.specs.LoneJumps.{IsDetourTo, without_jump}
 use Rattle.sq_jumps.specs.Detour.{IsDetour, without_detour}
 use Rattle.sq_lookup.proofs.Targets.{lone, IsLone, has_lone}
 use Rattle.std.proofs.lemmas.List.Elements.{All-append, All-tail, All-map, All-weaker}

@@ -11,8 +11,8 @@ use Rattle.sq_layout.proofs.Shrunk.{one_shrinks, term_shrunk}
 use Rattle.std.proofs.lemmas.List.Elements.{All-nil}
 use Rattle.sq_graph.proofs.OperationRules.{with_term_rules}
 use Rattle.sq_graph.proofs.AlikeGraphs.{alike_itself}
-use Rattle.sq_patch.proofs.OneBlock.{fall_follows, fall_sound}
-use Rattle.sq_patch.proofs.Saving.{fall_saves}
+use Rattle.law_patch.proofs.OneBlock.{fall_follows, fall_sound}
+use Rattle.law_patch.proofs.Saving.{fall_saves}
 use Rattle.sq_pass.specs.Applied.{IsApplied}
 use Rattle.sq_jumps.specs.Fall.{JumpsToNext, falling}
 use Rattle.sq_layout.specs.Shrinks.{Shrinks}

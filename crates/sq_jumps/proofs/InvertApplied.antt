@@ -13,7 +13,7 @@ use Rattle.sq_graph.specs.Resolve.{jump_from}
 use Rattle.sq_graph.specs.Rules.{IsGraph}
 use Rattle.sq_graph.specs.Uses.{uses}
 use Rattle.sq_graph.specs.Words.{term_words}
-use Rattle.sq_patch.specs.LoneJumps.{IsJumpedOver, inverted_over}
+use Rattle.law_patch.specs.LoneJumps.{IsJumpedOver, inverted_over}
 use Rattle.sq_layout.specs.Branches.{BranchReaches}
 use Rattle.sq_jumps.specs.Invert.{BranchesOverJump, inverted_to, target_of, inverted}
 use Rattle.sq_lookup.proofs.Targets.{jump_there, targets_are, has_term, lone, lone_term}
@@ -25,7 +25,7 @@ use Rattle.sq_graph.proofs.Fitting.{term_fits}
 use Rattle.sq_graph.proofs.OperationRules.{with_term_rules, without_block_rules}
 use Rattle.sq_layout.proofs.Standing.{block_of-changed, block_of-without, below}
 use Rattle.sq_graph.proofs.AlikeGraphs.{alike_itself}
-use Rattle.sq_patch.proofs.Inverting.{invert_follows, invert_sound, invert_saves}
+use Rattle.law_patch.proofs.Inverting.{invert_follows, invert_sound, invert_saves}
 use Rattle.sq_pass.specs.Applied.{IsApplied}
 use Rattle.sq_layout.specs.Shrinks.{IsBranch, Shrinks}
 use Rattle.sq_layout.specs.Reach.{LedThere}

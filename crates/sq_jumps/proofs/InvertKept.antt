@@ -12,7 +12,7 @@ use Rattle.sq_graph.specs.Operations.{with_blocks}
 use Rattle.sq_graph.specs.Rules.{IsGraph}
 use Rattle.sq_graph.specs.Terms.{goes_on}
 use Rattle.sq_graph.specs.Uses.{uses, term_uses, items_uses, terms_uses, code_word_uses}
-use Rattle.sq_patch.specs.LoneJumps.{IsJumpedOver, inverted_over}
+use Rattle.law_patch.specs.LoneJumps.{IsJumpedOver, inverted_over}
 use Rattle.sq_jumps.specs.Invert.{BranchesOverJump, inverted}
 use Rattle.sq_lookup.proofs.Targets.{has_term, lone, IsLone}
 use Rattle.std.proofs.lemmas.List.Elements.{All-cons, All-append, All-tail}

@@ -10,7 +10,7 @@ use Rattle.sq_graph.specs.Operations.{with_term}
 use Rattle.sq_graph.specs.Resolve.{jump_from}
 use Rattle.sq_graph.specs.Rules.{IsGraph}
 use Rattle.sq_graph.specs.Uses.{uses}
-use Rattle.sq_patch.specs.LoneJumps.{inverted_over}
+use Rattle.law_patch.specs.LoneJumps.{inverted_over}
 use Rattle.sq_jumps.specs.Surveys.{ReachesWithout, ReachesBy}
 use Rattle.sq_jumps.specs.Invert.{BranchesOverJump, IsStillSafe, inverted}
 use Rattle.sq_lookup.proofs.Targets.{targets_are, has_term, lone, lone_term}

@@ -12,7 +12,7 @@ use Rattle.sq_graph.specs.Resolve.{jump_from}
 use Rattle.sq_graph.specs.Rules.{IsGraph}
 use Rattle.sq_graph.specs.Uses.{uses}
 use Rattle.sq_graph.specs.Words.{words_of}
-use Rattle.sq_patch.specs.LoneJumps.{IsJumpedOver}
+use Rattle.law_patch.specs.LoneJumps.{IsJumpedOver}
 use Rattle.sq_lookup.specs.Names.{is_listed}
 use Rattle.sq_jumps.specs.Surveys.{ReachesWithout, IsSurvey}
 use Rattle.sq_jumps.specs.Invert.{BranchesOverJump, IsStillSafe}

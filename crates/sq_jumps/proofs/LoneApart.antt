@@ -18,7 +18,7 @@ use Rattle.sq_graph.specs.Resolve.{jump_of, lone_jump, jump_from}
 use Rattle.sq_graph.specs.Rules.{IsGraph}
 use Rattle.sq_graph.specs.Terms.{goes_on}
 use Rattle.sq_graph.specs.Uses.{uses}
-use Rattle.sq_patch.specs.LoneJumps.{IsDetourTo, without_jump}
+use Rattle.law_patch.specs.LoneJumps.{IsDetourTo, without_jump}
 use Rattle.sq_layout.specs.Branches.{BranchReaches}
 use Rattle.sq_lookup.specs.Names.{is_listed, Adds}
 use Rattle.sq_jumps.specs.UnreachedClear.{AreOnce}

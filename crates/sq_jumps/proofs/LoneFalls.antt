@@ -27,7 +27,7 @@ use Rattle.sq_graph.proofs.Kept.{absent_behind}
 use Rattle.sq_graph.proofs.Located.{named-append}
 use Rattle.sq_graph.proofs.OperationRules.{redirected_unused, without_block_rules}
 use Rattle.sq_lookup.proofs.Targets.{lone, lone_term}
-use Rattle.sq_patch.specs.LoneJumps.{without_jump}
+use Rattle.law_patch.specs.LoneJumps.{without_jump}
 use Rattle.sq_pass.specs.declared.cut.Row.TheVariants.{J1}
 use Rattle.sq_pass.specs.Counted.{counted}
 use Rattle.sq_pass.specs.Rewrites.{IsRewritten}

@@ -19,7 +19,7 @@ use Rattle.sq_graph.proofs.OperationRules.{retargeted_rules}
 use Rattle.sq_layout.proofs.Standing.{block_of-retargeted}
 use Rattle.sq_lookup.specs.Names.{is_listed}
 use Rattle.sq_lookup.proofs.Targets.{jump_there, lone, lone_term}
-use Rattle.sq_patch.specs.LoneJumps.{without_jump}
+use Rattle.law_patch.specs.LoneJumps.{without_jump}
 use Rattle.sq_num.specs.Saved.{words_saved}
 use Rattle.sq_pass.specs.declared.cut.Row.{Row}
 use Rattle.sq_pass.specs.Counted.{counted}

@@ -15,8 +15,8 @@ use Rattle.sq_graph.specs.Leaders.{IsCanonical}
 use Rattle.sq_graph.specs.Soundness.{IsSound}
 use Rattle.sq_graph.proofs.CanonicalLaws.{canonical_again}
 use Rattle.sq_graph.proofs.CanonicalReach.{canonical_in_reach}
-use Rattle.sq_follow.specs.Follows.{Follows}
-use Rattle.sq_patch.proofs.Joining.{canonical_follows, canonical_sound}
+use Rattle.law_follow.specs.Follows.{Follows}
+use Rattle.law_patch.proofs.Joining.{canonical_follows, canonical_sound}
 use Rattle.sq_pass.specs.declared.cut.Row.{Row}
 use Rattle.sq_pass.specs.Counted.{counted}
 use Rattle.sq_pass.specs.Rewrites.{IsLighter, IsRewritten}

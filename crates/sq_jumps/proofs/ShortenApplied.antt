@@ -21,11 +21,11 @@ use Rattle.sq_graph.specs.Room.{count_of, sum_of}
 use Rattle.sq_graph.proofs.RulesByBlock.{ItemStands}
 use Rattle.sq_graph.proofs.Fitting.{term_fits}
 use Rattle.sq_graph.proofs.OperationRules.{with_term_rules, replaced_rules}
-use Rattle.sq_patch.specs.Operations.{IsShortable, hastened as short_jump, shortened}
-use Rattle.sq_patch.proofs.Shortening.{hastened_fits, shorten_follows, shorten_sound}
+use Rattle.law_patch.specs.Operations.{IsShortable, hastened as short_jump, shortened}
+use Rattle.law_patch.proofs.Shortening.{hastened_fits, shorten_follows, shorten_sound}
 use Rattle.sq_layout.proofs.Standing.{block_of-changed, block_of-changed_here}
 use Rattle.sq_graph.proofs.AlikeGraphs.{alike_itself}
-use Rattle.sq_patch.proofs.Saving.{drop_saves, hasten_saves}
+use Rattle.law_patch.proofs.Saving.{drop_saves, hasten_saves}
 use Rattle.sq_pass.specs.Applied.{IsApplied}
 use Rattle.sq_layout.specs.Shrinks.{IsBranch, Shrinks}
 use Rattle.sq_layout.specs.Reach.{LedThere}

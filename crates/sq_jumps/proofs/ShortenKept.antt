@@ -14,7 +14,7 @@ use Rattle.sq_lookup.proofs.Targets.{has_term}
 use Rattle.std.proofs.lemmas.List.Elements.{All-cons, All-head, All-tail}
 use Rattle.sq_graph.proofs.Located.{located, IsAt}
 use Rattle.sq_graph.proofs.SlotReads.{block_at}
-use Rattle.sq_patch.specs.Operations.{IsShortable, hastened as short_jump, shortened}
+use Rattle.law_patch.specs.Operations.{IsShortable, hastened as short_jump, shortened}
 use Rattle.sq_graph.specs.Leaders.{IsCanonical, FallsIntoLeaders, has_no_items, is_fall, is_bare, follows_a_term, is_leader}
 use Rattle.sq_isa.specs.Registers.{is_among}
 use Rattle.std.proofs.lemmas.List.{drop_all}

@@ -21,8 +21,8 @@ use Rattle.sq_arena.specs.Entries.{value_of}
 use Rattle.sq_layout.proofs.Standing.{block_of-changed}
 use Rattle.sq_live.proofs.Layouts.{keys-named}
 use Rattle.sq_lookup.proofs.Targets.{part_there}
-use Rattle.sq_patch.specs.Operations.{hastened as short_jump, shortened}
-use Rattle.sq_patch.proofs.StayingDead.{shorten_dead}
+use Rattle.law_patch.specs.Operations.{hastened as short_jump, shortened}
+use Rattle.law_patch.proofs.StayingDead.{shorten_dead}
 use Rattle.sq_pass.specs.declared.cut.Row.TheVariants.{C}
 use Rattle.sq_pass.specs.Counted.{counted}
 use Rattle.sq_pass.specs.Rewrites.{IsLighter, IsRewritten}

@@ -11,7 +11,7 @@ use Rattle.sq_graph.specs.Parts.{names_of}
 use Rattle.sq_graph.specs.Rules.{IsGraph}
 use Rattle.sq_graph.specs.Uses.{item_calls}
 use Rattle.sq_graph.specs.Words.{block_words, procedure_words, words_of}
-use Rattle.sq_patch.specs.Restrictions.{procedures_held}
+use Rattle.law_patch.specs.Restrictions.{procedures_held}
 use Rattle.sq_reach.specs.Marks.{AreReached}
 use Rattle.sq_pass.specs.declared.cut.Cut.{Cut}
 use Rattle.sq_lookup.specs.Names.{is_listed}

@@ -20,8 +20,8 @@ use Rattle.sq_graph.specs.Uses.{item_uses, items_uses, term_uses, terms_uses, co
 use Rattle.sq_graph.specs.Walks.{called_names, procedure_names, first_name, block_successors, successors, successors_in, IsReachedBlock, entry, code_word, walk}
 use Rattle.sq_graph.proofs.Eachs.{All-flat_map}
 use Rattle.sq_graph.proofs.Kept.{absent_behind}
-use Rattle.sq_patch.specs.Restrictions.{procedures_held, number_held}
-use Rattle.sq_patch.proofs.Restricting.{successors_at}
+use Rattle.law_patch.specs.Restrictions.{procedures_held, number_held}
+use Rattle.law_patch.proofs.Restricting.{successors_at}
 use Rattle.sq_reach.proofs.Blocks.{reached_has}
 use Rattle.sq_lookup.specs.Names.{is_listed}
 use Rattle.sq_jumps.specs.Unreached.{is_called_in, AreUnreached}

@@ -21,8 +21,8 @@ use Rattle.sq_graph.specs.Words.{block_words, procedure_words, words_of}
 use Rattle.sq_graph.proofs.Kept.{absent_behind}
 use Rattle.sq_graph.proofs.RulesByBlock.{BlockStands, BodyStands, by_block}
 use Rattle.sq_graph.proofs.AlikeGraphs.{alike_itself}
-use Rattle.sq_patch.specs.Restrictions.{procedures_held, number_held, IsCalledIn, HoldsReached}
-use Rattle.sq_patch.proofs.Restricting.{restrict_follows, restrict_sound, reached_closed}
+use Rattle.law_patch.specs.Restrictions.{procedures_held, number_held, IsCalledIn, HoldsReached}
+use Rattle.law_patch.proofs.Restricting.{restrict_follows, restrict_sound, reached_closed}
 use Rattle.sq_reach.proofs.Blocks.{reached_has}
 use Rattle.sq_pass.specs.Applied.{IsApplied}
 use Rattle.sq_lookup.specs.Names.{is_listed}

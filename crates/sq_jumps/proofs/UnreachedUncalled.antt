@@ -11,7 +11,7 @@ use Rattle.sq_graph.specs.Graph.{Block, Procedure, Graph}
 use Rattle.sq_graph.specs.Operations.{without_procedure}
 use Rattle.sq_graph.specs.Renames.{recalled_items, recalled_block, recalled_procedure, recalled, lowered}
 use Rattle.sq_graph.specs.Uses.{item_calls}
-use Rattle.sq_patch.specs.Restrictions.{procedures_held, number_held}
+use Rattle.law_patch.specs.Restrictions.{procedures_held, number_held}
 use Rattle.sq_lookup.specs.Names.{is_listed}
 use Rattle.sq_jumps.specs.Unreached.{is_called_in}
 use Rattle.sq_jumps.specs.UnreachedClear.{is_called, without_uncalled}

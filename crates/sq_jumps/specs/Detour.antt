@@ -4,7 +4,7 @@ use Rattle.sq_isa.specs.declared.instructions.Cond.{Cond}
 use Rattle.sq_graph.specs.declared.item.Term.TheVariants.{Branch}
 use Rattle.sq_graph.specs.Graph.{Graph}
 use Rattle.sq_graph.specs.Blocks.{term_of}
-use Rattle.sq_patch.specs.LoneJumps.{IsDetourTo, without_jump}
+use Rattle.law_patch.specs.LoneJumps.{IsDetourTo, without_jump}
 use Rattle.sq_layout.specs.Branches.{BranchReaches}
 use Rattle.sq_graph.specs.Resolve.{jump_from}
 

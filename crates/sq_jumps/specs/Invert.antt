@@ -4,7 +4,7 @@ use Rattle.sq_isa.specs.declared.instructions.Cond.{Cond}
 use Rattle.sq_graph.specs.declared.item.Term.TheVariants.{Branch}
 use Rattle.sq_graph.specs.Graph.{Graph}
 use Rattle.sq_graph.specs.Blocks.{next_of, term_of, named}
-use Rattle.sq_patch.specs.LoneJumps.{IsJumpedOver, inverted_over}
+use Rattle.law_patch.specs.LoneJumps.{IsJumpedOver, inverted_over}
 use Rattle.sq_layout.specs.Branches.{BranchReaches}
 use Rattle.sq_graph.specs.declared.item.Term.{Term}
 use Rattle.sq_graph.specs.Resolve.{jump_from}

@@ -4,7 +4,7 @@ use Rattle.std.specs.List.{All, Contains, IsDistinct}
 use Rattle.sq_graph.specs.declared.item.Term.TheVariants.{PartJump}
 use Rattle.sq_graph.specs.Graph.{Graph}
 use Rattle.sq_graph.specs.Blocks.{term_of, items_of}
-use Rattle.sq_patch.specs.Operations.{IsShortable, shortened, hastened}
+use Rattle.law_patch.specs.Operations.{IsShortable, shortened, hastened}
 use Rattle.sq_graph.specs.declared.item.Term.{Term}
 use Rattle.sq_graph.specs.Operations.{with_term}
 

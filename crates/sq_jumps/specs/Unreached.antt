@@ -7,7 +7,7 @@ use Rattle.sq_graph.specs.Parts.{names_of}
 use Rattle.sq_graph.specs.Uses.{item_calls}
 use Rattle.sq_graph.specs.Walks.{IsReachedBlock}
 use Rattle.sq_graph.specs.Words.{block_words, procedure_words}
-use Rattle.sq_patch.specs.Restrictions.{procedures_held, restricted}
+use Rattle.law_patch.specs.Restrictions.{procedures_held, restricted}
 use Rattle.sq_lookup.specs.Names.{is_listed}
 
 -- a block of the graph that isn't among those that go

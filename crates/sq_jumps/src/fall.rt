@@ -13,7 +13,7 @@ ghost use Rattle.sq_graph.specs.Canonical.{canonical_of};
 ghost use Rattle.sq_graph.specs.Leaders.{IsCanonical};
 ghost use Rattle.sq_graph.specs.Parts.{names_of};
 ghost use Rattle.sq_graph.specs.Words.{words_of, most_words};
-ghost use Rattle.sq_follow.specs.Follows.{Follows};
+ghost use Rattle.law_follow.specs.Follows.{Follows};
 ghost use Rattle.sq_pass.specs.Rewrites.{IsRewritten};
 ghost use Rattle.sq_jumps.specs.Fall.{JumpsToNext, falling, IsPlainFall, IsCanonicalTo};
 

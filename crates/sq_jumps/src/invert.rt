@@ -14,7 +14,7 @@ ghost use Rattle.sq_jumps.specs.Candidates.{IsCandidate, described};
 ghost use Rattle.sq_num.specs.Saved.{words_saved};
 ghost use Rattle.sq_graph.specs.Leaders.{IsCanonical};
 ghost use Rattle.sq_graph.specs.Words.{words_of, most_words};
-ghost use Rattle.sq_follow.specs.Follows.{Follows};
+ghost use Rattle.law_follow.specs.Follows.{Follows};
 ghost use Rattle.sq_pass.specs.Rewrites.{IsRewritten};
 ghost use Rattle.sq_jumps.specs.Invert.{BranchesOverJump, inverted, IsStillSafe};
 

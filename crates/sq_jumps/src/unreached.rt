@@ -16,7 +16,7 @@ ghost use Rattle.sq_graph.specs.Parts.{names_of};
 ghost use Rattle.sq_graph.specs.Rules.{IsGraph};
 ghost use Rattle.sq_graph.specs.Words.{words_of, block_words, procedure_words};
 ghost use Rattle.sq_graph.specs.Uses.{item_calls};
-ghost use Rattle.sq_patch.specs.Restrictions.{procedures_held};
+ghost use Rattle.law_patch.specs.Restrictions.{procedures_held};
 ghost use Rattle.sq_pass.specs.declared.cut.Cut.{Cut as Told};
 ghost use Rattle.sq_lookup.specs.Names.{is_listed, Adds};
 ghost use Rattle.sq_jumps.specs.Unreached.{is_called_in};

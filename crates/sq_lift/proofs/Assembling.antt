@@ -13,9 +13,9 @@ use Rattle.sq_graph.specs.Graph.{Block}
 use Rattle.sq_graph.specs.Blocks.{items_of_blocks}
 use Rattle.sq_graph.specs.Parts.{blocks_of_parts, procedures_of_parts, length_of_blocks, length_of_bodies, LengthsFit, graph_of_parts, names_of}
 use Rattle.sq_graph.specs.Renames.{retargeted_item, retargeted_items, retargeted_term, retargeted_words, retargeted_procedure, renamed_block, renamed}
-use Rattle.sq_program.specs.Programs.{Word, Text, Note, Program, is_word}
-use Rattle.sq_program.specs.Notes.{used_notes, is_in_procedures}
-use Rattle.sq_program.specs.Lifted.{is_kept, is_leader, cut, procedure_of, code_ref, lifted_with}
+use Rattle.law_program.specs.Programs.{Word, Text, Note, Program, is_word}
+use Rattle.law_program.specs.Notes.{used_notes, is_in_procedures}
+use Rattle.law_program.specs.Lifted.{is_kept, is_leader, cut, procedure_of, code_ref, lifted_with}
 use Rattle.sq_lift.proofs.Placed.{place_at, word_by_place}
 use Rattle.sq_lift.specs.Cuts.{part_of, ShowsBlocks, note_part, body_of, starts}
 use Rattle.sq_graph.specs.Slotted.{position_in, slotted}

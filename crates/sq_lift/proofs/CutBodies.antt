@@ -6,9 +6,9 @@ use Rattle.std.proofs.lemmas.List.{map-append, length-append, take_more, append-
 use Rattle.std.proofs.lemmas.List.Concat.{flat_map-append}
 use Rattle.sq_graph.specs.declared.item.Item.{Item}
 use Rattle.sq_graph.specs.Renames.{retargeted_item, retargeted_items}
-use Rattle.sq_program.specs.Programs.{Text, Note, end_of}
-use Rattle.sq_program.specs.Readings.{Reading, IsItem, IsTerm, Links, reading_of, reading_at}
-use Rattle.sq_program.specs.Lifted.{with_item, body_from}
+use Rattle.law_program.specs.Programs.{Text, Note, end_of}
+use Rattle.law_program.specs.Readings.{Reading, IsItem, IsTerm, Links, reading_of, reading_at}
+use Rattle.law_program.specs.Lifted.{with_item, body_from}
 use Rattle.sq_lift.proofs.Placed.{no_word_past}
 use Rattle.sq_lift.specs.Cuts.{body_of}
 

@@ -8,9 +8,9 @@ use Rattle.sq_graph.specs.declared.parts.BlockPart.{BlockPart}
 use Rattle.sq_graph.specs.Graph.{Block}
 use Rattle.sq_graph.specs.Blocks.{items_of_blocks}
 use Rattle.sq_graph.specs.Renames.{retargeted_item, retargeted_items}
-use Rattle.sq_program.specs.Programs.{Word, Text, Note}
-use Rattle.sq_program.specs.Readings.{Reading, reading_of}
-use Rattle.sq_program.specs.Lifted.{Form, ItemForm, TermForm, form_of, Rest, between, with_form, with_reading, begun_if, cut}
+use Rattle.law_program.specs.Programs.{Word, Text, Note}
+use Rattle.law_program.specs.Readings.{Reading, reading_of}
+use Rattle.law_program.specs.Lifted.{Form, ItemForm, TermForm, form_of, Rest, between, with_form, with_reading, begun_if, cut}
 use Rattle.sq_lift.specs.Cuts.{Cut, no_cut, form_cut, reading_cut, begun_cut, part_of, Shows, ShowsBlocks, starts}
 
 -- LISTS

@@ -7,10 +7,10 @@ use Rattle.std.proofs.lemmas.Bool.Decides.{nat_tests}
 use Rattle.sq_isa.specs.declared.instructions.Insn.{Insn}
 use Rattle.sq_isa.specs.declared.instructions.Insn.TheVariants.{Lui, Auipc, Jal, Jalr, Branch as BranchInsn, Load, Store, OpImm, Op as OpInsn, Fence, Ecall, Ebreak, Unimp, Atomic}
 use Rattle.sq_reloc.specs.declared.mark.Mark.{Mark}
-use Rattle.sq_program.specs.Programs.{Word, Note, Program, word_from, insn_in, target_of}
-use Rattle.sq_program.specs.Reached.{target_from, jump_target, half_target, insn_goes_on, next_word}
-use Rattle.sq_program.specs.Notes.{is_within, is_call, insn_enters, marked_enters, words_enter, is_entered}
-use Rattle.sq_program.specs.Faults.{insn_is}
+use Rattle.law_program.specs.Programs.{Word, Note, Program, word_from, insn_in, target_of}
+use Rattle.law_program.specs.Reached.{target_from, jump_target, half_target, insn_goes_on, next_word}
+use Rattle.law_program.specs.Notes.{is_within, is_call, insn_enters, marked_enters, words_enter, is_entered}
+use Rattle.law_program.specs.Faults.{insn_is}
 use Rattle.sq_lift.specs.declared.entrances.Entrance.{Entrance}
 use Rattle.sq_lift.specs.declared.entrances.Entrance.TheVariants.{Closed, Calls, Open}
 use Rattle.sq_lift.specs.Search.{is_among}

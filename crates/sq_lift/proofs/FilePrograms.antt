@@ -7,11 +7,11 @@ use Rattle.sq_elf.specs.Refusing.{file_refusal_of}
 use Rattle.sq_reloc.specs.Refusing.{reloc_refusal_of}
 use Rattle.sq_reloc.specs.declared.mark.CodeWord.{CodeWord}
 use Rattle.sq_reloc.specs.CodeWords.{AreCodeWords}
-use Rattle.sq_program.specs.Programs.{Word, Text, Program}
-use Rattle.sq_program.specs.Reached.{Decides}
-use Rattle.sq_program.specs.NoteSections.{notes_of}
-use Rattle.sq_program.specs.Faults.{fault_of, fault_from, text_refusal}
-use Rattle.sq_program.specs.FilePrograms.{text_of, IsProgramOf, IsReadAs}
+use Rattle.law_program.specs.Programs.{Word, Text, Program}
+use Rattle.law_program.specs.Reached.{Decides}
+use Rattle.law_program.specs.NoteSections.{notes_of}
+use Rattle.law_program.specs.Faults.{fault_of, fault_from, text_refusal}
+use Rattle.law_program.specs.FilePrograms.{text_of, IsProgramOf, IsReadAs}
 use Rattle.sq_lift.specs.Flags.{Flags, is_flagged, DecidesFor}
 use Rattle.sq_lift.specs.Refused.{IsTextRefusal, IsReadText}
 use Rattle.sq_lift.proofs.CodeWordLists.{one_list}

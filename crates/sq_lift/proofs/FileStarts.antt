@@ -7,10 +7,10 @@ use Rattle.sq_reloc.specs.declared.mark.CodeWord.{CodeWord}
 use Rattle.sq_reloc.specs.CodeWords.{AreCodeWords}
 use Rattle.sq_graph.specs.Parts.{names_of}
 use Rattle.sq_graph.specs.Slotted.{number_in}
-use Rattle.sq_program.specs.Programs.{Text, Note, Program, is_word}
-use Rattle.sq_program.specs.Notes.{used_notes, is_in_procedures}
-use Rattle.sq_program.specs.Lifted.{is_leader, lifted, lifted_with}
-use Rattle.sq_program.specs.FilePrograms.{IsProgramOf}
+use Rattle.law_program.specs.Programs.{Text, Note, Program, is_word}
+use Rattle.law_program.specs.Notes.{used_notes, is_in_procedures}
+use Rattle.law_program.specs.Lifted.{is_leader, lifted, lifted_with}
+use Rattle.law_program.specs.FilePrograms.{IsProgramOf}
 use Rattle.sq_lift.specs.Flags.{Flags, is_flagged}
 use Rattle.sq_lift.specs.Cuts.{kept_by, starts}
 use Rattle.sq_lift.specs.Refused.{IsReadNoted}

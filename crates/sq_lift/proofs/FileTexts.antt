@@ -1,6 +1,6 @@
 -- The words of a file, one after another.
 use Rattle.std.proofs.Common.{◌≡◌, ℕ, zero, suc, ◌+◌, ◌*◌, List, [], ◌∷◌, ◌++◌, length, refl, ap, arith}
-use Rattle.sq_program.specs.FilePrograms.{file_word, words_from}
+use Rattle.law_program.specs.FilePrograms.{file_word, words_from}
 
 pub words_more : (bytes : List ℕ) (at n : ℕ) → words_from bytes at (n + 1) ≡ words_from bytes at n ++ file_word bytes (at + 4 * n) ∷ []
 words_more bytes at n = let e : n + 1 ≡ suc n = omega arith in rw e (more at n)

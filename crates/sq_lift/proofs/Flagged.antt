@@ -5,7 +5,7 @@ use Rattle.std.specs.Option.{option_and_then, unwrap_or, is_some}
 use Rattle.std.proofs.lemmas.Bool.{eqb-false}
 use Rattle.std.proofs.lemmas.List.Sums.{sum_by-set}
 use Rattle.std.proofs.lemmas.Option.{get_or_from_slice_get, slice_get_within}
-use Rattle.sq_program.specs.Programs.{Text, is_word}
+use Rattle.law_program.specs.Programs.{Text, is_word}
 use Rattle.sq_lift.specs.Places.{place_of}
 use Rattle.sq_lift.specs.Flags.{Flags, flag_at, has_word, is_flagged, is_unflagged, with_flag}
 use Rattle.sq_lift.specs.Search.{unflagged_count}

@@ -4,7 +4,7 @@ use Rattle.std.specs.Prelude.{slice_get, slice_set, replicate, option_to_list}
 use Rattle.std.specs.Option.{option_and_then, option_map}
 use Rattle.std.proofs.lemmas.Bool.{cases_Bool, eqb-true, eqb-false, eq-eqb}
 use Rattle.std.proofs.lemmas.List.{take_more, map-append, length-take}
-use Rattle.sq_program.specs.Programs.{Word, Text, Program, word_at, insn_in, target_of}
+use Rattle.law_program.specs.Programs.{Word, Text, Program, word_at, insn_in, target_of}
 use Rattle.sq_lift.specs.declared.entrances.Entrance.{Entrance}
 use Rattle.sq_lift.specs.declared.entrances.Entrance.TheVariants.{Closed, Calls, Open}
 use Rattle.sq_lift.specs.Places.{place_of}

@@ -10,10 +10,10 @@ use Rattle.sq_reloc.specs.declared.mark.Mark.{Mark}
 use Rattle.sq_reloc.specs.declared.mark.Mark.TheVariants.{Plain, Hi, Lo, Unsupported, Disagrees, Conflict, Lone}
 use Rattle.sq_graph.specs.declared.item.Item.{Item}
 use Rattle.sq_graph.specs.declared.item.Term.TheVariants.{Jump}
-use Rattle.sq_program.specs.Programs.{Word, Text, Note, Program, word_at, insn_in}
-use Rattle.sq_program.specs.Reached.{target_from, jump_target}
-use Rattle.sq_program.specs.Readings.{Reading, IsItem, IsTerm, Links, jal_reading, marked_reading, reading_of, reading_at}
-use Rattle.sq_program.specs.Notes.{is_within, is_item_without, returns_through, is_return, has_body, is_procedure, is_in_order, is_entered, is_good_note, bad_note_from, is_plain}
+use Rattle.law_program.specs.Programs.{Word, Text, Note, Program, word_at, insn_in}
+use Rattle.law_program.specs.Reached.{target_from, jump_target}
+use Rattle.law_program.specs.Readings.{Reading, IsItem, IsTerm, Links, jal_reading, marked_reading, reading_of, reading_at}
+use Rattle.law_program.specs.Notes.{is_within, is_item_without, returns_through, is_return, has_body, is_procedure, is_in_order, is_entered, is_good_note, bad_note_from, is_plain}
 use Rattle.sq_lift.specs.declared.entrances.Entrance.{Entrance}
 use Rattle.sq_lift.specs.declared.entrances.Entrance.TheVariants.{Closed}
 use Rattle.sq_lift.specs.Places.{place_of}

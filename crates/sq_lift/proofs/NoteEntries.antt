@@ -1,6 +1,6 @@
 -- The entries of a note, one after another.
 use Rattle.std.proofs.Common.{◌≡◌, ℕ, zero, suc, ◌+◌, ◌*◌, List, [], ◌∷◌, ◌++◌, length, refl, ap, arith}
-use Rattle.sq_program.specs.NoteSections.{full_note, full_notes}
+use Rattle.law_program.specs.NoteSections.{full_note, full_notes}
 
 pub full_more : (note : List ℕ) (at n : ℕ) → full_notes note at (n + 1) ≡ full_notes note at n ++ full_note note (at + 12 * n) ∷ []
 full_more note at n = let e : n + 1 ≡ suc n = omega arith in rw e (more at n)

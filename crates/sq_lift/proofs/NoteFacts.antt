@@ -9,8 +9,8 @@ use Rattle.sq_elf.specs.declared.section.Section.{Section}
 use Rattle.sq_elf.specs.Fields.{u32_field}
 use Rattle.sq_elf.specs.Headers.{shnum_of, section_of}
 use Rattle.sq_elf.specs.Reading.{section_at, contents_in, contents_of}
-use Rattle.sq_program.specs.Programs.{Word, Text, Note}
-use Rattle.sq_program.specs.NoteSections.{is_note, note_if, note_sections_before, notes_in_bytes, notes_in_sections, notes_of, item_run, item_run_from, short_note, short_notes}
+use Rattle.law_program.specs.Programs.{Word, Text, Note}
+use Rattle.law_program.specs.NoteSections.{is_note, note_if, note_sections_before, notes_in_bytes, notes_in_sections, notes_of, item_run, item_run_from, short_note, short_notes}
 use Rattle.sq_lift.specs.declared.notes.NoteSection.{NoteSection}
 use Rattle.sq_lift.specs.declared.notes.NoteSection.TheVariants.{Missing, At, Several}
 use Rattle.sq_lift.specs.NoteReading.{note_numbers_before, one_of, note_section_of, item_runs, run_at}

@@ -13,11 +13,11 @@ use Rattle.sq_elf.specs.Refusing.{file_refusal_of}
 use Rattle.sq_reloc.specs.Refusing.{reloc_refusal_of}
 use Rattle.sq_reloc.specs.declared.mark.CodeWord.{CodeWord}
 use Rattle.sq_reloc.specs.CodeWords.{AreCodeWords}
-use Rattle.sq_program.specs.Programs.{Text, Note, Program, is_word}
-use Rattle.sq_program.specs.Reached.{Decides}
-use Rattle.sq_program.specs.Notes.{is_above, is_real_register, is_in_order, is_good_note, bad_note_from, bad_note}
-use Rattle.sq_program.specs.NoteSections.{notes_of}
-use Rattle.sq_program.specs.FilePrograms.{text_of, note_refusal, early_refusal, IsReadAs}
+use Rattle.law_program.specs.Programs.{Text, Note, Program, is_word}
+use Rattle.law_program.specs.Reached.{Decides}
+use Rattle.law_program.specs.Notes.{is_above, is_real_register, is_in_order, is_good_note, bad_note_from, bad_note}
+use Rattle.law_program.specs.NoteSections.{notes_of}
+use Rattle.law_program.specs.FilePrograms.{text_of, note_refusal, early_refusal, IsReadAs}
 use Rattle.sq_lift.specs.Flags.{Flags, is_flagged}
 use Rattle.sq_lift.specs.Refused.{IsTextRefusal, IsReadText, IsEarlyRefusal, IsReadNoted}
 use Rattle.sq_lift.proofs.FilePrograms.{program_with, is_program, one_program, same_test}

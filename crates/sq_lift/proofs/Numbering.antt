@@ -5,9 +5,9 @@ use Rattle.std.specs.Option.{option_map}
 use Rattle.std.proofs.lemmas.Bool.{ne_eqb}
 use Rattle.std.proofs.lemmas.List.{length-append}
 use Rattle.std.proofs.Math.Seq.{drop-cons}
-use Rattle.sq_program.specs.Programs.{Word, Note}
-use Rattle.sq_program.specs.Notes.{used_notes}
-use Rattle.sq_program.specs.Lifted.{procedure_at}
+use Rattle.law_program.specs.Programs.{Word, Note}
+use Rattle.law_program.specs.Notes.{used_notes}
+use Rattle.law_program.specs.Lifted.{procedure_at}
 use Rattle.sq_graph.specs.Slotted.{position_in}
 use Rattle.sq_graph.proofs.Slotting.{AreNumbered, numbered_from}
 use Rattle.sq_lift.specs.Cuts.{note_number_in, starts}

@@ -5,7 +5,7 @@ use Rattle.std.specs.Option.{option_and_then, option_map}
 use Rattle.std.proofs.lemmas.Option.{slice_get_past, slice_get-get_or}
 use Rattle.std.proofs.lemmas.Bool.{cases_Bool, eqb-true, eqb-false, eq-eqb}
 use Rattle.std.proofs.lemmas.Bool.Decides.{nat_tests}
-use Rattle.sq_program.specs.Programs.{Word, Text, word_from, word_at, is_word, end_of}
+use Rattle.law_program.specs.Programs.{Word, Text, word_from, word_at, is_word, end_of}
 use Rattle.sq_lift.specs.Places.{place_of}
 
 le_is : (a b : ℕ) → a ≤ b → nat_le a b ≡ true

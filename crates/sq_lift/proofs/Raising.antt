@@ -5,10 +5,10 @@ use Rattle.std.proofs.lemmas.Bool.{cases_Bool, eqb-true, eqb-false, eq-eqb, ne_e
 use Rattle.std.proofs.lemmas.List.{take_more, map-append, length-take}
 use Rattle.std.proofs.lemmas.List.Folds.{list_any-append}
 use Rattle.sq_isa.specs.Registers.{is_among}
-use Rattle.sq_program.specs.Programs.{Word, Text, Note, Program, is_word, target_of}
-use Rattle.sq_program.specs.Readings.{reading_of}
-use Rattle.sq_program.specs.Notes.{is_within, is_in_procedure, is_in_procedures}
-use Rattle.sq_program.specs.Lifted.{reading_leads, words_lead, is_leader}
+use Rattle.law_program.specs.Programs.{Word, Text, Note, Program, is_word, target_of}
+use Rattle.law_program.specs.Readings.{reading_of}
+use Rattle.law_program.specs.Notes.{is_within, is_in_procedure, is_in_procedures}
+use Rattle.law_program.specs.Lifted.{reading_leads, words_lead, is_leader}
 use Rattle.sq_lift.specs.Flags.{Flags, has_word, is_flagged, is_unflagged, with_flag}
 use Rattle.sq_lift.proofs.Flagged.{no_flags, same_words, none_flagged, none_past}
 use Rattle.sq_lift.proofs.Reaching.{reaches_new, reaches_old}

@@ -5,8 +5,8 @@ use Rattle.std.proofs.lemmas.Cmp.{nat_eq_equiv}
 use Rattle.std.proofs.lemmas.List.{length-append}
 use Rattle.std.proofs.lemmas.Map.Views.{list_any-from_Contains}
 use Rattle.std.specs.List.{Contains}
-use Rattle.sq_program.specs.Programs.{Program, Note, is_word, target_of}
-use Rattle.sq_program.specs.Reached.{leads_from, IsReached, entry, code_word, walk, Decides}
+use Rattle.law_program.specs.Programs.{Program, Note, is_word, target_of}
+use Rattle.law_program.specs.Reached.{leads_from, IsReached, entry, code_word, walk, Decides}
 use Rattle.sq_lift.specs.Flags.{has_word, is_flagged}
 use Rattle.sq_lift.specs.Search.{Found, Reaches, is_among, unflagged_count}
 use Rattle.sq_lift.proofs.Flagged.{no_flags, same_words, none_flagged}

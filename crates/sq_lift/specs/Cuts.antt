@@ -12,9 +12,9 @@ use Rattle.sq_graph.specs.Graph.{Block}
 use Rattle.sq_graph.specs.Blocks.{items_of_blocks}
 use Rattle.sq_graph.specs.Renames.{retargeted_item, retargeted_items, retargeted_term}
 use Rattle.sq_lift.specs.Flags.{Flags, is_flagged}
-use Rattle.sq_program.specs.Programs.{Word, Text, Note}
-use Rattle.sq_program.specs.Readings.{Reading}
-use Rattle.sq_program.specs.Lifted.{Form, ItemForm, TermForm, form_of, Rest, body_from}
+use Rattle.law_program.specs.Programs.{Word, Text, Note}
+use Rattle.law_program.specs.Readings.{Reading}
+use Rattle.law_program.specs.Lifted.{Form, ItemForm, TermForm, form_of, Rest, body_from}
 
 -- the number of the procedure that is noted at an address, where these notes have the numbers from k on
 abbrev pub note_number_in : List Note → ℕ → ℕ → Option ℕ

@@ -5,10 +5,10 @@ use Rattle.std.specs.Option.{option_and_then, option_map, unwrap_or}
 use Rattle.sq_isa.specs.declared.instructions.Insn.{Insn}
 use Rattle.sq_isa.specs.declared.instructions.Insn.TheVariants.{Jal}
 use Rattle.sq_reloc.specs.declared.mark.Mark.{Mark}
-use Rattle.sq_program.specs.Programs.{Word, Text, Note, Program, word_at, insn_in, insn_at, target_of}
-use Rattle.sq_program.specs.Reached.{jump_target, half_target, insn_goes_on}
-use Rattle.sq_program.specs.Notes.{is_in_order, is_procedure}
-use Rattle.sq_program.specs.Faults.{insn_is}
+use Rattle.law_program.specs.Programs.{Word, Text, Note, Program, word_at, insn_in, insn_at, target_of}
+use Rattle.law_program.specs.Reached.{jump_target, half_target, insn_goes_on}
+use Rattle.law_program.specs.Notes.{is_in_order, is_procedure}
+use Rattle.law_program.specs.Faults.{insn_is}
 use Rattle.sq_lift.specs.declared.entrances.Entrance.{Entrance}
 use Rattle.sq_lift.specs.declared.entrances.Entrance.TheVariants.{Closed, Calls, Open}
 use Rattle.sq_lift.specs.Places.{place_of}

@@ -1,8 +1,8 @@
 -- A flag for each word of text.
 use Rattle.std.specs.Prelude.{ℕ, Bool, true, false, not, List, Option, slice_get, slice_set}
 use Rattle.std.specs.Option.{option_and_then, is_some, unwrap_or}
-use Rattle.sq_program.specs.Programs.{Text, Note}
-use Rattle.sq_program.specs.Reached.{Decides}
+use Rattle.law_program.specs.Programs.{Text, Note}
+use Rattle.law_program.specs.Reached.{Decides}
 use Rattle.sq_reloc.specs.declared.mark.CodeWord.{CodeWord}
 use Rattle.sq_lift.specs.Places.{place_of}
 

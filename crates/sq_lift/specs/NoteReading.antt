@@ -2,8 +2,8 @@
 use Rattle.std.specs.Prelude.{ℕ, zero, suc, ◌+◌, List, [], ◌∷◌, ◌++◌, if◌then◌else◌, slice_get}
 use Rattle.std.specs.Option.{option_and_then, unwrap_or}
 use Rattle.sq_elf.specs.Headers.{shnum_of, section_of}
-use Rattle.sq_program.specs.Programs.{Word, Text}
-use Rattle.sq_program.specs.NoteSections.{is_note, item_run}
+use Rattle.law_program.specs.Programs.{Word, Text}
+use Rattle.law_program.specs.NoteSections.{is_note, item_run}
 use Rattle.sq_lift.specs.declared.notes.NoteSection.{NoteSection}
 use Rattle.sq_lift.specs.declared.notes.NoteSection.TheVariants.{Missing, At, Several}
 use Rattle.sq_lift.specs.Places.{place_of}

@@ -8,7 +8,7 @@ use Rattle.sq_graph.specs.declared.item.Item.TheVariants.{Op, Lo}
 use Rattle.sq_graph.specs.declared.item.Term.TheVariants.{PartJump, Indirect}
 use Rattle.sq_lift.specs.declared.readings.Reading.{Reading as Held}
 use Rattle.sq_lift.specs.declared.readings.Reading.TheVariants.{Item as HeldItem, Term as HeldTerm, Links as HeldLinks}
-use Rattle.sq_program.specs.Readings.{Reading, IsItem, IsTerm, Links}
+use Rattle.law_program.specs.Readings.{Reading, IsItem, IsTerm, Links}
 
 -- what a reading is seen as
 abbrev pub seen : Held → Reading

@@ -4,12 +4,12 @@ use Rattle.sq_num.specs.declared.refusal.Refusal.{Refusal}
 use Rattle.sq_num.specs.declared.refusal.Refusal.TheVariants.{BadTarget, FallsOffText, UnrelocatedAuipc, ReadsText, ConflictingReloc, LoneHalf}
 use Rattle.sq_isa.specs.declared.instructions.Insn.{Insn}
 use Rattle.sq_reloc.specs.declared.mark.Mark.{Mark}
-use Rattle.sq_program.specs.Programs.{Text, Note, Program}
-use Rattle.sq_program.specs.Reached.{Decides}
-use Rattle.sq_program.specs.Notes.{is_plain}
-use Rattle.sq_program.specs.Faults.{refuse_if, is_astray, falls_off, is_auipc, is_access, is_lower_in_text, is_conflict, is_lone, text_refusal}
-use Rattle.sq_program.specs.NoteSections.{notes_of}
-use Rattle.sq_program.specs.FilePrograms.{text_of, IsProgramOf, IsReadAs, early_refusal}
+use Rattle.law_program.specs.Programs.{Text, Note, Program}
+use Rattle.law_program.specs.Reached.{Decides}
+use Rattle.law_program.specs.Notes.{is_plain}
+use Rattle.law_program.specs.Faults.{refuse_if, is_astray, falls_off, is_auipc, is_access, is_lower_in_text, is_conflict, is_lone, text_refusal}
+use Rattle.law_program.specs.NoteSections.{notes_of}
+use Rattle.law_program.specs.FilePrograms.{text_of, IsProgramOf, IsReadAs, early_refusal}
 use Rattle.sq_lift.specs.Flags.{Flags, is_flagged}
 
 -- the fault of an instruction with this mark

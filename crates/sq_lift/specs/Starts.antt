@@ -3,9 +3,9 @@ use Rattle.std.specs.Prelude.{◌≡◌, ℕ, List, Option, nat_eq}
 use Rattle.std.specs.Map.{lookup}
 use Rattle.sq_graph.specs.Parts.{names_of}
 use Rattle.sq_graph.specs.Slotted.{number_in}
-use Rattle.sq_program.specs.Programs.{Program}
-use Rattle.sq_program.specs.Reached.{Decides}
-use Rattle.sq_program.specs.Lifted.{lifted}
+use Rattle.law_program.specs.Programs.{Program}
+use Rattle.law_program.specs.Reached.{Decides}
+use Rattle.law_program.specs.Lifted.{lifted}
 use Rattle.sq_lift.specs.Flags.{Flags, is_flagged}
 
 -- a flag for each reached word, and the numbers of blocks by the addresses where they begin

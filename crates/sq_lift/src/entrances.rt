@@ -84,7 +84,7 @@ impl Model for Entrances {
 
 impl Entrances {
     ghost use Rattle.std.specs.Prelude.{◌≡◌, ◌+◌, ◌*◌, ◌≤◌, length, map, replicate, option_to_list, IfOk, IfSome, IfNone};
-    ghost use Rattle.sq_program.specs.Programs.{insn_in, target_of};
+    ghost use Rattle.law_program.specs.Programs.{insn_in, target_of};
     ghost use Rattle.sq_lift.specs.Flags.{is_flagged};
     ghost use Rattle.sq_lift.specs.Search.{is_among};
     ghost use Rattle.sq_lift.specs.Entrances.{entrance_if, entrance_in, insn_entrance, marked_entrance, words_entrance, with_entrance, Adds};

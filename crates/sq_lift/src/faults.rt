@@ -2,10 +2,10 @@
 
 ghost use Rattle.std.specs.Prelude.{◌≡◌, ◌%◌, ◌==◌, ◌&&◌, not, if◌then◌else◌, None};
 ghost use Rattle.std.specs.List.{list_any};
-ghost use Rattle.sq_program.specs.Programs.{is_word, is_in_text};
-ghost use Rattle.sq_program.specs.Reached.{jump_target, half_target};
-ghost use Rattle.sq_program.specs.Notes.{is_plain};
-ghost use Rattle.sq_program.specs.Faults.{mark_refusal, is_astray, falls_off, is_auipc, is_access, is_lower_in_text, is_conflict, is_lone, fault_of, fault_from};
+ghost use Rattle.law_program.specs.Programs.{is_word, is_in_text};
+ghost use Rattle.law_program.specs.Reached.{jump_target, half_target};
+ghost use Rattle.law_program.specs.Notes.{is_plain};
+ghost use Rattle.law_program.specs.Faults.{mark_refusal, is_astray, falls_off, is_auipc, is_access, is_lower_in_text, is_conflict, is_lone, fault_of, fault_from};
 ghost use Rattle.sq_lift.specs.Flags.{is_flagged};
 ghost use Rattle.sq_lift.specs.Refused.{insn_fault};
 

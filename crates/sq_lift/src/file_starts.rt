@@ -2,8 +2,8 @@
 
 ghost use Rattle.std.specs.Prelude.{◌≡◌, ◌<◌, ◌^◌, length, IfOk};
 ghost use Rattle.sq_num.specs.declared.refusal.Refusal.{Refusal as Cause};
-ghost use Rattle.sq_program.specs.Programs.{Program as FileProgram};
-ghost use Rattle.sq_program.specs.FilePrograms.{IsProgramOf};
+ghost use Rattle.law_program.specs.Programs.{Program as FileProgram};
+ghost use Rattle.law_program.specs.FilePrograms.{IsProgramOf};
 ghost use Rattle.sq_lift.specs.Refused.{IsReadNoted, IsEarlyRefusal};
 ghost use Rattle.sq_lift.specs.Starts.{AreStarts};
 

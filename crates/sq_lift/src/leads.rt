@@ -1,7 +1,7 @@
 //! Where an instruction leads.
 
 ghost use Rattle.std.specs.Prelude.{◌≡◌, option_to_list};
-ghost use Rattle.sq_program.specs.Reached.{target_from, jump_target, half_target, insn_goes_on};
+ghost use Rattle.law_program.specs.Reached.{target_from, jump_target, half_target, insn_goes_on};
 
 use sq_isa::Insn;
 use sq_reloc::Mark;

@@ -3,8 +3,8 @@
 ghost use Rattle.std.specs.Prelude.{◌≡◌, ◌+◌, ◌*◌, ◌<◌, ◌≤◌, ◌^◌, length, option_map, slice_get, IfOk, IfSome, Some, None};
 ghost use Rattle.sq_elf.specs.Headers.{shnum_of, section_of};
 ghost use Rattle.sq_elf.specs.Fields.{u32_field};
-ghost use Rattle.sq_program.specs.Readings.{reading_of};
-ghost use Rattle.sq_program.specs.NoteSections.{is_note, is_item, is_note_of, full_note, full_notes, short_notes, item_run, notes_in, notes_of};
+ghost use Rattle.law_program.specs.Readings.{reading_of};
+ghost use Rattle.law_program.specs.NoteSections.{is_note, is_item, is_note_of, full_note, full_notes, short_notes, item_run, notes_in, notes_of};
 ghost use Rattle.sq_lift.specs.NoteReading.{joined, note_section_of, item_runs, run_at};
 
 use crate::places::place_of;
@@ -25,7 +25,7 @@ pub struct Note {
 }
 
 impl Model for Note {
-    ghost use Rattle.sq_program.specs.Programs.{Note as Entry};
+    ghost use Rattle.law_program.specs.Programs.{Note as Entry};
 
     ghost Value = { Entry };
 

@@ -2,11 +2,11 @@
 
 ghost use Rattle.std.specs.Prelude.{◌≡◌, ◌+◌, ◌<◌, ◌^◌, length, IfOk, Some};
 ghost use Rattle.sq_graph.specs.Rules.{mentions};
-ghost use Rattle.sq_program.specs.Programs.{word_at, insn_at};
-ghost use Rattle.sq_program.specs.Reached.{insn_goes_on};
-ghost use Rattle.sq_program.specs.Readings.{reading_at};
-ghost use Rattle.sq_program.specs.Notes.{is_above, is_real_register, is_in_order, is_item_without, returns_through, is_return, has_body, is_procedure, bad_note};
-ghost use Rattle.sq_program.specs.Faults.{insn_is};
+ghost use Rattle.law_program.specs.Programs.{word_at, insn_at};
+ghost use Rattle.law_program.specs.Reached.{insn_goes_on};
+ghost use Rattle.law_program.specs.Readings.{reading_at};
+ghost use Rattle.law_program.specs.Notes.{is_above, is_real_register, is_in_order, is_item_without, returns_through, is_return, has_body, is_procedure, bad_note};
+ghost use Rattle.law_program.specs.Faults.{insn_is};
 ghost use Rattle.sq_lift.specs.Flags.{is_flagged};
 ghost use Rattle.sq_lift.specs.Entrances.{is_entered_but_by, is_open, some_open, is_fallen_into, is_entered_by, is_good_by, entrance_in};
 

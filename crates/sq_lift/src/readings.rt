@@ -1,7 +1,7 @@
 //! How words of text are read.
 
 ghost use Rattle.std.specs.Prelude.{◌≡◌, option_map};
-ghost use Rattle.sq_program.specs.Readings.{jal_reading, plain_reading, upper_item, upper_reading, lower_reading, marked_reading, reading_of, reading_at};
+ghost use Rattle.law_program.specs.Readings.{jal_reading, plain_reading, upper_item, upper_reading, lower_reading, marked_reading, reading_of, reading_at};
 ghost use Rattle.sq_lift.specs.Read.{seen, lower_reading_inside, lower_reading_outside};
 
 use crate::leads::target_from;

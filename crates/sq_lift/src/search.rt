@@ -31,8 +31,8 @@ impl Model for Search {
 
 impl Search {
     ghost use Rattle.std.specs.Prelude.{◌≡◌, ◌+◌, ◌++◌, ◌∷◌, [], false, length, map, replicate, option_to_list, IfOk, IfSome, IfNone, OnOk};
-    ghost use Rattle.sq_program.specs.Programs.{insn_in, target_of};
-    ghost use Rattle.sq_program.specs.Reached.{insn_leads, leads_from, marked_leads, next_word};
+    ghost use Rattle.law_program.specs.Programs.{insn_in, target_of};
+    ghost use Rattle.law_program.specs.Reached.{insn_leads, leads_from, marked_leads, next_word};
     ghost use Rattle.sq_lift.specs.Search.{Found, Reaches};
 
     fn new(alloc: Global, text: &Text) -> Result<Search, Memory>

@@ -2,7 +2,7 @@
 
 ghost use Rattle.std.specs.Prelude.{◌≡◌, true, IfOk};
 ghost use Rattle.sq_elf.specs.Text.{text_of as text_range, is_text_word};
-ghost use Rattle.sq_program.specs.FilePrograms.{file_word, text_of};
+ghost use Rattle.law_program.specs.FilePrograms.{file_word, text_of};
 
 use crate::places::place_of;
 use sq_elf::Elf;
@@ -19,7 +19,7 @@ pub struct TextWord {
 }
 
 impl Model for TextWord {
-    ghost use Rattle.sq_program.specs.Programs.{Word};
+    ghost use Rattle.law_program.specs.Programs.{Word};
 
     ghost Value = { Word };
 
@@ -37,7 +37,7 @@ pub struct Text {
 
 impl Model for Text {
     ghost use Rattle.std.specs.Prelude.{◌+◌, ◌*◌, ◌≤◌, ◌^◌, length};
-    ghost use Rattle.sq_program.specs.Programs.{Text as Words};
+    ghost use Rattle.law_program.specs.Programs.{Text as Words};
 
     ghost Value = { Words };
 
@@ -48,7 +48,7 @@ impl Model for Text {
 
 impl Text {
     ghost use Rattle.std.specs.Prelude.{◌≡◌, ◌+◌, ◌*◌, ◌≤◌, ◌^◌, true, None, length, IfNone, IfSome};
-    ghost use Rattle.sq_program.specs.Programs.{word_at, is_word, is_in_text, end_of};
+    ghost use Rattle.law_program.specs.Programs.{word_at, is_word, is_in_text, end_of};
 
     /// The address of the first word.
     pub fn lo(&self) -> u32

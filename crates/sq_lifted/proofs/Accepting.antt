@@ -1,10 +1,10 @@
 -- A file of which nothing is refused has no refusal.
 use Rattle.std.proofs.Common.{◌≡◌, ℕ, Bool, List, Some, None, sym, ◌∙◌}
 use Rattle.sq_num.specs.declared.refusal.Refusal.{Refusal}
-use Rattle.sq_program.specs.Programs.{Program}
-use Rattle.sq_program.specs.FilePrograms.{IsLiftRefusal, IsAccepted, IsRefusalOf, IsAcceptedFile}
-use Rattle.sq_program.specs.FilePrograms.IsLiftRefusal.{early, alive}
-use Rattle.sq_program.specs.FilePrograms.IsRefusalOf.{by_file, by_relocs, by_lift}
+use Rattle.law_program.specs.Programs.{Program}
+use Rattle.law_program.specs.FilePrograms.{IsLiftRefusal, IsAccepted, IsRefusalOf, IsAcceptedFile}
+use Rattle.law_program.specs.FilePrograms.IsLiftRefusal.{early, alive}
+use Rattle.law_program.specs.FilePrograms.IsRefusalOf.{by_file, by_relocs, by_lift}
 use Rattle.sq_lifted.specs.LiftedFiles.{AcceptedIsNotRefused}
 use Rattle.sq_lifted.proofs.LiftedFiles.{early_same, first_same}
 

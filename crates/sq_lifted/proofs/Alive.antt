@@ -9,13 +9,13 @@ use Rattle.sq_graph.specs.Blocks.{procedure_link, link_of}
 use Rattle.sq_graph.specs.Rules.{IsGraph}
 use Rattle.sq_graph.specs.Renames.{retargeted_procedure, renamed}
 use Rattle.sq_graph.specs.Lines.{lines_of}
-use Rattle.sq_program.specs.Programs.{Note, Program}
-use Rattle.sq_program.specs.Notes.{used_notes}
-use Rattle.sq_program.specs.Lifted.{procedure_of, procedure_at, lifted}
+use Rattle.law_program.specs.Programs.{Note, Program}
+use Rattle.law_program.specs.Notes.{used_notes}
+use Rattle.law_program.specs.Lifted.{procedure_of, procedure_at, lifted}
 use Rattle.sq_graph.specs.Alike.{AreAlike}
-use Rattle.sq_program.specs.FilePrograms.{LinkDies, NoteDies, IsFirstAlive}
-use Rattle.sq_lifting.specs.Lifting.{IsReadable, NotesDie}
-use Rattle.sq_lifting.proofs.NoteFacts.{at_number, used_good, own_number}
+use Rattle.law_program.specs.FilePrograms.{LinkDies, NoteDies, IsFirstAlive}
+use Rattle.law_lifting.specs.Lifting.{IsReadable, NotesDie}
+use Rattle.law_lifting.proofs.NoteFacts.{at_number, used_good, own_number}
 use Rattle.sq_lifted.specs.LiveLinks.{AreLiveLinks, first_set}
 use Rattle.sq_lifted.proofs.RenamedLinks.{all_die, all_died}
 

@@ -12,16 +12,16 @@ use Rattle.sq_graph.specs.Terms.{goes_on}
 use Rattle.sq_graph.specs.Blocks.{named, HasBlock}
 use Rattle.sq_graph.specs.Rules.{last_goes_on}
 use Rattle.sq_graph.specs.Lines.{line_of, term_lines, lines_of}
-use Rattle.sq_program.specs.Programs.{Word, Text, Note, Program, word_at}
-use Rattle.sq_program.specs.Reached.{Decides}
-use Rattle.sq_program.specs.Readings.{Reading, reading_of}
-use Rattle.sq_program.specs.Lifted.{Form, ItemForm, TermForm, form_of, Rest, between, with_form, with_reading, begun_if}
-use Rattle.sq_lifting.specs.Lifting.{IsMarkedText, IsReadable}
-use Rattle.sq_lifting.proofs.Lifts.{HasName, form_line, closes, IsNamed}
-use Rattle.sq_lifting.proofs.TextWords.{at_here, some_is}
-use Rattle.sq_lifting.proofs.Facts.{ReadWord, reached_word}
-use Rattle.sq_lifting.proofs.Cutting.{kept_is, read_at, next_kept}
-use Rattle.sq_lifting.proofs.CutLines.{items_no_name, term_no_name, T, N, K, L, G, Cut, IsSuffix, tail_suffix, closed_cut, goes_of, term_lead}
+use Rattle.law_program.specs.Programs.{Word, Text, Note, Program, word_at}
+use Rattle.law_program.specs.Reached.{Decides}
+use Rattle.law_program.specs.Readings.{Reading, reading_of}
+use Rattle.law_program.specs.Lifted.{Form, ItemForm, TermForm, form_of, Rest, between, with_form, with_reading, begun_if}
+use Rattle.law_lifting.specs.Lifting.{IsMarkedText, IsReadable}
+use Rattle.law_lifting.proofs.Lifts.{HasName, form_line, closes, IsNamed}
+use Rattle.law_lifting.proofs.TextWords.{at_here, some_is}
+use Rattle.law_lifting.proofs.Facts.{ReadWord, reached_word}
+use Rattle.law_lifting.proofs.Cutting.{kept_is, read_at, next_kept}
+use Rattle.law_lifting.proofs.CutLines.{items_no_name, term_no_name, T, N, K, L, G, Cut, IsSuffix, tail_suffix, closed_cut, goes_of, term_lead}
 
 -- a name among the lines is that of a block
 pub named_block : (x : ℕ) (blocks : List Block) → HasName x (lines_of blocks) → (b : Block) × (value_of (named blocks) x ≡ Some b)

@@ -14,20 +14,20 @@ use Rattle.sq_graph.specs.Terms.{goes_on}
 use Rattle.sq_graph.specs.Uses.{item_uses, term_uses, items_uses, terms_uses, code_word_uses, uses}
 use Rattle.sq_graph.specs.Blocks.{all_items, items_of_blocks, items_of_bodies}
 use Rattle.sq_graph.specs.Leaders.{is_fall, is_bare, follows_a_term, is_leader, FallsIntoLeaders, IsCanonical}
-use Rattle.sq_program.specs.Programs.{Word, Text, Note, Program, word_from, word_at, target_of}
-use Rattle.sq_program.specs.Reached.{Decides}
-use Rattle.sq_program.specs.Readings.{Reading, IsItem, IsTerm, Links, reading_of, reading_at}
-use Rattle.sq_program.specs.Notes.{is_in_procedures, is_within, has_body, is_item_without}
-use Rattle.sq_program.specs.Lifted.{Form, ItemForm, TermForm, link_form, form_of, form_leads, reading_leads, words_lead, Rest, between, with_form, with_reading, begun_if, procedure_at, with_item, body_from, procedure_of}
-use Rattle.sq_lifting.specs.Lifting.{IsLinked, IsReadable}
-use Rattle.sq_lifting.proofs.TextWords.{same_itself, at_here, at_later, stood}
-use Rattle.sq_lifting.proofs.Lifts.{form_line, closes}
-use Rattle.sq_lifting.proofs.Facts.{or_false, ReadWord}
-use Rattle.sq_lifting.proofs.NoteFacts.{or_cases, notes_find, good_note, read_item, IsReturn, return_is, BodyWord, item_word, return_word, body_word}
-use Rattle.sq_lifting.proofs.ReadingFacts.{IsReadTerm, IsForm}
-use Rattle.sq_lifting.proofs.Cutting.{kept_is, kept_from, read_at, next_kept, true_not_false, when_false}
-use Rattle.sq_lifting.proofs.CutLines.{N, K, L, G, Cut, IsSuffix, tail_suffix, form_at, IsTermForm, term_lead, goes_of, closed_cut, first_lead}
-use Rattle.sq_lifting.proofs.Whole.{names_are}
+use Rattle.law_program.specs.Programs.{Word, Text, Note, Program, word_from, word_at, target_of}
+use Rattle.law_program.specs.Reached.{Decides}
+use Rattle.law_program.specs.Readings.{Reading, IsItem, IsTerm, Links, reading_of, reading_at}
+use Rattle.law_program.specs.Notes.{is_in_procedures, is_within, has_body, is_item_without}
+use Rattle.law_program.specs.Lifted.{Form, ItemForm, TermForm, link_form, form_of, form_leads, reading_leads, words_lead, Rest, between, with_form, with_reading, begun_if, procedure_at, with_item, body_from, procedure_of}
+use Rattle.law_lifting.specs.Lifting.{IsLinked, IsReadable}
+use Rattle.law_lifting.proofs.TextWords.{same_itself, at_here, at_later, stood}
+use Rattle.law_lifting.proofs.Lifts.{form_line, closes}
+use Rattle.law_lifting.proofs.Facts.{or_false, ReadWord}
+use Rattle.law_lifting.proofs.NoteFacts.{or_cases, notes_find, good_note, read_item, IsReturn, return_is, BodyWord, item_word, return_word, body_word}
+use Rattle.law_lifting.proofs.ReadingFacts.{IsReadTerm, IsForm}
+use Rattle.law_lifting.proofs.Cutting.{kept_is, kept_from, read_at, next_kept, true_not_false, when_false}
+use Rattle.law_lifting.proofs.CutLines.{N, K, L, G, Cut, IsSuffix, tail_suffix, form_at, IsTermForm, term_lead, goes_of, closed_cut, first_lead}
+use Rattle.law_lifting.proofs.Whole.{names_are}
 use Rattle.sq_lifted.proofs.Blocks.{IsFormGood, IsBlockGood, IsRestGood, reads_here, reading_blocks}
 
 -- NO BLOCK IS BARE

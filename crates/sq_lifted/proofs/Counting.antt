@@ -7,20 +7,20 @@ use Rattle.std.proofs.lemmas.List.Sums.{sum_by-cons}
 use Rattle.sq_graph.specs.declared.item.Item.{Item}
 use Rattle.sq_graph.specs.Graph.{Graph}
 use Rattle.sq_graph.specs.Words.{term_words, block_words, procedure_words, words_of}
-use Rattle.sq_program.specs.Programs.{Word, Text, Note, Program, word_from, word_at}
-use Rattle.sq_program.specs.Reached.{half_target, jump_target, next_word, insn_goes_on, Decides}
-use Rattle.sq_program.specs.Readings.{IsItem, reading_of, reading_at}
-use Rattle.sq_program.specs.Notes.{is_within, is_in_procedure, is_in_procedures, has_body, is_item_without, is_call, enters_from_outside, marked_enters}
-use Rattle.sq_program.specs.Lifted.{Form, ItemForm, TermForm, form_of, Rest, between, with_form, with_reading, begun_if, body_from, procedure_of, procedure_at}
-use Rattle.sq_lifting.specs.Lifting.{IsLinked, IsReadable}
-use Rattle.sq_lifting.proofs.Lifts.{form_line, closes}
-use Rattle.sq_lifting.proofs.Facts.{or_false, any_none, one, ReadWord, next_reached}
-use Rattle.sq_lifting.proofs.NoteFacts.{or_cases, in_procedure_start, read_item, return_is, own_number, IsGoodNote, good_note}
-use Rattle.sq_lifting.proofs.Cutting.{kept_is, read_at, true_not_false, when_false}
-use Rattle.sq_lifting.proofs.CutLines.{N, K, L, G, Cut, IsSuffix, tail_suffix, form_at, goes_of, IsTermForm, closed_cut, first_lead}
+use Rattle.law_program.specs.Programs.{Word, Text, Note, Program, word_from, word_at}
+use Rattle.law_program.specs.Reached.{half_target, jump_target, next_word, insn_goes_on, Decides}
+use Rattle.law_program.specs.Readings.{IsItem, reading_of, reading_at}
+use Rattle.law_program.specs.Notes.{is_within, is_in_procedure, is_in_procedures, has_body, is_item_without, is_call, enters_from_outside, marked_enters}
+use Rattle.law_program.specs.Lifted.{Form, ItemForm, TermForm, form_of, Rest, between, with_form, with_reading, begun_if, body_from, procedure_of, procedure_at}
+use Rattle.law_lifting.specs.Lifting.{IsLinked, IsReadable}
+use Rattle.law_lifting.proofs.Lifts.{form_line, closes}
+use Rattle.law_lifting.proofs.Facts.{or_false, any_none, one, ReadWord, next_reached}
+use Rattle.law_lifting.proofs.NoteFacts.{or_cases, in_procedure_start, read_item, return_is, own_number, IsGoodNote, good_note}
+use Rattle.law_lifting.proofs.Cutting.{kept_is, read_at, true_not_false, when_false}
+use Rattle.law_lifting.proofs.CutLines.{N, K, L, G, Cut, IsSuffix, tail_suffix, form_at, goes_of, IsTermForm, closed_cut, first_lead}
 use Rattle.sq_lifted.specs.Lifted.{LiftedIsGood}
 use Rattle.sq_lifted.proofs.Blocks.{item_open}
-use Rattle.sq_lifting.proofs.Whole.{readable}
+use Rattle.law_lifting.proofs.Whole.{readable}
 use Rattle.sq_lifted.proofs.Graphs.{each_at, is_graph, is_sound}
 use Rattle.sq_lifted.proofs.Canonical.{IsReal, form_real, here_is, closed_next, is_canonical}
 use Rattle.sq_lifted.proofs.Reaching.{one_if, real_word, in_reach}

@@ -18,7 +18,7 @@ use Rattle.sq_graph.specs.Parts.{names_of}
 use Rattle.sq_graph.specs.Rules.{IsGraph}
 use Rattle.sq_graph.specs.Lines.{Line, line_of, term_lines, body_lines, lines_of, behind_name, place_lines}
 use Rattle.sq_graph.specs.Walks.{IsLive}
-use Rattle.sq_program.specs.FilePrograms.{LinkDies}
+use Rattle.law_program.specs.FilePrograms.{LinkDies}
 use Rattle.sq_lifted.specs.LiveLinks.{ItemDies, ItemsDie, BlockDies, BlocksDie, Marks, AreLiveLinks}
 
 -- FLAGS

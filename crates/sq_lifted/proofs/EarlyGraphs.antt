@@ -21,18 +21,18 @@ use Rattle.sq_graph.specs.Renames.{retargeted_item, retargeted_items, retargeted
 use Rattle.sq_graph.specs.declared.parts.Room.{Room}
 use Rattle.sq_graph.specs.Room.{IsSmall, Covers, count_of, sum_of}
 use Rattle.sq_graph.specs.Words.{block_words, procedure_words, words_of}
-use Rattle.sq_program.specs.Programs.{Word, Text, Note, Program}
-use Rattle.sq_program.specs.Notes.{used_notes}
-use Rattle.sq_program.specs.NoteSections.{notes_of}
-use Rattle.sq_program.specs.Lifted.{is_kept, is_leader, cut, lifted}
+use Rattle.law_program.specs.Programs.{Word, Text, Note, Program}
+use Rattle.law_program.specs.Notes.{used_notes}
+use Rattle.law_program.specs.NoteSections.{notes_of}
+use Rattle.law_program.specs.Lifted.{is_kept, is_leader, cut, lifted}
 use Rattle.sq_graph.specs.Alike.{AreAlike}
-use Rattle.sq_program.specs.FilePrograms.{text_of, early_refusal, IsProgramOf, IsReadAs}
+use Rattle.law_program.specs.FilePrograms.{text_of, early_refusal, IsProgramOf, IsReadAs}
 use Rattle.sq_lift.specs.Flags.{Flags, is_flagged}
 use Rattle.sq_lift.specs.Refused.{IsReadNoted}
 use Rattle.sq_lift.proofs.FilePrograms.{program_with, is_program, one_program}
 use Rattle.sq_lift.specs.Cuts.{starts}
 use Rattle.sq_lift.proofs.Cutting.{names_are}
-use Rattle.sq_lifting.specs.Lifting.{IsReadable}
+use Rattle.law_lifting.specs.Lifting.{IsReadable}
 use Rattle.sq_lifted.specs.Files.{IsLinkedProgram}
 use Rattle.sq_lifted.specs.LiftedFiles.{room_for}
 use Rattle.sq_lifted.proofs.Graphs.{is_graph}

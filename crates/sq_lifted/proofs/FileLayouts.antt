@@ -1,7 +1,7 @@
 -- The plain machine of a file has the pieces of the file's world, in the same order.
 use Rattle.std.proofs.Common.{ap}
 use Rattle.sq_system.specs.World.{World as Layout, is_writable, is_executable}
-use Rattle.sq_files.proofs.FileImages.{same_layout}
+use Rattle.law_files.proofs.FileImages.{same_layout}
 use Rattle.sq_lifted.specs.Files.{FilesAreLaidOut}
 
 pub laid_out : FilesAreLaidOut

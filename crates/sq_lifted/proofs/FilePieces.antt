@@ -16,15 +16,15 @@ use Rattle.sq_elf.specs.Refusing.{file_refusal_of}
 use Rattle.sq_elf.proofs.Apart.{pieces_are_apart}
 use Rattle.sq_reloc.specs.declared.mark.CodeWord.{CodeWord}
 use Rattle.sq_reloc.specs.Outside.{is_stale, word_start}
-use Rattle.sq_follow.specs.Worlds.{Given, StaleByte, StartPiece, extent_of, extents, IsStartByte, IsFilled, AreApart as ApartExtents, AreAllApart}
-use Rattle.sq_program.specs.Programs.{Program, target_of}
-use Rattle.sq_program.specs.FileRuns.{code_word_number, byte_of_word, stale_or, start_byte, start_bytes, start_piece, segment_pieces, world_of}
+use Rattle.law_follow.specs.Worlds.{Given, StaleByte, StartPiece, extent_of, extents, IsStartByte, IsFilled, AreApart as ApartExtents, AreAllApart}
+use Rattle.law_program.specs.Programs.{Program, target_of}
+use Rattle.law_program.specs.FileRuns.{code_word_number, byte_of_word, stale_or, start_byte, start_bytes, start_piece, segment_pieces, world_of}
 use Rattle.sq_machine.specs.Starts.{extent_of as plain_extent}
 use Rattle.sq_run.specs.FileRuns.{start_piece as plain_piece, pieces_of}
 use Rattle.sq_lifted.specs.Same.{FilesAreWorlds}
 use Rattle.sq_lifted.proofs.Files.{dropped}
-use Rattle.sq_files.proofs.FileBytes.{filled, filled_length, bytes_length, whole}
-use Rattle.sq_files.proofs.FileRegions.{loaded}
+use Rattle.law_files.proofs.FileBytes.{filled, filled_length, bytes_length, whole}
+use Rattle.law_files.proofs.FileRegions.{loaded}
 use Rattle.sq_lifted.proofs.PlainCells.{start_bytes_length, numbered_there}
 
 -- THE BYTES OF A PIECE

@@ -12,26 +12,26 @@ use Rattle.sq_elf.specs.Headers.{phnum_of, segment_of}
 use Rattle.sq_elf.specs.Text.{text_of as text_range, text_segment_of}
 use Rattle.sq_elf.specs.Memory.{has_memory, segments_before}
 use Rattle.sq_elf.proofs.TextFacts.{TextFacts, text_facts}
-use Rattle.sq_follow.specs.Worlds.{StartPiece, piece_of, layout_of}
-use Rattle.sq_program.specs.Programs.{Word, Note, Program, word_at}
-use Rattle.sq_program.specs.FilePrograms.{IsLiftedFrom, text_of, note_refusal, early_refusal, IsReadAs, IsAccepted}
-use Rattle.sq_program.specs.Notes.{bad_note}
-use Rattle.sq_program.specs.NoteSections.{notes_of}
-use Rattle.sq_program.specs.Faults.{text_refusal}
-use Rattle.sq_program.specs.FileRuns.{segment_pieces, world_of}
-use Rattle.sq_lifting.specs.Lifting.{IsReadable, IsFine, IsWorldOf}
-use Rattle.sq_lifting.proofs.TextWords.{stood}
-use Rattle.sq_lifting.proofs.Facts.{or_none}
-use Rattle.sq_follow.specs.Follows.{Follows}
+use Rattle.law_follow.specs.Worlds.{StartPiece, piece_of, layout_of}
+use Rattle.law_program.specs.Programs.{Word, Note, Program, word_at}
+use Rattle.law_program.specs.FilePrograms.{IsLiftedFrom, text_of, note_refusal, early_refusal, IsReadAs, IsAccepted}
+use Rattle.law_program.specs.Notes.{bad_note}
+use Rattle.law_program.specs.NoteSections.{notes_of}
+use Rattle.law_program.specs.Faults.{text_refusal}
+use Rattle.law_program.specs.FileRuns.{segment_pieces, world_of}
+use Rattle.law_lifting.specs.Lifting.{IsReadable, IsFine, IsWorldOf}
+use Rattle.law_lifting.proofs.TextWords.{stood}
+use Rattle.law_lifting.proofs.Facts.{or_none}
+use Rattle.law_follow.specs.Follows.{Follows}
 use Rattle.sq_graph.specs.Graph.{Graph}
-use Rattle.sq_patch.specs.Operations.{KeepsStep}
-use Rattle.sq_patch.proofs.Renaming.{rename_follows, rename_keeps_step}
-use Rattle.sq_program.specs.Lifted.{lifted}
-use Rattle.sq_lifting.proofs.Whole.{lifting_keeps}
+use Rattle.law_patch.specs.Operations.{KeepsStep}
+use Rattle.law_patch.proofs.Renaming.{rename_follows, rename_keeps_step}
+use Rattle.law_program.specs.Lifted.{lifted}
+use Rattle.law_lifting.proofs.Whole.{lifting_keeps}
 use Rattle.sq_lifted.specs.Files.{FileWorldsFit, LiftedFilesKeepRuns, LiftedFilesAreGood, LiftedFilesFollow}
 use Rattle.sq_lifted.proofs.Files.{ends_at, files_linked}
-use Rattle.sq_files.proofs.FileBytes.{le_is, lt_is}
-use Rattle.sq_files.proofs.TextSegment.{flagged, text_whole, has_text}
+use Rattle.law_files.proofs.FileBytes.{le_is, lt_is}
+use Rattle.law_files.proofs.TextSegment.{flagged, text_whole, has_text}
 use Rattle.sq_lifted.proofs.Counting.{lifted_good}
 
 -- some of these, or of those

@@ -28,11 +28,11 @@ use Rattle.sq_reloc.specs.Outside.{code_word_at}
 use Rattle.sq_reloc.specs.CodeWords.{IsAscending, listed_at}
 use Rattle.sq_reloc.proofs.MarkFacts.{insn_is_marked}
 use Rattle.sq_reloc.proofs.CodeWordFacts.{is_code_word}
-use Rattle.sq_program.specs.Programs.{Word, Program, word_from, word_at, IsWord, end_of, insn_in, target_of}
-use Rattle.sq_program.specs.FilePrograms.{file_word, words_from, text_of, IsReadAs}
-use Rattle.sq_files.proofs.FileBytes.{le_is, lt_is}
-use Rattle.sq_lifting.specs.Lifting.{MarkFits, IsMarkedText}
-use Rattle.sq_lifting.proofs.TextWords.{same_itself, stood, in_text_word}
+use Rattle.law_program.specs.Programs.{Word, Program, word_from, word_at, IsWord, end_of, insn_in, target_of}
+use Rattle.law_program.specs.FilePrograms.{file_word, words_from, text_of, IsReadAs}
+use Rattle.law_files.proofs.FileBytes.{le_is, lt_is}
+use Rattle.law_lifting.specs.Lifting.{MarkFits, IsMarkedText}
+use Rattle.law_lifting.proofs.TextWords.{same_itself, stood, in_text_word}
 use Rattle.sq_lifted.specs.Lifted.{IsShort}
 use Rattle.sq_lifted.specs.Files.{IsLinkedProgram, FilesAreLinked}
 

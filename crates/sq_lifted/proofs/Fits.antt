@@ -13,9 +13,9 @@ use Rattle.sq_graph.specs.declared.item.Item.TheVariants.{Op, Hi, Lo}
 use Rattle.sq_graph.specs.declared.item.Term.{Term}
 use Rattle.sq_graph.specs.declared.item.Term.TheVariants.{Fall, Jump, Branch, Call, PartJump, Indirect, Stop}
 use Rattle.sq_graph.specs.Rules.{ItemFits, TermFits}
-use Rattle.sq_program.specs.Programs.{Text, is_in_text}
-use Rattle.sq_program.specs.Reached.{target_from}
-use Rattle.sq_program.specs.Readings.{Reading, IsItem, IsTerm, Links, plain_reading, upper_reading, lower_reading, marked_reading}
+use Rattle.law_program.specs.Programs.{Text, is_in_text}
+use Rattle.law_program.specs.Reached.{target_from}
+use Rattle.law_program.specs.Readings.{Reading, IsItem, IsTerm, Links, plain_reading, upper_reading, lower_reading, marked_reading}
 
 -- the target of a branch is that of its instruction
 abbrev pub LeadsBy : ℕ → Term → Type 0

@@ -11,9 +11,9 @@ use Rattle.sq_graph.specs.declared.parts.CodeRef.{CodeRef}
 use Rattle.sq_graph.specs.Graph.{Graph}
 use Rattle.sq_graph.specs.Words.{words_of}
 use Rattle.sq_graph.proofs.RenamedSound.{canonical_kept, sound_kept}
-use Rattle.sq_program.specs.Programs.{Text}
-use Rattle.sq_program.specs.FilePrograms.{text_of as program_text}
-use Rattle.sq_program.specs.Lifted.{code_ref, lifted}
+use Rattle.law_program.specs.Programs.{Text}
+use Rattle.law_program.specs.FilePrograms.{text_of as program_text}
+use Rattle.law_program.specs.Lifted.{code_ref, lifted}
 use Rattle.sq_write.specs.Alike.{FitsAs}
 use Rattle.sq_write.proofs.AlikeGraphs.{alike_fit}
 use Rattle.sq_lifted.specs.Lifted.{IsGoodGraph}

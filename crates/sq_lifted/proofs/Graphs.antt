@@ -18,18 +18,18 @@ use Rattle.sq_reloc.specs.declared.mark.CodeWord.{CodeWord}
 use Rattle.sq_reloc.specs.CodeWords.{IsAscending}
 use Rattle.sq_graph.specs.Lines.{line_of, lines_of}
 use Rattle.sq_graph.specs.Soundness.{IsFreeOf, IsSoundBody, IsSound}
-use Rattle.sq_program.specs.Programs.{Text, Note, Program, target_of}
-use Rattle.sq_program.specs.Reached.{Decides}
-use Rattle.sq_program.specs.Readings.{Reading, IsItem, IsTerm, Links, reading_at}
-use Rattle.sq_program.specs.Notes.{used_notes, has_body, is_item_without}
-use Rattle.sq_program.specs.Lifted.{Form, link_form, form_of, procedure_at, with_item, body_from, procedure_of, code_ref}
+use Rattle.law_program.specs.Programs.{Text, Note, Program, target_of}
+use Rattle.law_program.specs.Reached.{Decides}
+use Rattle.law_program.specs.Readings.{Reading, IsItem, IsTerm, Links, reading_at}
+use Rattle.law_program.specs.Notes.{used_notes, has_body, is_item_without}
+use Rattle.law_program.specs.Lifted.{Form, link_form, form_of, procedure_at, with_item, body_from, procedure_of, code_ref}
 use Rattle.sq_lift.proofs.NoteRefusals.{links_small}
-use Rattle.sq_lifting.specs.Lifting.{IsLinked, IsReadable, NotesDie}
-use Rattle.sq_lifting.proofs.Facts.{one_is, none_in, ReadWord, marked_of}
-use Rattle.sq_lifting.proofs.NoteFacts.{at_number, read_item, IsGoodNote, good_note}
-use Rattle.sq_lifting.proofs.ReadingFacts.{form_uses, IsReadItem}
-use Rattle.sq_lifting.proofs.CutLines.{N, K, G, named_used, body_name, body_each, item_read}
-use Rattle.sq_lifting.proofs.Whole.{entry_named, code_named, names_are, contains_at, dies_lines, die_all}
+use Rattle.law_lifting.specs.Lifting.{IsLinked, IsReadable, NotesDie}
+use Rattle.law_lifting.proofs.Facts.{one_is, none_in, ReadWord, marked_of}
+use Rattle.law_lifting.proofs.NoteFacts.{at_number, read_item, IsGoodNote, good_note}
+use Rattle.law_lifting.proofs.ReadingFacts.{form_uses, IsReadItem}
+use Rattle.law_lifting.proofs.CutLines.{N, K, G, named_used, body_name, body_each, item_read}
+use Rattle.law_lifting.proofs.Whole.{entry_named, code_named, names_are, contains_at, dies_lines, die_all}
 use Rattle.sq_lifted.proofs.Fits.{ReadingFits, reading_fits}
 use Rattle.sq_lifted.proofs.Blocks.{has_block, IsFormGood, IsBlockGood, EachBlock, blocks_good, names_distinct, last_ends}
 

@@ -10,18 +10,18 @@ use Rattle.sq_graph.specs.Graph.{Graph}
 use Rattle.sq_graph.specs.declared.parts.Room.{Room}
 use Rattle.sq_graph.specs.Room.{IsSmall, Covers, count_of, sum_of}
 use Rattle.sq_graph.specs.Rules.{IsGraph}
-use Rattle.sq_program.specs.Programs.{Text, Note, Program}
-use Rattle.sq_program.specs.Reached.{Decides}
-use Rattle.sq_program.specs.Notes.{used_notes}
-use Rattle.sq_program.specs.Lifted.{lifted}
+use Rattle.law_program.specs.Programs.{Text, Note, Program}
+use Rattle.law_program.specs.Reached.{Decides}
+use Rattle.law_program.specs.Notes.{used_notes}
+use Rattle.law_program.specs.Lifted.{lifted}
 use Rattle.sq_graph.specs.Alike.{AreAlike}
-use Rattle.sq_program.specs.FilePrograms.{text_of, early_refusal, IsProgramOf, IsReadAs, IsFirstAlive, IsLiftRefusal}
-use Rattle.sq_program.specs.FilePrograms.IsLiftRefusal.{early, alive}
+use Rattle.law_program.specs.FilePrograms.{text_of, early_refusal, IsProgramOf, IsReadAs, IsFirstAlive, IsLiftRefusal}
+use Rattle.law_program.specs.FilePrograms.IsLiftRefusal.{early, alive}
 use Rattle.sq_lift.specs.Flags.{Flags, is_flagged}
 use Rattle.sq_lift.specs.Refused.{IsEarlyRefusal}
 use Rattle.sq_lift.proofs.FilePrograms.{one_program, same_test}
 use Rattle.sq_lift.proofs.NoteRefusals.{one_early}
-use Rattle.sq_lifting.specs.Lifting.{IsReadable}
+use Rattle.law_lifting.specs.Lifting.{IsReadable}
 use Rattle.sq_lifted.specs.LiveLinks.{IsFirstLive}
 use Rattle.sq_lifted.specs.LiftedFiles.{IsLiftedFile, IsRefusedFile, room_for}
 use Rattle.sq_lifted.proofs.FileWorlds.{early_readable}

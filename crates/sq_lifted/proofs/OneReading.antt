@@ -5,11 +5,11 @@ use Rattle.sq_num.specs.declared.refusal.Refusal.TheVariants.{BadNote}
 use Rattle.sq_graph.specs.Alike.{AreAlike}
 use Rattle.sq_graph.specs.Rules.{IsGraph}
 use Rattle.sq_graph.proofs.Slotting.{one_slotted}
-use Rattle.sq_program.specs.Programs.{Program}
-use Rattle.sq_program.specs.Lifted.{lifted}
-use Rattle.sq_program.specs.FilePrograms.{IsReadAs, IsLiftRefusal}
-use Rattle.sq_program.specs.FilePrograms.IsLiftRefusal.{early, alive}
-use Rattle.sq_program.specs.FilePrograms.IsRefusalOf.{by_file, by_relocs, by_lift}
+use Rattle.law_program.specs.Programs.{Program}
+use Rattle.law_program.specs.Lifted.{lifted}
+use Rattle.law_program.specs.FilePrograms.{IsReadAs, IsLiftRefusal}
+use Rattle.law_program.specs.FilePrograms.IsLiftRefusal.{early, alive}
+use Rattle.law_program.specs.FilePrograms.IsRefusalOf.{by_file, by_relocs, by_lift}
 use Rattle.sq_lifted.specs.LiftedFiles.{LiftedGraphsAreOne, RefusalsAreOne}
 use Rattle.sq_lifted.proofs.Alive.{one_first}
 use Rattle.sq_lifted.proofs.EarlyGraphs.{rules}

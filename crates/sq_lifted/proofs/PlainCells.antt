@@ -23,17 +23,17 @@ use Rattle.sq_reloc.specs.Outside.{is_code_entry, code_target, is_stale, word_st
 use Rattle.sq_reloc.specs.CodeWords.{listed_at, IsCodeWord}
 use Rattle.sq_reloc.proofs.CodeWordFacts.{is_code_word}
 use Rattle.sq_reloc.proofs.Found.{IsFoundAt, found_at}
-use Rattle.sq_follow.specs.Worlds.{Given, StaleByte, word_cell, start_cell}
-use Rattle.sq_erasure.specs.Erasure.{IsErasedCell}
+use Rattle.law_follow.specs.Worlds.{Given, StaleByte, word_cell, start_cell}
+use Rattle.law_erasure.specs.Erasure.{IsErasedCell}
 use Rattle.sq_live.proofs.Nodes.{get_contains}
-use Rattle.sq_program.specs.Programs.{Program, target_of}
-use Rattle.sq_program.specs.Reached.{code_word}
-use Rattle.sq_program.specs.FilePrograms.{IsReadAs}
-use Rattle.sq_program.specs.FileRuns.{code_word_number, byte_of_word, stale_or, start_byte, start_bytes}
-use Rattle.sq_lifting.specs.Watching.{own_names}
+use Rattle.law_program.specs.Programs.{Program, target_of}
+use Rattle.law_program.specs.Reached.{code_word}
+use Rattle.law_program.specs.FilePrograms.{IsReadAs}
+use Rattle.law_program.specs.FileRuns.{code_word_number, byte_of_word, stale_or, start_byte, start_bytes}
+use Rattle.law_lifting.specs.Watching.{own_names}
 use Rattle.sq_lifted.proofs.Files.{dropped, files_linked}
-use Rattle.sq_files.proofs.FileBytes.{filled, filled_length, dropped_byte, word_bytes, field_is, in_file, filled_byte, whole}
-use Rattle.sq_files.proofs.FileRegions.{IsAt, alone}
+use Rattle.law_files.proofs.FileBytes.{filled, filled_length, dropped_byte, word_bytes, field_is, in_file, filled_byte, whole}
+use Rattle.law_files.proofs.FileRegions.{IsAt, alone}
 
 -- BYTES AT THE START
 

@@ -26,24 +26,24 @@ use Rattle.sq_reloc.specs.declared.mark.CodeWord.{CodeWord}
 use Rattle.sq_reloc.specs.Outside.{word_start}
 use Rattle.sq_machine.specs.Starts.{piece_region as plain_region, ram_region as plain_ram}
 use Rattle.sq_machine.specs.State.{number_at, aligned_number, with_register}
-use Rattle.sq_follow.specs.Values.{Cell, Byte}
-use Rattle.sq_follow.specs.Worlds.{start_cell, piece_region, ram_region, regions_at_start}
-use Rattle.sq_patch.specs.LiveAgreement.{everywhere}
-use Rattle.sq_erasure.specs.Erasure.{IsErasedCell}
+use Rattle.law_follow.specs.Values.{Cell, Byte}
+use Rattle.law_follow.specs.Worlds.{start_cell, piece_region, ram_region, regions_at_start}
+use Rattle.law_patch.specs.LiveAgreement.{everywhere}
+use Rattle.law_erasure.specs.Erasure.{IsErasedCell}
 use Rattle.sq_run.specs.FileRuns.{start_piece as plain_start, file_world, file_state, file_trace}
-use Rattle.sq_program.specs.Programs.{Word, Program, word_at, is_in_text, end_of, target_of}
-use Rattle.sq_program.specs.FilePrograms.{text_of, IsReadAs}
-use Rattle.sq_program.specs.FileRuns.{start_piece, start_byte, start_bytes, segment_pieces, world_of}
-use Rattle.sq_lifting.specs.Watching.{own_names, IsPlainStart}
-use Rattle.sq_lifting.proofs.TextWords.{stood}
-use Rattle.sq_lifting.proofs.Watched.{watching_erases}
+use Rattle.law_program.specs.Programs.{Word, Program, word_at, is_in_text, end_of, target_of}
+use Rattle.law_program.specs.FilePrograms.{text_of, IsReadAs}
+use Rattle.law_program.specs.FileRuns.{start_piece, start_byte, start_bytes, segment_pieces, world_of}
+use Rattle.law_lifting.specs.Watching.{own_names, IsPlainStart}
+use Rattle.law_lifting.proofs.TextWords.{stood}
+use Rattle.law_lifting.proofs.Watched.{watching_erases}
 use Rattle.sq_lifted.specs.Files.{FilesStartPlain, FilesShowPlain}
 use Rattle.sq_lifted.proofs.Files.{ends_at, words_are, is_text_word_of, files_linked}
-use Rattle.sq_files.proofs.TextSegment.{has_text}
+use Rattle.law_files.proofs.TextSegment.{has_text}
 use Rattle.sq_lifted.proofs.FileWorlds.{text_executable, early_readable, files_keep_runs}
 use Rattle.sq_lifted.proofs.FileLayouts.{laid_out}
-use Rattle.sq_files.proofs.FileBytes.{le_is, lt_is, filled, filled_length, taken_byte, dropped_byte, first_number, field_is, in_file, bytes_length, filled_byte, whole}
-use Rattle.sq_files.proofs.FileRegions.{get_append, regions_before, before_agree, or_agree, AreSized, loaded, cell_at}
+use Rattle.law_files.proofs.FileBytes.{le_is, lt_is, filled, filled_length, taken_byte, dropped_byte, first_number, field_is, in_file, bytes_length, filled_byte, whole}
+use Rattle.law_files.proofs.FileRegions.{get_append, regions_before, before_agree, or_agree, AreSized, loaded, cell_at}
 use Rattle.sq_lifted.proofs.PlainCells.{start_bytes_length, start_cell_get, cells_erased, text_byte}
 
 -- THE TWO MEMORIES AS REGIONS OF SEGMENTS

@@ -11,16 +11,16 @@ use Rattle.sq_graph.specs.Graph.{Graph}
 use Rattle.sq_graph.specs.Words.{term_words}
 use Rattle.sq_graph.specs.Leaders.{is_fall}
 use Rattle.sq_graph.specs.Places.{address_in, block_address, Reaches, TermReaches, BranchesReach, IsInReach}
-use Rattle.sq_program.specs.Programs.{Word, Text, Note, Program, word_from, word_at}
-use Rattle.sq_program.specs.Reached.{target_from, Decides}
-use Rattle.sq_program.specs.Readings.{Reading, IsItem, IsTerm, Links, reading_of}
-use Rattle.sq_program.specs.Lifted.{Form, ItemForm, TermForm, form_of, Rest, between, with_form, with_reading, begun_if, procedure_at, link_form}
-use Rattle.sq_lifting.specs.Lifting.{IsLinked, IsReadable}
-use Rattle.sq_lifting.proofs.TextWords.{same_itself, Stood, stood}
-use Rattle.sq_lifting.proofs.Facts.{one, ReadWord}
-use Rattle.sq_lifting.proofs.ReadingFacts.{form_uses}
-use Rattle.sq_lifting.proofs.Cutting.{kept_is, read_at, used_kept, lead_used, true_not_false}
-use Rattle.sq_lifting.proofs.CutLines.{N, K, L, G, Cut, IsSuffix, tail_suffix, form_at, IsTermForm, closed_cut, first_lead}
+use Rattle.law_program.specs.Programs.{Word, Text, Note, Program, word_from, word_at}
+use Rattle.law_program.specs.Reached.{target_from, Decides}
+use Rattle.law_program.specs.Readings.{Reading, IsItem, IsTerm, Links, reading_of}
+use Rattle.law_program.specs.Lifted.{Form, ItemForm, TermForm, form_of, Rest, between, with_form, with_reading, begun_if, procedure_at, link_form}
+use Rattle.law_lifting.specs.Lifting.{IsLinked, IsReadable}
+use Rattle.law_lifting.proofs.TextWords.{same_itself, Stood, stood}
+use Rattle.law_lifting.proofs.Facts.{one, ReadWord}
+use Rattle.law_lifting.proofs.ReadingFacts.{form_uses}
+use Rattle.law_lifting.proofs.Cutting.{kept_is, read_at, used_kept, lead_used, true_not_false}
+use Rattle.law_lifting.proofs.CutLines.{N, K, L, G, Cut, IsSuffix, tail_suffix, form_at, IsTermForm, closed_cut, first_lead}
 use Rattle.sq_lifted.specs.Lifted.{IsShort}
 use Rattle.sq_lifted.proofs.Fits.{LeadsBy, ReadingFits}
 use Rattle.sq_lifted.proofs.Graphs.{read_fits}

@@ -6,7 +6,7 @@ use Rattle.sq_graph.specs.Lines.{Line, Name, Do, Enter, Return, End, lines_of}
 use Rattle.sq_graph.specs.Renames.{renamed}
 use Rattle.sq_graph.specs.Rules.{IsGraph}
 use Rattle.sq_graph.proofs.RenamedLives.{named_lines, lines_are, Known, known, lives_on, lived}
-use Rattle.sq_program.specs.FilePrograms.{LinkDies}
+use Rattle.law_program.specs.FilePrograms.{LinkDies}
 
 module _ (f : ℕ → ℕ) (g : Graph) (rules : IsGraph g) (apart : IsOneToOne f g) where
   abbrev other : Graph

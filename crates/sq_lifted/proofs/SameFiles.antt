@@ -2,25 +2,25 @@
 use Rattle.std.proofs.Common.{◌≡◌, ℕ, ◌<◌, Bool, List, length, refl, sym, ◌∙◌, subst}
 use Rattle.std.specs.List.{AllByRecursion}
 use Rattle.std.proofs.lemmas.List.{length-map}
-use Rattle.sq_runs.specs.Runs.{IsUnbroken}
-use Rattle.sq_runs.specs.Follows.{LeadsTo}
-use Rattle.sq_runs.proofs.Follow.{assemble}
+use Rattle.law_runs.specs.Runs.{IsUnbroken}
+use Rattle.law_runs.specs.Follows.{LeadsTo}
+use Rattle.law_runs.proofs.Follow.{assemble}
 use Rattle.sq_system.specs.Starts.{Start, IsValidStart}
 use Rattle.sq_machine.specs.Steps.{step_of}
 use Rattle.sq_graph.specs.Graph.{Graph}
-use Rattle.sq_follow.specs.Worlds.{setting_of}
-use Rattle.sq_follow.specs.GraphRuns.{graph_step}
-use Rattle.sq_follow.specs.Follows.{state_at_start, graph_run, Follows}
-use Rattle.sq_follow.proofs.Following.{graph_follows_through}
-use Rattle.sq_program.specs.Programs.{Program}
-use Rattle.sq_program.specs.Lifted.{code_ref, lifted}
-use Rattle.sq_program.specs.FilePrograms.{IsLiftedFrom}
-use Rattle.sq_program.specs.Monitored.{monitored_step}
-use Rattle.sq_program.specs.FileRuns.{world_of, watched_start, watched_layout, IsUnbrokenRun}
+use Rattle.law_follow.specs.Worlds.{setting_of}
+use Rattle.law_follow.specs.GraphRuns.{graph_step}
+use Rattle.law_follow.specs.Follows.{state_at_start, graph_run, Follows}
+use Rattle.law_follow.proofs.Following.{graph_follows_through}
+use Rattle.law_program.specs.Programs.{Program}
+use Rattle.law_program.specs.Lifted.{code_ref, lifted}
+use Rattle.law_program.specs.FilePrograms.{IsLiftedFrom}
+use Rattle.law_program.specs.Monitored.{monitored_step}
+use Rattle.law_program.specs.FileRuns.{world_of, watched_start, watched_layout, IsUnbrokenRun}
 use Rattle.sq_run.specs.FileRuns.{file_world, file_state, file_trace}
 use Rattle.sq_lift.proofs.FilePrograms.{one_program}
-use Rattle.sq_lifting.proofs.Watched.{watching_erases}
-use Rattle.sq_files.specs.Shows.{IsFileStart, ShowsGraph}
+use Rattle.law_lifting.proofs.Watched.{watching_erases}
+use Rattle.law_files.specs.Shows.{IsFileStart, ShowsGraph}
 use Rattle.sq_lifted.specs.LiftedFiles.{IsLiftedFile, RunsAsFile, KeepsRunsOf, ShowsFile}
 use Rattle.sq_lifted.specs.Same.{HaveSameRuns, ShownGraphsAreSame}
 use Rattle.sq_lifted.proofs.Files.{files_linked}

@@ -5,12 +5,12 @@ use Rattle.std.proofs.lemmas.Option.{slice_get-map}
 use Rattle.sq_graph.specs.Graph.{Procedure, Graph}
 use Rattle.sq_graph.specs.Lines.{Line, Name, Do, Enter, Return, End, lines_of}
 use Rattle.sq_graph.specs.Soundness.{LinksDieIn, IsSound}
-use Rattle.sq_program.specs.Programs.{Note, Program}
-use Rattle.sq_program.specs.Notes.{used_notes}
-use Rattle.sq_program.specs.Lifted.{procedure_of, lifted}
-use Rattle.sq_program.specs.FilePrograms.{LinkDies, NoteDies}
-use Rattle.sq_lifting.specs.Lifting.{IsReadable, NotesDie}
-use Rattle.sq_lifting.proofs.NoteFacts.{at_number, used_good, own_number}
+use Rattle.law_program.specs.Programs.{Note, Program}
+use Rattle.law_program.specs.Notes.{used_notes}
+use Rattle.law_program.specs.Lifted.{procedure_of, lifted}
+use Rattle.law_program.specs.FilePrograms.{LinkDies, NoteDies}
+use Rattle.law_lifting.specs.Lifting.{IsReadable, NotesDie}
+use Rattle.law_lifting.proofs.NoteFacts.{at_number, used_good, own_number}
 
 -- links that die behind every call die behind the calls of one procedure
 one_dies : (g : Graph) (k : ℕ) (p : Procedure) (lines : List Line) → slice_get g.procedures k ≡ Some p → LinksDieIn g lines → LinkDies g k p.link lines

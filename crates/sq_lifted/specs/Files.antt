@@ -1,22 +1,22 @@
 -- What holds of each file that is not refused. The number of each of its bytes is below 256.
 use Rattle.std.specs.Prelude.{◌≡◌, ℕ, ◌<◌, Bool, List}
 use Rattle.std.specs.List.{AllByRecursion}
-use Rattle.sq_runs.specs.Runs.{IsUnbroken}
-use Rattle.sq_runs.specs.Follows.{LocksWith}
+use Rattle.law_runs.specs.Runs.{IsUnbroken}
+use Rattle.law_runs.specs.Follows.{LocksWith}
 use Rattle.sq_system.specs.Starts.{Start}
 use Rattle.sq_reloc.specs.CodeWords.{IsAscending}
-use Rattle.sq_follow.specs.Worlds.{setting_of}
-use Rattle.sq_follow.specs.GraphRuns.{graph_step}
-use Rattle.sq_follow.specs.Follows.{state_at_start, graph_run, Follows}
+use Rattle.law_follow.specs.Worlds.{setting_of}
+use Rattle.law_follow.specs.GraphRuns.{graph_step}
+use Rattle.law_follow.specs.Follows.{state_at_start, graph_run, Follows}
 use Rattle.sq_graph.specs.Graph.{Graph}
-use Rattle.sq_program.specs.Programs.{Program}
-use Rattle.sq_program.specs.Lifted.{lifted}
-use Rattle.sq_program.specs.FilePrograms.{IsReadAs, IsAccepted, IsLiftedFrom}
-use Rattle.sq_program.specs.Monitored.{monitored_step}
-use Rattle.sq_program.specs.FileRuns.{world_of, watched_start, watched_layout, IsUnbrokenRun}
+use Rattle.law_program.specs.Programs.{Program}
+use Rattle.law_program.specs.Lifted.{lifted}
+use Rattle.law_program.specs.FilePrograms.{IsReadAs, IsAccepted, IsLiftedFrom}
+use Rattle.law_program.specs.Monitored.{monitored_step}
+use Rattle.law_program.specs.FileRuns.{world_of, watched_start, watched_layout, IsUnbrokenRun}
 use Rattle.sq_run.specs.FileRuns.{file_world, file_state, file_trace}
-use Rattle.sq_lifting.specs.Lifting.{IsLinked, IsWorldOf}
-use Rattle.sq_lifting.specs.Watching.{IsLaidOut, IsPlainStart}
+use Rattle.law_lifting.specs.Lifting.{IsLinked, IsWorldOf}
+use Rattle.law_lifting.specs.Watching.{IsLaidOut, IsPlainStart}
 use Rattle.sq_lifted.specs.Lifted.{IsShort, IsGoodGraph}
 
 -- Accepted by all that is asked before its text, a file has a linked program: with text as relocations mark it, at most

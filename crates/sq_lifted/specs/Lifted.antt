@@ -6,10 +6,10 @@ use Rattle.sq_graph.specs.Leaders.{IsCanonical}
 use Rattle.sq_graph.specs.Soundness.{IsSound}
 use Rattle.sq_graph.specs.Words.{words_of}
 use Rattle.sq_graph.specs.Places.{IsInReach}
-use Rattle.sq_program.specs.Programs.{Text, Program, end_of}
-use Rattle.sq_program.specs.Reached.{Decides}
-use Rattle.sq_program.specs.Lifted.{lifted}
-use Rattle.sq_lifting.specs.Lifting.{IsLinked, IsFine}
+use Rattle.law_program.specs.Programs.{Text, Program, end_of}
+use Rattle.law_program.specs.Reached.{Decides}
+use Rattle.law_program.specs.Lifted.{lifted}
+use Rattle.law_lifting.specs.Lifting.{IsLinked, IsFine}
 
 -- Text as files have it: at most 1 MiB, which ends within the address space
 pub record IsShort (t : Text) : Type 0 where

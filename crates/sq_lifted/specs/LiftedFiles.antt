@@ -1,8 +1,8 @@
 -- What `lift` gives for a file.
 use Rattle.std.specs.Prelude.{◌≡◌, ℕ, ◌+◌, ◌*◌, ◌<◌, ◌≤◌, Bool, List, length, IsSome}
 use Rattle.std.specs.List.{All, AllByRecursion}
-use Rattle.sq_runs.specs.Runs.{IsUnbroken}
-use Rattle.sq_runs.specs.Follows.{LeadsTo}
+use Rattle.law_runs.specs.Runs.{IsUnbroken}
+use Rattle.law_runs.specs.Follows.{LeadsTo}
 use Rattle.sq_num.specs.declared.refusal.Refusal.{Refusal}
 use Rattle.sq_system.specs.Starts.{Start}
 use Rattle.sq_graph.specs.declared.parts.Room.{Room}
@@ -14,12 +14,12 @@ use Rattle.sq_graph.specs.Soundness.{IsSound}
 use Rattle.sq_graph.specs.Words.{words_of}
 use Rattle.sq_graph.specs.Places.{IsInReach}
 use Rattle.sq_graph.specs.Slotted.{slotted}
-use Rattle.sq_program.specs.Programs.{Text, Program}
-use Rattle.sq_follow.specs.Follows.{graph_run}
-use Rattle.sq_program.specs.FilePrograms.{IsProgramOf, IsLiftRefusal, IsLiftedFrom, IsRefusalOf, IsAcceptedFile}
-use Rattle.sq_program.specs.FileRuns.{world_of, IsUnbrokenRun}
+use Rattle.law_program.specs.Programs.{Text, Program}
+use Rattle.law_follow.specs.Follows.{graph_run}
+use Rattle.law_program.specs.FilePrograms.{IsProgramOf, IsLiftRefusal, IsLiftedFrom, IsRefusalOf, IsAcceptedFile}
+use Rattle.law_program.specs.FileRuns.{world_of, IsUnbrokenRun}
 use Rattle.sq_run.specs.FileRuns.{file_trace}
-use Rattle.sq_files.specs.Shows.{IsFileStart}
+use Rattle.law_files.specs.Shows.{IsFileStart}
 
 -- the file is accepted, and g is its lifted graph, but for the names of blocks
 pub record IsLiftedFile (bytes : List ℕ) (g : Graph) : Type 0 where

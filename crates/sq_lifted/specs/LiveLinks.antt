@@ -6,9 +6,9 @@ use Rattle.sq_graph.specs.Graph.{Graph}
 use Rattle.sq_graph.specs.Blocks.{items_of, link_of}
 use Rattle.sq_graph.specs.Lines.{Line, lines_of, place_lines}
 use Rattle.sq_graph.specs.Walks.{IsLive}
-use Rattle.sq_program.specs.Programs.{Note}
-use Rattle.sq_program.specs.Notes.{used_notes}
-use Rattle.sq_program.specs.FilePrograms.{LinkDies}
+use Rattle.law_program.specs.Programs.{Note}
+use Rattle.law_program.specs.Notes.{used_notes}
+use Rattle.law_program.specs.FilePrograms.{LinkDies}
 
 -- in front of these lines the link of the procedure is dead
 abbrev pub IsLinkDead : Graph → ℕ → List Line → Type 0

@@ -1,18 +1,18 @@
 -- Files that do the same.
 use Rattle.std.specs.Prelude.{ℕ, ◌<◌, Bool, List}
 use Rattle.std.specs.List.{AllByRecursion}
-use Rattle.sq_runs.specs.Follows.{SameRuns}
+use Rattle.law_runs.specs.Follows.{SameRuns}
 use Rattle.sq_system.specs.Starts.{Start}
 use Rattle.sq_machine.specs.Steps.{step_of}
 use Rattle.sq_graph.specs.Graph.{Graph}
-use Rattle.sq_follow.specs.Worlds.{IsWorld}
-use Rattle.sq_follow.specs.Follows.{Follows}
-use Rattle.sq_program.specs.Programs.{Program}
-use Rattle.sq_program.specs.FilePrograms.{IsProgramOf, IsReadAs, IsLiftedFrom}
-use Rattle.sq_program.specs.Monitored.{monitored_step}
-use Rattle.sq_program.specs.FileRuns.{world_of, watched_start, watched_layout}
+use Rattle.law_follow.specs.Worlds.{IsWorld}
+use Rattle.law_follow.specs.Follows.{Follows}
+use Rattle.law_program.specs.Programs.{Program}
+use Rattle.law_program.specs.FilePrograms.{IsProgramOf, IsReadAs, IsLiftedFrom}
+use Rattle.law_program.specs.Monitored.{monitored_step}
+use Rattle.law_program.specs.FileRuns.{world_of, watched_start, watched_layout}
 use Rattle.sq_run.specs.FileRuns.{file_world, file_state}
-use Rattle.sq_files.specs.Shows.{IsFileStart, ShowsGraph}
+use Rattle.law_files.specs.Shows.{IsFileStart, ShowsGraph}
 
 -- The plain runs of two files from a start are the same, while the monitored run of the first is unbroken: each moment of
 -- the first is one of the second, and each moment of the second leads to one of the first. p is the program of the first.

@@ -2,11 +2,11 @@
 
 ghost use Rattle.std.specs.Prelude.{◌≡◌, ◌⊎◌, ◌<◌, ◌^◌, length, IfOk, Err};
 ghost use Rattle.std.specs.List.{AllByRecursion};
-ghost use Rattle.sq_program.specs.Programs.{Program as FileProgram};
-ghost use Rattle.sq_program.specs.Lifted.{lifted};
+ghost use Rattle.law_program.specs.Programs.{Program as FileProgram};
+ghost use Rattle.law_program.specs.Lifted.{lifted};
 ghost use Rattle.sq_graph.specs.Slotted.{slotted, IsSlotted};
 ghost use Rattle.sq_graph.specs.Room.{Covers};
-ghost use Rattle.sq_program.specs.FilePrograms.{text_of, IsProgramOf};
+ghost use Rattle.law_program.specs.FilePrograms.{text_of, IsProgramOf};
 ghost use Rattle.sq_lift.specs.Flags.{is_flagged};
 ghost use Rattle.sq_lift.specs.Refused.{IsReadNoted};
 ghost use Rattle.sq_lifted.specs.LiftedFiles.{IsLiftedFile, IsRefusedFile, FitsFile, KeepsRunsOf, ShowsFile, room_for};

@@ -1,7 +1,7 @@
 //! Procedures whose links are live behind their calls.
 
 ghost use Rattle.std.specs.Prelude.{◌≡◌, ◌+◌, ◌<◌, ◌^◌, length, Some, slice_get, IfOk};
-ghost use Rattle.sq_program.specs.Notes.{used_notes};
+ghost use Rattle.law_program.specs.Notes.{used_notes};
 ghost use Rattle.sq_lift.specs.Flags.{is_flagged};
 ghost use Rattle.sq_graph.specs.Blocks.{HasBlock, items_of};
 ghost use Rattle.sq_graph.specs.Rules.{IsGraph};

@@ -1,7 +1,7 @@
 -- Steps without an event, as steps with a log.
 use Rattle.std.proofs.Common.{◌≡◌, List, [], ◌++◌, None, refl, sym, ap, ◌∙◌, subst}
 use Rattle.std.proofs.lemmas.List.{append-nil}
-use Rattle.sq_runs.specs.Runs.{Next, Went, Ended, with_event}
+use Rattle.law_runs.specs.Runs.{Next, Went, Ended, with_event}
 use Rattle.sq_system.specs.declared.event.Event.{Event}
 use Rattle.sq_system.specs.declared.event.Halt.{Halt}
 use Rattle.sq_machine.specs.State.{State}

@@ -11,7 +11,7 @@ use Rattle.sq_isa.specs.declared.instructions.AtomicOp.{AtomicOp}
 use Rattle.sq_isa.specs.declared.instructions.AtomicOp.TheVariants.{Lr, Sc, Swap, Add, Xor, And, Or, Min, Max, MinU, MaxU}
 use Rattle.sq_isa.specs.Atomics.{atomic_value_of}
 use Rattle.sq_isa.specs.Branches.{taken_of}
-use Rattle.sq_runs.specs.Runs.{Next, Went, Ended, Broke, state_after, state_from}
+use Rattle.law_runs.specs.Runs.{Next, Went, Ended, Broke, state_after, state_from}
 use Rattle.sq_memory.specs.Regions.{Region, region_cell, or_else, get}
 use Rattle.sq_memory.proofs.RangeLaws.{with_cells-present}
 use Rattle.sq_system.specs.Calls.{effect_of, answer_of}

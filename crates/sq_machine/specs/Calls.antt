@@ -1,6 +1,6 @@
 -- ECALL: what a system call finds and what it does.
 use Rattle.std.specs.Prelude.{◌≡◌, ℕ, ◌-◌, ◌^◌, ◌≤◌, ◌==◌, ◌&&◌, true, min, length, take, Option, Some, None}
-use Rattle.sq_runs.specs.Runs.{Next, Went, Ended}
+use Rattle.law_runs.specs.Runs.{Next, Went, Ended}
 use Rattle.sq_system.specs.Calls.{effect_of, answer_of}
 use Rattle.sq_system.specs.declared.call.CallArgs.{CallArgs}
 use Rattle.sq_system.specs.declared.call.Effect.{Effect}

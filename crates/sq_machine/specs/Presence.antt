@@ -1,7 +1,7 @@
 -- Which bytes are in memory.
 use Rattle.std.specs.Prelude.{◌≡◌, ℕ, Bool, ◌||◌, List, Option}
 use Rattle.std.specs.List.{list_any}
-use Rattle.sq_runs.specs.Runs.{Went, state_after}
+use Rattle.law_runs.specs.Runs.{Went, state_after}
 use Rattle.sq_system.specs.Starts.{Start, StartFits, HasRoom}
 use Rattle.sq_system.specs.declared.event.Event.{Event}
 use Rattle.sq_system.specs.World.{World, is_in, is_in_ram}

@@ -16,7 +16,7 @@ use Rattle.sq_isa.specs.declared.instructions.LoadKind.{LoadKind}
 use Rattle.sq_isa.specs.declared.instructions.StoreKind.{StoreKind}
 use Rattle.sq_isa.specs.declared.instructions.AtomicOp.{AtomicOp}
 use Rattle.sq_isa.specs.declared.instructions.AtomicOp.TheVariants.{Lr, Sc, Swap, Add, Xor, And, Or, Min, Max, MinU, MaxU}
-use Rattle.sq_runs.specs.Runs.{Next, Went, Ended}
+use Rattle.law_runs.specs.Runs.{Next, Went, Ended}
 use Rattle.sq_memory.specs.Cells.{Cells}
 use Rattle.sq_system.specs.declared.event.Event.{Event}
 use Rattle.sq_system.specs.declared.event.Halt.{Halt}

@@ -2,7 +2,7 @@
 use Rattle.std.specs.Prelude.{◌≡◌, ℕ, List, [], ◌++◌, Option, Some, None, if◌then◌else◌}
 use Rattle.sq_isa.specs.Table.{insn_of}
 use Rattle.sq_isa.specs.declared.instructions.Insn.{Insn}
-use Rattle.sq_runs.specs.Runs.{Next, Went, Ended, Broke, Status, Running, Halted, Trace, trace, with_event}
+use Rattle.law_runs.specs.Runs.{Next, Went, Ended, Broke, Status, Running, Halted, Trace, trace, with_event}
 use Rattle.sq_system.specs.declared.event.Event.{Event}
 use Rattle.sq_system.specs.declared.event.Halt.{Halt}
 use Rattle.sq_system.specs.declared.event.Halt.TheVariants.{Fetch, Illegal}

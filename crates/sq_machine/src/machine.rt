@@ -1,7 +1,7 @@
 //! The machine of one run.
 
 ghost use Rattle.std.specs.Prelude.{◌≡◌, ℕ, ◌<◌, IfOk, OnOk, OnErr};
-ghost use Rattle.sq_runs.specs.Runs.{RunsFor, trace};
+ghost use Rattle.law_runs.specs.Runs.{RunsFor, trace};
 ghost use Rattle.sq_machine.specs.Steps.{step_of, trace_of, IsStep, status_of};
 ghost use Rattle.sq_machine.specs.Views.{machine_state, machine_world, state_of, world_of};
 

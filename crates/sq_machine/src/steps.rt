@@ -1,7 +1,7 @@
 //! A step, and a run of steps.
 
 ghost use Rattle.std.specs.Prelude.{◌≡◌, ℕ, ◌<◌, IfOk, OnOk, OnErr};
-ghost use Rattle.sq_runs.specs.Runs.{Went as Goes, RunsFor, trace};
+ghost use Rattle.law_runs.specs.Runs.{Went as Goes, RunsFor, trace};
 ghost use Rattle.sq_isa.specs.Table.{insn_of};
 ghost use Rattle.sq_system.specs.World.{is_executable, is_range};
 ghost use Rattle.sq_machine.specs.State.{advance};

@@ -7,10 +7,10 @@ use Rattle.sq_memory.specs.Regions.{get}
 use Rattle.sq_system.specs.Starts.{Start, stack_pointer}
 use Rattle.sq_system.specs.declared.piece.Piece.{Piece}
 use Rattle.sq_system.specs.declared.start.Extent.{Extent}
-use Rattle.sq_follow.specs.Worlds.{StartPiece, piece_of, ram_region, extents, extent_of as start_extent}
-use Rattle.sq_program.specs.Programs.{Program}
-use Rattle.sq_program.specs.FilePrograms.{IsProgramOf}
-use Rattle.sq_program.specs.FileRuns.{world_of, watched_start, watched_layout}
+use Rattle.law_follow.specs.Worlds.{StartPiece, piece_of, ram_region, extents, extent_of as start_extent}
+use Rattle.law_program.specs.Programs.{Program}
+use Rattle.law_program.specs.FilePrograms.{IsProgramOf}
+use Rattle.law_program.specs.FileRuns.{world_of, watched_start, watched_layout}
 use Rattle.sq_monitor.specs.FileCells.{segment_regions, segment_layout}
 use Rattle.sq_monitor.specs.Starts.{extent_of, state_at}
 use Rattle.sq_monitor.proofs.FileWorlds.{regions_are, layout_is}

@@ -10,10 +10,10 @@ use Rattle.sq_reloc.specs.declared.mark.CodeWord.{CodeWord}
 use Rattle.sq_reloc.specs.CodeWords.{AreCodeWords, listed_at}
 use Rattle.sq_reloc.specs.Outside.{is_stale, word_start}
 use Rattle.sq_memory.specs.Regions.{Region}
-use Rattle.sq_follow.specs.Values.{Cell, Byte, Stale}
-use Rattle.sq_follow.specs.Worlds.{StartByte, Given, StaleByte, start_cell, word_cell, piece_of, piece_region}
-use Rattle.sq_program.specs.Programs.{target_of}
-use Rattle.sq_program.specs.FileRuns.{code_word_number, byte_of_word, stale_or, start_byte, start_bytes, start_piece, segment_pieces}
+use Rattle.law_follow.specs.Values.{Cell, Byte, Stale}
+use Rattle.law_follow.specs.Worlds.{StartByte, Given, StaleByte, start_cell, word_cell, piece_of, piece_region}
+use Rattle.law_program.specs.Programs.{target_of}
+use Rattle.law_program.specs.FileRuns.{code_word_number, byte_of_word, stale_or, start_byte, start_bytes, start_piece, segment_pieces}
 use Rattle.sq_monitor.specs.FileCells.{part_or, file_cell, file_cells, file_region, file_piece, segment_regions, segment_layout, stale_or as stale_cell}
 
 abbrev number_cell : ℕ → List ℕ → Option ℕ → Cell → Cell

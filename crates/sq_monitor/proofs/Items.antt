@@ -9,10 +9,10 @@ use Rattle.sq_isa.specs.declared.instructions.ImmOp.{ImmOp}
 use Rattle.sq_isa.specs.declared.instructions.RegOp.{RegOp}
 use Rattle.sq_isa.specs.declared.instructions.AtomicOp.{AtomicOp}
 use Rattle.sq_graph.specs.Lines.{AddressHalf}
-use Rattle.sq_follow.specs.Settings.{Setting}
-use Rattle.sq_follow.specs.Rows.{row_of}
-use Rattle.sq_follow.specs.GraphRuns.{Core, operands}
-use Rattle.sq_program.specs.Monitored.{Watches, finished, insn_step}
+use Rattle.law_follow.specs.Settings.{Setting}
+use Rattle.law_follow.specs.Rows.{row_of}
+use Rattle.law_follow.specs.GraphRuns.{Core, operands}
+use Rattle.law_program.specs.Monitored.{Watches, finished, insn_step}
 
 abbrev pub item_step : Setting → ℕ → AddressHalf → Insn → Core → Watches
 item_step s at half insn core = finished at (destination_of insn) core (row_of s half insn (operands insn core.registers) core.store)

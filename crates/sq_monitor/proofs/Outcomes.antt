@@ -1,10 +1,10 @@
 -- What is told of a run by its trace.
 use Rattle.std.proofs.Common.{◌≡◌, ℕ, Some, None, sym, ap, ◌∙◌, subst, Option, refl}
-use Rattle.sq_runs.specs.Runs.{Status, Running, Halted, Broken, IsNotBroken, trace, state_after, first_break}
-use Rattle.sq_runs.proofs.Breaks.{unbroken_none}
+use Rattle.law_runs.specs.Runs.{Status, Running, Halted, Broken, IsNotBroken, trace, state_after, first_break}
+use Rattle.law_runs.proofs.Breaks.{unbroken_none}
 use Rattle.sq_system.specs.declared.event.Halt.{Halt}
-use Rattle.sq_follow.specs.declared.kind.Kind.{Kind}
-use Rattle.sq_program.specs.Monitored.{Watched, Watches}
+use Rattle.law_follow.specs.declared.kind.Kind.{Kind}
+use Rattle.law_program.specs.Monitored.{Watched, Watches}
 use Rattle.sq_monitor.specs.Steps.{told, outcome_of, outcome_at}
 use Rattle.sq_monitor.specs.Outcomes.{BreaksAreTold, EndsAreTold, LimitsAreTold}
 use Rattle.sq_monitor.specs.declared.moved.WatchOutcome.TheVariants.{Limit, Ended as EndedWith, Break}

@@ -1,7 +1,7 @@
 -- Words of text and where text ends.
 use Rattle.std.proofs.Common.{◌≡◌, ◌≢◌, ℕ, suc, ◌+◌, ◌*◌, ◌≤◌, Bool, true, false, ◌==◌, List, [], ◌∷◌, length, Some, None, if◌then◌else◌, refl, arith, ne_eqb}
 use Rattle.std.proofs.lemmas.Bool.{eqb-true}
-use Rattle.sq_program.specs.Programs.{Word, Text, word_from, word_at, end_of}
+use Rattle.law_program.specs.Programs.{Word, Text, word_from, word_at, end_of}
 
 -- no word stands behind the end
 none_past : (x at : ℕ) (words : List Word) → at + 4 * length words ≤ x → word_from x at words ≡ None

@@ -1,11 +1,11 @@
 -- Steps without an event, as steps with a log; and what is known of a step by its answer.
 use Rattle.std.proofs.Common.{◌≡◌, List, [], ◌++◌, None, refl, sym, ap, ◌∙◌, subst}
 use Rattle.std.proofs.lemmas.List.{append-nil}
-use Rattle.sq_runs.specs.Runs.{Went, Ended, Broke, with_event}
+use Rattle.law_runs.specs.Runs.{Went, Ended, Broke, with_event}
 use Rattle.sq_system.specs.declared.event.Event.{Event}
 use Rattle.sq_system.specs.declared.event.Halt.{Halt}
-use Rattle.sq_follow.specs.declared.kind.Kind.{Kind}
-use Rattle.sq_program.specs.Monitored.{Watched, Watches}
+use Rattle.law_follow.specs.declared.kind.Kind.{Kind}
+use Rattle.law_program.specs.Monitored.{Watched, Watches}
 use Rattle.sq_monitor.specs.Steps.{IsQuietStep, IsStep, IsWatchedStep, event_in, told}
 use Rattle.sq_monitor.specs.declared.moved.Moved.{Moved}
 use Rattle.sq_monitor.specs.declared.moved.Moved.TheVariants.{Went as HasGone, Ended as HasEnded, Broke as HasBroken}

@@ -12,8 +12,8 @@ use Rattle.sq_tagged.specs.declared.values.Cell.TheVariants.{Byte as ByteOf}
 use Rattle.sq_tagged.specs.Views.{cell_of}
 use Rattle.sq_pages.proofs.Laying.{or_none, or_same, over_twice}
 use Rattle.sq_system.specs.Starts.{Start, stack_pointer, argument_area}
-use Rattle.sq_follow.specs.Values.{Cell, Byte}
-use Rattle.sq_follow.specs.Worlds.{ram_region}
+use Rattle.law_follow.specs.Values.{Cell, Byte}
+use Rattle.law_follow.specs.Worlds.{ram_region}
 use Rattle.sq_monitor.specs.FileCells.{file_cell, file_cells, region_at, segment_regions}
 use Rattle.sq_monitor.specs.Zeros.{zero_cells}
 use Rattle.sq_monitor.proofs.ZeroCells.{map_over, map_same as map_all}

@@ -1,7 +1,7 @@
 -- The setting of a program's text.
 use Rattle.std.proofs.Common.{◌≡◌, ◌&&◌, nat_le, nat_lt}
-use Rattle.sq_program.specs.Programs.{Text, end_of}
-use Rattle.sq_program.specs.Monitored.{setting_of as text_setting}
+use Rattle.law_program.specs.Programs.{Text, end_of}
+use Rattle.law_program.specs.Monitored.{setting_of as text_setting}
 use Rattle.sq_tagged.specs.Views.{layout_of, setting_of}
 use Rattle.sq_tagged.specs.declared.setting.Setting.{Setting as RustSetting}
 

@@ -1,13 +1,13 @@
 -- What a watch at the file's start leaves of its run is told by the file's monitored run.
 use Rattle.std.proofs.Common.{◌≡◌, ℕ, List, [], ◌++◌, codes, ap, ap₂, ◌∙◌}
-use Rattle.sq_runs.specs.Runs.{RunsFor, trace}
+use Rattle.law_runs.specs.Runs.{RunsFor, trace}
 use Rattle.sq_system.specs.Lines.{events_text}
 use Rattle.sq_system.specs.Starts.{Start}
 use Rattle.sq_system.specs.World.{World}
 use Rattle.sq_system.specs.declared.event.Event.{Event}
-use Rattle.sq_program.specs.Programs.{Text, Program}
-use Rattle.sq_program.specs.Monitored.{Watched, monitored_step}
-use Rattle.sq_program.specs.FileRuns.{world_of, watched_start, watched_layout, monitored_trace}
+use Rattle.law_program.specs.Programs.{Text, Program}
+use Rattle.law_program.specs.Monitored.{Watched, monitored_step}
+use Rattle.law_program.specs.FileRuns.{world_of, watched_start, watched_layout, monitored_trace}
 use Rattle.sq_monitor.specs.Steps.{outcome_at}
 use Rattle.sq_monitor.specs.Transcripts.{file_outcome, outcome_text, transcript_text}
 use Rattle.sq_monitor.specs.declared.moved.WatchOutcome.{WatchOutcome}

@@ -1,10 +1,10 @@
 -- The monitored step of a word of text.
 use Rattle.std.proofs.Common.{◌≡◌, ℕ, ◌+◌, ◌≤◌, ◌<◌, ◌^◌, List, Some, sym, ap, ◌∙◌, subst, arith}
-use Rattle.sq_follow.specs.declared.kind.Kind.{Kind}
+use Rattle.law_follow.specs.declared.kind.Kind.{Kind}
 use Rattle.sq_isa.specs.Table.{insn_of}
 use Rattle.sq_system.specs.declared.event.Event.{Event}
-use Rattle.sq_program.specs.Programs.{Word, Text, word_at, end_of}
-use Rattle.sq_program.specs.Monitored.{Watched, Watches, marked_step, word_step, monitored_step, setting_of as text_setting}
+use Rattle.law_program.specs.Programs.{Word, Text, word_at, end_of}
+use Rattle.law_program.specs.Monitored.{Watched, Watches, marked_step, word_step, monitored_step, setting_of as text_setting}
 use Rattle.sq_tagged.specs.Views.{layout_of, setting_of}
 use Rattle.sq_tagged.specs.declared.setting.Setting.{Setting as RustSetting}
 use Rattle.sq_monitor.specs.Steps.{IsTold, IsStep, IsWatchedStep, BreaksBelow}

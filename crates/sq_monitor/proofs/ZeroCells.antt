@@ -8,7 +8,7 @@ use Rattle.sq_memory.specs.Regions.{or_else}
 use Rattle.sq_pages.specs.Pages.{over, one_cell, same_cell}
 use Rattle.sq_pages.proofs.Laying.{or_none, or_same, over_twice, page_more}
 use Rattle.sq_reloc.specs.Outside.{code_word_at, is_stale, word_start}
-use Rattle.sq_follow.specs.Values.{Cell, Byte}
+use Rattle.law_follow.specs.Values.{Cell, Byte}
 use Rattle.sq_reloc.specs.declared.mark.CodeWord.{CodeWord}
 use Rattle.sq_reloc.specs.CodeWords.{listed_at}
 use Rattle.sq_tagged.specs.declared.values.Cell.{Cell as RustCell}

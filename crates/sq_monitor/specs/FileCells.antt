@@ -6,7 +6,7 @@ use Rattle.sq_elf.specs.Segments.{copy_size}
 use Rattle.sq_reloc.specs.Outside.{code_word_at, is_stale, word_start}
 use Rattle.sq_memory.specs.Regions.{Region}
 use Rattle.sq_system.specs.declared.piece.Piece.{Piece}
-use Rattle.sq_follow.specs.Values.{Code, Cell, Byte, Frag, Stale}
+use Rattle.law_follow.specs.Values.{Code, Cell, Byte, Frag, Stale}
 
 -- part k of a code word's target, where there is one
 abbrev pub part_or : ℕ → Option ℕ → Cell → Cell

@@ -1,9 +1,9 @@
 -- What the outcome of a run tells, as laws.
 use Rattle.std.specs.Prelude.{◌≡◌, ◌↔◌, ℕ, Some}
-use Rattle.sq_runs.specs.Runs.{Running, Halted, trace, state_after, first_break}
+use Rattle.law_runs.specs.Runs.{Running, Halted, trace, state_after, first_break}
 use Rattle.sq_system.specs.declared.event.Halt.{Halt}
-use Rattle.sq_follow.specs.declared.kind.Kind.{Kind}
-use Rattle.sq_program.specs.Monitored.{Watched, Watches}
+use Rattle.law_follow.specs.declared.kind.Kind.{Kind}
+use Rattle.law_program.specs.Monitored.{Watched, Watches}
 use Rattle.sq_monitor.specs.Steps.{told, outcome_at}
 use Rattle.sq_monitor.specs.declared.moved.WatchOutcome.TheVariants.{Limit, Ended, Break}
 

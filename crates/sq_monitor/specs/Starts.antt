@@ -4,8 +4,8 @@ use Rattle.sq_isa.specs.Registers.{written}
 use Rattle.sq_memory.specs.Cells.{Cells}
 use Rattle.sq_system.specs.declared.piece.Piece.{Piece}
 use Rattle.sq_system.specs.declared.start.Extent.{Extent}
-use Rattle.sq_follow.specs.Values.{Num, Cell, Holds}
-use Rattle.sq_program.specs.Monitored.{Watched}
+use Rattle.law_follow.specs.Values.{Num, Cell, Holds}
+use Rattle.law_program.specs.Monitored.{Watched}
 
 abbrev pub extent_of : Piece → Extent
 extent_of piece = piece.extent

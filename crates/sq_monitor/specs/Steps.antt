@@ -2,14 +2,14 @@
 use Rattle.std.specs.Prelude.{◌≡◌, ℕ, ◌+◌, ◌<◌, List, [], ◌++◌, Option, Some, None, Result, Ok, Err}
 use Rattle.sq_isa.specs.Words.{wrapped}
 use Rattle.sq_isa.specs.Registers.{written}
-use Rattle.sq_runs.specs.Runs.{Went, Ended, Broke, Status, Running, Halted, Broken, trace, state_after, first_break, with_event}
+use Rattle.law_runs.specs.Runs.{Went, Ended, Broke, Status, Running, Halted, Broken, trace, state_after, first_break, with_event}
 use Rattle.sq_system.specs.declared.event.Event.{Event}
 use Rattle.sq_system.specs.declared.event.Halt.{Halt}
 use Rattle.sq_system.specs.declared.event.Halt.TheVariants.{Exit, Illegal, Breakpoint, Fetch, Load, Store}
-use Rattle.sq_follow.specs.declared.kind.Kind.{Kind}
-use Rattle.sq_follow.specs.Values.{Holds}
-use Rattle.sq_follow.specs.GraphRuns.{Core}
-use Rattle.sq_program.specs.Monitored.{Watched, Watches, with_link, at_address}
+use Rattle.law_follow.specs.declared.kind.Kind.{Kind}
+use Rattle.law_follow.specs.Values.{Holds}
+use Rattle.law_follow.specs.GraphRuns.{Core}
+use Rattle.law_program.specs.Monitored.{Watched, Watches, with_link, at_address}
 use Rattle.sq_tagged.specs.declared.made.Made.{Made}
 use Rattle.sq_tagged.specs.declared.made.Made.TheVariants.{Gives, Ends, Breaks}
 use Rattle.sq_tagged.specs.Views.{value_of}

@@ -3,11 +3,11 @@ use Rattle.std.specs.Prelude.{ℕ, List, ◌++◌, codes, Some, None}
 use Rattle.sq_num.specs.Texts.{hex_text}
 use Rattle.sq_system.specs.Starts.{Start}
 use Rattle.sq_system.specs.Lines.{events_text, end_text}
-use Rattle.sq_follow.specs.declared.kind.Kind.{Kind}
-use Rattle.sq_follow.specs.declared.kind.Kind.TheVariants.{Arithmetic, Half, Call, Fragment, Stale, Text, Jump, Address}
-use Rattle.sq_program.specs.Programs.{Program}
-use Rattle.sq_program.specs.Monitored.{monitored_step}
-use Rattle.sq_program.specs.FileRuns.{world_of, watched_start, watched_layout, monitored_trace}
+use Rattle.law_follow.specs.declared.kind.Kind.{Kind}
+use Rattle.law_follow.specs.declared.kind.Kind.TheVariants.{Arithmetic, Half, Call, Fragment, Stale, Text, Jump, Address}
+use Rattle.law_program.specs.Programs.{Program}
+use Rattle.law_program.specs.Monitored.{monitored_step}
+use Rattle.law_program.specs.FileRuns.{world_of, watched_start, watched_layout, monitored_trace}
 use Rattle.sq_monitor.specs.Steps.{outcome_at}
 use Rattle.sq_monitor.specs.declared.moved.WatchOutcome.{WatchOutcome}
 use Rattle.sq_monitor.specs.declared.moved.WatchOutcome.TheVariants.{Limit, Ended, Break}

@@ -1,7 +1,7 @@
 -- The state that a watched hart stands for, and what a watch stands for.
 use Rattle.sq_system.specs.World.{World}
-use Rattle.sq_program.specs.Programs.{Text}
-use Rattle.sq_program.specs.Monitored.{Watched}
+use Rattle.law_program.specs.Programs.{Text}
+use Rattle.law_program.specs.Monitored.{Watched}
 use Rattle.sq_tagged.specs.Views.{layout_of, registers_of, store_of}
 use Rattle.sq_monitor.specs.declared.hart.Hart.{Hart}
 use Rattle.sq_monitor.specs.declared.watch.Watch.{Watch}

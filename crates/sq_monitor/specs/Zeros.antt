@@ -8,7 +8,7 @@ use Rattle.sq_memory.specs.Cells.{Cells}
 use Rattle.sq_reloc.specs.declared.mark.CodeWord.{CodeWord}
 use Rattle.sq_reloc.specs.CodeWords.{listed_at}
 use Rattle.sq_reloc.specs.Outside.{code_word_at, is_stale}
-use Rattle.sq_follow.specs.Values.{Cell}
+use Rattle.law_follow.specs.Values.{Cell}
 use Rattle.sq_monitor.specs.FileCells.{file_cell}
 
 -- a set of numbers of pages of 4 KiB

@@ -1,9 +1,9 @@
 //! What a watched run changes.
 
 ghost use Rattle.std.specs.Prelude.{◌≡◌, ◌+◌, ◌≤◌, ◌^◌};
-ghost use Rattle.sq_follow.specs.Values.{Code};
-ghost use Rattle.sq_follow.specs.GraphRuns.{register_value};
-ghost use Rattle.sq_program.specs.Monitored.{with_link};
+ghost use Rattle.law_follow.specs.Values.{Code};
+ghost use Rattle.law_follow.specs.GraphRuns.{register_value};
+ghost use Rattle.law_program.specs.Monitored.{with_link};
 ghost use Rattle.sq_tagged.specs.Views.{tag_of, value_of};
 ghost use Rattle.sq_monitor.specs.Views.{watched_of};
 ghost use Rattle.sq_monitor.specs.Steps.{moved_of, finished_state};

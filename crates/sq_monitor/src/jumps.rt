@@ -2,19 +2,19 @@
 
 ghost use Rattle.std.specs.Prelude.{◌≡◌, ℕ, ◌+◌, ◌≤◌, ◌^◌};
 ghost use Rattle.sq_isa.specs.Words.{even};
-ghost use Rattle.sq_follow.specs.Values.{Tagged, Code};
-ghost use Rattle.sq_follow.specs.Arithmetic.{is_taken};
-ghost use Rattle.sq_follow.specs.Jumps.{number_jump, name_jump, indirect_jump, part_jump};
-ghost use Rattle.sq_follow.specs.GraphRuns.{Core, register_value};
-ghost use Rattle.sq_program.specs.Reached.{target_from};
-ghost use Rattle.sq_program.specs.Monitored.{with_link, at_address, jumped, branched, jalr_jump};
+ghost use Rattle.law_follow.specs.Values.{Tagged, Code};
+ghost use Rattle.law_follow.specs.Arithmetic.{is_taken};
+ghost use Rattle.law_follow.specs.Jumps.{number_jump, name_jump, indirect_jump, part_jump};
+ghost use Rattle.law_follow.specs.GraphRuns.{Core, register_value};
+ghost use Rattle.law_program.specs.Reached.{target_from};
+ghost use Rattle.law_program.specs.Monitored.{with_link, at_address, jumped, branched, jalr_jump};
 ghost use Rattle.sq_tagged.specs.Views.{setting_of, value_of, half_in};
 ghost use Rattle.sq_monitor.specs.Steps.{go_to, IsQuietStep};
 ghost use Rattle.sq_monitor.specs.Views.{watched_of};
 
 use crate::hart::Hart;
 use crate::moved::Moved;
-use sq_follow::Kind;
+use law_follow::Kind;
 use sq_isa::{Cond, Reg};
 use sq_tagged::{AddressHalf, Setting, Tag, Value, is_taken, is_upper_half};
 

@@ -1,6 +1,6 @@
 //! What a step and a run answer.
 
-use sq_follow::Kind;
+use law_follow::Kind;
 use sq_system::Halt;
 
 /// What a step did.

@@ -1,7 +1,7 @@
 //! What a watched run never changes.
 
 ghost use Rattle.std.specs.Prelude.{◌≡◌, ◌+◌, ◌≤◌, ◌^◌, option_map, IfSome};
-ghost use Rattle.sq_program.specs.Programs.{word_at, end_of};
+ghost use Rattle.law_program.specs.Programs.{word_at, end_of};
 
 use sq_lift::{Text, TextWord};
 use sq_tagged::Setting;

@@ -1,13 +1,13 @@
 //! A step, and a run of steps.
 
 ghost use Rattle.std.specs.Prelude.{◌≡◌, ℕ, ◌+◌, ◌<◌, ◌≤◌, ◌^◌, IfOk, OnOk, OnErr};
-ghost use Rattle.sq_runs.specs.Runs.{RunsFor};
+ghost use Rattle.law_runs.specs.Runs.{RunsFor};
 ghost use Rattle.sq_isa.specs.Table.{insn_of};
 ghost use Rattle.sq_isa.specs.Uses.{destination_of};
-ghost use Rattle.sq_follow.specs.Jumps.{stop};
-ghost use Rattle.sq_follow.specs.Rows.{row_of};
-ghost use Rattle.sq_follow.specs.GraphRuns.{operands};
-ghost use Rattle.sq_program.specs.Monitored.{upper_value, half_of, finished, insn_step, marked_step, monitored_step};
+ghost use Rattle.law_follow.specs.Jumps.{stop};
+ghost use Rattle.law_follow.specs.Rows.{row_of};
+ghost use Rattle.law_follow.specs.GraphRuns.{operands};
+ghost use Rattle.law_program.specs.Monitored.{upper_value, half_of, finished, insn_step, marked_step, monitored_step};
 ghost use Rattle.sq_tagged.specs.Views.{setting_of, layout_of, half_in};
 ghost use Rattle.sq_monitor.specs.Steps.{told, IsTold, IsStep, IsWatchedStep, BreaksBelow, outcome_at};
 ghost use Rattle.sq_monitor.specs.Views.{watched_of};

@@ -3,17 +3,17 @@
 ghost use Rattle.std.specs.Prelude.{◌≡◌, ◌++◌, ◌≤◌, codes, length, Err, IfOk, OnOk};
 ghost use Rattle.sq_system.specs.Starts.{start_of, StartFits, IsBadStart};
 ghost use Rattle.sq_system.specs.Lines.{events_text};
-ghost use Rattle.sq_follow.specs.Worlds.{extents};
-ghost use Rattle.sq_program.specs.Programs.{Program};
-ghost use Rattle.sq_program.specs.FilePrograms.{text_of, IsProgramOf};
-ghost use Rattle.sq_program.specs.FileRuns.{world_of};
+ghost use Rattle.law_follow.specs.Worlds.{extents};
+ghost use Rattle.law_program.specs.Programs.{Program};
+ghost use Rattle.law_program.specs.FilePrograms.{text_of, IsProgramOf};
+ghost use Rattle.law_program.specs.FileRuns.{world_of};
 ghost use Rattle.sq_monitor.specs.Transcripts.{file_outcome, kind_text, outcome_text, transcript_text};
 
 use crate::fault::WatchFault;
 use crate::moved::WatchOutcome;
 use crate::watch::Watch;
+use law_follow::Kind;
 use sq_elf::Elf;
-use sq_follow::Kind;
 use sq_lift::Text;
 use sq_num::{Bytes, Line, Memory};
 use sq_reloc::Relocs;

@@ -1,8 +1,8 @@
 //! The watch of one run.
 
 ghost use Rattle.std.specs.Prelude.{◌≡◌, ℕ, ◌<◌, IfOk, OnOk, OnErr};
-ghost use Rattle.sq_runs.specs.Runs.{RunsFor};
-ghost use Rattle.sq_program.specs.Monitored.{monitored_step};
+ghost use Rattle.law_runs.specs.Runs.{RunsFor};
+ghost use Rattle.law_program.specs.Monitored.{monitored_step};
 ghost use Rattle.sq_monitor.specs.Steps.{outcome_at};
 ghost use Rattle.sq_monitor.specs.Views.{watch_layout, watch_text, watch_state, watched_of};
 ghost use Rattle.sq_tagged.specs.Views.{layout_of};

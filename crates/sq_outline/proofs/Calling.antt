@@ -10,8 +10,8 @@ use Rattle.sq_graph.specs.Matches.{IsPair, Match}
 use Rattle.sq_graph.specs.Rules.{IsGraph}
 use Rattle.sq_graph.specs.Walks.{IsLive}
 use Rattle.sq_graph.proofs.AlikeGraphs.{alike_itself}
-use Rattle.sq_patch.specs.Calls.{IsMatching, call_end, call_items}
-use Rattle.sq_patch.proofs.Calls.{range_is}
+use Rattle.law_patch.specs.Calls.{IsMatching, call_end, call_items}
+use Rattle.law_patch.proofs.Calls.{range_is}
 use Rattle.sq_graph.specs.Parts.{names_of}
 use Rattle.sq_lookup.proofs.Targets.{name_listed}
 use Rattle.sq_pass.specs.declared.cut.Cut.{Cut}

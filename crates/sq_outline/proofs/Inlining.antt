@@ -14,11 +14,11 @@ use Rattle.sq_graph.specs.Uses.{item_calls, calls}
 use Rattle.sq_graph.specs.Words.{words_of}
 use Rattle.sq_graph.proofs.AlikeGraphs.{alike_itself}
 use Rattle.sq_graph.proofs.OperationRules.{inlined_rules, without_procedure_rules}
-use Rattle.sq_follow.specs.Follows.{Follows}
-use Rattle.sq_follow.proofs.Following.{graph_follows_itself, graph_follows_through}
-use Rattle.sq_patch.proofs.OneBlock.{inline_follows, inline_sound}
-use Rattle.sq_patch.proofs.Recalling.{uncalled_goes_follows, uncalled_goes_sound}
-use Rattle.sq_patch.proofs.Saving.{inline_saves, uncalled_goes_saves}
+use Rattle.law_follow.specs.Follows.{Follows}
+use Rattle.law_follow.proofs.Following.{graph_follows_itself, graph_follows_through}
+use Rattle.law_patch.proofs.OneBlock.{inline_follows, inline_sound}
+use Rattle.law_patch.proofs.Recalling.{uncalled_goes_follows, uncalled_goes_sound}
+use Rattle.law_patch.proofs.Saving.{inline_saves, uncalled_goes_saves}
 use Rattle.sq_pass.specs.Applied.{IsApplied}
 use Rattle.sq_outline.specs.Inlined.{call_count, spread_all, inlined_all, IsInlinable}
 use Rattle.sq_outline.proofs.Spreading.{is_one, calls_in, calls_in-append, calls_in-cons, none_left_in, bodies_call_none, all_bodies_call_none, IsCall, inlined_sooner, inlined_fewer, spread_itself, some_call}

@@ -20,8 +20,8 @@ use Rattle.sq_graph.proofs.Changes.{with_blocks-at}
 use Rattle.sq_graph.proofs.Located.{IsAt, located, items_of_blocks-append}
 use Rattle.sq_graph.proofs.Marks.{is_among-append}
 use Rattle.sq_graph.proofs.SlotReads.{block_at}
-use Rattle.sq_patch.specs.Calls.{call_items, called_there}
-use Rattle.sq_patch.proofs.Calls.{range_is}
+use Rattle.law_patch.specs.Calls.{call_items, called_there}
+use Rattle.law_patch.proofs.Calls.{range_is}
 use Rattle.sq_outline.specs.declared.sites.Site.{Site}
 use Rattle.sq_outline.specs.Sites.{called_each, MatchesAt, MayCallEach}
 use Rattle.sq_outline.proofs.Standing.{one_call, next_calls}

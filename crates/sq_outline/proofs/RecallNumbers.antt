@@ -22,7 +22,7 @@ use Rattle.sq_finger.proofs.Keying.{only_instruction}
 use Rattle.sq_graph.specs.Words.{procedure_words, words_of}
 use Rattle.std.proofs.lemmas.List.Sums.{sum_by-cons}
 use Rattle.sq_pass.specs.Cuts.{IsCompleted}
-use Rattle.sq_patch.proofs.Saving.{uncalled_goes_saves}
+use Rattle.law_patch.proofs.Saving.{uncalled_goes_saves}
 use Rattle.std.specs.Option.{option_eq}
 use Rattle.sq_pass.specs.declared.cut.Cut.{Cut}
 use Rattle.sq_pass.specs.declared.cut.Row.TheVariants.{O3}

@@ -13,12 +13,12 @@ use Rattle.sq_graph.specs.Rules.{IsGraph}
 use Rattle.sq_graph.specs.Uses.{calls}
 use Rattle.sq_graph.proofs.AlikeGraphs.{alike_itself}
 use Rattle.sq_graph.proofs.OperationRules.{redirected_calls_rules, redirected_calls_unused, without_procedure_rules}
-use Rattle.sq_follow.proofs.Following.{graph_follows_through}
+use Rattle.law_follow.proofs.Following.{graph_follows_through}
 use Rattle.sq_layout.specs.Reach.{LedThere}
 use Rattle.sq_layout.proofs.Shrinking.{shrunk_in_reach}
 use Rattle.sq_layout.proofs.Shrunk.{shrinks_twice, each_shrinks, recalled_shrunk}
-use Rattle.sq_patch.proofs.Recalling.{recall_follows, recall_sound, uncalled_goes_follows, uncalled_goes_sound}
-use Rattle.sq_patch.proofs.Saving.{recall_saves, uncalled_goes_saves}
+use Rattle.law_patch.proofs.Recalling.{recall_follows, recall_sound, uncalled_goes_follows, uncalled_goes_sound}
+use Rattle.law_patch.proofs.Saving.{recall_saves, uncalled_goes_saves}
 use Rattle.sq_pass.specs.Applied.{IsApplied}
 use Rattle.sq_outline.specs.Recalled.{AreDoubles, without_double}
 

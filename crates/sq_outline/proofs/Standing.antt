@@ -24,13 +24,13 @@ use Rattle.sq_layout.specs.Reach.{LedThere}
 use Rattle.sq_layout.proofs.Shrinking.{shrunk_in_reach}
 use Rattle.sq_layout.proofs.Shrunk.{one_shrinks, replaced_shrunk}
 use Rattle.sq_layout.proofs.Standing.{block_of-changed, block_of-changed_here}
-use Rattle.sq_follow.specs.Follows.{Follows}
-use Rattle.sq_follow.proofs.Following.{graph_follows_itself, graph_follows_through}
-use Rattle.sq_patch.specs.Calls.{call_items, called_there}
-use Rattle.sq_patch.proofs.Calls.{range_is}
-use Rattle.sq_patch.proofs.MatchedCalls.{match_follows, match_sound}
-use Rattle.sq_patch.proofs.Saving.{call_saves}
-use Rattle.sq_patch.proofs.StayingDead.{match_dead}
+use Rattle.law_follow.specs.Follows.{Follows}
+use Rattle.law_follow.proofs.Following.{graph_follows_itself, graph_follows_through}
+use Rattle.law_patch.specs.Calls.{call_items, called_there}
+use Rattle.law_patch.proofs.Calls.{range_is}
+use Rattle.law_patch.proofs.MatchedCalls.{match_follows, match_sound}
+use Rattle.law_patch.proofs.Saving.{call_saves}
+use Rattle.law_patch.proofs.StayingDead.{match_dead}
 use Rattle.sq_outline.specs.declared.sites.Site.{Site}
 use Rattle.sq_outline.specs.Sites.{called_each, MatchesAt, EndsBefore, MayCallEach}
 use Rattle.sq_outline.proofs.Early.{early_part}

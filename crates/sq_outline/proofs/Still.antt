@@ -18,8 +18,8 @@ use Rattle.sq_graph.specs.Walks.{IsLive}
 use Rattle.sq_live.specs.Liveness.{IsLivenessOf}
 use Rattle.sq_graph.specs.Matches.{IsPair}
 use Rattle.sq_rename.specs.Bodies.{IsBodyMatch, IsMatchBy, MayLive, IsLiveBehind}
-use Rattle.sq_patch.specs.Calls.{called_there}
-use Rattle.sq_patch.proofs.StayingDead.{outline_dead, match_dead}
+use Rattle.law_patch.specs.Calls.{called_there}
+use Rattle.law_patch.proofs.StayingDead.{outline_dead, match_dead}
 use Rattle.sq_outline.specs.declared.callers.Body.{Body}
 use Rattle.sq_outline.specs.declared.sites.Site.{Site}
 use Rattle.sq_outline.specs.Sites.{called_each, MatchesAt, MayCallEach}

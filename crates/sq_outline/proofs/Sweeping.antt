@@ -17,7 +17,7 @@ use Rattle.sq_pass.specs.Counted.{counted}
 use Rattle.sq_pass.specs.Rewrites.{IsRewritten}
 use Rattle.sq_pass.proofs.Rewriting.{rewrite_made, lighter_itself, lighter_made, rewritten_once}
 use Rattle.sq_outline.specs.Candidates.{IsCutOf, IsCandidate, described}
-use Rattle.sq_patch.specs.Calls.{IsMatching}
+use Rattle.law_patch.specs.Calls.{IsMatching}
 use Rattle.sq_outline.specs.Called.{MayCall, call_saving, called, call_cut, IsCalledCut}
 use Rattle.sq_outline.specs.Made.{IsMade, IsMadeCut, AreMade, first_block, starts_of, made}
 use Rattle.sq_outline.specs.Still.{IsStill}

@@ -16,7 +16,7 @@ use Rattle.sq_graph.specs.Rules.{IsGraph}
 use Rattle.sq_graph.proofs.CursorLaws.{from_first}
 use Rattle.sq_finger.proofs.Layouts.{GoesOn, goes_on, keys-named, names_are}
 use Rattle.sq_layout.proofs.Standing.{block_of-changed}
-use Rattle.sq_patch.specs.Calls.{called_there}
+use Rattle.law_patch.specs.Calls.{called_there}
 use Rattle.sq_outline.specs.declared.sites.Site.{Site}
 use Rattle.sq_outline.specs.Sites.{called_each, MatchesAt, MayCallEach}
 use Rattle.sq_outline.specs.WindowsPlaces.{in_block, occurrences_in, calls_among, calls_for}

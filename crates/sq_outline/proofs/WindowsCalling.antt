@@ -7,7 +7,7 @@ use Rattle.sq_graph.specs.Blocks.{HasProcedure, body_of}
 use Rattle.sq_graph.specs.Matches.{registers_of, IsPairIn, IsPair, AreSameForms, Match}
 use Rattle.sq_graph.specs.Rules.{IsGraph}
 use Rattle.sq_graph.proofs.AlikeGraphs.{alike_itself}
-use Rattle.sq_patch.specs.Calls.{IsCallable, IsMatching}
+use Rattle.law_patch.specs.Calls.{IsCallable, IsMatching}
 use Rattle.sq_finger.specs.declared.places.WindowAt.{WindowAt}
 use Rattle.sq_finger.specs.Lines.{line_of}
 use Rattle.sq_rename.proofs.Forms.{shape_form}

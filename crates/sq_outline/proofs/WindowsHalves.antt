@@ -9,7 +9,7 @@ use Rattle.sq_graph.specs.declared.item.Item.TheVariants.{Out}
 use Rattle.sq_graph.specs.Graph.{Graph}
 use Rattle.sq_graph.specs.Blocks.{HasBlock, items_of, body_of}
 use Rattle.sq_graph.specs.Rules.{IsGraph}
-use Rattle.sq_patch.specs.Calls.{called_there}
+use Rattle.law_patch.specs.Calls.{called_there}
 use Rattle.sq_outline.specs.declared.sites.Site.{Site}
 use Rattle.sq_outline.specs.Sites.{called_each, MatchesAt, MayCallEach}
 use Rattle.sq_outline.specs.WindowsPlaces.{in_block, occurrences_from, calls_between}

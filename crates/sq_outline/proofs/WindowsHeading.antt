@@ -9,7 +9,7 @@ use Rattle.sq_graph.specs.declared.item.Item.{Item}
 use Rattle.sq_graph.specs.Graph.{Graph}
 use Rattle.sq_graph.specs.Blocks.{HasBlock, HasProcedure, items_of, body_of}
 use Rattle.sq_graph.specs.Rules.{IsGraph, ItemFits}
-use Rattle.sq_patch.proofs.Calls.{range_is}
+use Rattle.law_patch.proofs.Calls.{range_is}
 use Rattle.sq_finger.proofs.Layouts.{items_fit}
 use Rattle.sq_outline.specs.WindowsInside.{MayCallInside}
 use Rattle.sq_outline.specs.WindowsHeads.{head_of, HasHeads}

@@ -20,13 +20,13 @@ use Rattle.sq_layout.specs.Reach.{LedThere}
 use Rattle.sq_layout.proofs.Shrinking.{shrunk_in_reach}
 use Rattle.sq_layout.proofs.Shrunk.{all_stay}
 use Rattle.sq_finger.proofs.Layouts.{names_are}
-use Rattle.sq_follow.proofs.Following.{graph_follows_through}
-use Rattle.sq_patch.specs.Calls.{IsCallable, call_end}
-use Rattle.sq_patch.proofs.Calls.{range_is}
-use Rattle.sq_patch.proofs.Recalling.{outline_sound}
-use Rattle.sq_patch.proofs.Renaming.{outline_follows}
-use Rattle.sq_patch.proofs.Saving.{outline_saves}
-use Rattle.sq_patch.proofs.StayingDead.{outline_dead}
+use Rattle.law_follow.proofs.Following.{graph_follows_through}
+use Rattle.law_patch.specs.Calls.{IsCallable, call_end}
+use Rattle.law_patch.proofs.Calls.{range_is}
+use Rattle.law_patch.proofs.Recalling.{outline_sound}
+use Rattle.law_patch.proofs.Renaming.{outline_follows}
+use Rattle.law_patch.proofs.Saving.{outline_saves}
+use Rattle.law_patch.proofs.StayingDead.{outline_dead}
 use Rattle.sq_pass.specs.Applied.{IsApplied}
 use Rattle.sq_outline.specs.declared.sites.Site.{Site}
 use Rattle.sq_outline.specs.Sites.{called_each, MatchesAt, MayCallEach}

@@ -10,7 +10,7 @@ use Rattle.sq_graph.specs.declared.item.Item.TheVariants.{Out}
 use Rattle.sq_graph.specs.Graph.{Block, Graph}
 use Rattle.sq_graph.specs.Blocks.{items_of, body_of}
 use Rattle.sq_graph.specs.Operations.{with_blocks, replaced_items}
-use Rattle.sq_patch.specs.Calls.{called_there}
+use Rattle.law_patch.specs.Calls.{called_there}
 use Rattle.sq_outline.specs.declared.sites.Site.{Site}
 use Rattle.sq_outline.specs.Sites.{EndsBefore, AreApart, called_each}
 use Rattle.sq_outline.specs.WindowsPlaces.{places_from, occurrences_in, in_block, occurrences_among, calls_among}

@@ -12,8 +12,8 @@ use Rattle.sq_graph.specs.Operations.{outlined}
 use Rattle.sq_graph.specs.Rules.{IsGraph}
 use Rattle.sq_graph.specs.Walks.{IsLive}
 use Rattle.sq_live.specs.Liveness.{IsLivenessOf}
-use Rattle.sq_patch.specs.Calls.{called_there}
-use Rattle.sq_patch.proofs.StayingDead.{outline_dead, match_dead, match_moves_dead}
+use Rattle.law_patch.specs.Calls.{called_there}
+use Rattle.law_patch.proofs.StayingDead.{outline_dead, match_dead, match_moves_dead}
 use Rattle.sq_outline.specs.declared.sites.Site.{Site}
 use Rattle.sq_outline.specs.declared.windows.past.Shift.{Shift}
 use Rattle.sq_outline.specs.Sites.{called_each, MatchesAt, MayCallEach}

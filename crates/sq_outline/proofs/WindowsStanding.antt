@@ -7,7 +7,7 @@ use Rattle.std.proofs.lemmas.Slice.Eq.{slice_eq-Decides}
 use Rattle.sq_graph.specs.declared.item.Item.{Item}
 use Rattle.sq_graph.specs.Graph.{Graph}
 use Rattle.sq_graph.specs.Blocks.{items_of}
-use Rattle.sq_patch.proofs.Calls.{range_is}
+use Rattle.law_patch.proofs.Calls.{range_is}
 use Rattle.sq_rename.proofs.Equals.{item_is, item_itself}
 use Rattle.sq_outline.specs.WindowsPlaces.{StandAt, begins}
 

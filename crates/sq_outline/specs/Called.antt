@@ -3,7 +3,7 @@ use Rattle.std.specs.Prelude.{◌≡◌, ℕ, ◌+◌, ◌-◌, ◌≤◌, Some,
 use Rattle.sq_graph.specs.Graph.{Graph}
 use Rattle.sq_graph.specs.Blocks.{HasProcedure, body_of, link_of}
 use Rattle.sq_rename.specs.Bodies.{IsLiveBehind}
-use Rattle.sq_patch.specs.Calls.{called_there}
+use Rattle.law_patch.specs.Calls.{called_there}
 use Rattle.sq_pass.specs.declared.cut.Cut.{Cut}
 use Rattle.sq_pass.specs.declared.cut.Row.TheVariants.{O2}
 use Rattle.sq_outline.specs.Made.{HasBody}

@@ -3,7 +3,7 @@ use Rattle.std.specs.Prelude.{◌≡◌, ◌≢◌, ℕ, ◌+◌, [], length}
 use Rattle.sq_graph.specs.Graph.{Graph}
 use Rattle.sq_graph.specs.Blocks.{HasProcedure, body_of}
 use Rattle.sq_graph.specs.Operations.{redirected_calls, without_procedure}
-use Rattle.sq_patch.specs.Recalls.{AreEqual}
+use Rattle.law_patch.specs.Recalls.{AreEqual}
 use Rattle.sq_pass.specs.declared.cut.Cut.{Cut}
 use Rattle.sq_pass.specs.declared.cut.Row.TheVariants.{O3}
 

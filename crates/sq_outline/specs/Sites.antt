@@ -3,7 +3,7 @@ use Rattle.std.specs.Prelude.{◌≡◌, ℕ, ◌+◌, ◌≤◌, List, [], ◌�
 use Rattle.std.specs.List.{All}
 use Rattle.sq_graph.specs.Graph.{Graph}
 use Rattle.sq_graph.specs.Blocks.{HasBlock, items_of, body_of}
-use Rattle.sq_patch.specs.Calls.{IsMatching, called_there}
+use Rattle.law_patch.specs.Calls.{IsMatching, called_there}
 use Rattle.sq_outline.specs.declared.sites.Site.{Site}
 
 -- at each of them, one after another, the items of the procedure's body become an Out of it

@@ -3,7 +3,7 @@ use Rattle.std.specs.Prelude.{◌≡◌, ◌≢◌, ℕ, ◌+◌, ◌≤◌, [],
 use Rattle.sq_graph.specs.Graph.{Graph}
 use Rattle.sq_graph.specs.Blocks.{items_of, body_of}
 use Rattle.sq_rename.specs.Reservations.{HasNoReservations}
-use Rattle.sq_patch.specs.Calls.{IsCallable, called_there}
+use Rattle.law_patch.specs.Calls.{IsCallable, called_there}
 use Rattle.sq_pass.specs.declared.cut.Cut.{Cut}
 use Rattle.sq_pass.specs.declared.cut.Row.TheVariants.{V}
 use Rattle.sq_outline.specs.Called.{call_saving}

@@ -11,7 +11,7 @@ ghost use Rattle.sq_graph.specs.Blocks.{HasBlock, HasProcedure, body_of};
 ghost use Rattle.sq_graph.specs.Parts.{names_of};
 ghost use Rattle.sq_graph.specs.Room.{KeepsTotal};
 ghost use Rattle.sq_live.specs.Liveness.{IsLivenessOf};
-ghost use Rattle.sq_patch.specs.Calls.{IsMatching, called_there};
+ghost use Rattle.law_patch.specs.Calls.{IsMatching, called_there};
 ghost use Rattle.sq_pass.specs.declared.cut.Cut.{Cut as Told};
 ghost use Rattle.sq_pass.specs.declared.cut.Row.TheVariants.{O2 as Called};
 ghost use Rattle.sq_pass.specs.Cuts.{IsCompleted};

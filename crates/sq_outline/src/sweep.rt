@@ -6,7 +6,7 @@ ghost use Rattle.sq_num.specs.Saved.{words_saved};
 ghost use Rattle.sq_graph.specs.Blocks.{HasProcedure};
 ghost use Rattle.sq_graph.specs.Leaders.{IsCanonical};
 ghost use Rattle.sq_graph.specs.Words.{words_of, most_words};
-ghost use Rattle.sq_follow.specs.Follows.{Follows};
+ghost use Rattle.law_follow.specs.Follows.{Follows};
 ghost use Rattle.sq_pass.specs.Rewrites.{IsRewritten};
 ghost use Rattle.sq_outline.specs.Candidates.{IsCandidate, described};
 ghost use Rattle.sq_outline.specs.Called.{MayCall};
@@ -77,7 +77,7 @@ fn make_for(
 }
 
 /// The same for the first bodies of a group, one after another.
-#[tactic(auto, using(sq_follow::proofs::Following::graph_follows_through))]
+#[tactic(auto, using(law_follow::proofs::Following::graph_follows_through))]
 fn make_each(
     alloc: Global,
     graph: &mut Graph,
@@ -99,7 +99,7 @@ fn make_each(
 }
 
 /// The same for each group of blocks.
-#[tactic(auto, using(sq_follow::proofs::Following::graph_follows_through))]
+#[tactic(auto, using(law_follow::proofs::Following::graph_follows_through))]
 fn make_groups(
     alloc: Global,
     graph: &mut Graph,

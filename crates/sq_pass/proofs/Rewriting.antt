@@ -10,7 +10,7 @@ use Rattle.sq_graph.specs.Words.{words_of}
 use Rattle.sq_graph.proofs.AlikeGraphs.{alike_back, alike_through}
 use Rattle.sq_graph.proofs.AlikeCanonical.{alike_canonical}
 use Rattle.sq_graph.proofs.CanonicalLaws.{canonical_is_graph}
-use Rattle.sq_follow.proofs.Following.{graph_follows_itself, graph_follows_through}
+use Rattle.law_follow.proofs.Following.{graph_follows_itself, graph_follows_through}
 use Rattle.sq_pass.specs.declared.cut.Cut.{Cut}
 use Rattle.sq_pass.specs.declared.cut.Row.{Row}
 use Rattle.sq_pass.specs.declared.cut.Row.TheVariants.{U, J1, J2, J3, C, T, O1, O2, O3, O4, W, V, L}

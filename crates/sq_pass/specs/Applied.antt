@@ -10,7 +10,7 @@ use Rattle.sq_graph.specs.Places.{IsInReach}
 use Rattle.sq_graph.specs.Soundness.{IsSound}
 use Rattle.sq_graph.specs.Slotted.{number_in}
 use Rattle.sq_graph.specs.Alike.{AreAlike}
-use Rattle.sq_follow.specs.Follows.{Follows}
+use Rattle.law_follow.specs.Follows.{Follows}
 
 -- Each block of the old graph keeps its name: it stands in the new graph where it does in the one that is described, or is in neither.
 abbrev pub KeepsNames : Graph → Graph → Graph → Type 0

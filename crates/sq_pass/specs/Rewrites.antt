@@ -10,7 +10,7 @@ use Rattle.sq_graph.specs.Leaders.{IsCanonical}
 use Rattle.sq_graph.specs.Places.{IsInReach}
 use Rattle.sq_graph.specs.Soundness.{IsSound}
 use Rattle.sq_graph.specs.Words.{words_of}
-use Rattle.sq_follow.specs.Follows.{Follows}
+use Rattle.law_follow.specs.Follows.{Follows}
 use Rattle.sq_pass.specs.declared.cut.Cut.{Cut}
 use Rattle.sq_pass.specs.declared.rewrite.Rewrite.{Rewrite}
 use Rattle.sq_pass.specs.Counted.{counted_all}

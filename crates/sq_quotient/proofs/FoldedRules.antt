@@ -16,7 +16,7 @@ use Rattle.sq_graph.specs.Uses.{uses}
 use Rattle.sq_graph.proofs.Renamed.{names_there}
 use Rattle.sq_graph.proofs.RetargetRules.{uses-other, goes_on-other, other_rules}
 use Rattle.sq_graph.proofs.RulesByBlock.{BlockStands, IsByBlock, by_block, by_stays, from_blocks}
-use Rattle.sq_patch.proofs.Used.{not_new}
+use Rattle.law_patch.proofs.Used.{not_new}
 use Rattle.sq_quotient.specs.Folding.{falls_away, lands_at, landed, stayed, folded_blocks, folded_by, Merges, AreNewNames}
 
 -- ---- what stands in place of one block

@@ -28,10 +28,10 @@ use Rattle.sq_graph.proofs.RenamedSound.{sound_kept}
 use Rattle.sq_graph.proofs.Slotting.{slotted_alike}
 use Rattle.sq_finger.specs.Exact.{IsExact}
 use Rattle.sq_finger.proofs.Exactness.{exact_number, exact_option}
-use Rattle.sq_follow.specs.Follows.{Follows}
-use Rattle.sq_follow.proofs.Following.{graph_follows_through}
-use Rattle.sq_patch.proofs.Joining.{canonical_follows, canonical_sound}
-use Rattle.sq_patch.proofs.Renaming.{rename_follows}
+use Rattle.law_follow.specs.Follows.{Follows}
+use Rattle.law_follow.proofs.Following.{graph_follows_through}
+use Rattle.law_patch.proofs.Joining.{canonical_follows, canonical_sound}
+use Rattle.law_patch.proofs.Renaming.{rename_follows}
 use Rattle.sq_fold.specs.Partition.{IsCoarsestPartition}
 use Rattle.sq_fold.proofs.Levels.{one_partition}
 use Rattle.sq_chain.specs.Least.{least_widened}

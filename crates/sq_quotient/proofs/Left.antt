@@ -13,7 +13,7 @@ use Rattle.sq_graph.specs.Renames.{retargeted_item, retargeted_items, retargeted
 use Rattle.sq_graph.specs.Slotted.{number_in}
 use Rattle.sq_graph.specs.Terms.{goes_on}
 use Rattle.sq_layout.proofs.Walks.{fresh}
-use Rattle.sq_patch.proofs.Used.{not_new}
+use Rattle.law_patch.proofs.Used.{not_new}
 use Rattle.sq_quotient.specs.Folding.{falls_away, lands_at, landed, stayed, folded_blocks, folded_by, AreNewNames}
 use Rattle.sq_quotient.specs.Staying.{gone_next, slots_by, slots_of, next_in}
 

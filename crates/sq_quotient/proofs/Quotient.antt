@@ -21,25 +21,25 @@ use Rattle.sq_graph.specs.Soundness.{LinksDieIn, IsSound}
 use Rattle.sq_graph.proofs.Located.{IsAt, located}
 use Rattle.sq_graph.proofs.SlotReads.{block_at as found_at_spot}
 use Rattle.sq_graph.proofs.SplitRules.{last_goes_on-append}
-use Rattle.sq_follow.specs.Follows.{Follows}
+use Rattle.law_follow.specs.Follows.{Follows}
 use Rattle.sq_fold.specs.Nodes.{item_name, term_name, slot_of, term_leads, leads_on}
 use Rattle.sq_fold.specs.Partition.{bare_item, bare_term}
 use Rattle.sq_fold.proofs.Blocks.{pick, refer_terms, term_references}
 use Rattle.sq_fold.proofs.Referred.{slot_behind}
-use Rattle.sq_patch.specs.Changes.{Change, falls, Alike, IsSteady, promised, name_before, name_after, jump_before, jump_after, both_end, guarded}
-use Rattle.sq_patch.proofs.Bypassing.{slot_known}
-use Rattle.sq_patch.proofs.Carrying.{carried_items, AreOf, ItemGoes, TermGoesOn, SlotGoes, slot_same, carry_items, carry_some, items_die}
-use Rattle.sq_patch.proofs.Changing.{ahead}
-use Rattle.sq_patch.proofs.Keeping.{NoMode, no_stands, all_matter, every_carrier}
-use Rattle.sq_patch.proofs.Layouts.{passed, none_in, IsHeld, lowers_of, Turn, Carries, done, stays, turns, gone as gone_turn, items_held, carried_sound}
-use Rattle.sq_patch.proofs.Lines.{body_unnamed}
-use Rattle.sq_patch.proofs.LiveTargets.{word_target}
-use Rattle.sq_patch.proofs.Moving.{same_addresses, other_names}
-use Rattle.sq_patch.proofs.Patch.{change_follows}
-use Rattle.sq_patch.proofs.Places.{absent_from, name_at, other_name}
-use Rattle.sq_patch.proofs.Restricting.{own, slot_target, target_from, links_goes_on, falls_goes_on}
-use Rattle.sq_patch.proofs.Standing.{own_calls, own_called_block, stands_at, distinct_at, block_at, items_go, term_goes, words_held, bodies_held, procedures_sound}
-use Rattle.sq_patch.proofs.Used.{contains_first, from_all, from_slice, not_new}
+use Rattle.law_patch.specs.Changes.{Change, falls, Alike, IsSteady, promised, name_before, name_after, jump_before, jump_after, both_end, guarded}
+use Rattle.law_patch.proofs.Bypassing.{slot_known}
+use Rattle.law_patch.proofs.Carrying.{carried_items, AreOf, ItemGoes, TermGoesOn, SlotGoes, slot_same, carry_items, carry_some, items_die}
+use Rattle.law_patch.proofs.Changing.{ahead}
+use Rattle.law_patch.proofs.Keeping.{NoMode, no_stands, all_matter, every_carrier}
+use Rattle.law_patch.proofs.Layouts.{passed, none_in, IsHeld, lowers_of, Turn, Carries, done, stays, turns, gone as gone_turn, items_held, carried_sound}
+use Rattle.law_patch.proofs.Lines.{body_unnamed}
+use Rattle.law_patch.proofs.LiveTargets.{word_target}
+use Rattle.law_patch.proofs.Moving.{same_addresses, other_names}
+use Rattle.law_patch.proofs.Patch.{change_follows}
+use Rattle.law_patch.proofs.Places.{absent_from, name_at, other_name}
+use Rattle.law_patch.proofs.Restricting.{own, slot_target, target_from, links_goes_on, falls_goes_on}
+use Rattle.law_patch.proofs.Standing.{own_calls, own_called_block, stands_at, distinct_at, block_at, items_go, term_goes, words_held, bodies_held, procedures_sound}
+use Rattle.law_patch.proofs.Used.{contains_first, from_all, from_slice, not_new}
 use Rattle.sq_quotient.specs.Folding.{falls_away, lands_at, landed, stayed, folded_blocks, folded_by, Merges, AreNewNames}
 use Rattle.sq_quotient.specs.Laws.{FoldFollows, FoldIsSound}
 use Rattle.sq_quotient.proofs.Refilled.{items_again, terms_again, falls_or_jumps, fall_is, both_go}

@@ -5,7 +5,7 @@ use Rattle.sq_graph.specs.Graph.{Graph}
 use Rattle.sq_graph.specs.Leaders.{is_bare}
 use Rattle.sq_graph.specs.Rules.{IsGraph}
 use Rattle.sq_graph.specs.Soundness.{IsSound}
-use Rattle.sq_follow.specs.Follows.{Follows}
+use Rattle.law_follow.specs.Follows.{Follows}
 use Rattle.sq_fold.specs.Partition.{IsStablePartition}
 use Rattle.sq_quotient.specs.Folding.{folded_by, stays_for, Merges, AreNewNames}
 

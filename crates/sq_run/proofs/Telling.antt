@@ -1,6 +1,6 @@
 -- What a machine at the file's start leaves of its run is the file's trace.
 use Rattle.std.proofs.Common.{◌≡◌, ℕ, List, [], ◌++◌, codes, sym, ap, ◌∙◌}
-use Rattle.sq_runs.specs.Runs.{RunsFor}
+use Rattle.law_runs.specs.Runs.{RunsFor}
 use Rattle.sq_system.specs.Lines.{events_text, end_text}
 use Rattle.sq_system.specs.Starts.{Start}
 use Rattle.sq_system.specs.declared.event.Event.{Event}

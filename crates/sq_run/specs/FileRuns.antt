@@ -1,6 +1,6 @@
 -- Runs of a file: how the plain machine starts over its image, and what is seen of its steps.
 use Rattle.std.specs.Prelude.{ℕ, List, map}
-use Rattle.sq_runs.specs.Runs.{Trace}
+use Rattle.law_runs.specs.Runs.{Trace}
 use Rattle.sq_elf.specs.Headers.{entry_of}
 use Rattle.sq_elf.specs.Memory.{MemoryPiece, image_of}
 use Rattle.sq_system.specs.Starts.{Start, IsBadStart}

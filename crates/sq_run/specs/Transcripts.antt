@@ -1,6 +1,6 @@
 -- The lines that tell a run.
 use Rattle.std.specs.Prelude.{ℕ, List, ◌++◌, codes, Option, Some, None}
-use Rattle.sq_runs.specs.Runs.{Status, Running, Halted, Broken, Trace}
+use Rattle.law_runs.specs.Runs.{Status, Running, Halted, Broken, Trace}
 use Rattle.sq_system.specs.declared.event.Event.{Event}
 use Rattle.sq_system.specs.declared.event.Halt.{Halt}
 use Rattle.sq_system.specs.Lines.{events_text, end_text}

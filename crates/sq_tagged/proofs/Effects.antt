@@ -1,14 +1,14 @@
 -- Calls without what their effects don't depend on.
 use Rattle.std.proofs.Common.{◌≡◌, Bool, true, false, ◌==◌, ◌&&◌, if◌then◌else◌, refl, ap, ◌∙◌}
-use Rattle.sq_runs.specs.Runs.{Broke}
+use Rattle.law_runs.specs.Runs.{Broke}
 use Rattle.sq_system.specs.declared.call.CallArgs.{CallArgs}
 use Rattle.sq_system.specs.declared.call.Effect.{Effect}
 use Rattle.sq_system.specs.declared.call.Effect.TheVariants.{Exit, Write, Read, Brk, Fail, Ask}
 use Rattle.sq_system.specs.Calls.{effect_of}
-use Rattle.sq_follow.specs.declared.kind.Kind.TheVariants.{Text}
-use Rattle.sq_follow.specs.Settings.{Setting, Store, meets_text}
-use Rattle.sq_follow.specs.Accesses.{Step}
-use Rattle.sq_follow.specs.Calls.{takes_buffer, effect_row, args_row}
+use Rattle.law_follow.specs.declared.kind.Kind.TheVariants.{Text}
+use Rattle.law_follow.specs.Settings.{Setting, Store, meets_text}
+use Rattle.law_follow.specs.Accesses.{Step}
+use Rattle.law_follow.specs.Calls.{takes_buffer, effect_row, args_row}
 use Rattle.sq_machine.specs.Calls.{narrowed}
 
 -- a call without what its effect doesn't depend on has the same effect

@@ -1,10 +1,10 @@
 -- Rows without an event, as rows with a log.
 use Rattle.std.proofs.Common.{◌≡◌, List, [], ◌++◌, refl, sym, ap, ◌∙◌}
 use Rattle.std.proofs.lemmas.List.{append-nil}
-use Rattle.sq_runs.specs.Runs.{Went, with_event}
+use Rattle.law_runs.specs.Runs.{Went, with_event}
 use Rattle.sq_system.specs.declared.event.Event.{Event}
-use Rattle.sq_follow.specs.Settings.{Store}
-use Rattle.sq_follow.specs.Accesses.{Step, gives}
+use Rattle.law_follow.specs.Settings.{Store}
+use Rattle.law_follow.specs.Accesses.{Step, gives}
 use Rattle.sq_tagged.specs.Views.{value_of}
 use Rattle.sq_tagged.specs.Rows.{IsQuiet, IsMade, event_in}
 use Rattle.sq_tagged.specs.declared.made.Made.{Made}

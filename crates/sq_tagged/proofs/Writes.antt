@@ -5,7 +5,7 @@ use Rattle.sq_isa.specs.Registers.{written}
 use Rattle.sq_memory.specs.Cells.{map_cells, with_cells}
 use Rattle.sq_pages.specs.Pages.{Sheet, cells_of}
 use Rattle.sq_memory.proofs.RangeLaws.{map_cells-with_cells}
-use Rattle.sq_follow.specs.Values.{Num, Held, Holds}
+use Rattle.law_follow.specs.Values.{Num, Held, Holds}
 use Rattle.sq_tagged.specs.declared.values.Value.{Value}
 use Rattle.sq_tagged.specs.declared.values.Value.TheVariants.{Num as Number}
 use Rattle.sq_tagged.specs.declared.values.Cell.{Cell}

@@ -5,14 +5,14 @@ use Rattle.sq_isa.specs.Accesses.{bytes_number, is_reserved}
 use Rattle.sq_isa.specs.declared.instructions.AtomicOp.{AtomicOp}
 use Rattle.sq_isa.specs.declared.instructions.Insn.{Insn}
 use Rattle.sq_isa.specs.declared.instructions.Insn.TheVariants.{Load, Store as StoreInsn, Atomic}
-use Rattle.sq_runs.specs.Runs.{Went, Ended, Broke, with_event}
+use Rattle.law_runs.specs.Runs.{Went, Ended, Broke, with_event}
 use Rattle.sq_system.specs.declared.event.Event.{Event}
 use Rattle.sq_system.specs.declared.event.Halt.TheVariants.{Store as StoreFault}
-use Rattle.sq_follow.specs.declared.kind.Kind.{Kind}
-use Rattle.sq_follow.specs.declared.kind.Kind.TheVariants.{Fragment, Stale as StaleByte}
-use Rattle.sq_follow.specs.Values.{Value, Cell, is_stale, is_fragment, byte_of}
-use Rattle.sq_follow.specs.Settings.{Setting, Store, may_store}
-use Rattle.sq_follow.specs.Accesses.{Step, gives, aligned_cells, sc_step, amo_cells}
+use Rattle.law_follow.specs.declared.kind.Kind.{Kind}
+use Rattle.law_follow.specs.declared.kind.Kind.TheVariants.{Fragment, Stale as StaleByte}
+use Rattle.law_follow.specs.Values.{Value, Cell, is_stale, is_fragment, byte_of}
+use Rattle.law_follow.specs.Settings.{Setting, Store, may_store}
+use Rattle.law_follow.specs.Accesses.{Step, gives, aligned_cells, sc_step, amo_cells}
 use Rattle.sq_tagged.specs.declared.values.Value.{Value as RustValue}
 use Rattle.sq_tagged.specs.declared.made.Made.{Made}
 use Rattle.sq_tagged.specs.declared.made.Made.TheVariants.{Gives, Ends, Breaks}

@@ -4,9 +4,9 @@ use Rattle.sq_memory.specs.Cells.{map_cells}
 use Rattle.sq_pages.specs.Pages.{cells_of}
 use Rattle.sq_system.specs.World.{World}
 use Rattle.sq_graph.specs.Lines.{AddressHalf, Plain, Upper, Lower}
-use Rattle.sq_follow.specs.Values.{Tag, Code, Part, Value, Num, Tagged, Cell, Byte, Frag, Stale, Held, Holds}
-use Rattle.sq_follow.specs.Settings.{Setting, Store}
-use Rattle.sq_follow.specs.Calls.{CallOperands}
+use Rattle.law_follow.specs.Values.{Tag, Code, Part, Value, Num, Tagged, Cell, Byte, Frag, Stale, Held, Holds}
+use Rattle.law_follow.specs.Settings.{Setting, Store}
+use Rattle.law_follow.specs.Calls.{CallOperands}
 use Rattle.sq_tagged.specs.declared.values.Tag.{Tag as RustTag}
 use Rattle.sq_tagged.specs.declared.values.Tag.TheVariants.{Code as CodeAt, End as CodeAtEnd, Part as PartOf}
 use Rattle.sq_tagged.specs.declared.values.Value.{Value as RustValue}

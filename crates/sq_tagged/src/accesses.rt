@@ -4,8 +4,8 @@ ghost use Rattle.std.specs.Prelude.{◌≡◌, ◌+◌, ◌<◌, ◌≤◌, ◌^
 ghost use Rattle.sq_isa.specs.Accesses.{sign_extended, load_width, store_width};
 ghost use Rattle.sq_isa.specs.declared.instructions.LoadKind.TheVariants.{Lb, Lh, Lw, Lbu, Lhu};
 ghost use Rattle.sq_pages.specs.Pages.{AreReady};
-ghost use Rattle.sq_follow.specs.Accesses.{Step, with_tag_or_number, with_loaded, load_cells, aligned_cells, load_at, is_word, store_at, stored};
-ghost use Rattle.sq_follow.specs.Values.{Value as Watched, is_tagged};
+ghost use Rattle.law_follow.specs.Accesses.{Step, with_tag_or_number, with_loaded, load_cells, aligned_cells, load_at, is_word, store_at, stored};
+ghost use Rattle.law_follow.specs.Values.{Value as Watched, is_tagged};
 ghost use Rattle.sq_tagged.specs.Rows.{go_with, number_in, IsQuiet};
 ghost use Rattle.sq_tagged.specs.Views.{setting_of, store_of, value_of, cell_of, cells_in};
 
@@ -13,7 +13,7 @@ use crate::made::Made;
 use crate::setting::Setting;
 use crate::store::Store;
 use crate::values::{Cell, Value, WordCells};
-use sq_follow::Kind;
+use law_follow::Kind;
 use sq_isa::{LoadKind, StoreKind};
 use sq_num::Memory;
 use sq_system::Halt;

@@ -2,8 +2,8 @@
 
 ghost use Rattle.std.specs.Prelude.{◌≡◌, pos, option_map, Some, None, if◌then◌else◌};
 ghost use Rattle.std.specs.Ordering.{int_eq};
-ghost use Rattle.sq_follow.specs.Arithmetic.{zero_is_outside_text, tagged_imm, imm_value, tagged_op, op_value, atomic_result, taken_against_code, is_taken, word_fits, is_upper_half};
-ghost use Rattle.sq_follow.specs.Values.{Num, Tagged};
+ghost use Rattle.law_follow.specs.Arithmetic.{zero_is_outside_text, tagged_imm, imm_value, tagged_op, op_value, atomic_result, taken_against_code, is_taken, word_fits, is_upper_half};
+ghost use Rattle.law_follow.specs.Values.{Num, Tagged};
 ghost use Rattle.sq_tagged.specs.Views.{setting_of, tag_of, value_of};
 
 use crate::setting::Setting;

@@ -1,8 +1,8 @@
 //! Atomic operations on tagged values.
 
 ghost use Rattle.std.specs.Prelude.{◌≡◌, ◌+◌, ◌≤◌, ◌^◌, IfOk, OnErr};
-ghost use Rattle.sq_follow.specs.Accesses.{aligned_cells, lr_cells, update, atomic_row, atomic_at};
-ghost use Rattle.sq_follow.specs.Arithmetic.{atomic_result};
+ghost use Rattle.law_follow.specs.Accesses.{aligned_cells, lr_cells, update, atomic_row, atomic_at};
+ghost use Rattle.law_follow.specs.Arithmetic.{atomic_result};
 ghost use Rattle.sq_tagged.specs.Rows.{IsQuiet, sc_row, amo_row};
 ghost use Rattle.sq_tagged.specs.Views.{setting_of, store_of, value_of};
 
@@ -12,7 +12,7 @@ use crate::made::Made;
 use crate::setting::Setting;
 use crate::store::Store;
 use crate::values::Value;
-use sq_follow::Kind;
+use law_follow::Kind;
 use sq_isa::AtomicOp;
 use sq_num::Memory;
 use sq_system::Halt;

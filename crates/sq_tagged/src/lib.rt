@@ -1,7 +1,7 @@
 //! Instructions on tagged values: what each makes of its operands and of memory.
 //!
 //! To the layers above it promises that each answers exactly what its row in the table of tagged values
-//! gives (`row_of` of `sq_follow`): a value for its destination, an end or a break. An end and a break
+//! gives (`row_of` of `law_follow`): a value for its destination, an end or a break. An end and a break
 //! leave the store as it was, and so does want of memory.
 #![tactic(auto)]
 

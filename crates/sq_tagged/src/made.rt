@@ -1,7 +1,7 @@
 //! What an instruction makes.
 
 use crate::values::Value;
-use sq_follow::Kind;
+use law_follow::Kind;
 use sq_system::Halt;
 
 /// What an instruction makes of its operands.

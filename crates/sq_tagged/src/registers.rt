@@ -2,8 +2,8 @@
 
 ghost use Rattle.std.specs.Prelude.{◌≡◌, List, length};
 ghost use Rattle.sq_isa.specs.Registers.{written};
-ghost use Rattle.sq_follow.specs.Values.{Num, Holds};
-ghost use Rattle.sq_follow.specs.GraphRuns.{register_value};
+ghost use Rattle.law_follow.specs.Values.{Num, Holds};
+ghost use Rattle.law_follow.specs.GraphRuns.{register_value};
 ghost use Rattle.sq_tagged.specs.Views.{value_of, registers_of};
 
 use crate::values::Value;

@@ -2,10 +2,10 @@
 
 ghost use Rattle.std.specs.Prelude.{◌≡◌, ◌+◌, ℕ, option_map, true, IfOk, OnErr};
 ghost use Rattle.sq_isa.specs.Words.{wrapped, unsigned};
-ghost use Rattle.sq_follow.specs.Settings.{Store as Stored};
-ghost use Rattle.sq_follow.specs.Accesses.{gives_or_breaks, load_at, store_at, atomic_at};
-ghost use Rattle.sq_follow.specs.Rows.{Operands, address_value, at_number, at_upper_half, lower_row, plain_row, row_of};
-ghost use Rattle.sq_follow.specs.GraphRuns.{operands};
+ghost use Rattle.law_follow.specs.Settings.{Store as Stored};
+ghost use Rattle.law_follow.specs.Accesses.{gives_or_breaks, load_at, store_at, atomic_at};
+ghost use Rattle.law_follow.specs.Rows.{Operands, address_value, at_number, at_upper_half, lower_row, plain_row, row_of};
+ghost use Rattle.law_follow.specs.GraphRuns.{operands};
 ghost use Rattle.sq_tagged.specs.Rows.{is_access, IsQuiet, IsMade};
 ghost use Rattle.sq_tagged.specs.Views.{setting_of, store_of, registers_of, value_of, half_in};
 
@@ -16,7 +16,7 @@ use crate::registers::Registers;
 use crate::setting::Setting;
 use crate::store::Store;
 use crate::values::{Tag, Value};
-use sq_follow::Kind;
+use law_follow::Kind;
 use sq_isa::{AtomicOp, ImmOp, Insn, LoadKind, Reg, StoreKind};
 use sq_num::Memory;
 use sq_system::Log;

@@ -4,7 +4,7 @@ ghost use Rattle.std.specs.Prelude.{◌≡◌, ◌+◌, ◌<◌, ◌≤◌, ◌^
 ghost use Rattle.std.specs.List.{list_any};
 ghost use Rattle.sq_system.specs.World.{PF_X, is_in, is_in_with, is_in_ram, is_executable, is_writable, are_all, is_range};
 ghost use Rattle.sq_machine.specs.Ranges.{meets_ram};
-ghost use Rattle.sq_follow.specs.Settings.{is_in_text, meets_text, may_store};
+ghost use Rattle.law_follow.specs.Settings.{is_in_text, meets_text, may_store};
 ghost use Rattle.sq_tagged.specs.Views.{layout_of, setting_of};
 
 use sq_system::Piece;

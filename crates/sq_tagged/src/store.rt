@@ -5,8 +5,8 @@ ghost use Rattle.sq_isa.specs.Accesses.{is_reserved};
 ghost use Rattle.sq_memory.specs.Cells.{is_in_memory, with_cells};
 ghost use Rattle.sq_pages.specs.Pages.{AreReady};
 ghost use Rattle.sq_system.specs.World.{is_range};
-ghost use Rattle.sq_follow.specs.Accesses.{aligned_cells, reserved, stored};
-ghost use Rattle.sq_follow.specs.Values.{Num};
+ghost use Rattle.law_follow.specs.Accesses.{aligned_cells, reserved, stored};
+ghost use Rattle.law_follow.specs.Values.{Num};
 ghost use Rattle.sq_tagged.specs.Views.{value_of, cell_of, cells_in, store_of};
 
 use crate::values::{Cell, Value, WordCells};

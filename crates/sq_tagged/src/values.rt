@@ -3,7 +3,7 @@
 ghost use Rattle.std.specs.Prelude.{◌≡◌, ◌<◌, map, option_map};
 ghost use Rattle.std.specs.List.{list_any};
 ghost use Rattle.sq_isa.specs.Accesses.{bytes_number};
-ghost use Rattle.sq_follow.specs.Values.{Code, Part, is_tagged, is_stale, is_fragment, byte_of, is_part_of, are_parts_of, same_word, same_tag, whole};
+ghost use Rattle.law_follow.specs.Values.{Code, Part, is_tagged, is_stale, is_fragment, byte_of, is_part_of, are_parts_of, same_word, same_tag, whole};
 ghost use Rattle.sq_tagged.specs.Views.{tag_of, value_of, cell_of, cells_in};
 
 /// The address behind the last one.

@@ -13,14 +13,14 @@ use Rattle.sq_graph.specs.Soundness.{IsSound}
 use Rattle.sq_graph.specs.Words.{term_words, words_of}
 use Rattle.sq_graph.proofs.AlikeGraphs.{alike_itself}
 use Rattle.sq_graph.proofs.SplitRules.{split_rules}
-use Rattle.sq_follow.specs.Follows.{Follows}
+use Rattle.law_follow.specs.Follows.{Follows}
 use Rattle.sq_layout.proofs.Splitting.{split_in_reach}
 use Rattle.sq_pass.specs.Applied.{IsApplied}
-use Rattle.sq_patch.specs.Bodies.{HaveBodies}
-use Rattle.sq_patch.specs.Merges.{IsMergeable, merged, HaveTail, tailed}
-use Rattle.sq_patch.proofs.Merging.{with_items, can_merge, merge_follows, merge_sound, merge_saves}
-use Rattle.sq_patch.proofs.MatchedBodies.{body_follows, body_sound, body_saves}
-use Rattle.sq_patch.proofs.Tailing.{tail_follows, tail_sound, tail_saves}
+use Rattle.law_patch.specs.Bodies.{HaveBodies}
+use Rattle.law_patch.specs.Merges.{IsMergeable, merged, HaveTail, tailed}
+use Rattle.law_patch.proofs.Merging.{with_items, can_merge, merge_follows, merge_sound, merge_saves}
+use Rattle.law_patch.proofs.MatchedBodies.{body_follows, body_sound, body_saves}
+use Rattle.law_patch.proofs.Tailing.{tail_follows, tail_sound, tail_saves}
 use Rattle.sq_tail.specs.Tails.{words_of_end, end_words, fresh, joined, tails_joined}
 use Rattle.sq_tail.proofs.Merging.{merged_rules, merged_in_reach}
 use Rattle.sq_tail.proofs.Splitting.{second_items, other_block}

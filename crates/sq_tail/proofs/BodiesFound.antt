@@ -20,7 +20,7 @@ use Rattle.sq_graph.specs.Words.{term_words}
 use Rattle.sq_graph.proofs.Slotting.{at_position, position_below}
 use Rattle.sq_live.proofs.Layouts.{block_at}
 use Rattle.sq_rename.specs.Bodies.{IsBodyMatch, IsLiveBehind}
-use Rattle.sq_patch.specs.Bodies.{HaveBodies}
+use Rattle.law_patch.specs.Bodies.{HaveBodies}
 use Rattle.sq_tail.specs.Bodies.{IsBodyPair, MayDrop, NoneAhead}
 use Rattle.sq_tail.specs.BodiesEarlier.{IsLast, AreEarlier}
 use Rattle.sq_tail.specs.BodiesPrints.{print_of}

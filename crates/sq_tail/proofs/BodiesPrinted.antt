@@ -17,7 +17,7 @@ use Rattle.sq_graph.specs.Resolve.{resolved_term_of}
 use Rattle.sq_graph.specs.Rules.{ItemFits, IsGraph}
 use Rattle.sq_graph.proofs.Eachs.{All-left, All-right}
 use Rattle.sq_rename.specs.Shapes.{shape_of}
-use Rattle.sq_patch.specs.Bodies.{HaveBodies}
+use Rattle.law_patch.specs.Bodies.{HaveBodies}
 use Rattle.sq_tail.specs.BodiesPrints.{mixed_all, end_number, print_of}
 
 -- the registers are no part of the form

@@ -4,7 +4,7 @@ use Rattle.sq_graph.specs.declared.item.Item.{Item}
 use Rattle.sq_graph.specs.Graph.{Graph}
 use Rattle.sq_graph.specs.Blocks.{items_of}
 use Rattle.sq_pass.specs.declared.cut.Cut.{Cut}
-use Rattle.sq_patch.specs.Merges.{HaveTail}
+use Rattle.law_patch.specs.Merges.{HaveTail}
 use Rattle.sq_rename.specs.Reservations.{HasNoReservations}
 use Rattle.sq_tail.specs.Tails.{end_words, tail_cut, IsTailCut, AreTails}
 use Rattle.sq_tail.specs.Ends.{last_items, IsLongestEnd, HaveEnd, IsTailPair}

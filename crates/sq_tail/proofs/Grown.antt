@@ -15,7 +15,7 @@ use Rattle.sq_graph.proofs.Bypassing.{bare_items}
 use Rattle.sq_graph.proofs.CanonicalLaws.{all_bypassed_is_graph, canonical_is_joined}
 use Rattle.sq_graph.proofs.Joining.{takes, with_next, joined_from, joined_blocks-from}
 use Rattle.sq_graph.proofs.Kept.{absent_behind}
-use Rattle.sq_patch.proofs.Joining.{joined_there}
+use Rattle.law_patch.proofs.Joining.{joined_there}
 
 abbrev items_at : List Block → ℕ → ℕ
 items_at bs n = length (block_items (value_of (named bs) n))

@@ -5,7 +5,7 @@ use Rattle.sq_graph.specs.declared.item.Item.{Item}
 use Rattle.sq_graph.specs.Blocks.{HasBlock, block_items, items_of}
 use Rattle.sq_graph.specs.Graph.{Graph}
 use Rattle.sq_graph.specs.Operations.{IsNew, split_at}
-use Rattle.sq_patch.specs.Merges.{merged, tailed}
+use Rattle.law_patch.specs.Merges.{merged, tailed}
 use Rattle.sq_tail.specs.Tails.{fresh, IsJoined, AreTails}
 use Rattle.sq_tail.proofs.Applying.{has_items}
 use Rattle.sq_tail.proofs.Naming.{fresh_is_new, apart_from_new}

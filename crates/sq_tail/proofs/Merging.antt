@@ -20,7 +20,7 @@ use Rattle.sq_layout.specs.Shrinks.{Shrinks}
 use Rattle.sq_layout.proofs.Shrinking.{shrunk_in_reach}
 use Rattle.sq_layout.proofs.Shrunk.{one_shrinks}
 use Rattle.sq_layout.proofs.Standing.{block_of-changed, block_of-changed_here}
-use Rattle.sq_patch.specs.Merges.{merged}
+use Rattle.law_patch.specs.Merges.{merged}
 
 -- a block without n items from a place on, which ends in a Jump
 abbrev pub ended : ℕ → ℕ → ℕ → Block → Block

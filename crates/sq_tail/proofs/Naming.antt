@@ -17,7 +17,7 @@ use Rattle.sq_graph.proofs.Renamed.{renamed_by_same}
 use Rattle.sq_layout.proofs.Standing.{block_of-changed}
 use Rattle.sq_pass.specs.Applied.{KeepsNames}
 use Rattle.sq_pass.proofs.Naming.{renamed_keeps}
-use Rattle.sq_patch.specs.Merges.{tailed}
+use Rattle.law_patch.specs.Merges.{tailed}
 use Rattle.sq_tail.specs.Tails.{fresh}
 use Rattle.sq_tail.proofs.Merging.{ended, merged_blocks}
 use Rattle.sq_tail.proofs.Splitting.{second_items, other_block}

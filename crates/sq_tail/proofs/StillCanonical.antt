@@ -9,7 +9,7 @@ use Rattle.sq_graph.specs.Leaders.{is_leader, IsCanonical}
 use Rattle.sq_graph.specs.Matches.{IsSameForm, AreSameForms}
 use Rattle.sq_graph.specs.Operations.{split_at}
 use Rattle.sq_graph.specs.Uses.{item_uses, items_uses}
-use Rattle.sq_patch.specs.Merges.{merged, tailed}
+use Rattle.law_patch.specs.Merges.{merged, tailed}
 use Rattle.sq_tail.specs.Admitted.{CanJoin}
 use Rattle.sq_tail.specs.Candidates.{IsCandidate}
 use Rattle.sq_tail.specs.Ends.{last_items}

@@ -17,9 +17,9 @@ use Rattle.sq_graph.specs.Rules.{IsGraph}
 use Rattle.sq_graph.specs.Resolve.{resolved_term_of}
 use Rattle.sq_layout.proofs.Standing.{block_of-changed}
 use Rattle.sq_live.proofs.Layouts.{keys-named}
-use Rattle.sq_patch.specs.Bodies.{HaveBodies}
-use Rattle.sq_patch.specs.Merges.{merged}
-use Rattle.sq_patch.proofs.StayingDead.{body_dead, canonical_dead}
+use Rattle.law_patch.specs.Bodies.{HaveBodies}
+use Rattle.law_patch.specs.Merges.{merged}
+use Rattle.law_patch.proofs.StayingDead.{body_dead, canonical_dead}
 use Rattle.sq_rename.specs.Bodies.{IsBodyMatch, IsMatchBy, MayLive, IsLiveBehind}
 use Rattle.sq_tail.specs.Bodies.{IsBodyPair, MayDrop}
 use Rattle.sq_tail.specs.StillDead.{AreDead, IsDeadBehind, IsStillDead, AreStillDead, KeepsDeadElsewhere, IsJoinedWhole}

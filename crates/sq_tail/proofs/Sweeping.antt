@@ -21,8 +21,8 @@ use Rattle.sq_graph.specs.Soundness.{IsSound}
 use Rattle.sq_graph.specs.Words.{block_words, words_of, most_words}
 use Rattle.sq_graph.proofs.CanonicalLaws.{canonical_keeps_words}
 use Rattle.sq_graph.proofs.CanonicalReach.{canonical_in_reach}
-use Rattle.sq_follow.specs.Follows.{Follows}
-use Rattle.sq_patch.proofs.Joining.{canonical_follows, canonical_sound}
+use Rattle.law_follow.specs.Follows.{Follows}
+use Rattle.law_patch.proofs.Joining.{canonical_follows, canonical_sound}
 use Rattle.sq_pass.specs.declared.cut.Cut.{Cut}
 use Rattle.sq_pass.specs.declared.cut.Row.TheVariants.{T}
 use Rattle.sq_pass.specs.Applied.{IsApplied}

@@ -17,7 +17,7 @@ use Rattle.sq_graph.proofs.Located.{IsAt, located}
 use Rattle.sq_graph.proofs.Marks.{is_among-append}
 use Rattle.sq_graph.proofs.SlotReads.{block_at}
 use Rattle.sq_layout.proofs.Standing.{block_of-changed}
-use Rattle.sq_patch.specs.Merges.{merged}
+use Rattle.law_patch.specs.Merges.{merged}
 use Rattle.sq_tail.specs.Names.{end_uses, makes_leader, KeepsNames}
 use Rattle.sq_tail.proofs.Merging.{ended, merged_blocks}
 

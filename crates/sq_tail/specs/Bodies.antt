@@ -3,7 +3,7 @@ use Rattle.std.specs.Prelude.{◌≡◌, ℕ, ◌+◌, ◌-◌, ◌<◌, ◌≤�
 use Rattle.sq_isa.specs.Registers.{is_member}
 use Rattle.sq_graph.specs.Graph.{Graph}
 use Rattle.sq_graph.specs.Blocks.{items_of}
-use Rattle.sq_patch.specs.Bodies.{HaveBodies}
+use Rattle.law_patch.specs.Bodies.{HaveBodies}
 use Rattle.sq_rename.specs.Bodies.{IsLiveBehind}
 use Rattle.sq_rename.specs.Reservations.{HasNoReservations}
 use Rattle.sq_tail.specs.Tails.{end_words}

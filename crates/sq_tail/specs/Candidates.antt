@@ -5,7 +5,7 @@ use Rattle.sq_graph.specs.declared.parts.Room.{Room}
 use Rattle.sq_graph.specs.Graph.{Graph}
 use Rattle.sq_graph.specs.Blocks.{items_of}
 use Rattle.sq_pass.specs.declared.cut.Cut.{Cut}
-use Rattle.sq_patch.specs.Bodies.{HaveBodies}
+use Rattle.law_patch.specs.Bodies.{HaveBodies}
 use Rattle.sq_rename.specs.Reservations.{HasNoReservations}
 use Rattle.sq_tail.specs.Tails.{tail_cut, IsTailCut, tails_joined}
 

@@ -7,7 +7,7 @@ use Rattle.sq_graph.specs.Operations.{IsNew}
 use Rattle.sq_graph.specs.Words.{term_words}
 use Rattle.sq_pass.specs.declared.cut.Cut.{Cut}
 use Rattle.sq_pass.specs.declared.cut.Row.TheVariants.{T}
-use Rattle.sq_patch.specs.Merges.{HaveTail, merged, tailed}
+use Rattle.law_patch.specs.Merges.{HaveTail, merged, tailed}
 use Rattle.sq_rename.specs.Reservations.{HasNoReservations}
 
 -- the words of a block's term

@@ -14,7 +14,7 @@ ghost use Rattle.sq_graph.specs.Blocks.{HasBlock, items_of};
 ghost use Rattle.sq_graph.specs.Resolve.{resolved_term_of};
 ghost use Rattle.sq_live.specs.Liveness.{IsLivenessOf};
 ghost use Rattle.sq_rename.specs.Bodies.{IsBodyMatch, IsLiveBehind};
-ghost use Rattle.sq_patch.specs.Bodies.{HaveBodies};
+ghost use Rattle.law_patch.specs.Bodies.{HaveBodies};
 ghost use Rattle.sq_tail.specs.Bodies.{IsBodyPair, MayDrop, AreDeadBehind, NoneAhead};
 ghost use Rattle.sq_tail.specs.BodiesEarlier.{AreEarlier};
 ghost use Rattle.sq_tail.specs.BodiesPrints.{print_of};

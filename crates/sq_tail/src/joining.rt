@@ -10,7 +10,7 @@
 ghost use Rattle.std.specs.Prelude.{◌≡◌, ◌+◌, ◌<◌, ◌≤◌, length};
 ghost use Rattle.sq_graph.specs.Blocks.{HasBlock, items_of};
 ghost use Rattle.sq_graph.specs.Room.{KeepsTotal};
-ghost use Rattle.sq_patch.specs.Merges.{merged};
+ghost use Rattle.law_patch.specs.Merges.{merged};
 ghost use Rattle.sq_tail.specs.Tails.{AreTails, IsJoined};
 
 use sq_graph::{Graph, Term};

@@ -5,14 +5,14 @@ use Rattle.std.proofs.lemmas.Option.{slice_get_within}
 use Rattle.sq_num.specs.declared.refusal.Refusal.{Refusal}
 use Rattle.sq_elf.specs.Refusing.{file_refusal_of}
 use Rattle.sq_reloc.specs.Refusing.{reloc_refusal_of}
-use Rattle.sq_program.specs.Programs.{Note, Program, word_at, IsWord, end_of}
-use Rattle.sq_program.specs.Reached.{Decides, IsReached}
-use Rattle.sq_program.specs.Reached.IsReached.{entry, code_word, walk}
-use Rattle.sq_program.specs.FilePrograms.{NoteDies, IsReadAs, early_refusal, IsRefusalOf}
-use Rattle.sq_program.specs.FilePrograms.IsLiftRefusal.{early, alive}
-use Rattle.sq_program.specs.FilePrograms.IsRefusalOf.{by_file, by_relocs, by_lift}
+use Rattle.law_program.specs.Programs.{Note, Program, word_at, IsWord, end_of}
+use Rattle.law_program.specs.Reached.{Decides, IsReached}
+use Rattle.law_program.specs.Reached.IsReached.{entry, code_word, walk}
+use Rattle.law_program.specs.FilePrograms.{NoteDies, IsReadAs, early_refusal, IsRefusalOf}
+use Rattle.law_program.specs.FilePrograms.IsLiftRefusal.{early, alive}
+use Rattle.law_program.specs.FilePrograms.IsRefusalOf.{by_file, by_relocs, by_lift}
 use Rattle.sq_lift.proofs.FilePrograms.{program_with, is_program}
-use Rattle.sq_lifting.proofs.TextWords.{some_is, stood}
+use Rattle.law_lifting.proofs.TextWords.{some_is, stood}
 use Rattle.sq_top.specs.Accepting.{NotRefusedIsAccepted}
 use Rattle.sq_top.proofs.CodeWordsBelow.{code_words, are_code_words}
 

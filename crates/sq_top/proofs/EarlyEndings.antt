@@ -11,8 +11,8 @@ use Rattle.sq_top.specs.declared.ending.Ending.{Ending}
 use Rattle.sq_top.specs.declared.ending.Ending.TheVariants.{Done, Words, Desk, Refused, Memory, Break, Limit, BadStart, Differs}
 use Rattle.sq_top.specs.declared.ending.DeskCall.TheVariants.{Load, Store, Print}
 use Rattle.sq_top.specs.Denials.{denied_ending}
-use Rattle.sq_program.specs.FilePrograms.{IsRefusalOf}
-use Rattle.sq_program.specs.FilePrograms.IsRefusalOf.{by_file}
+use Rattle.law_program.specs.FilePrograms.{IsRefusalOf}
+use Rattle.law_program.specs.FilePrograms.IsRefusalOf.{by_file}
 use Rattle.sq_top.specs.Endings.{LeavesUnpacked}
 use Rattle.sq_top.specs.RunEndings.{LeavesUnloaded, LeavesUnrun}
 use Rattle.sq_top.specs.Running.{file_of}

@@ -8,7 +8,7 @@ use Rattle.sq_isa.specs.declared.instructions.Insn.{Insn}
 use Rattle.sq_isa.specs.declared.instructions.Insn.TheVariants.{Lui, Auipc, Jal, Jalr, Branch, Load, Store, OpImm, Op, Fence, Ecall, Ebreak, Unimp, Atomic}
 use Rattle.sq_isa.specs.declared.instructions.AtomicOp.{AtomicOp}
 use Rattle.sq_isa.specs.declared.instructions.AtomicOp.TheVariants.{Lr, Sc, Swap, Add, Xor, And, Or, Min, Max, MinU, MaxU}
-use Rattle.sq_runs.specs.Runs.{Next, Went, Ended, Broke, Status, Running, Halted, Broken, Trace, trace, trace_from}
+use Rattle.law_runs.specs.Runs.{Next, Went, Ended, Broke, Status, Running, Halted, Broken, Trace, trace, trace_from}
 use Rattle.sq_system.specs.World.{World}
 use Rattle.sq_system.specs.Calls.{effect_of, answer_of}
 use Rattle.sq_system.specs.declared.call.CallArgs.{CallArgs}

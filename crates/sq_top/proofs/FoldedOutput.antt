@@ -13,9 +13,9 @@ use Rattle.sq_graph.specs.Slotted.{IsSlotted, slotted}
 use Rattle.sq_graph.specs.Soundness.{IsSound}
 use Rattle.sq_graph.specs.Words.{words_of}
 use Rattle.sq_graph.proofs.Slotting.{slotted_again}
-use Rattle.sq_follow.specs.Follows.{Follows}
+use Rattle.law_follow.specs.Follows.{Follows}
 use Rattle.sq_write.specs.Written.{written}
-use Rattle.sq_outputs.specs.Writing.{HasSizes}
+use Rattle.law_written.specs.Written.{HasSizes}
 use Rattle.sq_lifted.specs.LiftedFiles.{IsLiftedFile, FitsFile}
 use Rattle.sq_pass.specs.Rewrites.{IsLighter, IsRewritten}
 use Rattle.sq_pass.proofs.Rewriting.{lighter_through}

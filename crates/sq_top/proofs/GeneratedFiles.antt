@@ -23,27 +23,27 @@ use Rattle.sq_reloc.specs.declared.mark.Mark.TheVariants.{Plain}
 use Rattle.sq_reloc.specs.Outside.{is_refused_outside}
 use Rattle.sq_reloc.specs.Refusing.{nth_entry, reloc_rows, reloc_refusal_of}
 use Rattle.sq_reloc.specs.Tables.{is_rela_at, is_bad_table_at, is_bad_symbol}
-use Rattle.sq_program.specs.Programs.{Word, Text, Program, is_word, end_of}
-use Rattle.sq_program.specs.Faults.{fault_of, fault_from, text_refusal}
-use Rattle.sq_program.specs.FilePrograms.{file_word, words_from as file_words, text_of, IsProgramOf, note_refusal, early_refusal, IsFirstAlive, IsLiftRefusal, IsRefusalOf}
-use Rattle.sq_program.specs.Notes.{bad_note, bad_note_from}
-use Rattle.sq_program.specs.FilePrograms.IsLiftRefusal.{early, alive}
-use Rattle.sq_program.specs.FilePrograms.IsRefusalOf.{by_file, by_relocs, by_lift}
-use Rattle.sq_program.specs.NoteSections.{notes_of}
+use Rattle.law_program.specs.Programs.{Word, Text, Program, is_word, end_of}
+use Rattle.law_program.specs.Faults.{fault_of, fault_from, text_refusal}
+use Rattle.law_program.specs.FilePrograms.{file_word, words_from as file_words, text_of, IsProgramOf, note_refusal, early_refusal, IsFirstAlive, IsLiftRefusal, IsRefusalOf}
+use Rattle.law_program.specs.Notes.{bad_note, bad_note_from}
+use Rattle.law_program.specs.FilePrograms.IsLiftRefusal.{early, alive}
+use Rattle.law_program.specs.FilePrograms.IsRefusalOf.{by_file, by_relocs, by_lift}
+use Rattle.law_program.specs.NoteSections.{notes_of}
 use Rattle.sq_write.specs.Output.{words, text_piece, loaded_size, output_file}
 use Rattle.sq_write.specs.Plain.{plain_start, plain_output, plain_file}
 use Rattle.sq_write.proofs.Splitting.{length_words, length_plain}
-use Rattle.sq_outputs.specs.Accepting.{IsAcceptable}
-use Rattle.sq_outputs.specs.Reading.{copied}
-use Rattle.sq_outputs.proofs.Accepting.{outputs_are_accepted}
-use Rattle.sq_outputs.proofs.Cut.{copied_here, no_range}
-use Rattle.sq_outputs.proofs.Lists.{some_at}
-use Rattle.sq_outputs.proofs.TextWords.{words_are_read}
-use Rattle.sq_outputs.proofs.Texts.{text_is_read}
-use Rattle.sq_readback.proofs.Entries.{entries_are_read}
-use Rattle.sq_readback.proofs.Notes.{note_there}
-use Rattle.sq_readback.proofs.Refusing.{some_relocs, tables_fine}
-use Rattle.sq_readback.proofs.Readings.{word_there}
+use Rattle.law_written.specs.Accepting.{IsAcceptable}
+use Rattle.law_written.specs.Reading.{copied}
+use Rattle.law_written.proofs.Accepting.{outputs_are_accepted}
+use Rattle.law_written.proofs.Cut.{copied_here, no_range}
+use Rattle.law_written.proofs.Lists.{some_at}
+use Rattle.law_written.proofs.TextWords.{words_are_read}
+use Rattle.law_written.proofs.Texts.{text_is_read}
+use Rattle.law_written.proofs.Entries.{entries_are_read}
+use Rattle.law_written.proofs.Notes.{note_there}
+use Rattle.law_written.proofs.Refusing.{some_relocs, tables_fine}
+use Rattle.law_written.proofs.Readings.{word_there}
 use Rattle.sq_gen.specs.Generated.{words_from, generated}
 use Rattle.sq_gen.proofs.WordCounts.{words_counted}
 use Rattle.sq_top.specs.Trials.{generated_size}

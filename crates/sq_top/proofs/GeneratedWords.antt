@@ -11,10 +11,10 @@ use Rattle.sq_isa.specs.Ranges.{FieldsFit, IsSigned}
 use Rattle.sq_isa.specs.Table.{insn_of}
 use Rattle.sq_isa.proofs.Encoded.{insn_of-word_of}
 use Rattle.sq_reloc.specs.declared.mark.Mark.TheVariants.{Plain}
-use Rattle.sq_program.specs.Programs.{Word, Text, is_word, end_of, insn_in}
-use Rattle.sq_program.specs.Reached.{target_from, jump_target, insn_goes_on}
-use Rattle.sq_program.specs.Faults.{is_astray, falls_off, is_auipc, is_access, fault_of}
-use Rattle.sq_outputs.proofs.Accepting.{second_fails}
+use Rattle.law_program.specs.Programs.{Word, Text, is_word, end_of, insn_in}
+use Rattle.law_program.specs.Reached.{target_from, jump_target, insn_goes_on}
+use Rattle.law_program.specs.Faults.{is_astray, falls_off, is_auipc, is_access, fault_of}
+use Rattle.law_written.proofs.Accepting.{second_fails}
 use Rattle.sq_gen.specs.Generated.{number_after, kind_of, addition, call, words_from}
 
 -- an instruction at a place among n words jumps nowhere, or to one of them

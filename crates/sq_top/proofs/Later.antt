@@ -12,7 +12,7 @@ use Rattle.sq_top.specs.Endings.{StoresPacked, LeavesPack, SizeLeft, Leaves, Com
 use Rattle.sq_top.specs.RunEndings.{FailsToLoad, IsReadable, RunLeft}
 use Rattle.sq_top.specs.WatchEndings.{WatchLeft}
 use Rattle.sq_top.specs.HexEndings.{StoresText, LeavesHex, FailsToCheck, CheckLeft}
-use Rattle.sq_program.specs.FilePrograms.{IsAcceptedFile}
+use Rattle.law_program.specs.FilePrograms.{IsAcceptedFile}
 use Rattle.sq_top.specs.Promises.{Ends}
 use Rattle.sq_top.proofs.SizeCases.{size_by_case}
 use Rattle.sq_top.specs.Trials.{TrialLeft}

@@ -11,16 +11,16 @@ use Rattle.sq_graph.specs.declared.parts.CodeRef.{CodeRef}
 use Rattle.sq_graph.specs.Graph.{Graph}
 use Rattle.sq_graph.specs.Rules.{IsGraph}
 use Rattle.sq_graph.specs.Words.{words_of, most_words}
-use Rattle.sq_follow.specs.Follows.{word_address}
-use Rattle.sq_program.specs.FilePrograms.{IsAcceptedFile}
-use Rattle.sq_program.specs.Lifted.{code_ref, lifted}
+use Rattle.law_follow.specs.Follows.{word_address}
+use Rattle.law_program.specs.FilePrograms.{IsAcceptedFile}
+use Rattle.law_program.specs.Lifted.{code_ref, lifted}
 use Rattle.sq_write.specs.Written.{written}
 use Rattle.sq_write.proofs.AlikeGraphs.{alike_fit}
 use Rattle.sq_write.proofs.SegmentFacts.{few_text}
-use Rattle.sq_outputs.specs.Writing.{IsWritable, HasSizes}
-use Rattle.sq_outputs.proofs.Writing.{written_sizes}
-use Rattle.sq_writing.specs.Files.{code_word_address, IsWritableInto}
-use Rattle.sq_writing.proofs.FileStarts.{written_files_show_graphs}
+use Rattle.law_written.specs.Written.{IsWritable, HasSizes}
+use Rattle.law_written.proofs.Writing.{written_sizes}
+use Rattle.law_written.specs.Files.{code_word_address, IsWritableInto}
+use Rattle.law_written.proofs.FileStarts.{written_files_show_graphs}
 use Rattle.sq_lifted.specs.LiftedFiles.{IsLiftedFile, FitsFile}
 use Rattle.sq_lifted.specs.Same.{Same}
 use Rattle.sq_lifted.proofs.FileWorlds.{files_good}

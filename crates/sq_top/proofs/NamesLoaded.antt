@@ -5,7 +5,7 @@ use Rattle.sq_num.specs.declared.refusal.Denied.TheVariants.{Refused as DeniedFi
 use Rattle.sq_names.specs.Functions.{NamedFunction, functions_of}
 use Rattle.sq_names.specs.Listing.{AreListed}
 use Rattle.sq_names.specs.declared.track.Track.{Track}
-use Rattle.sq_program.specs.FilePrograms.{IsRefusalOf, IsAcceptedFile}
+use Rattle.law_program.specs.FilePrograms.{IsRefusalOf, IsAcceptedFile}
 use Rattle.sq_desk.specs.Outside.{Outside, Files, content_of, NoneFall, KeepsFiles, KeepsPrinted, ForFiles, extended_text}
 use Rattle.sq_top.specs.declared.ending.Ending.{Ending}
 use Rattle.sq_top.specs.declared.ending.Ending.TheVariants.{Done, Words, Desk, Refused, Memory, Break, Limit, BadStart, Differs}

@@ -13,7 +13,7 @@ use Rattle.sq_graph.specs.Slotted.{IsSlotted}
 use Rattle.sq_graph.specs.Words.{words_of}
 use Rattle.sq_write.specs.Written.{written}
 use Rattle.sq_write.proofs.SegmentFacts.{few_text}
-use Rattle.sq_outputs.specs.Writing.{HasSizes}
+use Rattle.law_written.specs.Written.{HasSizes}
 use Rattle.sq_lifted.specs.LiftedFiles.{IsLiftedFile, FitsFile}
 use Rattle.sq_num.specs.declared.packed.TheConstants.Savings.{NONE}
 use Rattle.sq_pass.specs.Rewrites.{IsLighter, IsRewritten}

@@ -7,7 +7,7 @@ use Rattle.sq_num.specs.declared.refusal.Denied.TheVariants.{Refused, Memory}
 use Rattle.sq_graph.specs.Graph.{Graph}
 use Rattle.sq_graph.specs.Rules.{IsGraph}
 use Rattle.sq_graph.specs.Slotted.{IsSlotted}
-use Rattle.sq_program.specs.FilePrograms.{IsRefusalOf, IsAcceptedFile}
+use Rattle.law_program.specs.FilePrograms.{IsRefusalOf, IsAcceptedFile}
 use Rattle.sq_write.specs.Written.{written}
 use Rattle.sq_lifted.specs.LiftedFiles.{IsLiftedFile, FitsFile}
 use Rattle.sq_lifted.proofs.Accepting.{not_refused}

@@ -5,19 +5,19 @@ use Rattle.sq_graph.specs.Alike.{AreAlike}
 use Rattle.sq_graph.specs.Graph.{Graph}
 use Rattle.sq_graph.specs.Leaders.{IsCanonical}
 use Rattle.sq_graph.specs.Soundness.{IsSound}
-use Rattle.sq_program.specs.FilePrograms.{early_refusal, IsReadAs, IsLiftedFrom}
-use Rattle.sq_program.specs.Lifted.{lifted, lifted_with}
-use Rattle.sq_program.specs.Programs.{Program, is_word, IsWord}
-use Rattle.sq_program.specs.Reached.{IsReached, entry, code_word, walk, Decides}
+use Rattle.law_program.specs.FilePrograms.{early_refusal, IsReadAs, IsLiftedFrom}
+use Rattle.law_program.specs.Lifted.{lifted, lifted_with}
+use Rattle.law_program.specs.Programs.{Program, is_word, IsWord}
+use Rattle.law_program.specs.Reached.{IsReached, entry, code_word, walk, Decides}
 use Rattle.sq_write.specs.Written.{written}
-use Rattle.sq_outputs.specs.Writing.{IsWritable}
-use Rattle.sq_readback.specs.Programs.{graph_text, graph_program}
-use Rattle.sq_readback.specs.Whole.{IsWhole}
-use Rattle.sq_readback.specs.Cutting.{lifted_back}
-use Rattle.sq_readback.proofs.Programs.{written_files_are_read}
-use Rattle.sq_readback.proofs.NoteFaults.{written_files_pass_early}
-use Rattle.sq_readback.proofs.WordsReached.{written_words_are_reached, written_notes_are_used}
-use Rattle.sq_readback.proofs.AlikeBack.{lifted_back_is_alike}
+use Rattle.law_written.specs.Written.{IsWritable}
+use Rattle.law_written.specs.Programs.{graph_text, graph_program}
+use Rattle.law_written.specs.Whole.{IsWhole}
+use Rattle.law_written.specs.Cutting.{lifted_back}
+use Rattle.law_written.proofs.Programs.{written_files_are_read}
+use Rattle.law_written.proofs.NoteFaults.{written_files_pass_early}
+use Rattle.law_written.proofs.WordsReached.{written_words_are_reached, written_notes_are_used}
+use Rattle.law_written.proofs.AlikeBack.{lifted_back_is_alike}
 use Rattle.sq_lifted.proofs.FileWorlds.{early_readable}
 use Rattle.sq_graph.proofs.RenamedSound.{sound_kept}
 use Rattle.sq_lifted.proofs.SoundNotes.{sound_notes_die}

@@ -5,10 +5,10 @@ use Rattle.sq_num.specs.declared.refusal.Denied.{Denied}
 use Rattle.sq_num.specs.declared.refusal.Denied.TheVariants.{Refused, Memory}
 use Rattle.sq_elf.specs.Refusing.{file_refusal_of}
 use Rattle.sq_reloc.specs.Refusing.{reloc_refusal_of}
-use Rattle.sq_program.specs.Programs.{Program}
-use Rattle.sq_program.specs.FilePrograms.{IsReadAs, IsLiftRefusal, IsRefusalOf}
-use Rattle.sq_program.specs.FilePrograms.IsLiftRefusal.{early, alive}
-use Rattle.sq_program.specs.FilePrograms.IsRefusalOf.{by_file, by_relocs, by_lift}
+use Rattle.law_program.specs.Programs.{Program}
+use Rattle.law_program.specs.FilePrograms.{IsReadAs, IsLiftRefusal, IsRefusalOf}
+use Rattle.law_program.specs.FilePrograms.IsLiftRefusal.{early, alive}
+use Rattle.law_program.specs.FilePrograms.IsRefusalOf.{by_file, by_relocs, by_lift}
 use Rattle.sq_lifted.specs.LiftedFiles.{IsRefusedFile}
 
 -- a file that is refused by its text or its note is read

@@ -1,7 +1,7 @@
 -- How the ending of a run keeps each promise.
 use Rattle.std.proofs.Common.{◌≡◌, ℕ, ◌⊎◌, inl, inr, List, Some, refl, subst, arith}
 use Rattle.sq_num.specs.declared.refusal.Refusal.{Refusal}
-use Rattle.sq_runs.specs.Runs.{Trace, HasHalted, IsHalted}
+use Rattle.law_runs.specs.Runs.{Trace, HasHalted, IsHalted}
 use Rattle.sq_system.specs.declared.event.Event.{Event}
 use Rattle.sq_system.specs.declared.event.Halt.{Halt}
 use Rattle.sq_command.specs.Commands.{RunRequest, RunForm, form_of}

@@ -9,8 +9,8 @@ use Rattle.sq_pass.specs.Rewrites.{IsRewrite, AreSteps, IsRewritten}
 use Rattle.sq_drive.specs.Rows.{IsCandidate, described, IsLeftoverFree}
 use Rattle.sq_drive.proofs.Moves.{leftover_free_is_still}
 use Rattle.sq_write.specs.Written.{written}
-use Rattle.sq_outputs.specs.Writing.{IsWritable}
-use Rattle.sq_outputs.proofs.Again.{written_again}
+use Rattle.law_written.specs.Written.{IsWritable}
+use Rattle.law_written.proofs.Again.{written_again}
 use Rattle.sq_lifted.specs.LiftedFiles.{IsLiftedFile}
 use Rattle.sq_lifted.proofs.OneReading.{lifted_one}
 use Rattle.sq_top.specs.Settled.{IsSettledFile}

@@ -5,8 +5,8 @@ use Rattle.sq_graph.specs.Graph.{Graph}
 use Rattle.sq_graph.specs.Rules.{IsGraph}
 use Rattle.sq_graph.specs.Slotted.{IsSlotted}
 use Rattle.sq_write.specs.Written.{written}
-use Rattle.sq_outputs.specs.Writing.{IsWritable}
-use Rattle.sq_outputs.proofs.Bytes.{written_is_bytes}
+use Rattle.law_written.specs.Written.{IsWritable}
+use Rattle.law_written.proofs.Bytes.{written_is_bytes}
 use Rattle.sq_lifted.specs.LiftedFiles.{IsLiftedFile, FitsFile}
 use Rattle.sq_lifted.proofs.OneReading.{lifted_one}
 use Rattle.sq_pass.specs.Rewrites.{IsLighter}

@@ -13,7 +13,7 @@ use Rattle.sq_top.specs.RunEndings.{RunLeft}
 use Rattle.sq_top.specs.WatchEndings.{WatchLeft}
 use Rattle.sq_top.specs.HexEndings.{LeavesHex, CheckLeft}
 use Rattle.sq_top.specs.Watching.{HasWatched}
-use Rattle.sq_runs.specs.Runs.{Trace}
+use Rattle.law_runs.specs.Runs.{Trace}
 use Rattle.sq_system.specs.declared.event.Event.{Event}
 use Rattle.sq_system.specs.declared.event.Halt.{Halt}
 use Rattle.sq_lifted.proofs.Accepting.{not_refused}

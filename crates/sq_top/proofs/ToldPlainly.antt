@@ -2,20 +2,20 @@
 use Rattle.std.proofs.Common.{◌≡◌, ℕ, ◌+◌, ◌*◌, ◌^◌, ◌<◌, ◌≤◌, Bool, List, ◌++◌, codes, length, Option, Some, None, refl, sym, ap, subst, ◌∙◌, arith}
 use Rattle.std.specs.List.{AllByRecursion}
 use Rattle.sq_isa.specs.Words.{wrapped}
-use Rattle.sq_runs.specs.Runs.{Status, Running, Halted, Broken, IsNotBroken, trace, first_break, state_after}
-use Rattle.sq_runs.proofs.Breaks.{unbroken_none}
+use Rattle.law_runs.specs.Runs.{Status, Running, Halted, Broken, IsNotBroken, trace, first_break, state_after}
+use Rattle.law_runs.proofs.Breaks.{unbroken_none}
 use Rattle.sq_system.specs.Starts.{Start}
 use Rattle.sq_system.specs.Lines.{events_text, end_text}
 use Rattle.sq_system.specs.declared.event.Halt.{Halt}
 use Rattle.sq_system.specs.declared.event.Halt.TheVariants.{Exit, Illegal, Breakpoint, Fetch, Load, Store}
-use Rattle.sq_follow.specs.declared.kind.Kind.{Kind}
-use Rattle.sq_program.specs.Programs.{Program, word_at}
-use Rattle.sq_program.specs.FilePrograms.{IsAccepted}
-use Rattle.sq_program.specs.Monitored.{Watched, Watches, monitored_step}
-use Rattle.sq_program.specs.FileRuns.{world_of, watched_start, watched_layout, monitored_trace, IsUnbrokenRun}
+use Rattle.law_follow.specs.declared.kind.Kind.{Kind}
+use Rattle.law_program.specs.Programs.{Program, word_at}
+use Rattle.law_program.specs.FilePrograms.{IsAccepted}
+use Rattle.law_program.specs.Monitored.{Watched, Watches, monitored_step}
+use Rattle.law_program.specs.FileRuns.{world_of, watched_start, watched_layout, monitored_trace, IsUnbrokenRun}
 use Rattle.sq_run.specs.FileRuns.{file_world, file_state, file_trace}
 use Rattle.sq_run.specs.Transcripts.{halt_of, trace_text}
-use Rattle.sq_lifting.proofs.TextWords.{some_is, stood}
+use Rattle.law_lifting.proofs.TextWords.{some_is, stood}
 use Rattle.sq_lifted.proofs.Files.{files_linked}
 use Rattle.sq_lifted.proofs.FileWorlds.{files_keep_runs}
 use Rattle.sq_lifted.proofs.PlainStarts.{start_plain, show_plain}

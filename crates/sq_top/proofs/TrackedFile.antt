@@ -18,9 +18,9 @@ use Rattle.sq_lift.specs.Flags.{is_flagged}
 use Rattle.sq_lift.specs.Refused.{IsEarlyRefusal}
 use Rattle.sq_lift.specs.Starts.{Starts, slot_at, AreStarts}
 use Rattle.sq_lift.proofs.FilePrograms.{same_test}
-use Rattle.sq_program.specs.Lifted.{lifted}
+use Rattle.law_program.specs.Lifted.{lifted}
 use Rattle.sq_write.specs.Written.{written}
-use Rattle.sq_outputs.specs.Writing.{IsWritable}
+use Rattle.law_written.specs.Written.{IsWritable}
 use Rattle.sq_lifted.specs.LiftedFiles.{IsLiftedFile, FitsFile}
 use Rattle.sq_lifted.proofs.LiftedFiles.{early_same}
 use Rattle.sq_lifted.proofs.OneReading.{lifted_one}

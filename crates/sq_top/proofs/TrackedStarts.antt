@@ -17,20 +17,20 @@ use Rattle.sq_graph.proofs.Slotting.{one_slotted}
 use Rattle.sq_reloc.specs.declared.mark.CodeWord.{CodeWord}
 use Rattle.sq_reloc.specs.CodeWords.{listed_at}
 use Rattle.sq_reloc.proofs.Found.{found_at}
-use Rattle.sq_program.specs.FilePrograms.{IsProgramOf}
-use Rattle.sq_program.specs.Lifted.{lifted, code_ref}
-use Rattle.sq_program.specs.Programs.{target_of}
-use Rattle.sq_program.specs.Reached.{entry, code_word}
+use Rattle.law_program.specs.FilePrograms.{IsProgramOf}
+use Rattle.law_program.specs.Lifted.{lifted, code_ref}
+use Rattle.law_program.specs.Programs.{target_of}
+use Rattle.law_program.specs.Reached.{entry, code_word}
 use Rattle.sq_lifted.specs.LiftedFiles.{IsLiftedFile}
 use Rattle.sq_lifted.proofs.EarlyGraphs.{rules}
 use Rattle.sq_lifted.proofs.Files.{files_linked}
 use Rattle.sq_write.specs.Points.{new_address}
 use Rattle.sq_write.specs.Written.{written}
-use Rattle.sq_outputs.specs.Writing.{IsWritable}
-use Rattle.sq_outputs.proofs.Writing.{written_sizes}
-use Rattle.sq_readback.proofs.CodeWords.{written_code_words_are_read}
-use Rattle.sq_readback.proofs.Outside.{code_word_stands}
-use Rattle.sq_readback.proofs.Written.{IsGoodWord, all_good}
+use Rattle.law_written.specs.Written.{IsWritable}
+use Rattle.law_written.proofs.Writing.{written_sizes}
+use Rattle.law_written.proofs.CodeWords.{written_code_words_are_read}
+use Rattle.law_written.proofs.Outside.{code_word_stands}
+use Rattle.law_written.proofs.WrittenRelocations.{IsGoodWord, all_good}
 use Rattle.sq_names.specs.Functions.{NamedFunction}
 use Rattle.sq_names.specs.declared.track.Track.{Track}
 use Rattle.sq_names.specs.declared.track.Track.TheVariants.{At}

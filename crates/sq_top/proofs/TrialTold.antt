@@ -5,7 +5,7 @@ use Rattle.sq_num.specs.declared.refusal.Denied.{Denied}
 use Rattle.sq_num.specs.declared.refusal.Denied.TheVariants.{Refused as DeniedFile, Memory as NoMemory}
 use Rattle.sq_num.specs.declared.packed.Packed.{Packed}
 use Rattle.sq_elf.specs.Refusing.{text_size}
-use Rattle.sq_program.specs.FilePrograms.{IsRefusalOf, IsAcceptedFile}
+use Rattle.law_program.specs.FilePrograms.{IsRefusalOf, IsAcceptedFile}
 use Rattle.sq_lifted.proofs.Accepting.{not_refused}
 use Rattle.sq_gen.specs.Generated.{generated}
 use Rattle.sq_top.specs.declared.ending.Ending.TheVariants.{Memory}

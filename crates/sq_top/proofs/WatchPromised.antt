@@ -1,10 +1,10 @@
 -- How the ending of a watch keeps each promise.
 use Rattle.std.proofs.Common.{◌≡◌, ℕ, ◌⊎◌, inl, inr, List, Some, refl, sym, subst, ◌∙◌, arith}
 use Rattle.sq_num.specs.declared.refusal.Refusal.{Refusal}
-use Rattle.sq_runs.specs.Runs.{Trace, HasHalted, IsHalted}
+use Rattle.law_runs.specs.Runs.{Trace, HasHalted, IsHalted}
 use Rattle.sq_system.specs.declared.event.Event.{Event}
 use Rattle.sq_system.specs.declared.event.Halt.{Halt}
-use Rattle.sq_program.specs.FilePrograms.{IsAcceptedFile}
+use Rattle.law_program.specs.FilePrograms.{IsAcceptedFile}
 use Rattle.sq_lift.proofs.FilePrograms.{one_program}
 use Rattle.sq_lifted.proofs.Accepting.{not_refused}
 use Rattle.sq_command.specs.Commands.{RunRequest, WatchForm, form_of}

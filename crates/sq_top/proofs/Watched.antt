@@ -2,17 +2,17 @@
 use Rattle.std.proofs.Common.{◌≡◌, ℕ, ◌<◌, ◌≤◌, List, length, take, Option, Some, None, refl, sym, subst, ap, ◌∙◌}
 use Rattle.std.specs.Prelude.{⊤}
 use Rattle.std.specs.List.{AllByRecursion}
-use Rattle.sq_runs.specs.Runs.{Trace, Status, Running, Halted, Broken, IsNotBroken, IsHalted, HasHalted, trace, first_break, state_after}
-use Rattle.sq_runs.proofs.Breaks.{unbroken_none, none_unbroken}
+use Rattle.law_runs.specs.Runs.{Trace, Status, Running, Halted, Broken, IsNotBroken, IsHalted, HasHalted, trace, first_break, state_after}
+use Rattle.law_runs.proofs.Breaks.{unbroken_none, none_unbroken}
 use Rattle.sq_system.specs.Starts.{Start, IsBadStart}
 use Rattle.sq_system.specs.declared.event.Event.{Event}
 use Rattle.sq_system.specs.declared.event.Halt.{Halt}
-use Rattle.sq_follow.specs.declared.kind.Kind.{Kind}
-use Rattle.sq_follow.specs.Worlds.{extents}
-use Rattle.sq_program.specs.Programs.{Program}
-use Rattle.sq_program.specs.FilePrograms.{IsProgramOf, IsAcceptedFile}
-use Rattle.sq_program.specs.Monitored.{Watched, Watches, monitored_step}
-use Rattle.sq_program.specs.FileRuns.{world_of, watched_start, watched_layout, monitored_trace}
+use Rattle.law_follow.specs.declared.kind.Kind.{Kind}
+use Rattle.law_follow.specs.Worlds.{extents}
+use Rattle.law_program.specs.Programs.{Program}
+use Rattle.law_program.specs.FilePrograms.{IsProgramOf, IsAcceptedFile}
+use Rattle.law_program.specs.Monitored.{Watched, Watches, monitored_step}
+use Rattle.law_program.specs.FileRuns.{world_of, watched_start, watched_layout, monitored_trace}
 use Rattle.sq_run.specs.FileRuns.{IsBadFileStart}
 use Rattle.sq_lifted.proofs.FilePieces.{file_extents}
 use Rattle.sq_monitor.specs.Steps.{outcome_of, outcome_at}

@@ -15,7 +15,7 @@ use Rattle.sq_graph.specs.Rules.{IsGraph}
 use Rattle.sq_graph.specs.Uses.{item_calls}
 use Rattle.sq_graph.specs.Walks.{IsReachedBlock}
 use Rattle.sq_graph.specs.Words.{block_words, procedure_words}
-use Rattle.sq_patch.specs.Restrictions.{procedures_held}
+use Rattle.law_patch.specs.Restrictions.{procedures_held}
 use Rattle.sq_reach.proofs.Deciding.{reached_marks}
 use Rattle.sq_reach.proofs.Searches.{contains_from_marked}
 use Rattle.sq_pass.specs.declared.cut.Row.TheVariants.{U}
@@ -24,7 +24,7 @@ use Rattle.sq_lookup.specs.Names.{is_listed}
 use Rattle.sq_jumps.specs.Unreached.{stays, is_called_in, is_held, words_gone, AreUnreached}
 use Rattle.sq_drive.specs.Rows.{IsLeftoverFree}
 use Rattle.sq_jumps.proofs.UnreachedCounted.{are_unreached}
-use Rattle.sq_readback.specs.Whole.{IsWhole}
+use Rattle.law_written.specs.Whole.{IsWhole}
 
 -- a block that is counted has a word
 counted_block : (t : ℕ → Bool) (bs : List Block) (n : ℕ) → AllByRecursion (λ b. is_bare b ≡ false) bs → IsSome (value_of (named bs) n) → t n ≡ true → 1 ≤ sum_by block_words (filter (λ b. t b.name) bs)

@@ -7,7 +7,7 @@ use Rattle.sq_top.specs.declared.ending.Ending.TheVariants.{Done, Words, Desk, R
 use Rattle.sq_top.specs.declared.ending.DeskCall.TheVariants.{Load, Store, Print}
 use Rattle.sq_command.specs.Commands.{Form, PackForm, RunForm, WatchForm, HexForm, HexcheckForm, SizeForm, TrialForm, CheckForm, ProveForm, NamesForm, FoldForm}
 use Rattle.sq_top.specs.Packing.{Packs, packed_text}
-use Rattle.sq_program.specs.FilePrograms.{IsRefusalOf}
+use Rattle.law_program.specs.FilePrograms.{IsRefusalOf}
 use Rattle.sq_report.specs.Report.{report_text}
 use Rattle.sq_top.specs.RunEndings.{LeavesRun}
 use Rattle.sq_top.specs.WatchEndings.{LeavesWatch}

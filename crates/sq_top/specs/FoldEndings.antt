@@ -1,6 +1,6 @@
 -- How `fold` ends, and what it leaves outside.
 use Rattle.std.specs.Prelude.{ℕ, ◌⊎◌, List, Some}
-use Rattle.sq_program.specs.FilePrograms.{IsRefusalOf}
+use Rattle.law_program.specs.FilePrograms.{IsRefusalOf}
 use Rattle.sq_desk.specs.Outside.{Outside, content_of, Rose, Loading, Storing, Printing, KeepsFiles, SetsFile, LosesFile, KeepsPrinted, Prints, PrintsPrefix, ForFiles}
 use Rattle.sq_top.specs.declared.ending.Ending.{Ending}
 use Rattle.sq_top.specs.declared.ending.Ending.TheVariants.{Done, Desk, Refused, Memory}

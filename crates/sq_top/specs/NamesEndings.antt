@@ -3,7 +3,7 @@ use Rattle.std.specs.Prelude.{◌≡◌, ℕ, ◌<◌, ◌≤◌, ◌⊎◌, Lis
 use Rattle.sq_num.specs.declared.refusal.Refusal.{Refusal}
 use Rattle.sq_num.specs.declared.refusal.Refusal.TheVariants.{FileTooLong}
 use Rattle.sq_names.specs.declared.track.Track.{Track}
-use Rattle.sq_program.specs.FilePrograms.{IsRefusalOf, IsAcceptedFile}
+use Rattle.law_program.specs.FilePrograms.{IsRefusalOf, IsAcceptedFile}
 use Rattle.sq_desk.specs.Outside.{Outside, Files, content_of, Rose, Loading, Printing, KeepsFiles, KeepsPrinted, Prints, PrintsPrefix, ForFiles}
 use Rattle.sq_top.specs.declared.ending.Ending.{Ending}
 use Rattle.sq_top.specs.declared.ending.Ending.TheVariants.{Done, Desk, Refused, Memory, Differs}

@@ -4,7 +4,7 @@ use Rattle.sq_num.specs.RefusalTexts.{refusal_text}
 use Rattle.sq_num.specs.declared.refusal.Refusal.{Refusal}
 use Rattle.sq_names.specs.declared.track.Track.{Track}
 use Rattle.sq_command.specs.Commands.{NamesForm, form_of}
-use Rattle.sq_program.specs.FilePrograms.{IsAcceptedFile}
+use Rattle.law_program.specs.FilePrograms.{IsAcceptedFile}
 use Rattle.sq_desk.specs.Outside.{Outside, Files, Rose, Loading, Printing, KeepsPrinted, Prints, ForFiles, content_of}
 use Rattle.sq_top.specs.declared.ending.Ending.{Ending}
 use Rattle.sq_top.specs.declared.ending.Ending.TheVariants.{Done, Refused, Differs}

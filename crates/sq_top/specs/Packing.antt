@@ -18,12 +18,12 @@ use Rattle.sq_num.specs.declared.packed.TheConstants.Savings.{NONE}
 use Rattle.sq_pass.specs.Rewrites.{IsRewritten}
 use Rattle.sq_chain.specs.Moves.{IsStill}
 use Rattle.sq_drive.specs.Rows.{IsCandidate, described, IsLeftoverFree}
-use Rattle.sq_program.specs.Programs.{IsWord}
-use Rattle.sq_program.specs.Reached.{IsReached}
-use Rattle.sq_program.specs.FilePrograms.{IsAcceptedFile}
+use Rattle.law_program.specs.Programs.{IsWord}
+use Rattle.law_program.specs.Reached.{IsReached}
+use Rattle.law_program.specs.FilePrograms.{IsAcceptedFile}
 use Rattle.sq_write.specs.Written.{written}
-use Rattle.sq_outputs.specs.Writing.{IsWritable}
-use Rattle.sq_readback.specs.Whole.{IsWhole}
+use Rattle.law_written.specs.Written.{IsWritable}
+use Rattle.law_written.specs.Whole.{IsWhole}
 use Rattle.sq_lifted.specs.LiftedFiles.{IsLiftedFile}
 use Rattle.sq_lifted.specs.Same.{Same}
 use Rattle.sq_top.specs.Settled.{IsSettledFile}

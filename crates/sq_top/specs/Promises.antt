@@ -9,7 +9,7 @@ use Rattle.sq_top.specs.declared.ending.DeskCall.{DeskCall}
 use Rattle.sq_top.specs.declared.ending.DeskCall.TheVariants.{Load, Store, Print}
 use Rattle.sq_command.specs.Commands.{RunRequest, PackForm, RunForm, WatchForm, HexForm, HexcheckForm, SizeForm, TrialForm, CheckForm, ProveForm, NamesForm, FoldForm, form_of}
 use Rattle.sq_top.specs.Packing.{GoodOutput, Headline, packed_text}
-use Rattle.sq_program.specs.FilePrograms.{IsRefusalOf}
+use Rattle.law_program.specs.FilePrograms.{IsRefusalOf}
 use Rattle.sq_top.specs.Statuses.{call_text, complaint_of}
 use Rattle.sq_top.specs.Endings.{PacksFile, report_line, Leaves, ComplainsLine}
 use Rattle.sq_top.specs.Running.{HasRun}

@@ -3,7 +3,7 @@ use Rattle.std.specs.Prelude.{◌≡◌, ℕ, ◌⊎◌, List, Option, Some}
 use Rattle.std.specs.Option.{option_map}
 use Rattle.sq_num.specs.declared.packed.Packed.{Packed}
 use Rattle.sq_desk.specs.Outside.{Outside, content_of, with_file, Rose, Loading, Storing, Printing, KeepsFiles, SetsFile, LosesFile, KeepsPrinted, Prints, PrintsPrefix, ForFiles}
-use Rattle.sq_program.specs.FilePrograms.{IsRefusalOf}
+use Rattle.law_program.specs.FilePrograms.{IsRefusalOf}
 use Rattle.sq_top.specs.declared.ending.Ending.{Ending}
 use Rattle.sq_top.specs.declared.ending.Ending.TheVariants.{Done, Desk, Refused, Memory}
 use Rattle.sq_top.specs.declared.ending.DeskCall.TheVariants.{Load, Store, Print}

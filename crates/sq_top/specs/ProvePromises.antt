@@ -2,7 +2,7 @@
 use Rattle.std.specs.Prelude.{◌≡◌, ℕ, ◌⊎◌, List, Some}
 use Rattle.sq_num.specs.declared.refusal.Refusal.{Refusal}
 use Rattle.sq_command.specs.Commands.{ProveForm, form_of}
-use Rattle.sq_program.specs.FilePrograms.{IsRefusalOf}
+use Rattle.law_program.specs.FilePrograms.{IsRefusalOf}
 use Rattle.sq_desk.specs.Outside.{Outside, Rose, Loading, Storing, Printing, Prints, ForFiles, content_of, with_file}
 use Rattle.sq_top.specs.declared.ending.DeskCall.{DeskCall}
 use Rattle.sq_top.specs.declared.ending.DeskCall.TheVariants.{Load, Store, Print}

@@ -5,7 +5,7 @@ use Rattle.sq_num.specs.declared.refusal.Refusal.{Refusal}
 use Rattle.sq_elf.specs.Sizes.{loaded_of}
 use Rattle.sq_graph.specs.Graph.{Graph}
 use Rattle.sq_graph.specs.Slotted.{IsSlotted}
-use Rattle.sq_program.specs.FilePrograms.{IsRefusalOf, IsAcceptedFile}
+use Rattle.law_program.specs.FilePrograms.{IsRefusalOf, IsAcceptedFile}
 use Rattle.sq_write.specs.Written.{written}
 use Rattle.sq_lifted.specs.LiftedFiles.{IsLiftedFile}
 use Rattle.sq_lifted.specs.Same.{Same}

@@ -1,7 +1,7 @@
 -- How `run` ends, and what it leaves outside.
 use Rattle.std.specs.Prelude.{◌≡◌, ℕ, ◌<◌, ◌⊎◌, List, length, None, ⊤}
 use Rattle.sq_num.specs.declared.refusal.Refusal.TheVariants.{FileTooLong}
-use Rattle.sq_runs.specs.Runs.{Trace, HasHalted}
+use Rattle.law_runs.specs.Runs.{Trace, HasHalted}
 use Rattle.sq_elf.specs.Refusing.{file_refusal_of}
 use Rattle.sq_system.specs.declared.event.Event.{Event}
 use Rattle.sq_system.specs.declared.event.Halt.{Halt}

@@ -2,7 +2,7 @@
 use Rattle.std.specs.Prelude.{◌≡◌, ℕ, ◌⊎◌, List, ◌++◌, codes, Some, None}
 use Rattle.sq_num.specs.RefusalTexts.{refusal_text}
 use Rattle.sq_num.specs.declared.refusal.Refusal.{Refusal}
-use Rattle.sq_runs.specs.Runs.{HasHalted}
+use Rattle.law_runs.specs.Runs.{HasHalted}
 use Rattle.sq_elf.specs.Refusing.{file_refusal_of}
 use Rattle.sq_command.specs.Commands.{RunRequest, RunForm, form_of}
 use Rattle.sq_desk.specs.Outside.{Outside, Files, Rose, Loading, Printing, KeepsPrinted, ForFiles}

@@ -2,7 +2,7 @@
 use Rattle.std.specs.Prelude.{◌≡◌, ℕ, ◌<◌, ◌≤◌, ◌⊎◌, List, length, Some, None}
 use Rattle.sq_num.specs.declared.refusal.Refusal.{Refusal}
 use Rattle.sq_num.specs.declared.refusal.Refusal.TheVariants.{FileTooLong}
-use Rattle.sq_runs.specs.Runs.{Trace, Running}
+use Rattle.law_runs.specs.Runs.{Trace, Running}
 use Rattle.sq_elf.specs.Refusing.{file_refusal_of}
 use Rattle.sq_system.specs.Starts.{Start}
 use Rattle.sq_system.specs.declared.event.Event.{Event}

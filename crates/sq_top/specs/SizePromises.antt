@@ -4,7 +4,7 @@ use Rattle.sq_num.specs.declared.refusal.Refusal.{Refusal}
 use Rattle.sq_num.specs.declared.packed.Packed.{Packed}
 use Rattle.sq_command.specs.Commands.{SizeForm, form_of}
 use Rattle.sq_desk.specs.Outside.{Outside, Rose, Loading, Printing, Prints, ForFiles, content_of}
-use Rattle.sq_program.specs.FilePrograms.{IsRefusalOf}
+use Rattle.law_program.specs.FilePrograms.{IsRefusalOf}
 use Rattle.sq_top.specs.declared.ending.DeskCall.{DeskCall}
 use Rattle.sq_top.specs.declared.ending.DeskCall.TheVariants.{Load, Store, Print}
 use Rattle.sq_top.specs.Packing.{Packs}

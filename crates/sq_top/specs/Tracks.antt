@@ -10,7 +10,7 @@ use Rattle.sq_graph.specs.Parts.{names_of}
 use Rattle.sq_graph.specs.Places.{block_address}
 use Rattle.sq_graph.specs.Slotted.{number_in, IsSlotted}
 use Rattle.sq_reloc.specs.Outside.{code_word_at}
-use Rattle.sq_program.specs.Lifted.{lifted}
+use Rattle.law_program.specs.Lifted.{lifted}
 use Rattle.sq_names.specs.declared.track.Track.{Track}
 use Rattle.sq_names.specs.declared.track.Track.TheVariants.{At, Gone}
 use Rattle.sq_names.specs.Functions.{NamedFunction, functions_of}

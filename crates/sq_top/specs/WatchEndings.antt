@@ -1,9 +1,9 @@
 -- How `watch` ends, and what it leaves outside.
 use Rattle.std.specs.Prelude.{◌≡◌, ℕ, List, ⊤}
-use Rattle.sq_runs.specs.Runs.{Trace, HasHalted}
+use Rattle.law_runs.specs.Runs.{Trace, HasHalted}
 use Rattle.sq_system.specs.declared.event.Event.{Event}
 use Rattle.sq_system.specs.declared.event.Halt.{Halt}
-use Rattle.sq_program.specs.FilePrograms.{IsAcceptedFile}
+use Rattle.law_program.specs.FilePrograms.{IsAcceptedFile}
 use Rattle.sq_monitor.specs.declared.moved.WatchOutcome.{WatchOutcome}
 use Rattle.sq_monitor.specs.declared.moved.WatchOutcome.TheVariants.{Ended, Limit as AtLimit, Break as AtBreak}
 use Rattle.sq_monitor.specs.declared.transcript.WatchTranscript.{WatchTranscript}

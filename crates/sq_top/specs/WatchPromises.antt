@@ -2,8 +2,8 @@
 use Rattle.std.specs.Prelude.{◌≡◌, ℕ, ◌⊎◌, List, ◌++◌, codes, Some}
 use Rattle.sq_num.specs.RefusalTexts.{refusal_text}
 use Rattle.sq_num.specs.declared.refusal.Refusal.{Refusal}
-use Rattle.sq_runs.specs.Runs.{HasHalted}
-use Rattle.sq_program.specs.FilePrograms.{IsAcceptedFile}
+use Rattle.law_runs.specs.Runs.{HasHalted}
+use Rattle.law_program.specs.FilePrograms.{IsAcceptedFile}
 use Rattle.sq_command.specs.Commands.{RunRequest, WatchForm, form_of}
 use Rattle.sq_desk.specs.Outside.{Outside, Files, Rose, Loading, Printing, KeepsPrinted, ForFiles}
 use Rattle.sq_top.specs.declared.ending.Ending.{Ending}

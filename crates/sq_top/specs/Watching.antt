@@ -2,12 +2,12 @@
 use Rattle.std.specs.Prelude.{◌≡◌, ℕ, ◌<◌, ◌≤◌, ◌⊎◌, List, length}
 use Rattle.sq_num.specs.declared.refusal.Refusal.{Refusal}
 use Rattle.sq_num.specs.declared.refusal.Refusal.TheVariants.{FileTooLong}
-use Rattle.sq_runs.specs.Runs.{Trace, Broken, IsUnbroken}
+use Rattle.law_runs.specs.Runs.{Trace, Broken, IsUnbroken}
 use Rattle.sq_system.specs.declared.event.Event.{Event}
 use Rattle.sq_system.specs.declared.event.Halt.{Halt}
-use Rattle.sq_program.specs.Programs.{Program}
-use Rattle.sq_program.specs.FilePrograms.{IsRefusalOf, IsAcceptedFile}
-use Rattle.sq_program.specs.FileRuns.{monitored_trace}
+use Rattle.law_program.specs.Programs.{Program}
+use Rattle.law_program.specs.FilePrograms.{IsRefusalOf, IsAcceptedFile}
+use Rattle.law_program.specs.FileRuns.{monitored_trace}
 use Rattle.sq_run.specs.FileRuns.{IsBadFileStart}
 use Rattle.sq_run.specs.Transcripts.{trace_text}
 use Rattle.sq_monitor.specs.Transcripts.{transcript_text}

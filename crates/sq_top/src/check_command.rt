@@ -2,7 +2,7 @@
 
 ghost use Rattle.std.specs.Prelude.{◌≡◌, IfOk, IfErr, OnOk, Err};
 ghost use Rattle.sq_num.specs.declared.refusal.Refusal.{Refusal};
-ghost use Rattle.sq_program.specs.FilePrograms.{IsRefusalOf, IsAcceptedFile};
+ghost use Rattle.law_program.specs.FilePrograms.{IsRefusalOf, IsAcceptedFile};
 ghost use Rattle.sq_desk.specs.Outside.{KeepsFiles, KeepsPrinted, KeepsComplained, NoneFall, ForFiles, content_of};
 ghost use Rattle.sq_top.specs.Endings.{LeavesUnpacked};
 ghost use Rattle.sq_top.specs.CertEndings.{Certifies, LeavesUncertified, LeavesCert};

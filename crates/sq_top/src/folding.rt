@@ -8,7 +8,7 @@ ghost use Rattle.sq_elf.specs.Text.{text_of};
 ghost use Rattle.sq_graph.specs.Leaders.{IsCanonical};
 ghost use Rattle.sq_graph.specs.Slotted.{IsSlotted};
 ghost use Rattle.sq_graph.specs.Words.{words_of, most_words};
-ghost use Rattle.sq_program.specs.FilePrograms.{IsRefusalOf};
+ghost use Rattle.law_program.specs.FilePrograms.{IsRefusalOf};
 ghost use Rattle.sq_drive.specs.Replaying.{IsLess};
 ghost use Rattle.sq_drive.specs.Rows.{IsLeftoverFree};
 ghost use Rattle.sq_quotient.specs.Folded.{FoldSavesNothing};

@@ -3,7 +3,7 @@
 ghost use Rattle.std.specs.Prelude.{◌≡◌, ℕ, ◌≤◌, List, length, IfOk, IfErr, Err};
 ghost use Rattle.sq_num.specs.declared.refusal.Refusal.{Refusal};
 ghost use Rattle.sq_names.specs.declared.track.Track.{Track as Place};
-ghost use Rattle.sq_program.specs.FilePrograms.{IsRefusalOf};
+ghost use Rattle.law_program.specs.FilePrograms.{IsRefusalOf};
 ghost use Rattle.sq_desk.specs.Outside.{KeepsFiles, KeepsPrinted, KeepsComplained, NoneFall};
 ghost use Rattle.sq_top.specs.Tracks.{AreTracksOf, FailsToTrack, AreLinesOf};
 ghost use Rattle.sq_top.specs.NamesEndings.{TellsNames, LeavesUnnamed, LeavesNames};

@@ -8,7 +8,7 @@ ghost use Rattle.sq_elf.specs.Sizes.{loaded_of};
 ghost use Rattle.sq_elf.specs.Text.{text_of};
 ghost use Rattle.sq_graph.specs.Rules.{IsGraph};
 ghost use Rattle.sq_graph.specs.Words.{words_of};
-ghost use Rattle.sq_program.specs.FilePrograms.{IsRefusalOf};
+ghost use Rattle.law_program.specs.FilePrograms.{IsRefusalOf};
 ghost use Rattle.sq_write.specs.Written.{written};
 ghost use Rattle.sq_top.specs.Packing.{Packs, GoodOutput, CanBeWritten};
 ghost use Rattle.sq_top.specs.Settled.{IsSettledFile};

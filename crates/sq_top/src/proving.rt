@@ -3,7 +3,7 @@
 ghost use Rattle.std.specs.Prelude.{◌≡◌, ◌≢◌, ℕ, ◌⊎◌, ◌≤◌, true, false, length, Ok, Err, OnOk};
 ghost use Rattle.sq_num.specs.declared.refusal.Refusal.{Refusal};
 ghost use Rattle.sq_graph.specs.Rules.{IsGraph};
-ghost use Rattle.sq_program.specs.FilePrograms.{IsAcceptedFile};
+ghost use Rattle.law_program.specs.FilePrograms.{IsAcceptedFile};
 ghost use Rattle.sq_write.specs.Written.{written};
 ghost use Rattle.sq_top.specs.Packing.{CanBeWritten};
 ghost use Rattle.sq_top.specs.Proving.{Proves, FailsToProve, IsProved, IsRefusalOfEither};

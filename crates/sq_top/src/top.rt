@@ -1,7 +1,7 @@
 //! The top call.
 
 ghost use Rattle.std.specs.Prelude.{◌≡◌, ◌≢◌, ◌↔◌, ◌≤◌, None};
-ghost use Rattle.sq_runs.specs.Runs.{HasHalted};
+ghost use Rattle.law_runs.specs.Runs.{HasHalted};
 ghost use Rattle.sq_desk.specs.Outside.{Place, KeepsFiles, KeepsComplained, NoneFall};
 ghost use Rattle.sq_command.specs.Commands.{form_of};
 ghost use Rattle.sq_top.specs.declared.ending.Ending.{Ending};

@@ -11,7 +11,7 @@ ghost use Rattle.sq_lifted.specs.LiftedFiles.{IsLiftedFile, FitsFile};
 ghost use Rattle.sq_names.specs.Names.{seen};
 ghost use Rattle.sq_names.specs.declared.track.Track.{Track as Place};
 ghost use Rattle.sq_drive.specs.Tracking.{carried, standing};
-ghost use Rattle.sq_program.specs.FilePrograms.{IsRefusalOf};
+ghost use Rattle.law_program.specs.FilePrograms.{IsRefusalOf};
 ghost use Rattle.sq_top.specs.Tracking.{begun_by, placed_at};
 ghost use Rattle.sq_top.specs.Tracks.{AreTracksOf, AgreeWithOutputs, FailsToTrack};
 

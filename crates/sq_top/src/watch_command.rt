@@ -6,12 +6,12 @@ ghost use Rattle.std.specs.List.{AllByRecursion};
 ghost use Rattle.sq_num.specs.declared.refusal.Refusal.{Refusal};
 ghost use Rattle.sq_command.specs.Commands.{request_of};
 ghost use Rattle.sq_system.specs.Starts.{start_of, StartFits, IsBadStart};
-ghost use Rattle.sq_follow.specs.Worlds.{extents};
-ghost use Rattle.sq_program.specs.Programs.{Program};
-ghost use Rattle.sq_program.specs.FileRuns.{world_of};
+ghost use Rattle.law_follow.specs.Worlds.{extents};
+ghost use Rattle.law_program.specs.Programs.{Program};
+ghost use Rattle.law_program.specs.FileRuns.{world_of};
 ghost use Rattle.sq_monitor.specs.Transcripts.{file_outcome, transcript_text};
 ghost use Rattle.sq_desk.specs.Outside.{KeepsFiles, KeepsPrinted, KeepsComplained, NoneFall};
-ghost use Rattle.sq_program.specs.FilePrograms.{IsProgramOf, IsRefusalOf, IsAcceptedFile};
+ghost use Rattle.law_program.specs.FilePrograms.{IsProgramOf, IsRefusalOf, IsAcceptedFile};
 ghost use Rattle.sq_top.specs.WatchEndings.{IsWatchTranscript, LeavesUnwatched, LeavesWatch, LeavesTold, watch_ending};
 
 use crate::ending::{DeskCall, Ending};

@@ -3,8 +3,8 @@
 ghost use Rattle.std.specs.Prelude.{◌≡◌, ◌+◌, ◌++◌, [], length, map, IfOk, OnOk};
 ghost use Rattle.std.specs.List.{flat_map};
 ghost use Rattle.sq_graph.specs.Renames.{retargeted_items};
-ghost use Rattle.sq_program.specs.Readings.{reading_at};
-ghost use Rattle.sq_program.specs.Lifted.{with_item, body_from};
+ghost use Rattle.law_program.specs.Readings.{reading_at};
+ghost use Rattle.law_program.specs.Lifted.{with_item, body_from};
 ghost use Rattle.sq_lift.specs.Cuts.{position_by, note_part, body_of};
 
 use crate::cut::names::Positions;

@@ -1,7 +1,7 @@
 //! Words cut into blocks, from the last word back.
 
 ghost use Rattle.std.specs.Prelude.{◌&&◌, not, IfOk};
-ghost use Rattle.sq_program.specs.Lifted.{cut};
+ghost use Rattle.law_program.specs.Lifted.{cut};
 ghost use Rattle.sq_lift.specs.Flags.{is_flagged};
 ghost use Rattle.sq_lift.specs.Cuts.{ShowsBlocks, kept_by, position_by};
 
@@ -35,8 +35,8 @@ impl Model for Cut {
 impl Cut {
     ghost use Rattle.std.specs.Prelude.{◌≡◌, ◌+◌, ◌<◌, ◌^◌, ◌&&◌, not, if◌then◌else◌, ℕ, OnOk};
     ghost use Rattle.sq_lift.specs.Flags.{is_flagged};
-    ghost use Rattle.sq_program.specs.Readings.{reading_of};
-    ghost use Rattle.sq_program.specs.Lifted.{Rest};
+    ghost use Rattle.law_program.specs.Readings.{reading_of};
+    ghost use Rattle.law_program.specs.Lifted.{Rest};
     ghost use Rattle.sq_lift.specs.Forms.{shaped};
     ghost use Rattle.sq_lift.specs.Cuts.{Shows, ShowsBlocks, kept_by, position_by, no_cut, form_cut, reading_cut, begun_cut};
 

@@ -4,7 +4,7 @@ ghost use Rattle.std.specs.Prelude.{◌≡◌, option_to_list};
 ghost use Rattle.sq_lift.specs.Read.{seen};
 ghost use Rattle.sq_graph.specs.Terms.{goes_on};
 ghost use Rattle.sq_graph.specs.Uses.{item_uses, term_uses};
-ghost use Rattle.sq_program.specs.Lifted.{form_of};
+ghost use Rattle.law_program.specs.Lifted.{form_of};
 ghost use Rattle.sq_lift.specs.Forms.{shaped};
 
 use crate::Reading;

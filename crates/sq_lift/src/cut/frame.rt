@@ -1,9 +1,9 @@
 //! What a program's blocks are cut by.
 
 ghost use Rattle.std.specs.Prelude.{◌≡◌, ◌<◌, ◌^◌, ◌&&◌, [], ℕ, length, IfOk};
-ghost use Rattle.sq_program.specs.Programs.{is_word};
-ghost use Rattle.sq_program.specs.Notes.{is_in_procedures};
-ghost use Rattle.sq_program.specs.Lifted.{is_leader};
+ghost use Rattle.law_program.specs.Programs.{is_word};
+ghost use Rattle.law_program.specs.Notes.{is_in_procedures};
+ghost use Rattle.law_program.specs.Lifted.{is_leader};
 ghost use Rattle.sq_lift.specs.Flags.{is_flagged};
 ghost use Rattle.sq_lift.specs.Cuts.{kept_by, starts};
 

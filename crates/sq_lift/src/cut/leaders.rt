@@ -2,10 +2,10 @@
 
 ghost use Rattle.std.specs.Prelude.{◌≡◌, ℕ, ◌+◌, ◌==◌, ◌&&◌, [], ◌∷◌, map, option_to_list, IfOk};
 ghost use Rattle.sq_isa.specs.Registers.{is_among};
-ghost use Rattle.sq_program.specs.Programs.{is_word, target_of};
-ghost use Rattle.sq_program.specs.Readings.{reading_of};
-ghost use Rattle.sq_program.specs.Notes.{is_in_procedure, is_in_procedures};
-ghost use Rattle.sq_program.specs.Lifted.{form_leads, reading_leads, words_lead, is_leader};
+ghost use Rattle.law_program.specs.Programs.{is_word, target_of};
+ghost use Rattle.law_program.specs.Readings.{reading_of};
+ghost use Rattle.law_program.specs.Notes.{is_in_procedure, is_in_procedures};
+ghost use Rattle.law_program.specs.Lifted.{form_leads, reading_leads, words_lead, is_leader};
 ghost use Rattle.sq_lift.specs.Flags.{is_flagged};
 ghost use Rattle.sq_lift.specs.Forms.{shaped};
 ghost use Rattle.sq_lift.specs.Raised.{Raises};

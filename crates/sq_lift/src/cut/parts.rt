@@ -5,7 +5,7 @@ ghost use Rattle.std.specs.List.{AllByRecursion};
 ghost use Rattle.sq_graph.specs.Parts.{LengthsFit, graph_of_parts};
 ghost use Rattle.sq_graph.specs.Renames.{retargeted_words};
 ghost use Rattle.sq_graph.specs.Slotted.{slotted};
-ghost use Rattle.sq_program.specs.Lifted.{code_ref, lifted};
+ghost use Rattle.law_program.specs.Lifted.{code_ref, lifted};
 ghost use Rattle.sq_lift.specs.Flags.{is_flagged};
 ghost use Rattle.sq_lift.specs.Cuts.{position_by};
 

@@ -3,8 +3,8 @@
 ghost use Rattle.std.specs.Prelude.{◌≡◌, ◌<◌, ◌≤◌, ◌^◌, ℕ, IfOk, length, nat_eq};
 ghost use Rattle.std.specs.HashMap.{get};
 ghost use Rattle.sq_lift.specs.Flags.{is_flagged};
-ghost use Rattle.sq_program.specs.Notes.{used_notes};
-ghost use Rattle.sq_program.specs.Lifted.{procedure_at};
+ghost use Rattle.law_program.specs.Notes.{used_notes};
+ghost use Rattle.law_program.specs.Lifted.{procedure_at};
 
 use crate::{Note, WordSet};
 use sq_num::Memory;
@@ -22,8 +22,8 @@ pub(crate) struct Procedures {
 impl Model for Procedures {
     ghost use Rattle.std.specs.Prelude.{◌≡◌, ◌<◌, ◌^◌, ℕ, List, length, nat_eq};
     ghost use Rattle.std.specs.HashMap.{get};
-    ghost use Rattle.sq_program.specs.Programs.{Note as Entry};
-    ghost use Rattle.sq_program.specs.Lifted.{procedure_at};
+    ghost use Rattle.law_program.specs.Programs.{Note as Entry};
+    ghost use Rattle.law_program.specs.Lifted.{procedure_at};
 
     ghost Value = { List Entry };
 
@@ -34,7 +34,7 @@ impl Model for Procedures {
 
 impl Procedures {
     ghost use Rattle.std.specs.Prelude.{◌≡◌};
-    ghost use Rattle.sq_program.specs.Lifted.{procedure_at};
+    ghost use Rattle.law_program.specs.Lifted.{procedure_at};
 
     /// The procedures.
     pub(crate) fn notes(&self) -> &[Note]

@@ -5,7 +5,7 @@ ghost use Rattle.sq_num.specs.Saved.{words_saved};
 ghost use Rattle.sq_graph.specs.Blocks.{HasProcedure};
 ghost use Rattle.sq_graph.specs.Leaders.{IsCanonical};
 ghost use Rattle.sq_graph.specs.Words.{words_of, most_words};
-ghost use Rattle.sq_follow.specs.Follows.{Follows};
+ghost use Rattle.law_follow.specs.Follows.{Follows};
 ghost use Rattle.sq_live.specs.Liveness.{IsLivenessOf};
 ghost use Rattle.sq_pass.specs.Rewrites.{IsRewritten};
 ghost use Rattle.sq_outline.specs.WindowsCandidates.{IsWindowsCandidate, windows_described};
@@ -89,7 +89,7 @@ fn rewrite_inside(
 }
 
 /// The same where the call may stand there still, by registers that were dead before these calls came.
-#[tactic(auto, using(sq_pass::proofs::Rewriting::rewritten_itself, sq_follow::proofs::Following::graph_follows_itself))]
+#[tactic(auto, using(sq_pass::proofs::Rewriting::rewritten_itself, law_follow::proofs::Following::graph_follows_itself))]
 fn call_if_may(
     graph: &mut Graph,
     before: &Liveness,
@@ -112,7 +112,7 @@ fn call_if_may(
 }
 
 /// The same for each of these calls, from the last on: so those further left in a block stand as they stood.
-#[tactic(auto, using(sq_follow::proofs::Following::graph_follows_through))]
+#[tactic(auto, using(law_follow::proofs::Following::graph_follows_through))]
 fn call_each(
     graph: &mut Graph,
     before: &Liveness,
@@ -136,7 +136,7 @@ fn call_each(
 
 /// Rewrites the graph by row V, with live registers that are looked for once. It tries the calls that one look finds, and
 /// may leave candidates.
-#[tactic(auto, using(sq_follow::proofs::Following::graph_follows_itself))]
+#[tactic(auto, using(law_follow::proofs::Following::graph_follows_itself))]
 fn sweep_calls(alloc: Global, graph: &mut Graph, savings: Savings) -> Result<Savings, Memory>
     requires canonical { IsCanonical graph.old.graph }
     requires words { words_of graph.old.graph + words_saved savings ≤ most_words }
@@ -271,7 +271,7 @@ fn rewrite_window(
 
 /// The same where the window of a hint saves so many sixteenths and may become one still, by registers that were dead before
 /// these calls came. It looks at each place.
-#[tactic(auto, using(sq_pass::proofs::Rewriting::rewritten_itself, sq_follow::proofs::Following::graph_follows_itself))]
+#[tactic(auto, using(sq_pass::proofs::Rewriting::rewritten_itself, law_follow::proofs::Following::graph_follows_itself))]
 fn make_if_may(
     alloc: Global,
     graph: &mut Graph,
@@ -301,7 +301,7 @@ fn make_if_may(
 }
 
 /// The same for each of these that saves so many sixteenths, the longest first.
-#[tactic(auto, using(sq_follow::proofs::Following::graph_follows_through))]
+#[tactic(auto, using(law_follow::proofs::Following::graph_follows_through))]
 fn make_each(
     alloc: Global,
     graph: &mut Graph,
@@ -327,7 +327,7 @@ fn make_each(
 }
 
 /// The same for all of these, those that save the most first.
-#[tactic(auto, using(sq_follow::proofs::Following::graph_follows_through))]
+#[tactic(auto, using(law_follow::proofs::Following::graph_follows_through))]
 fn make_all(
     alloc: Global,
     graph: &mut Graph,
@@ -351,7 +351,7 @@ fn make_all(
 
 /// Rewrites the graph by row W, with live registers that are looked for once, and again where a procedure's link isn't sure
 /// without them. It tries the windows that one look finds, and may leave candidates.
-#[tactic(auto, using(sq_follow::proofs::Following::graph_follows_itself))]
+#[tactic(auto, using(law_follow::proofs::Following::graph_follows_itself))]
 fn sweep_windows(alloc: Global, graph: &mut Graph, savings: Savings) -> Result<Savings, Memory>
     requires canonical { IsCanonical graph.old.graph }
     requires words { words_of graph.old.graph + words_saved savings ≤ most_words }

@@ -6,7 +6,7 @@ ghost use Rattle.sq_isa.specs.Registers.{is_among};
 ghost use Rattle.sq_graph.specs.Blocks.{HasBlock, term_of};
 ghost use Rattle.sq_graph.specs.Leaders.{IsCanonical};
 ghost use Rattle.sq_graph.specs.Words.{words_of, most_words};
-ghost use Rattle.sq_follow.specs.Follows.{Follows};
+ghost use Rattle.law_follow.specs.Follows.{Follows};
 ghost use Rattle.sq_pass.specs.Rewrites.{IsRewritten};
 ghost use Rattle.sq_tail.specs.Candidates.{IsCandidate, described};
 ghost use Rattle.sq_tail.specs.Names.{end_uses, makes_leader, MayEnd};

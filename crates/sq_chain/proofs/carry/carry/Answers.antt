@@ -7,8 +7,8 @@ use Rattle.sq_graph.specs.Blocks.{named, HasBlock}
 use Rattle.sq_graph.specs.Operations.{moved_after}
 use Rattle.sq_graph.specs.Rules.{IsGraph}
 use Rattle.sq_graph.specs.Soundness.{IsSound}
-use Rattle.sq_follow.specs.Follows.{Follows}
-use Rattle.sq_follow.proofs.Following.{graph_follows_through}
+use Rattle.law_follow.specs.Follows.{Follows}
+use Rattle.law_follow.proofs.Following.{graph_follows_through}
 use Rattle.sq_lookup.proofs.Targets.{targets_there}
 use Rattle.sq_chain.specs.Moves.{carried}
 use Rattle.sq_chain.proofs.Moved.{carried_keeps}

@@ -5,7 +5,7 @@ use Rattle.sq_graph.specs.Blocks.{named}
 use Rattle.sq_graph.specs.Cursor.{rest_from}
 use Rattle.sq_graph.specs.Operations.{with_term}
 use Rattle.sq_graph.specs.Words.{words_of}
-use Rattle.sq_patch.proofs.Saving.{fall_saves}
+use Rattle.law_patch.proofs.Saving.{fall_saves}
 use Rattle.sq_chain.specs.Moves.{JumpsToNext}
 use Rattle.sq_chain.proofs.Fallen.{FallsFrom, falls_from_first, falls_to_end, falls_has, falls_next, falls_past, next_left, past_left}
 use Rattle.sq_chain.proofs.carry.fall_each.Goals as goal

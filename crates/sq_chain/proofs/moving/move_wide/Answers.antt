@@ -2,7 +2,7 @@ use Rattle.std.proofs.Common.{◌≡◌, length, ap, ◌∙◌, subst, arith}
 use Rattle.sq_graph.specs.Graph.{Graph}
 use Rattle.sq_graph.specs.Room.{GraphAndRoom}
 use Rattle.sq_graph.specs.Soundness.{IsSound}
-use Rattle.sq_follow.specs.Follows.{Follows}
+use Rattle.law_follow.specs.Follows.{Follows}
 use Rattle.sq_chain.specs.Moves.{carried, fallen}
 use Rattle.sq_chain.proofs.Moved.{carried_length, moved_words, is_moved}
 use Rattle.sq_chain.proofs.moving.move_wide.Goals as goal

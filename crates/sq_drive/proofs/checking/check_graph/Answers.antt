@@ -1,5 +1,5 @@
 use Rattle.std.proofs.Common.{◌≡◌, ◌+◌, Ok, ap, subst, arith}
-use Rattle.sq_follow.proofs.Following.{graph_follows_itself}
+use Rattle.law_follow.proofs.Following.{graph_follows_itself}
 use Rattle.sq_drive.specs.Replay.{FailsAt}
 use Rattle.sq_drive.proofs.Checked.{fails_within, no_candidate, fault_only}
 use Rattle.sq_drive.proofs.checking.check_graph.Goals as goal

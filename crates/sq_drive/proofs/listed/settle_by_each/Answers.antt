@@ -1,5 +1,5 @@
 use Rattle.sq_num.specs.declared.packed.TheConstants.Savings.{NONE}
-use Rattle.sq_follow.proofs.Following.{graph_follows_through}
+use Rattle.law_follow.proofs.Following.{graph_follows_through}
 use Rattle.sq_pass.specs.Rewrites.{IsRewriteOfOne}
 use Rattle.sq_pass.proofs.Rewriting.{stepped_itself, stepped_through}
 use Rattle.sq_drive.proofs.listed.settle_by_each.Goals as goal

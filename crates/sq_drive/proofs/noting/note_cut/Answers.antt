@@ -1,6 +1,6 @@
 use Rattle.std.proofs.Common.{sym, subst}
 use Rattle.sq_graph.specs.Graph.{Graph}
-use Rattle.sq_follow.proofs.Following.{graph_follows_through}
+use Rattle.law_follow.proofs.Following.{graph_follows_through}
 use Rattle.sq_pass.specs.Applied.{IsApplied}
 use Rattle.sq_pass.proofs.Rewriting.{lighter_made}
 use Rattle.sq_cert.specs.declared.step.Step.{Step}

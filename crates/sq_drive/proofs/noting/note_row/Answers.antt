@@ -1,5 +1,5 @@
 use Rattle.std.proofs.Common.{Ok, ap}
-use Rattle.sq_follow.proofs.Following.{graph_follows_itself}
+use Rattle.law_follow.proofs.Following.{graph_follows_itself}
 use Rattle.sq_drive.proofs.noting.note_row.Goals as goal
 
 pub returns-in_err-cut-clause-follows : goal.returns-in_err-cut-clause-follows

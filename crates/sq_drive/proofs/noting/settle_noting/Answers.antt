@@ -4,7 +4,7 @@ use Rattle.std.specs.List.{All}
 use Rattle.sq_cert.specs.Steps.{HasForm}
 use Rattle.sq_graph.specs.Graph.{Graph}
 use Rattle.sq_graph.specs.Slotted.{IsSlotted}
-use Rattle.sq_follow.proofs.Following.{graph_follows_through}
+use Rattle.law_follow.proofs.Following.{graph_follows_through}
 use Rattle.sq_num.specs.declared.packed.TheConstants.Savings.{NONE}
 use Rattle.sq_pass.proofs.Rewriting.{rewritten_itself, rewritten_on}
 use Rattle.sq_drive.specs.Replay.{IsReplay}

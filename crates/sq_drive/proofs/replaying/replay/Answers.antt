@@ -1,6 +1,6 @@
 use Rattle.std.proofs.Common.{◌≡◌, List, slice_get, Some, Ok, refl, ap, subst, arith}
 use Rattle.std.proofs.lemmas.List.{length-drop, take_rest}
-use Rattle.sq_follow.proofs.Following.{graph_follows_through}
+use Rattle.law_follow.proofs.Following.{graph_follows_through}
 use Rattle.sq_cert.specs.declared.step.Step.{Step}
 use Rattle.sq_drive.specs.Replay.{MayStep, FailsAt}
 use Rattle.sq_drive.specs.Replaying.{AreTaken}

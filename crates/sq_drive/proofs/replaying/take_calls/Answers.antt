@@ -1,6 +1,6 @@
 use Rattle.std.proofs.Common.{◌≡◌, ℕ, List, length, map, take, sym, subst}
 use Rattle.sq_cert.specs.declared.step.Step.TheVariants.{C}
-use Rattle.sq_follow.proofs.Following.{graph_follows_itself}
+use Rattle.law_follow.proofs.Following.{graph_follows_itself}
 use Rattle.sq_drive.proofs.CallRuns.{none_taken, calls_taken_if}
 use Rattle.sq_drive.proofs.replaying.take_calls.Goals as goal
 

@@ -1,4 +1,4 @@
-use Rattle.sq_follow.proofs.Following.{graph_follows_through}
+use Rattle.law_follow.proofs.Following.{graph_follows_through}
 use Rattle.sq_drive.proofs.replaying.take_first.Goals as goal
 
 pub returns-in_err-take_step-clause-follows : goal.returns-in_err-take_step-clause-follows

@@ -1,6 +1,6 @@
 use Rattle.std.proofs.Common.{ap, arith}
 use Rattle.sq_graph.specs.Room.{GraphAndRoom}
-use Rattle.sq_follow.proofs.Following.{graph_follows_itself, graph_follows_through}
+use Rattle.law_follow.proofs.Following.{graph_follows_itself, graph_follows_through}
 use Rattle.sq_chain.proofs.Moved.{canonical_few}
 use Rattle.sq_chain.specs.Moves.{moved}
 use Rattle.sq_drive.proofs.Replays.{follows_same, less_by, move_taken, moving, moving_from, moving_to}

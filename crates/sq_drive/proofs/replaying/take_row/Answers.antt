@@ -1,6 +1,6 @@
 use Rattle.std.proofs.Common.{Ok, ap, subst}
 use Rattle.sq_graph.specs.Graph.{Graph}
-use Rattle.sq_follow.proofs.Following.{graph_follows_itself, graph_follows_through}
+use Rattle.law_follow.proofs.Following.{graph_follows_itself, graph_follows_through}
 use Rattle.sq_pass.specs.Applied.{IsApplied}
 use Rattle.sq_drive.specs.Rows.{row_described}
 use Rattle.sq_drive.proofs.Replays.{follows_same, less_by, row_taken, none_given}

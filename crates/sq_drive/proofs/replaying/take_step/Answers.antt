@@ -1,5 +1,5 @@
 use Rattle.std.proofs.Common.{sym, subst}
-use Rattle.sq_follow.proofs.Following.{graph_follows_itself}
+use Rattle.law_follow.proofs.Following.{graph_follows_itself}
 use Rattle.sq_pass.specs.declared.cut.Cut.{Cut}
 use Rattle.sq_cert.specs.declared.step.Step.{Step}
 use Rattle.sq_drive.specs.Replay.{cut_of, IsGiven, IsTaken}

@@ -2,7 +2,7 @@ use Rattle.std.proofs.Common.{sym, ap, subst}
 use Rattle.sq_graph.specs.Room.{GraphAndRoom}
 use Rattle.sq_graph.specs.Slotted.{IsSlotted}
 use Rattle.sq_graph.proofs.Slotting.{slotted_again}
-use Rattle.sq_follow.specs.Follows.{Follows}
+use Rattle.law_follow.specs.Follows.{Follows}
 use Rattle.sq_drive.proofs.Replays.{tidy_lighter}
 use Rattle.sq_drive.proofs.Rewrites.{made_canonical}
 use Rattle.sq_drive.proofs.replaying.tidy.Goals as goal

@@ -6,8 +6,8 @@ use Rattle.sq_graph.specs.Slotted.{IsSlotted, slotted}
 use Rattle.sq_graph.specs.Words.{words_of}
 use Rattle.sq_graph.proofs.RenamedReach.{alike_words}
 use Rattle.sq_graph.proofs.Slotting.{slotted_alike, slotted_again}
-use Rattle.sq_follow.specs.Follows.{Follows}
-use Rattle.sq_follow.proofs.Following.{graph_follows_through}
+use Rattle.law_follow.specs.Follows.{Follows}
+use Rattle.law_follow.proofs.Following.{graph_follows_through}
 use Rattle.sq_pass.specs.Rewrites.{IsRewritten}
 use Rattle.sq_pass.proofs.Rewriting.{rewritten_itself, rewritten_through, rewritten_none, rewritten_named}
 use Rattle.sq_drive.specs.Rows.{IsCandidate, described, saves_a_word}

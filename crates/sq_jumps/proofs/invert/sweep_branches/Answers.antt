@@ -1,4 +1,4 @@
-use Rattle.sq_follow.proofs.Following.{graph_follows_itself}
+use Rattle.law_follow.proofs.Following.{graph_follows_itself}
 use Rattle.sq_jumps.proofs.invert.sweep_branches.Goals as goal
 use Rattle.sq_jumps.proofs.InvertTests.{survey_safe}
 

@@ -3,7 +3,7 @@ use Rattle.sq_graph.specs.Graph.{Graph}
 use Rattle.sq_graph.specs.Blocks.{HasBlock}
 use Rattle.sq_graph.specs.Rules.{IsGraph}
 use Rattle.sq_graph.specs.Operations.{with_term, replaced}
-use Rattle.sq_patch.specs.Operations.{hastened as short_jump}
+use Rattle.law_patch.specs.Operations.{hastened as short_jump}
 use Rattle.sq_layout.proofs.Walks.{items_few}
 use Rattle.sq_jumps.proofs.shorten.shorten.Goals as goal
 use Rattle.sq_jumps.proofs.Totals.{total_by}

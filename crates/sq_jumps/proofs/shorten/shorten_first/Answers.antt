@@ -1,4 +1,4 @@
-use Rattle.sq_follow.proofs.Following.{graph_follows_itself}
+use Rattle.law_follow.proofs.Following.{graph_follows_itself}
 use Rattle.sq_jumps.proofs.ShortenRuns.{first_run}
 use Rattle.sq_jumps.proofs.shorten.shorten_first.Goals as goal
 

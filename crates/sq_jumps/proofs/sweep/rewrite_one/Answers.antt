@@ -1,6 +1,6 @@
 use Rattle.std.proofs.Common.{subst}
 use Rattle.std.specs.Prelude.{IfSome}
-use Rattle.sq_follow.proofs.Following.{graph_follows_itself}
+use Rattle.law_follow.proofs.Following.{graph_follows_itself}
 use Rattle.sq_pass.proofs.Rewriting.{rewritten_itself}
 use Rattle.sq_jumps.specs.Candidates.{HasRow, IsCandidate, described}
 use Rattle.sq_jumps.proofs.sweep.rewrite_one.Goals as goal

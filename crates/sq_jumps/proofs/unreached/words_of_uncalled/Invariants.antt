@@ -1,6 +1,6 @@
 use Rattle.std.proofs.Common.{◌≡◌, ◌+◌, drop, not, sum_by}
 use Rattle.sq_graph.specs.Words.{procedure_words}
-use Rattle.sq_patch.specs.Restrictions.{procedures_held}
+use Rattle.law_patch.specs.Restrictions.{procedures_held}
 use Rattle.sq_lookup.specs.Names.{is_listed}
 use Rattle.sq_jumps.proofs.unreached.words_of_uncalled.Given as goal
 

@@ -1,5 +1,5 @@
 use Rattle.std.proofs.Common.{[]}
-use Rattle.sq_program.specs.Programs.{Program}
+use Rattle.law_program.specs.Programs.{Program}
 use Rattle.sq_lift.specs.Flags.{is_flagged}
 use Rattle.sq_lift.proofs.Gathered.{gathered}
 use Rattle.sq_lift.proofs.entrances.entrances_of.Goals as goal

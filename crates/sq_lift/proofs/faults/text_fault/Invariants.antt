@@ -1,5 +1,5 @@
 use Rattle.std.proofs.Common.{◌≡◌, ◌+◌, ◌*◌, drop}
-use Rattle.sq_program.specs.Faults.{fault_from}
+use Rattle.law_program.specs.Faults.{fault_from}
 use Rattle.sq_lift.specs.Flags.{is_flagged}
 use Rattle.sq_lift.proofs.faults.text_fault.Given as goal
 

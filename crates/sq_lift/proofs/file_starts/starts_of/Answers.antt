@@ -2,7 +2,7 @@ use Rattle.std.proofs.Common.{◌≡◌, ℕ, List, nat_eq, ap, ◌∙◌, subst
 use Rattle.std.specs.Map.{lookup}
 use Rattle.sq_reloc.specs.CodeWords.{AreCodeWords}
 use Rattle.sq_graph.specs.Slotted.{number_in}
-use Rattle.sq_program.specs.Notes.{used_notes}
+use Rattle.law_program.specs.Notes.{used_notes}
 use Rattle.sq_lift.specs.Flags.{is_flagged}
 use Rattle.sq_lift.proofs.FileStarts.{starts_are}
 use Rattle.sq_lift.proofs.file_starts.starts_of.Goals as goal

@@ -1,5 +1,5 @@
 use Rattle.std.proofs.Common.{[], ◌∷◌, ◌++◌, length, ap, sym, ◌∙◌, arith}
-use Rattle.sq_program.specs.NoteSections.{full_notes}
+use Rattle.law_program.specs.NoteSections.{full_notes}
 use Rattle.sq_lift.proofs.NoteEntries.{full_more, full_count}
 use Rattle.sq_lift.proofs.notes.full_notes.Goals as goal
 

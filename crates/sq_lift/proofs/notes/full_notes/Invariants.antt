@@ -1,5 +1,5 @@
 use Rattle.std.proofs.Common.{◌≡◌}
-use Rattle.sq_program.specs.NoteSections.{full_notes}
+use Rattle.law_program.specs.NoteSections.{full_notes}
 use Rattle.sq_lift.proofs.notes.full_notes.Given as goal
 
 abbrev pub invariant-loop-index : goal.invariant-loop-index

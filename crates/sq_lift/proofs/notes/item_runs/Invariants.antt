@@ -1,5 +1,5 @@
 use Rattle.std.proofs.Common.{◌≡◌, ◌+◌, ◌*◌, ◌≤◌, length, drop}
-use Rattle.sq_program.specs.NoteSections.{item_run}
+use Rattle.law_program.specs.NoteSections.{item_run}
 use Rattle.sq_lift.specs.NoteReading.{item_runs}
 use Rattle.sq_lift.proofs.notes.item_runs.Given as goal
 

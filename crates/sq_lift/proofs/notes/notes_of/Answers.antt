@@ -1,5 +1,5 @@
 use Rattle.std.proofs.Common.{◌≡◌, Some, ap, sym, ◌∙◌}
-use Rattle.sq_program.specs.NoteSections.{notes_in, notes_in_bytes, notes_of}
+use Rattle.law_program.specs.NoteSections.{notes_in, notes_in_bytes, notes_of}
 use Rattle.sq_lift.proofs.NoteFacts.{by_section, notes_by_section}
 use Rattle.sq_lift.proofs.notes.notes_of.Goals as goal
 

@@ -1,6 +1,6 @@
 use Rattle.std.proofs.Common.{[], ◌∷◌, ◌++◌, ◌+◌, ◌*◌, length, ap, sym, ◌∙◌, arith}
-use Rattle.sq_program.specs.Programs.{Note}
-use Rattle.sq_program.specs.NoteSections.{short_notes}
+use Rattle.law_program.specs.Programs.{Note}
+use Rattle.law_program.specs.NoteSections.{short_notes}
 use Rattle.sq_lift.proofs.NoteFacts.{short_more, short_count, short_note_is}
 use Rattle.sq_lift.proofs.notes.short_notes.Goals as goal
 

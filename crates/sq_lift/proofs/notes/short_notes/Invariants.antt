@@ -1,5 +1,5 @@
 use Rattle.std.proofs.Common.{◌≡◌}
-use Rattle.sq_program.specs.NoteSections.{short_notes}
+use Rattle.law_program.specs.NoteSections.{short_notes}
 use Rattle.sq_lift.proofs.notes.short_notes.Given as goal
 
 abbrev pub invariant-loop-index : goal.invariant-loop-index

@@ -1,6 +1,6 @@
 use Rattle.std.proofs.Common.{◌+◌, drop, Some, ap, sym, ◌∙◌}
-use Rattle.sq_program.specs.Programs.{Note, Program}
-use Rattle.sq_program.specs.Notes.{bad_note_from}
+use Rattle.law_program.specs.Programs.{Note, Program}
+use Rattle.law_program.specs.Notes.{bad_note_from}
 use Rattle.sq_lift.specs.Flags.{is_flagged}
 use Rattle.sq_lift.proofs.NoteBodies.{good_is, good_next, bad_here}
 use Rattle.sq_lift.proofs.procedures.bad_note.Goals as goal

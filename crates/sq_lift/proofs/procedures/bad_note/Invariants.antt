@@ -1,6 +1,6 @@
 use Rattle.std.proofs.Common.{◌≡◌, ◌+◌, None, drop}
-use Rattle.sq_program.specs.Programs.{Program}
-use Rattle.sq_program.specs.Notes.{bad_note_from}
+use Rattle.law_program.specs.Programs.{Program}
+use Rattle.law_program.specs.Notes.{bad_note_from}
 use Rattle.sq_lift.specs.Flags.{is_flagged}
 use Rattle.sq_lift.proofs.procedures.bad_note.Given as goal
 

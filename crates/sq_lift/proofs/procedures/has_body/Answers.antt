@@ -1,5 +1,5 @@
 use Rattle.std.proofs.Common.{◌≡◌, ◌+◌, ◌-◌, ap, sym, ◌∙◌, arith}
-use Rattle.sq_program.specs.Notes.{has_body}
+use Rattle.law_program.specs.Notes.{has_body}
 use Rattle.sq_lift.proofs.NoteBodies.{body_next, body_stops, no_body}
 use Rattle.sq_lift.proofs.procedures.has_body.Goals as goal
 

@@ -1,5 +1,5 @@
 use Rattle.std.proofs.Common.{◌≡◌, ◌-◌}
-use Rattle.sq_program.specs.Notes.{has_body}
+use Rattle.law_program.specs.Notes.{has_body}
 use Rattle.sq_lift.proofs.procedures.has_body.Given as goal
 
 abbrev pub invariant-loop-index : goal.invariant-loop-index

@@ -2,7 +2,7 @@ use Rattle.std.proofs.Common.{None, ◌≡◌, Err, inl, inr, ap, sym, ◌∙◌
 use Rattle.std.proofs.lemmas.Result.{err_from_is_err_and}
 use Rattle.sq_num.specs.declared.refusal.Refusal.TheVariants.{BadNote}
 use Rattle.sq_num.specs.declared.refusal.Denied.TheVariants.{Refused}
-use Rattle.sq_program.specs.Programs.{Program}
+use Rattle.law_program.specs.Programs.{Program}
 use Rattle.sq_lift.specs.Flags.{is_flagged}
 use Rattle.sq_lift.specs.Refused.{IsEarlyRefusal}
 use Rattle.sq_lift.proofs.NoteRefusals.{early_from_text, one_early, text_answer, found_text, unread_note, bad_entry, noted, none_early, links_small}

@@ -1,6 +1,6 @@
 use Rattle.std.proofs.Common.{sym, ap, ◌∙◌, subst, []}
-use Rattle.sq_program.specs.Programs.{Program}
-use Rattle.sq_program.specs.Reached.{leads_from, Decides}
+use Rattle.law_program.specs.Programs.{Program}
+use Rattle.law_program.specs.Reached.{leads_from, Decides}
 use Rattle.sq_lift.specs.Flags.{Flags, is_flagged}
 use Rattle.sq_lift.proofs.Searches.{started, looked_at, finished, decides_with, fewer_left}
 use Rattle.sq_lift.proofs.search.reached_words.Goals as goal

@@ -1,5 +1,5 @@
 use Rattle.std.proofs.Common.{◌≡◌, [], ◌∷◌, ◌++◌, length, ap, sym, ◌∙◌, arith}
-use Rattle.sq_program.specs.FilePrograms.{words_from}
+use Rattle.law_program.specs.FilePrograms.{words_from}
 use Rattle.sq_lift.proofs.FileTexts.{words_more, words_count}
 use Rattle.sq_lift.proofs.text.read_text.Goals as goal
 

@@ -1,5 +1,5 @@
 use Rattle.std.proofs.Common.{◌≡◌}
-use Rattle.sq_program.specs.FilePrograms.{words_from}
+use Rattle.law_program.specs.FilePrograms.{words_from}
 use Rattle.sq_lift.proofs.text.read_text.Given as goal
 
 abbrev pub invariant-loop-place : goal.invariant-loop-place

@@ -1,6 +1,6 @@
 use Rattle.std.proofs.Common.{◌<◌, ◌∷◌, [], ◌++◌, map, length, sym, ap, ap₂, ◌∙◌, arith}
 use Rattle.std.proofs.lemmas.List.{map-append}
-use Rattle.sq_follow.specs.Values.{Cell}
+use Rattle.law_follow.specs.Values.{Cell}
 use Rattle.sq_tagged.specs.Views.{cell_of}
 use Rattle.sq_monitor.proofs.FirstCells.{cells_more}
 use Rattle.sq_monitor.proofs.cells.file_cells.Goals as goal

@@ -2,7 +2,7 @@ use Rattle.std.proofs.Common.{map, ap, ◌∙◌}
 use Rattle.sq_system.specs.Starts.{start_of}
 use Rattle.sq_pages.specs.Pages.{cells_of, over, same_cell}
 use Rattle.sq_tagged.specs.declared.values.Cell.TheVariants.{Byte as ByteOf}
-use Rattle.sq_follow.specs.Values.{Byte}
+use Rattle.law_follow.specs.Values.{Byte}
 use Rattle.sq_monitor.proofs.Regions.{ram_laid}
 use Rattle.sq_monitor.proofs.start.lay_ram.Goals as goal
 

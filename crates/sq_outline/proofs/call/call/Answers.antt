@@ -3,7 +3,7 @@ use Rattle.sq_graph.specs.declared.item.Item.TheVariants.{Out}
 use Rattle.sq_graph.specs.Blocks.{body_of}
 use Rattle.sq_graph.specs.Operations.{replaced}
 use Rattle.sq_graph.specs.Rules.{IsGraph}
-use Rattle.sq_patch.specs.Calls.{called_there}
+use Rattle.law_patch.specs.Calls.{called_there}
 use Rattle.sq_layout.proofs.Walks.{items_few}
 use Rattle.sq_outline.proofs.Standing.{still_rules}
 use Rattle.sq_outline.proofs.Totals.{total_by, replaced_total}

@@ -1,4 +1,4 @@
-use Rattle.sq_follow.proofs.Following.{graph_follows_itself}
+use Rattle.law_follow.proofs.Following.{graph_follows_itself}
 use Rattle.sq_outline.proofs.sweep.make_for.Goals as goal
 
 pub returns-in_err-cut-clause-follows : goal.returns-in_err-cut-clause-follows

@@ -1,8 +1,8 @@
 use Rattle.std.proofs.Common.{◌≡◌, length, get_or, sym, ap, subst, arith}
 use Rattle.sq_graph.specs.Graph.{Graph}
 use Rattle.sq_layout.proofs.Walks.{items_few}
-use Rattle.sq_follow.specs.Follows.{Follows}
-use Rattle.sq_follow.proofs.Following.{graph_follows_itself}
+use Rattle.law_follow.specs.Follows.{Follows}
+use Rattle.law_follow.proofs.Following.{graph_follows_itself}
 use Rattle.sq_outline.specs.Made.{first_block, made}
 use Rattle.sq_outline.proofs.Totals.{items_are_words}
 use Rattle.sq_outline.proofs.Sweeping.{room_for_procedure, cut_words, cut_rewritten, cut_still}

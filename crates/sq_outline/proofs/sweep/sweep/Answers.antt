@@ -1,4 +1,4 @@
-use Rattle.sq_follow.proofs.Following.{graph_follows_itself}
+use Rattle.law_follow.proofs.Following.{graph_follows_itself}
 use Rattle.sq_pass.proofs.Rewriting.{rewritten_through}
 use Rattle.sq_outline.specs.Candidates.{IsCandidate, described}
 use Rattle.sq_outline.proofs.sweep.sweep.Goals as goal

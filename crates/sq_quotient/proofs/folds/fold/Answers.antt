@@ -1,5 +1,5 @@
 use Rattle.std.proofs.Common.{arith}
-use Rattle.sq_follow.proofs.Following.{graph_follows_itself}
+use Rattle.law_follow.proofs.Following.{graph_follows_itself}
 use Rattle.sq_chain.proofs.Moved.{canonical_few}
 use Rattle.sq_quotient.proofs.Keeping.{made_length, new_folded, saves_nothing, new_follows, new_sound, new_reach}
 use Rattle.sq_quotient.proofs.folds.fold.Goals as goal

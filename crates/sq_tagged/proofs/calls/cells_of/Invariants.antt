@@ -1,5 +1,5 @@
 use Rattle.std.proofs.Common.{◌≡◌, map, take}
-use Rattle.sq_follow.specs.Values.{Byte}
+use Rattle.law_follow.specs.Values.{Byte}
 use Rattle.sq_tagged.specs.Views.{cell_of}
 use Rattle.sq_tagged.proofs.calls.cells_of.Given as goal
 

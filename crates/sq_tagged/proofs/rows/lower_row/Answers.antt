@@ -1,6 +1,6 @@
 use Rattle.std.proofs.Common.{rules, sym}
 use Rattle.sq_isa.specs.declared.instructions.Insn.TheVariants.{OpImm}
-use Rattle.sq_follow.specs.GraphRuns.{operands}
+use Rattle.law_follow.specs.GraphRuns.{operands}
 use Rattle.sq_tagged.specs.Views.{registers_of, store_of}
 use Rattle.sq_tagged.proofs.rows.lower_row.Goals as goal
 

@@ -1,7 +1,7 @@
 use Rattle.std.proofs.Common.{IsTrue, Some, None, ◌<◌, get_or, sym, subst}
 use Rattle.std.specs.Prelude.{slice_index}
 use Rattle.std.proofs.lemmas.Option.{slice_get-get_or}
-use Rattle.sq_patch.specs.Bodies.{HaveBodies}
+use Rattle.law_patch.specs.Bodies.{HaveBodies}
 use Rattle.sq_tail.proofs.BodiesFound.{IsOpen, steps_left, open_first, open_next, open_none, open_smaller, open_within, place_within}
 use Rattle.sq_tail.proofs.bodies.kept_ahead.Goals as goal
 

@@ -1,4 +1,4 @@
-use Rattle.sq_follow.proofs.Following.{graph_follows_through}
+use Rattle.law_follow.proofs.Following.{graph_follows_through}
 use Rattle.sq_tail.proofs.Sweeping.{swept_on}
 use Rattle.sq_tail.proofs.sweep.sweep.Goals as goal
 

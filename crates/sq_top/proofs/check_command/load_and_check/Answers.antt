@@ -1,6 +1,6 @@
 -- what was loaded is what the files held, and each part says the rest
 use Rattle.std.proofs.Common.{Ok, Err, ℕ, ◌≤◌, List, length, sym, ap, subst, ◌∙◌, arith}
-use Rattle.sq_program.specs.FilePrograms.{IsAcceptedFile}
+use Rattle.law_program.specs.FilePrograms.{IsAcceptedFile}
 use Rattle.sq_desk.specs.Outside.{Outside}
 use Rattle.sq_top.specs.Denials.{denied_ending}
 use Rattle.sq_top.specs.CertEndings.{longest_cert}

@@ -2,7 +2,7 @@
 use Rattle.std.proofs.Common.{◌≡◌, Err, ap}
 use Rattle.std.proofs.lemmas.Result.{err_from_is_err_and}
 use Rattle.sq_num.specs.declared.refusal.Denied.TheVariants.{Refused}
-use Rattle.sq_program.specs.FilePrograms.IsRefusalOf.{by_file}
+use Rattle.law_program.specs.FilePrograms.IsRefusalOf.{by_file}
 use Rattle.sq_top.specs.declared.tracks.TrackFault.TheVariants.{Denied, Line}
 use Rattle.sq_top.proofs.NamesLoaded.{lines_told}
 use Rattle.sq_top.proofs.names_command.lines_of.Goals as goal

@@ -3,8 +3,8 @@ use Rattle.std.proofs.Common.{◌≡◌, inl, inr, Err, sym, ap, ◌∙◌, subs
 use Rattle.std.proofs.lemmas.Result.{err_from_is_err_and}
 use Rattle.sq_num.specs.declared.refusal.Denied.TheVariants.{Refused}
 use Rattle.sq_elf.specs.Refusing.{file_refusal_of}
-use Rattle.sq_program.specs.FilePrograms.{IsRefusalOf}
-use Rattle.sq_program.specs.FilePrograms.IsRefusalOf.{by_file, by_relocs}
+use Rattle.law_program.specs.FilePrograms.{IsRefusalOf}
+use Rattle.law_program.specs.FilePrograms.IsRefusalOf.{by_file, by_relocs}
 use Rattle.sq_lifted.specs.LiftedFiles.{IsLiftedFile}
 use Rattle.sq_lifted.proofs.Accepting.{not_refused}
 use Rattle.sq_top.proofs.LighterFile.{lifted_is_accepted}

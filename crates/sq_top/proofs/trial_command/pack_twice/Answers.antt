@@ -1,7 +1,7 @@
 -- neither file is refused, and what is packed again stays the same
 use Rattle.std.proofs.Common.{◌≡◌, Err, sym, ap, subst, ◌∙◌}
 use Rattle.sq_num.specs.declared.refusal.Refusal.{Refusal as Cause}
-use Rattle.sq_program.specs.FilePrograms.{IsRefusalOf}
+use Rattle.law_program.specs.FilePrograms.{IsRefusalOf}
 use Rattle.sq_top.specs.declared.ending.Ending.TheVariants.{Memory}
 use Rattle.sq_top.specs.Denials.{denied_ending}
 use Rattle.sq_top.specs.Packing.{Packs}

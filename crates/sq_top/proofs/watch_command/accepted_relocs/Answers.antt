@@ -2,7 +2,7 @@
 use Rattle.std.proofs.Common.{◌≡◌, Err, ap}
 use Rattle.std.proofs.lemmas.Result.{err_from_is_err_and}
 use Rattle.sq_num.specs.declared.refusal.Denied.TheVariants.{Refused}
-use Rattle.sq_program.specs.FilePrograms.IsRefusalOf.{by_relocs}
+use Rattle.law_program.specs.FilePrograms.IsRefusalOf.{by_relocs}
 use Rattle.sq_top.proofs.Refusals.{lift_refused}
 use Rattle.sq_top.proofs.watch_command.accepted_relocs.Goals as goal
 

@@ -1,7 +1,7 @@
 -- what was loaded is what the files held, and each part of the watch says the rest
 use Rattle.std.proofs.Common.{Err, ℕ, ◌≤◌, List, length, sym, ap, subst, ◌∙◌}
 use Rattle.sq_command.specs.Commands.{request_of}
-use Rattle.sq_program.specs.FilePrograms.IsRefusalOf.{by_file}
+use Rattle.law_program.specs.FilePrograms.IsRefusalOf.{by_file}
 use Rattle.sq_top.specs.Denials.{denied_ending, watch_fault_ending}
 use Rattle.sq_top.specs.Running.{longest_input}
 use Rattle.sq_top.proofs.EarlyEndings.{by_residual, file_unwatched, file_denied}

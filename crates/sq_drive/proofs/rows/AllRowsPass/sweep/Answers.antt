@@ -1,5 +1,5 @@
 -- what the sweeps of the passes do, one after another
-use Rattle.sq_follow.proofs.Following.{graph_follows_through}
+use Rattle.law_follow.proofs.Following.{graph_follows_through}
 use Rattle.sq_drive.specs.declared.rows.RowPass.TheVariants.{Jumps, Tails, Outlines, Windows}
 use Rattle.sq_drive.proofs.RowPasses.{swept, swept_on, swept_last}
 use Rattle.sq_drive.proofs.rows.AllRowsPass.sweep.Goals as goal

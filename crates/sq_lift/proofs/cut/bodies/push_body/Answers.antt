@@ -1,7 +1,7 @@
 use Rattle.std.proofs.Common.{◌≡◌, ◌+◌, ◌-◌, ◌<◌, ◌++◌, length, ap, sym, ◌∙◌, arith}
 use Rattle.std.proofs.lemmas.List.{append-nil}
-use Rattle.sq_program.specs.Readings.{reading_at}
-use Rattle.sq_program.specs.Lifted.{body_from}
+use Rattle.law_program.specs.Readings.{reading_at}
+use Rattle.law_program.specs.Lifted.{body_from}
 use Rattle.sq_graph.specs.Renames.{retargeted_items}
 use Rattle.sq_lift.specs.Cuts.{position_by, body_of}
 use Rattle.sq_lift.proofs.CutBodies.{items_next, count_next, one_at_most, body_past}

@@ -1,6 +1,6 @@
 use Rattle.std.proofs.Common.{◌≡◌, ◌++◌, ◌+◌, ◌-◌, ◌≤◌, length}
 use Rattle.sq_graph.specs.Renames.{retargeted_items}
-use Rattle.sq_program.specs.Lifted.{body_from}
+use Rattle.law_program.specs.Lifted.{body_from}
 use Rattle.sq_lift.specs.Cuts.{position_by}
 use Rattle.sq_lift.proofs.cut.bodies.push_body.Given as goal
 

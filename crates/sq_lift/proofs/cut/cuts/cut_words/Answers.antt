@@ -1,7 +1,7 @@
 use Rattle.std.proofs.Common.{◌≡◌, ◌<◌, ◌+◌, ◌-◌, ◌*◌, length, drop, subst, arith}
 use Rattle.sq_lift.specs.Flags.{is_flagged}
-use Rattle.sq_program.specs.Readings.{reading_of}
-use Rattle.sq_program.specs.Lifted.{cut}
+use Rattle.law_program.specs.Readings.{reading_of}
+use Rattle.law_program.specs.Lifted.{cut}
 use Rattle.sq_lift.specs.Cuts.{Shows, kept_by, position_by}
 use Rattle.sq_lift.proofs.Cutting.{shows_step, step_count}
 use Rattle.sq_lift.proofs.cut.cuts.cut_words.Goals as goal

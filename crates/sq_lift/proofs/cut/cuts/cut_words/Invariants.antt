@@ -1,6 +1,6 @@
 use Rattle.std.proofs.Common.{◌+◌, ◌*◌, ◌≤◌, length, drop}
 use Rattle.sq_lift.specs.Flags.{is_flagged}
-use Rattle.sq_program.specs.Lifted.{cut}
+use Rattle.law_program.specs.Lifted.{cut}
 use Rattle.sq_lift.specs.Cuts.{kept_by, Shows, position_by}
 use Rattle.sq_lift.proofs.cut.cuts.cut_words.Given as goal
 

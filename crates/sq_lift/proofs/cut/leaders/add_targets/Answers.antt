@@ -1,6 +1,6 @@
 use Rattle.std.proofs.Common.{get_or, refl}
 use Rattle.sq_reloc.specs.declared.mark.CodeWord.{CodeWord}
-use Rattle.sq_program.specs.Programs.{target_of}
+use Rattle.law_program.specs.Programs.{target_of}
 use Rattle.sq_lift.proofs.Raising.{raises_more}
 use Rattle.sq_lift.proofs.cut.leaders.add_targets.Goals as goal
 

@@ -1,6 +1,6 @@
 use Rattle.std.proofs.Common.{map, take}
 use Rattle.sq_isa.specs.Registers.{is_among}
-use Rattle.sq_program.specs.Programs.{target_of}
+use Rattle.law_program.specs.Programs.{target_of}
 use Rattle.sq_lift.specs.Raised.{Raises}
 use Rattle.sq_lift.proofs.cut.leaders.add_targets.Given as goal
 

@@ -1,6 +1,6 @@
 use Rattle.std.proofs.Common.{take}
 use Rattle.sq_lift.specs.Flags.{is_flagged}
-use Rattle.sq_program.specs.Lifted.{words_lead}
+use Rattle.law_program.specs.Lifted.{words_lead}
 use Rattle.sq_lift.specs.Raised.{Raises}
 use Rattle.sq_lift.proofs.cut.leaders.add_words.Given as goal
 

@@ -1,5 +1,5 @@
 use Rattle.std.proofs.Common.{[]}
-use Rattle.sq_program.specs.Programs.{Program}
+use Rattle.law_program.specs.Programs.{Program}
 use Rattle.sq_lift.specs.Flags.{is_flagged}
 use Rattle.sq_lift.proofs.Raising.{leaders_are}
 use Rattle.sq_lift.proofs.cut.leaders.leaders_of.Goals as goal

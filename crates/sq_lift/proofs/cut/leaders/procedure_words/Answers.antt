@@ -1,6 +1,6 @@
 use Rattle.std.proofs.Common.{◌≡◌, ◌<◌, length, get_or}
 use Rattle.std.proofs.lemmas.List.{take_all}
-use Rattle.sq_program.specs.Notes.{is_in_procedures}
+use Rattle.law_program.specs.Notes.{is_in_procedures}
 use Rattle.sq_lift.proofs.Raising.{raised_set, raises_procedure}
 use Rattle.sq_lift.proofs.cut.leaders.procedure_words.Goals as goal
 

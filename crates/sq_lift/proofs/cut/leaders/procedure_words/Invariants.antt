@@ -1,5 +1,5 @@
 use Rattle.std.proofs.Common.{take}
-use Rattle.sq_program.specs.Notes.{is_in_procedures}
+use Rattle.law_program.specs.Notes.{is_in_procedures}
 use Rattle.sq_lift.specs.Raised.{Raises}
 use Rattle.sq_lift.proofs.cut.leaders.procedure_words.Given as goal
 

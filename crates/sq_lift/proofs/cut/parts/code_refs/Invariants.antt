@@ -1,6 +1,6 @@
 use Rattle.std.proofs.Common.{◌≡◌, map, take}
 use Rattle.sq_graph.specs.Renames.{retargeted_words}
-use Rattle.sq_program.specs.Lifted.{code_ref}
+use Rattle.law_program.specs.Lifted.{code_ref}
 use Rattle.sq_lift.specs.Cuts.{position_by}
 use Rattle.sq_lift.proofs.cut.parts.code_refs.Given as goal
 

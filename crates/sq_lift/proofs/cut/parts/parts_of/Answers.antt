@@ -3,8 +3,8 @@ use Rattle.std.specs.List.{AllByRecursion}
 use Rattle.std.specs.Option.{unwrap_or}
 use Rattle.sq_graph.specs.Parts.{names_of}
 use Rattle.sq_graph.specs.Renames.{renamed}
-use Rattle.sq_program.specs.Programs.{Note, Program}
-use Rattle.sq_program.specs.Lifted.{cut, lifted_with}
+use Rattle.law_program.specs.Programs.{Note, Program}
+use Rattle.law_program.specs.Lifted.{cut, lifted_with}
 use Rattle.sq_lift.specs.Flags.{is_flagged}
 use Rattle.sq_lift.specs.Cuts.{kept_by, position_by}
 use Rattle.sq_graph.specs.Slotted.{position_in}

@@ -1,6 +1,6 @@
 use Rattle.std.proofs.Common.{◌≡◌, ◌++◌, ◌≤◌, length, drop}
 use Rattle.sq_lift.specs.Flags.{is_flagged}
-use Rattle.sq_program.specs.Notes.{used_notes}
+use Rattle.law_program.specs.Notes.{used_notes}
 use Rattle.sq_lift.proofs.cut.procedures.used_notes.Given as goal
 
 abbrev pub invariant-loop-note : goal.invariant-loop-note

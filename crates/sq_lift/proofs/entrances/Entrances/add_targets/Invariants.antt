@@ -1,5 +1,5 @@
 use Rattle.std.proofs.Common.{map, take}
-use Rattle.sq_program.specs.Programs.{target_of}
+use Rattle.law_program.specs.Programs.{target_of}
 use Rattle.sq_lift.specs.declared.entrances.Entrance.TheVariants.{Open}
 use Rattle.sq_lift.specs.Search.{is_among}
 use Rattle.sq_lift.specs.Entrances.{entrance_if, Adds}

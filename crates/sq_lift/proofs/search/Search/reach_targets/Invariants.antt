@@ -1,5 +1,5 @@
 use Rattle.std.proofs.Common.{map, take}
-use Rattle.sq_program.specs.Programs.{target_of}
+use Rattle.law_program.specs.Programs.{target_of}
 use Rattle.sq_lift.specs.Search.{Reaches}
 use Rattle.sq_lift.proofs.search.Search.reach_targets.Given as goal
 

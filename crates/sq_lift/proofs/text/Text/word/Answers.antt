@@ -1,5 +1,5 @@
 use Rattle.std.proofs.Common.{ap, ◌∙◌, slice_get}
-use Rattle.sq_program.specs.Programs.{Text, word_at}
+use Rattle.law_program.specs.Programs.{Text, word_at}
 use Rattle.sq_lift.proofs.Placed.{copied_item, word_in_place}
 use Rattle.sq_lift.proofs.text.Text.word.Goals as goal
 

@@ -1,4 +1,4 @@
-use Rattle.sq_runs.proofs.Loops.{turn, ended}
+use Rattle.law_runs.proofs.Loops.{turn, ended}
 use Rattle.sq_machine.specs.Steps.{step_of, event_in}
 use Rattle.sq_machine.specs.Views.{state_of, world_of}
 use Rattle.sq_machine.proofs.Moves.{has_gone, has_ended}

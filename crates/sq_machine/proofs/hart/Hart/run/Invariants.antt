@@ -1,4 +1,4 @@
-use Rattle.sq_runs.proofs.Loops.{Going}
+use Rattle.law_runs.proofs.Loops.{Going}
 use Rattle.sq_machine.specs.Steps.{step_of}
 use Rattle.sq_machine.specs.Views.{state_of, world_of}
 use Rattle.sq_machine.proofs.hart.Hart.run.Given as goal

@@ -1,5 +1,5 @@
 use Rattle.std.proofs.Common.{◌≡◌, rules}
-use Rattle.sq_program.specs.Reached.{target_from}
+use Rattle.law_program.specs.Reached.{target_from}
 use Rattle.sq_tagged.specs.Views.{setting_of, half_in}
 use Rattle.sq_monitor.specs.Views.{watched_of}
 use Rattle.sq_monitor.proofs.Items.{by_row}

@@ -1,7 +1,7 @@
 use Rattle.std.proofs.Common.{◌≡◌, ◌<◌, ◌^◌, sym, ap, ◌∙◌, arith}
-use Rattle.sq_runs.specs.Runs.{trace}
-use Rattle.sq_runs.proofs.Loops.{turn, ended, broken}
-use Rattle.sq_program.specs.Monitored.{monitored_step}
+use Rattle.law_runs.specs.Runs.{trace}
+use Rattle.law_runs.proofs.Loops.{turn, ended, broken}
+use Rattle.law_program.specs.Monitored.{monitored_step}
 use Rattle.sq_tagged.specs.Views.{layout_of}
 use Rattle.sq_monitor.specs.Steps.{event_in}
 use Rattle.sq_monitor.specs.Views.{watched_of}

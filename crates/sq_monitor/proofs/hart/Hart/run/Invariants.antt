@@ -1,5 +1,5 @@
-use Rattle.sq_runs.proofs.Loops.{Going}
-use Rattle.sq_program.specs.Monitored.{monitored_step}
+use Rattle.law_runs.proofs.Loops.{Going}
+use Rattle.law_program.specs.Monitored.{monitored_step}
 use Rattle.sq_tagged.specs.Views.{layout_of}
 use Rattle.sq_monitor.specs.Views.{watched_of}
 use Rattle.sq_monitor.proofs.hart.Hart.run.Given as goal

@@ -1,6 +1,6 @@
 use Rattle.std.proofs.Common.{refl, ap, sym}
 use Rattle.sq_system.specs.declared.event.Halt.TheVariants.{Fetch}
-use Rattle.sq_program.specs.Monitored.{word_step, setting_of as text_setting}
+use Rattle.law_program.specs.Monitored.{word_step, setting_of as text_setting}
 use Rattle.sq_tagged.specs.Views.{layout_of}
 use Rattle.sq_monitor.specs.Views.{watched_of}
 use Rattle.sq_monitor.proofs.Watching.{step_at, watched, below}

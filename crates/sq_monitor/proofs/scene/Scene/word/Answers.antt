@@ -1,5 +1,5 @@
 use Rattle.std.proofs.Common.{◌+◌, ◌≤◌, length, refl, sym, ap, ◌∙◌, arith}
-use Rattle.sq_program.specs.Programs.{end_of}
+use Rattle.law_program.specs.Programs.{end_of}
 use Rattle.sq_monitor.proofs.Placing.{word_past, word_within}
 use Rattle.sq_monitor.proofs.scene.Scene.word.Goals as goal
 

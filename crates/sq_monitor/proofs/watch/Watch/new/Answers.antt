@@ -6,7 +6,7 @@ use Rattle.sq_memory.specs.Cells.{map_cells}
 use Rattle.sq_memory.specs.Regions.{get, region_cell}
 use Rattle.sq_pages.specs.Pages.{cells_of, over}
 use Rattle.sq_system.specs.Starts.{start_of, stack_pointer, IsBadStart}
-use Rattle.sq_follow.specs.Worlds.{ram_region}
+use Rattle.law_follow.specs.Worlds.{ram_region}
 use Rattle.sq_tagged.specs.Views.{cell_of}
 use Rattle.sq_monitor.specs.FileCells.{segment_regions, segment_layout}
 use Rattle.sq_monitor.specs.Starts.{extent_of, state_at}

@@ -1,4 +1,4 @@
-use Rattle.sq_follow.proofs.Following.{graph_follows_itself}
+use Rattle.law_follow.proofs.Following.{graph_follows_itself}
 use Rattle.sq_outline.proofs.windows.sweep.call_if_may.Goals as goal
 
 pub returns-then-not-may_call_still-clause-follows : goal.returns-then-not-may_call_still-clause-follows

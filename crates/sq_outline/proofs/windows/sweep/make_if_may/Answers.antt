@@ -1,4 +1,4 @@
-use Rattle.sq_follow.proofs.Following.{graph_follows_itself}
+use Rattle.law_follow.proofs.Following.{graph_follows_itself}
 use Rattle.sq_outline.proofs.windows.sweep.make_if_may.Goals as goal
 
 pub returns-then-hint-sixteenths-clause-follows : goal.returns-then-hint-sixteenths-clause-follows

@@ -2,7 +2,7 @@ use Rattle.std.proofs.Common.{◌≡◌, ◌-◌, length, ap, ◌∙◌, arith}
 use Rattle.sq_layout.proofs.Walks.{items_few}
 use Rattle.sq_pass.specs.Counted.{counted}
 use Rattle.sq_pass.specs.declared.cut.Row.TheVariants.{V}
-use Rattle.sq_follow.proofs.Following.{graph_follows_itself}
+use Rattle.law_follow.proofs.Following.{graph_follows_itself}
 use Rattle.sq_outline.specs.Called.{call_saving}
 use Rattle.sq_outline.proofs.WindowsCalling.{callable_matches}
 use Rattle.sq_outline.proofs.WindowsPast.{inside_past}

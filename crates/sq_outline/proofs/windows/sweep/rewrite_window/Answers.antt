@@ -1,6 +1,6 @@
 use Rattle.std.proofs.Common.{◌≡◌, sym, subst, arith}
-use Rattle.sq_follow.specs.Follows.{Follows}
-use Rattle.sq_follow.proofs.Following.{graph_follows_itself}
+use Rattle.law_follow.specs.Follows.{Follows}
+use Rattle.law_follow.proofs.Following.{graph_follows_itself}
 use Rattle.sq_graph.specs.Graph.{Graph}
 use Rattle.sq_outline.specs.WindowsMade.{window_made}
 use Rattle.sq_outline.proofs.Sweeping.{room_for_procedure}

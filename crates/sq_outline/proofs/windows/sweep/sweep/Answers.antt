@@ -1,4 +1,4 @@
-use Rattle.sq_follow.proofs.Following.{graph_follows_through}
+use Rattle.law_follow.proofs.Following.{graph_follows_through}
 use Rattle.sq_outline.proofs.WindowsSweeping.{rewritten_last}
 use Rattle.sq_outline.proofs.windows.sweep.sweep.Goals as goal
 

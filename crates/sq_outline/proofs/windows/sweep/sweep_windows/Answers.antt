@@ -1,4 +1,4 @@
-use Rattle.sq_follow.proofs.Following.{graph_follows_itself}
+use Rattle.law_follow.proofs.Following.{graph_follows_itself}
 use Rattle.sq_outline.proofs.WindowsPast.{past_itself}
 use Rattle.sq_outline.proofs.windows.sweep.sweep_windows.Goals as goal
 

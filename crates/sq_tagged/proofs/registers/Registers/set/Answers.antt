@@ -1,6 +1,6 @@
 use Rattle.std.proofs.Common.{◌≡◌, ◌<◌, length, arith, ap, ◌∙◌}
 use Rattle.sq_isa.specs.Registers.{written}
-use Rattle.sq_follow.specs.Values.{Holds}
+use Rattle.law_follow.specs.Values.{Holds}
 use Rattle.sq_tagged.specs.Views.{value_of, registers_of, held}
 use Rattle.sq_tagged.proofs.Writes.{held-set, written-x0}
 use Rattle.sq_tagged.proofs.registers.Registers.set.Goals as goal

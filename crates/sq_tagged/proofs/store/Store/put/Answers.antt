@@ -1,6 +1,6 @@
 use Rattle.std.proofs.Common.{ap}
-use Rattle.sq_follow.specs.Settings.{Store}
-use Rattle.sq_follow.specs.Values.{Cell}
+use Rattle.law_follow.specs.Settings.{Store}
+use Rattle.law_follow.specs.Values.{Cell}
 use Rattle.sq_memory.specs.Cells.{Cells}
 use Rattle.sq_tagged.specs.Views.{store_of}
 use Rattle.sq_tagged.proofs.Writes.{cells-put}

@@ -1,5 +1,5 @@
 use Rattle.std.proofs.Common.{length, ap, arith}
-use Rattle.sq_follow.proofs.Following.{graph_follows_itself}
+use Rattle.law_follow.proofs.Following.{graph_follows_itself}
 use Rattle.sq_pass.proofs.Rewriting.{rewritten_itself}
 use Rattle.std.specs.Prelude.{slice_index}
 use Rattle.sq_tail.specs.Candidates.{IsCandidate, described}

@@ -1,7 +1,7 @@
 use Rattle.std.proofs.Common.{ℕ, List, sym, subst}
 use Rattle.std.specs.List.{All}
 use Rattle.sq_graph.specs.Blocks.{HasBlock}
-use Rattle.sq_follow.proofs.Following.{graph_follows_itself}
+use Rattle.law_follow.proofs.Following.{graph_follows_itself}
 use Rattle.sq_tail.proofs.BodiesFound.{names_there}
 use Rattle.sq_tail.proofs.sweep.bodies.sweep_bodies.Goals as goal
 

@@ -1,4 +1,4 @@
-use Rattle.sq_follow.proofs.Following.{graph_follows_itself}
+use Rattle.law_follow.proofs.Following.{graph_follows_itself}
 use Rattle.sq_tail.proofs.sweep.ends.sweep_ends.Goals as goal
 
 pub returns-in_err-ends-clause-follows : goal.returns-in_err-ends-clause-follows

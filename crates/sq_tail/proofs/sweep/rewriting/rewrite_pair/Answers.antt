@@ -1,6 +1,6 @@
 use Rattle.std.proofs.Common.{◌-◌, ◌+◌, sym, ap, subst, arith}
-use Rattle.sq_follow.specs.Follows.{Follows}
-use Rattle.sq_follow.proofs.Following.{graph_follows_itself}
+use Rattle.law_follow.specs.Follows.{Follows}
+use Rattle.law_follow.proofs.Following.{graph_follows_itself}
 use Rattle.sq_tail.specs.StillDead.{IsJoinedWhole}
 use Rattle.sq_tail.proofs.Sweeping.{room_for_one, pair_words, whole_rewritten}
 use Rattle.sq_tail.proofs.sweep.rewriting.rewrite_pair.Goals as goal

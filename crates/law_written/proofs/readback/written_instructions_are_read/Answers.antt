@@ -1,0 +1,5 @@
+use Rattle.law_written.proofs.Words.{written_instructions_are_read}
+use Rattle.law_written.proofs.readback.written_instructions_are_read.Goals as goal
+
+pub returns : goal.returns
+returns c = λ bytes g can k p is. written_instructions_are_read bytes g can k p is

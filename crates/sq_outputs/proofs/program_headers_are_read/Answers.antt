@@ -1,5 +1,0 @@
-use Rattle.sq_outputs.proofs.Segments.{program_headers_are_read}
-use Rattle.sq_outputs.proofs.program_headers_are_read.Goals as goal
-
-pub returns : goal.returns
-returns c = λ o fits k p s is of. program_headers_are_read o fits k p s is of

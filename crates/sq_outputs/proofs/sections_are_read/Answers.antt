@@ -1,5 +1,0 @@
-use Rattle.sq_outputs.proofs.Sections.{sections_are_read}
-use Rattle.sq_outputs.proofs.sections_are_read.Goals as goal
-
-pub returns : goal.returns
-returns c = λ o fits k s part is has. sections_are_read o fits k s part is has

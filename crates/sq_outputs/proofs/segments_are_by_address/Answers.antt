@@ -1,5 +1,0 @@
-use Rattle.sq_outputs.proofs.Ascending.{segments_are_by_address}
-use Rattle.sq_outputs.proofs.segments_are_by_address.Goals as goal
-
-pub returns : goal.returns
-returns c = λ o can. segments_are_by_address o can

@@ -1,5 +1,0 @@
-use Rattle.sq_outputs.proofs.TextWords.{words_are_read}
-use Rattle.sq_outputs.proofs.words_are_read.Goals as goal
-
-pub returns : goal.returns
-returns c = λ o can k word is fits. words_are_read o can k word is fits

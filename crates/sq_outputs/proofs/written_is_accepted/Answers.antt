@@ -1,5 +1,0 @@
-use Rattle.sq_outputs.proofs.Writing.{written_is_accepted}
-use Rattle.sq_outputs.proofs.written_is_accepted.Goals as goal
-
-pub returns : goal.returns
-returns c = λ bytes g can. written_is_accepted bytes g can

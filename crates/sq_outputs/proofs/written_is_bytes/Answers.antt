@@ -1,5 +1,0 @@
-use Rattle.sq_outputs.proofs.Bytes.{written_is_bytes}
-use Rattle.sq_outputs.proofs.written_is_bytes.Goals as goal
-
-pub returns : goal.returns
-returns c = λ bytes g can. written_is_bytes bytes g can

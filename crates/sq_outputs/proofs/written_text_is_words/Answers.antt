@@ -1,5 +1,0 @@
-use Rattle.sq_outputs.proofs.Ascending.{written_text_is_words}
-use Rattle.sq_outputs.proofs.written_text_is_words.Goals as goal
-
-pub returns : goal.returns
-returns c = λ bytes g can address is. written_text_is_words bytes g can address is

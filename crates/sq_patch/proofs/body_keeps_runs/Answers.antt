@@ -1,5 +1,0 @@
-use Rattle.sq_patch.proofs.MatchedBodies.{body_follows}
-use Rattle.sq_patch.proofs.body_keeps_runs.Goals as goal
-
-pub returns : goal.returns
-returns c = λ g dropped kept rules bodies. body_follows g dropped kept rules bodies

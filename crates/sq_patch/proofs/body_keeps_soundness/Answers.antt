@@ -1,5 +1,0 @@
-use Rattle.sq_patch.proofs.MatchedBodies.{body_sound}
-use Rattle.sq_patch.proofs.body_keeps_soundness.Goals as goal
-
-pub returns : goal.returns
-returns c = λ g dropped kept rules bodies sound. body_sound g dropped kept rules bodies sound

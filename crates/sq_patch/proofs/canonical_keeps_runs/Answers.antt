@@ -1,5 +1,0 @@
-use Rattle.sq_patch.proofs.Joining.{canonical_follows}
-use Rattle.sq_patch.proofs.canonical_keeps_runs.Goals as goal
-
-pub returns : goal.returns
-returns c = λ g rules. canonical_follows g rules

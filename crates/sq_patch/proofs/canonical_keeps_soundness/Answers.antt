@@ -1,5 +1,0 @@
-use Rattle.sq_patch.proofs.Joining.{canonical_sound}
-use Rattle.sq_patch.proofs.canonical_keeps_soundness.Goals as goal
-
-pub returns : goal.returns
-returns c = λ g rules sound. canonical_sound g rules sound

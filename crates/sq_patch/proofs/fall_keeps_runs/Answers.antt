@@ -1,5 +1,0 @@
-use Rattle.sq_patch.proofs.OneBlock.{fall_follows}
-use Rattle.sq_patch.proofs.fall_keeps_runs.Goals as goal
-
-pub returns : goal.returns
-returns c = λ g block n rules jumps slot. fall_follows g block n rules jumps slot

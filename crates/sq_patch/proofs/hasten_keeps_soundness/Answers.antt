@@ -1,5 +1,0 @@
-use Rattle.sq_patch.proofs.OneBlock.{hasten_sound}
-use Rattle.sq_patch.proofs.hasten_keeps_soundness.Goals as goal
-
-pub returns : goal.returns
-returns c = λ g block link part to rules jumps sound. hasten_sound g block link part to rules jumps sound

@@ -1,5 +1,0 @@
-use Rattle.sq_patch.proofs.LiveSteps.{steps_agree}
-use Rattle.sq_patch.proofs.live_steps_agree.Goals as goal
-
-pub returns : goal.returns
-returns c = steps_agree

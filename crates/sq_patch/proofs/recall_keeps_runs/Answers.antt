@@ -1,5 +1,0 @@
-use Rattle.sq_patch.proofs.Recalling.{recall_follows}
-use Rattle.sq_patch.proofs.recall_keeps_runs.Goals as goal
-
-pub returns : goal.returns
-returns c = λ g from to rules equal. recall_follows g from to rules equal

@@ -1,5 +1,0 @@
-use Rattle.sq_patch.proofs.Recalling.{recall_sound}
-use Rattle.sq_patch.proofs.recall_keeps_soundness.Goals as goal
-
-pub returns : goal.returns
-returns c = λ g from to rules equal sound. recall_sound g from to rules equal sound

@@ -1,5 +1,0 @@
-use Rattle.sq_patch.proofs.Reordering.{reorder_follows}
-use Rattle.sq_patch.proofs.reorder_keeps_runs.Goals as goal
-
-pub returns : goal.returns
-returns c = λ g blocks rules order. reorder_follows g blocks rules order

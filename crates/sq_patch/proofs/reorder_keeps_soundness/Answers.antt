@@ -1,5 +1,0 @@
-use Rattle.sq_patch.proofs.Reordering.{reorder_sound}
-use Rattle.sq_patch.proofs.reorder_keeps_soundness.Goals as goal
-
-pub returns : goal.returns
-returns c = λ g blocks rules order sound. reorder_sound g blocks rules order sound

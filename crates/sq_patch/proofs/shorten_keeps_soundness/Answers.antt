@@ -1,5 +1,0 @@
-use Rattle.sq_patch.proofs.Shortening.{shorten_sound}
-use Rattle.sq_patch.proofs.shorten_keeps_soundness.Goals as goal
-
-pub returns : goal.returns
-returns c = λ g block at link part to rules can sound. shorten_sound g block at link part to rules can sound

@@ -1,5 +1,0 @@
-use Rattle.sq_patch.proofs.Tailing.{tail_follows}
-use Rattle.sq_patch.proofs.tail_keeps_runs.Goals as goal
-
-pub returns : goal.returns
-returns c = λ g new dropped at kept from rules fresh have. tail_follows g new dropped at kept from rules fresh have

@@ -1,5 +1,0 @@
-use Rattle.sq_readback.proofs.Entries.{entries_are_read}
-use Rattle.sq_readback.proofs.entries_are_read.Goals as goal
-
-pub returns : goal.returns
-returns c = λ o fits all. entries_are_read o fits all

@@ -1,5 +1,0 @@
-use Rattle.sq_readback.proofs.AlikeBack.{lifted_back_is_alike}
-use Rattle.sq_readback.proofs.lifted_back_is_alike.Goals as goal
-
-pub returns : goal.returns
-returns c = λ bytes g can canonical whole is every. lifted_back_is_alike bytes g can canonical whole is every

@@ -1,5 +1,0 @@
-use Rattle.sq_readback.proofs.CodeWords.{written_code_words_are_read}
-use Rattle.sq_readback.proofs.written_code_words_are_read.Goals as goal
-
-pub returns : goal.returns
-returns c = λ bytes g can address. written_code_words_are_read bytes g can address

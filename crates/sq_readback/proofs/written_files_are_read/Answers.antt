@@ -1,5 +1,0 @@
-use Rattle.sq_readback.proofs.Programs.{written_files_are_read}
-use Rattle.sq_readback.proofs.written_files_are_read.Goals as goal
-
-pub returns : goal.returns
-returns c = λ bytes g can is decides. written_files_are_read bytes g can is decides

@@ -1,5 +1,0 @@
-use Rattle.sq_readback.proofs.Notes.{written_notes_are_read}
-use Rattle.sq_readback.proofs.written_notes_are_read.Goals as goal
-
-pub returns : goal.returns
-returns c = λ bytes g can t. written_notes_are_read bytes g can t

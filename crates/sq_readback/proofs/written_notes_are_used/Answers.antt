@@ -1,5 +1,0 @@
-use Rattle.sq_readback.proofs.WordsReached.{written_notes_are_used}
-use Rattle.sq_readback.proofs.written_notes_are_used.Goals as goal
-
-pub returns : goal.returns
-returns c = λ bytes g can whole is decides. written_notes_are_used bytes g can whole is decides

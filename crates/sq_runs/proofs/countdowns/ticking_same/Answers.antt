@@ -1,5 +1,0 @@
-use Rattle.sq_runs.proofs.LittleRuns.{ticking_same}
-use Rattle.sq_runs.proofs.countdowns.ticking_same.Goals as goal
-
-pub returns : goal.returns
-returns c = ticking_same

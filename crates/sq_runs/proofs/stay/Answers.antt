@@ -1,8 +1,0 @@
-use Rattle.sq_runs.proofs.Traces.{stay, grow}
-use Rattle.sq_runs.proofs.stay.Goals as goal
-
-pub returns-clause-stays : goal.returns-clause-stays
-returns-clause-stays g c = stay
-
-pub returns-clause-leads : goal.returns-clause-leads
-returns-clause-leads g c = grow

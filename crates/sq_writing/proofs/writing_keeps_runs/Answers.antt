@@ -1,5 +1,0 @@
-use Rattle.sq_writing.proofs.Written.{writing_keeps_runs}
-use Rattle.sq_writing.proofs.writing_keeps_runs.Goals as goal
-
-pub returns : goal.returns
-returns c = λ w g can start plain b begins. writing_keeps_runs w g can start plain b begins

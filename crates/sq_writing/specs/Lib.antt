@@ -1,3 +1,0 @@
-pub mod Writable
-pub mod Writing
-pub mod Files
