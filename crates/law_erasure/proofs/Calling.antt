@@ -2,7 +2,7 @@
 use Rattle.std.proofs.Common.{◌≡◌, ℕ, zero, suc, ◌+◌, ◌-◌, ◌%◌, ◌^◌, ◌<◌, Bool, true, false, not, ◌==◌, ◌&&◌, ◌||◌, List, [], length, map, take, drop, min, Option, Some, None, is_some, if◌then◌else◌, refl, sym, ap, ap₂, subst, arith, nat_le}
 use Rattle.std.specs.Option.{unwrap_or}
 use Rattle.std.specs.List.{list_any}
-use Rattle.std.proofs.lemmas.Bool.{and_parts, eqb-true}
+use Rattle.std.proofs.lemmas.Bool.{and_parts, eqb-true, or_parts}
 use Rattle.std.proofs.lemmas.Bool.Decides.{nat_tests}
 use Rattle.law_runs.specs.Runs.{Went, Broke}
 use Rattle.law_runs.specs.Simulation.{Matches}
@@ -30,10 +30,6 @@ use Rattle.law_erasure.proofs.Accessing.{Plainly, IsErasedMade, range_same}
 number_of : (v : Value) → is_tagged v ≡ false → (x : ℕ) × (v ≡ Num x)
 number_of (Num x) e = (x, refl)
 number_of (Tagged tag) e = absurd (cc)
-
-or_false : (a b : Bool) → (a || b) ≡ false → (a ≡ false) × (b ≡ false)
-or_false true b e = absurd (cc)
-or_false false b e = (refl, e)
 
 module _ (P : ℕ → Type 0) (E : Erasing) (s : Setting) (w : World) (naming : IsErasing E s) (laid : IsErasedSetting P s w) where
   abbrev Made_ : ℕ → State → Made → State → Type 0

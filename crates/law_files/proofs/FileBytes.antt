@@ -4,6 +4,7 @@ use Rattle.std.specs.List.{AllByRecursion}
 use Rattle.std.proofs.lemmas.List.{length-take-le, length-drop, length-append, length-replicate}
 use Rattle.std.proofs.lemmas.Bool.Decides.{nat_tests}
 use Rattle.byteorder.specs.Endian.{little_number, little_bytes}
+use Rattle.std.proofs.lemmas.Bool.{or_parts}
 use Rattle.sq_isa.specs.Accesses.{bytes_number}
 use Rattle.sq_elf.specs.declared.segment.Segment.{Segment}
 use Rattle.sq_elf.specs.Fields.{u32_field}
@@ -14,7 +15,7 @@ use Rattle.sq_elf.specs.Memory.{file_bytes_of}
 use Rattle.sq_elf.specs.Refusing.{program_table, section_table, file_bytes, bad_segment, segment_kind, segment_overlap, file_refusal_of}
 use Rattle.sq_elf.proofs.Accepted.{tables_accepted, segments_accepted}
 use Rattle.sq_elf.proofs.Passing.{row_passes, behind_row}
-use Rattle.sq_elf.proofs.TextFacts.{neither, second_false}
+use Rattle.sq_elf.proofs.TextFacts.{second_false}
 
 -- COMPARISONS
 
@@ -130,5 +131,5 @@ module _ (bytes : List ℕ) (accepted : file_refusal_of bytes ≡ None) (index :
   whole =
       let good : is_bad_segment bytes index ≡ false = row_passes (bad_segment bytes) (segment_kind bytes ∷ segment_overlap bytes ∷ []) (segments_accepted bytes accepted) index within in
       let shaped = second_false (is_load bytes index) (is_misshapen segment) good load in
-      let ends = neither (nat_lt segment.memsz segment.filesz || nat_lt (2 ^ 32) (segment.address + segment.memsz)) (nat_lt (2 ^ 32) (segment.load_address + segment.filesz)) shaped in
-      not_less segment.memsz segment.filesz (neither (nat_lt segment.memsz segment.filesz) (nat_lt (2 ^ 32) (segment.address + segment.memsz)) ends.0).0
+      let ends = or_parts (nat_lt segment.memsz segment.filesz || nat_lt (2 ^ 32) (segment.address + segment.memsz)) (nat_lt (2 ^ 32) (segment.load_address + segment.filesz)) shaped in
+      not_less segment.memsz segment.filesz (or_parts (nat_lt segment.memsz segment.filesz) (nat_lt (2 ^ 32) (segment.address + segment.memsz)) ends.0).0

@@ -1,6 +1,6 @@
 -- The memory of a file as the regions of its segments: which cell stands at an address of a segment.
 use Rattle.std.proofs.Common.{◌≡◌, ◌≢◌, inl, inr, ℕ, zero, suc, ◌+◌, ◌-◌, ◌≤◌, ◌<◌, nat_le, nat_lt, nat_eq, Bool, true, false, ◌||◌, List, [], ◌∷◌, ◌++◌, length, Option, Some, None, is_some, slice_get, if◌then◌else◌, refl, ap, ◌∙◌, subst, arith}
-use Rattle.std.proofs.lemmas.Bool.{cases_lt}
+use Rattle.std.proofs.lemmas.Bool.{cases_lt, and_parts, or_parts}
 use Rattle.std.proofs.lemmas.Bool.Decides.{nat_tests}
 use Rattle.std.proofs.lemmas.Option.{slice_get_past}
 use Rattle.sq_num.specs.Refusals.{first_from}
@@ -14,7 +14,7 @@ use Rattle.sq_elf.specs.Memory.{has_memory}
 use Rattle.sq_elf.specs.Refusing.{bad_segment, segment_kind, segment_overlap, file_refusal_of}
 use Rattle.sq_elf.proofs.Accepted.{segments_accepted}
 use Rattle.sq_elf.proofs.Passing.{passes_from, row_passes, behind_row}
-use Rattle.sq_elf.proofs.TextFacts.{both_true, neither, second_false}
+use Rattle.sq_elf.proofs.TextFacts.{second_false}
 use Rattle.law_files.proofs.FileBytes.{lt_is}
 
 -- REGIONS
@@ -168,7 +168,7 @@ module _ (bytes : List ℕ) (accepted : file_refusal_of bytes ≡ None) where
 
   tests : (k : ℕ) → k < phnum_of bytes → is_load bytes k ≡ true → (meets_copy (segment_of bytes k) (segment_of bytes k) ≡ false) × (is_some (first_from (overlaps_at bytes k) 0 k) ≡ false)
   tests k within load =
-      neither (meets_copy (segment_of bytes k) (segment_of bytes k)) (is_some (first_from (overlaps_at bytes k) 0 k))
+      or_parts (meets_copy (segment_of bytes k) (segment_of bytes k)) (is_some (first_from (overlaps_at bytes k) 0 k))
       (second_false (is_load bytes k) (meets_copy (segment_of bytes k) (segment_of bytes k) || is_some (first_from (overlaps_at bytes k) 0 k)) (no_overlap k within) load)
 
   earlier_apart : (k j : ℕ) → k < phnum_of bytes → is_load bytes k ≡ true → j < k → is_load bytes j ≡ true → overlaps (segment_of bytes k) (segment_of bytes j) ≡ false
@@ -184,9 +184,9 @@ module _ (bytes : List ℕ) (accepted : file_refusal_of bytes ≡ None) where
 
   free : (s other : Segment) → overlaps s other ≡ false → AreFree s other
   free s other e =
-      let all = neither (meets s.address s.memsz other.address other.memsz || meets_copy s other || meets_copy other s) (meets s.load_address (copy_size s) other.load_address (copy_size other)) e in
-      let three = neither (meets s.address s.memsz other.address other.memsz || meets_copy s other) (meets_copy other s) all.0 in
-      let own = neither (meets s.address s.memsz other.address other.memsz) (meets_copy s other) three.0 in
+      let all = or_parts (meets s.address s.memsz other.address other.memsz || meets_copy s other || meets_copy other s) (meets s.load_address (copy_size s) other.load_address (copy_size other)) e in
+      let three = or_parts (meets s.address s.memsz other.address other.memsz || meets_copy s other) (meets_copy other s) all.0 in
+      let own = or_parts (meets s.address s.memsz other.address other.memsz) (meets_copy s other) three.0 in
       record { own = own.0; copy = own.1; back = three.1 }
 
   module _ (index : ℕ) (within : index < phnum_of bytes) (load : is_load bytes index ≡ true) (x : ℕ) (inside : IsAt x (segment_of bytes index).address (segment_of bytes index).memsz) where
@@ -225,7 +225,7 @@ copy_whole s some = go (nat_eq s.load_address s.address) some
     go true e = absurd (cc)
 
 pub loaded : (bytes : List ℕ) (k : ℕ) → has_memory bytes k ≡ true → is_load bytes k ≡ true
-loaded bytes k has = (both_true (is_load bytes k) (nat_lt 0 (segment_of bytes k).memsz) has).0
+loaded bytes k has = (and_parts (is_load bytes k) (nat_lt 0 (segment_of bytes k).memsz) has).0
 
 module _ {C : Type 0} (bytes : List ℕ) (accepted : file_refusal_of bytes ≡ None) (own copy : Segment → Region C) (sized : AreSized bytes own copy) where
   module _ (index i : ℕ) (within : index < phnum_of bytes) (has : has_memory bytes index ≡ true) (small : i < (segment_of bytes index).memsz) where

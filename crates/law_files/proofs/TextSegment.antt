@@ -1,6 +1,6 @@
 -- The text segment of a file that isn't refused has memory, and may be executed.
 use Rattle.std.proofs.Common.{◌≡◌, ℕ, ◌≤◌, ◌<◌, nat_eq, nat_lt, Bool, true, false, not, List, [], ◌∷◌, Option, Some, None, is_some, if◌then◌else◌, refl, arith, bit_and}
-use Rattle.std.proofs.lemmas.Bool.{and_from}
+use Rattle.std.proofs.lemmas.Bool.{and_from, and_parts}
 use Rattle.std.proofs.lemmas.Bool.Decides.{nat_tests}
 use Rattle.sq_elf.specs.declared.segment.Segment.{Segment}
 use Rattle.sq_elf.specs.Headers.{shnum_of, is_load, section_of, segment_of}
@@ -9,7 +9,7 @@ use Rattle.sq_elf.specs.Memory.{has_memory}
 use Rattle.sq_elf.specs.Refusing.{without_text, bad_text_section, text_split, text_moved, text_too_large, file_refusal_of}
 use Rattle.sq_elf.proofs.Accepted.{single_passes, text_accepted}
 use Rattle.sq_elf.proofs.Passing.{row_passes, behind_row, IsFirst, found_from}
-use Rattle.sq_elf.proofs.TextFacts.{both_true, TextFacts, text_facts}
+use Rattle.sq_elf.proofs.TextFacts.{TextFacts, text_facts}
 use Rattle.law_files.proofs.FileBytes.{lt_is, whole as segment_whole}
 
 if_true : (b h c : Bool) → (if b then not h else c) ≡ false → b ≡ true → h ≡ true
@@ -39,8 +39,8 @@ module _ (bytes : List ℕ) (accepted : file_refusal_of bytes ≡ None) where
       let high = found.high in
       let below : first.0 < shnum_of bytes = omega arith in
       let held = if_true (is_executable_at bytes first.0) (holds_at bytes (section_of bytes first.0) number) _ (unsplit first.0 below) found.here in
-      let loaded = both_true (is_load bytes number) (holds segment (section_of bytes first.0)) held in
-      (both_true (nat_eq (bit_and segment.flags 1) 1) _ loaded.1).0
+      let loaded = and_parts (is_load bytes number) (holds segment (section_of bytes first.0)) held in
+      (and_parts (nat_eq (bit_and segment.flags 1) 1) _ loaded.1).0
     where
       unsplit : (k : ℕ) → k < shnum_of bytes → splits bytes (text_range bytes) number k ≡ false
       unsplit =

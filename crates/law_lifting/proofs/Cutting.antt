@@ -1,7 +1,7 @@
 -- The lines that are cut from a program's words are the readings of these words.
 use Rattle.std.proofs.Common.{◌≡◌, ◌⊎◌, inl, inr, ℕ, ℤ, suc, ◌+◌, Bool, true, false, not, ◌==◌, ◌&&◌, ◌||◌, List, [], ◌∷◌, ◌++◌, map, Some, slice_get, if◌then◌else◌, refl, sym, ap, ◌∙◌, subst, arith}
 use Rattle.std.specs.List.{Contains, list_any}
-use Rattle.std.proofs.lemmas.Bool.{eqb-true, and_parts, and_from, or_left, or_right}
+use Rattle.std.proofs.lemmas.Bool.{eqb-true, and_parts, and_from, or_left, or_right, false_from_ne_true, not-true, or_parts}
 use Rattle.std.proofs.lemmas.List.Elements.{Contains-append_left, Contains-append_cases}
 use Rattle.sq_isa.specs.Registers.{is_among}
 use Rattle.sq_isa.specs.declared.instructions.Insn.{Insn}
@@ -17,7 +17,7 @@ use Rattle.law_program.specs.Lifted.{Form, ItemForm, TermForm, link_form, form_o
 use Rattle.law_lifting.specs.Lifting.{IsMarkedText, IsReadable}
 use Rattle.law_lifting.proofs.Lifts.{form_line, closes}
 use Rattle.law_lifting.proofs.TextWords.{same_itself, in_text_of}
-use Rattle.law_lifting.proofs.Facts.{or_false, any_none, one, one_is, none_in, reading_uses, IsSoundWord, UsedBy, ReadWord, read_word, marked_of, used, used_reached, next_reached}
+use Rattle.law_lifting.proofs.Facts.{any_none, one, one_is, none_in, reading_uses, IsSoundWord, UsedBy, ReadWord, read_word, marked_of, used, used_reached, next_reached}
 use Rattle.law_lifting.proofs.NoteFacts.{notes_have, notes_find, noted_at, at_number, in_procedure_start, within_next, good_note}
 use Rattle.law_lifting.proofs.ReadingFacts.{contains_among, form_uses, form_used, used_form, jump_used, half_used, goes_alike, jal_links}
 
@@ -27,14 +27,6 @@ rest_lines rest = map line_of rest.items ++ term_lines rest.term (lines_of rest.
 
 pub true_not_false : {A : Type 0} → true ≡ false → A
 true_not_false e = absurd (cc)
-
-pub when_false : (b : Bool) → (b ≡ true → ⊥) → b ≡ false
-when_false true f = absurd (f refl)
-when_false false f = refl
-
-pub not_twice : (b : Bool) → not b ≡ true → b ≡ false
-not_twice true e = absurd (cc)
-not_twice false e = refl
 
 call_is : (n : Note) (i : Insn) (y : ℕ) → is_call n i y ≡ true → (offset : ℤ) × (i ≡ Jal n.link offset) × (y ≡ n.address)
 call_is n (Jal rd offset) y e =
@@ -76,7 +68,7 @@ module _ (p : Program) (is : ℕ → Bool) (marked : IsMarkedText p.text) (dec :
   Read x = ReadWord p is marked dec fine.text x
 
   pub kept_is : (x : ℕ) → keep x ≡ true → (is x ≡ true) × (is_in_procedures ns x ≡ false)
-  kept_is x k = let a = and_parts (is x) (not (is_in_procedures ns x)) k in (a.0, not_twice (is_in_procedures ns x) a.1)
+  kept_is x k = let a = and_parts (is x) (not (is_in_procedures ns x)) k in (a.0, not-true (is_in_procedures ns x) a.1)
 
   pub kept_from : (x : ℕ) → is x ≡ true → is_in_procedures ns x ≡ false → keep x ≡ true
   kept_from x i n = rw (i, n) refl
@@ -92,25 +84,25 @@ module _ (p : Program) (is : ℕ → Bool) (marked : IsMarkedText p.text) (dec :
       subst (λ o. marked_enters n x w.mark o ≡ false) s.is (good.words x w i e)
 
   pub halves_out : (x y : ℕ) (w : Word) (s : Sound x w) → is x ≡ true → word_at t x ≡ Some w → Contains (half_target w.mark) y → is_in_procedures ns y ≡ false
-  halves_out x y w s i e c = when_false (is_in_procedures ns y) (λ b.
+  halves_out x y w s i e c = false_from_ne_true (is_in_procedures ns y) (λ b.
       let f = notes_find ns y b in
-      let a = or_false (list_any (is_in_procedure f.note) (half_target w.mark)) (enters_from_outside f.note x s.insn) (entering x w s f.number f.note i e f.there) in
+      let a = or_parts (list_any (is_in_procedure f.note) (half_target w.mark)) (enters_from_outside f.note x s.insn) (entering x w s f.number f.note i e f.there) in
       true_not_false (sym f.holds ∙ any_none (is_in_procedure f.note) (half_target w.mark) y a.0 c))
 
   no_procedure : (x q : ℕ) (n : Note) → is_in_procedures ns x ≡ false → slice_get ns q ≡ Some n → is_in_procedure n x ≡ false
-  no_procedure x q n k e = when_false (is_in_procedure n x) (λ b. true_not_false (sym (notes_have ns q x n e b) ∙ k))
+  no_procedure x q n k e = false_from_ne_true (is_in_procedure n x) (λ b. true_not_false (sym (notes_have ns q x n e b) ∙ k))
 
   -- from outside neither the next word nor a target is in a procedure, but by a `jal` with its link to its first word
   outside : (x : ℕ) (w : Word) (s : Sound x w) (q : ℕ) (n : Note) → keep x ≡ true → word_at t x ≡ Some w → slice_get ns q ≡ Some n → (list_any (is_in_procedure n) (next_word x s.insn) ≡ false) × (list_any (λ z. is_in_procedure n z && not (is_call n s.insn z)) (jump_target x s.insn) ≡ false)
   outside x w s q n k e h =
       let i = kept_is x k in
-      let a = or_false (list_any (is_in_procedure n) (half_target w.mark)) (enters_from_outside n x s.insn) (entering x w s q n i.0 e h) in
+      let a = or_parts (list_any (is_in_procedure n) (half_target w.mark)) (enters_from_outside n x s.insn) (entering x w s q n i.0 e h) in
       let o = no_procedure x q n i.1 h in
-      or_false (list_any (is_in_procedure n) (next_word x s.insn)) (list_any (λ z. is_in_procedure n z && not (is_call n s.insn z)) (jump_target x s.insn))
+      or_parts (list_any (is_in_procedure n) (next_word x s.insn)) (list_any (λ z. is_in_procedure n z && not (is_call n s.insn z)) (jump_target x s.insn))
       (subst (λ b. (not b && (list_any (is_in_procedure n) (next_word x s.insn) || list_any (λ z. is_in_procedure n z && not (is_call n s.insn z)) (jump_target x s.insn))) ≡ false) o a.1)
 
   next_out : (x : ℕ) (w : Word) (s : Sound x w) → keep x ≡ true → word_at t x ≡ Some w → insn_goes_on s.insn ≡ true → is_in_procedures ns (x + 4) ≡ false
-  next_out x w s k e g = when_false (is_in_procedures ns (x + 4)) (λ b.
+  next_out x w s k e g = false_from_ne_true (is_in_procedures ns (x + 4)) (λ b.
       let f = notes_find ns (x + 4) b in
       let a = outside x w s f.number f.note k e f.there in
       let c : Contains (next_word x s.insn) (x + 4) = rw g (one (x + 4)) in
@@ -134,7 +126,7 @@ module _ (p : Program) (is : ℕ → Bool) (marked : IsMarkedText p.text) (dec :
 
   -- what a form uses is no procedure's word
   jump_out : (x y : ℕ) (w : Word) (r : Reading) (s : Sound x w) → keep x ≡ true → word_at t x ≡ Some w → reading_of t x w ≡ Some r → Contains (form_uses (form_of ns r)) y → Contains (jump_target x s.insn) y → is_in_procedures ns y ≡ false
-  jump_out x y w r s k e rd c j = when_false (is_in_procedures ns y) (λ b.
+  jump_out x y w r s k e rd c j = false_from_ne_true (is_in_procedures ns y) (λ b.
       let f = notes_find ns y b in
       let d = door x y w s f.number f.note k e f.there j f.holds in
       let good = good_note is p f.number f.note fine.notes f.there in
@@ -218,7 +210,7 @@ module _ (p : Program) (is : ℕ → Bool) (marked : IsMarkedText p.text) (dec :
           m = marked_of p is marked dec fine.text x rd.word rd.reading rd.sound rd.reads
 
           pick : (b : Bool) → is_in_procedures ns x ≡ b → IsBehind y
-          pick false k = record { pc = x; next = e; kept = kept_from x i k; read = rd; goes = not_twice (closes (form_line (form_of ns rd.reading))) (goes_alike ns t x rd.word.mark rd.sound.insn rd.reading m ∙ g) }
+          pick false k = record { pc = x; next = e; kept = kept_from x i k; read = rd; goes = not-true (closes (form_line (form_of ns rd.reading))) (goes_alike ns t x rd.word.mark rd.sound.insn rd.reading m ∙ g) }
           pick true k =
               let f = notes_find ns x k in
               let good = good_note is p f.number f.note fine.notes f.there in

@@ -2,7 +2,7 @@
 use Rattle.std.proofs.Common.{◌≡◌, ◌⊎◌, inl, inr, ℕ, ℤ, zero, suc, ◌+◌, ◌%◌, ◌<◌, Bool, true, false, not, ◌==◌, ◌&&◌, ◌||◌, List, [], ◌∷◌, ◌++◌, Option, Some, None, if◌then◌else◌, refl, sym, subst, arith, is_some}
 use Rattle.std.specs.Option.{option_or, option_and_then}
 use Rattle.std.specs.List.{Contains, list_any}
-use Rattle.std.proofs.lemmas.Bool.{eqb-true}
+use Rattle.std.proofs.lemmas.Bool.{eqb-true, or_parts, not-false}
 use Rattle.std.proofs.lemmas.List.Elements.{Contains-append_left, Contains-append_right}
 use Rattle.sq_num.specs.declared.refusal.Refusal.{Refusal}
 use Rattle.sq_num.specs.declared.refusal.Refusal.TheVariants.{UnsupportedInstruction, BadTarget, FallsOffText, UnrelocatedAuipc, ReadsText, ConflictingReloc, LoneHalf}
@@ -35,18 +35,10 @@ refuse_none : (b : Bool) (r : Refusal) (later : Option Refusal) → refuse_if b 
 refuse_none true r later e = absurd (cc)
 refuse_none false r later e = (refl, e)
 
-pub or_false : (a b : Bool) → (a || b) ≡ false → (a ≡ false) × (b ≡ false)
-or_false true b e = absurd (cc)
-or_false false b e = (refl, e)
-
 pub any_none : (f : ℕ → Bool) (xs : List ℕ) (y : ℕ) → list_any f xs ≡ false → Contains xs y → f y ≡ false
 any_none f [] y e c = absurd (let h : c.0 < 0 = c.1 in omega arith)
-any_none f (x ∷ xs) y e (zero, h, g) = let q : x ≡ y = g in subst (λ z. f z ≡ false) q (or_false (f x) (list_any f xs) e).0
-any_none f (x ∷ xs) y e (suc i, h, g) = any_none f xs y (or_false (f x) (list_any f xs) e).1 (i, omega (arith, h), g)
-
-not_false : (b : Bool) → not b ≡ false → b ≡ true
-not_false true e = refl
-not_false false e = absurd (cc)
+any_none f (x ∷ xs) y e (zero, h, g) = let q : x ≡ y = g in subst (λ z. f z ≡ false) q (or_parts (f x) (list_any f xs) e).0
+any_none f (x ∷ xs) y e (suc i, h, g) = any_none f xs y (or_parts (f x) (list_any f xs) e).1 (i, omega (arith, h), g)
 
 pub one : (x : ℕ) → Contains (x ∷ []) x
 one x = (0, omega arith, refl)
@@ -296,13 +288,13 @@ module _ (p : Program) (is : ℕ → Bool) (marked : IsMarkedText p.text) (dec :
 
   used_word : (x y : ℕ) (w : Word) (s : IsSoundWord p.text x w) → UsedBy p.text x w.mark s.insn y → IsWord p.text y
   used_word x y w s (inl c) =
-      let a = or_false (list_any (λ z. not (is_word p.text z)) (jump_target x s.insn)) (list_any (λ z. is_in_text p.text z && not (z % 4 == 0)) (half_target w.mark)) s.astray in
-      not_false (is_word p.text y) (any_none (λ z. not (is_word p.text z)) (jump_target x s.insn) y a.0 c)
+      let a = or_parts (list_any (λ z. not (is_word p.text z)) (jump_target x s.insn)) (list_any (λ z. is_in_text p.text z && not (z % 4 == 0)) (half_target w.mark)) s.astray in
+      not-false (is_word p.text y) (any_none (λ z. not (is_word p.text z)) (jump_target x s.insn) y a.0 c)
   used_word x y w s (inr c) =
-      let a = or_false (list_any (λ z. not (is_word p.text z)) (jump_target x s.insn)) (list_any (λ z. is_in_text p.text z && not (z % 4 == 0)) (half_target w.mark)) s.astray in
+      let a = or_parts (list_any (λ z. not (is_word p.text z)) (jump_target x s.insn)) (list_any (λ z. is_in_text p.text z && not (z % 4 == 0)) (half_target w.mark)) s.astray in
       let b = any_none (λ z. is_in_text p.text z && not (z % 4 == 0)) (half_target w.mark) y a.1 c.0 in
       let d : not (y % 4 == 0) ≡ false = subst (λ c. (c && not (y % 4 == 0)) ≡ false) c.1 b in
-      in_text_word p.text y marked.aligned c.1 (eqb-true (y % 4) 0 (not_false (y % 4 == 0) d))
+      in_text_word p.text y marked.aligned c.1 (eqb-true (y % 4) 0 (not-false (y % 4 == 0) d))
 
   used_leads : (x y : ℕ) (mark : Mark) (i : Insn) → UsedBy p.text x mark i y → Contains (insn_leads x mark i) y
   used_leads x y mark i (inl c) = Contains-append_left (jump_target x i ++ half_target mark) (next_word x i) y (Contains-append_left (jump_target x i) (half_target mark) y c)

@@ -3,7 +3,7 @@ use Rattle.std.proofs.Common.{◌≡◌, ◌≢◌, ◌⊎◌, inl, inr, ℕ, ze
 use Rattle.std.specs.Option.{option_map}
 use Rattle.std.specs.Ordering.{int_eq}
 use Rattle.std.specs.List.{Contains, list_any}
-use Rattle.std.proofs.lemmas.Bool.{eqb-true, and_parts, or_left, or_right}
+use Rattle.std.proofs.lemmas.Bool.{eqb-true, and_parts, or_left, or_right, or_cases, not-true, or_parts}
 use Rattle.std.proofs.lemmas.Bool.Decides.{nat_tests, Decides-int_eq}
 use Rattle.sq_isa.specs.declared.instructions.Insn.{Insn}
 use Rattle.sq_isa.specs.declared.instructions.Insn.TheVariants.{Jal, Jalr, Branch}
@@ -18,16 +18,12 @@ use Rattle.law_program.specs.Readings.{Reading, IsItem, IsTerm, Links, marked_re
 use Rattle.law_program.specs.Notes.{used_notes, is_within, is_in_procedure, is_in_procedures, is_above, is_real_register, is_in_order, is_item_without, returns_through, is_plain, is_return, has_body, is_procedure, marked_enters, words_enter, is_entered, is_good_note, bad_note_from, bad_note}
 use Rattle.law_program.specs.Lifted.{procedure_at}
 use Rattle.law_lifting.proofs.TextWords.{same_itself}
-use Rattle.law_lifting.proofs.Facts.{or_false, any_none}
+use Rattle.law_lifting.proofs.Facts.{any_none}
 
 -- Spans
 
 pub within_start : (a n : ℕ) → is_within a (suc n) a ≡ true
 within_start a n = or_left (a == a) (is_within (a + 4) n a) (same_itself a)
-
-pub or_cases : (a b : Bool) → (a || b) ≡ true → (a ≡ true) ⊎ (b ≡ true)
-or_cases true b e = inl refl
-or_cases false b e = inr e
 
 pub in_procedure_start : (note : Note) → is_in_procedure note note.address ≡ true
 in_procedure_start note = let e : note.length + 1 ≡ suc note.length = omega arith in rw e (within_start note.address note.length)
@@ -220,7 +216,7 @@ used_good is p before number (m ∷ notes) q n e h = go (is_good_note is p befor
 enter_free : (is : ℕ → Bool) (n : Note) (x at : ℕ) (w : Word) (words : List Word) → words_enter is n at words ≡ false → is x ≡ true → word_from x at words ≡ Some w → marked_enters n x w.mark (insn_in w) ≡ false
 enter_free is n x at w [] e i f = absurd (cc)
 enter_free is n x at w (v ∷ words) e i f =
-    let o = or_false (is at && marked_enters n at v.mark (insn_in v)) (words_enter is n (at + 4) words) e in go (x == at) refl f o.0 (enter_free is n x (at + 4) w words o.1 i)
+    let o = or_parts (is at && marked_enters n at v.mark (insn_in v)) (words_enter is n (at + 4) words) e in go (x == at) refl f o.0 (enter_free is n x (at + 4) w words o.1 i)
   where
     go : (b : Bool) → (x == at) ≡ b → (if b then Some v else word_from x (at + 4) words) ≡ Some w → (is at && marked_enters n at v.mark (insn_in v)) ≡ false → (word_from x (at + 4) words ≡ Some w → marked_enters n x w.mark (insn_in w) ≡ false) → marked_enters n x w.mark (insn_in w) ≡ false
     go true b h o rec =
@@ -245,10 +241,6 @@ if_reached : (b c : Bool) → b ≡ true → (not b || c) ≡ true → c ≡ tru
 if_reached true c e h = h
 if_reached false c e h = absurd (cc)
 
-not_both : (b : Bool) → not b ≡ true → b ≡ false
-not_both true e = absurd (cc)
-not_both false e = refl
-
 pub good_note : (is : ℕ → Bool) (p : Program) (q : ℕ) (n : Note) → bad_note is p ≡ None → slice_get (used_notes is p.notes) q ≡ Some n → IsGoodNote is p n
 good_note is p q n e h =
     let u = used_good is p None 1 p.notes q n e h in
@@ -257,8 +249,8 @@ good_note is p q n e h =
     let c = and_parts (is_procedure p.text n) (not (is_entered is p n)) b in
     let d = and_parts (nat_lt 0 n.length) (has_body p.text n.link n.address n.length) c.0 in
     let o = and_parts (is_word p.text n.address && is_above u.before n.address) (is_real_register n.link) a.0 in
-    let f = or_false (is_in_procedure n p.entry || list_any (is_in_procedure n) (map target_of p.code_words)) (words_enter is n p.text.lo p.text.words) (not_both (is_entered is p n) c.1) in
-    let g = or_false (is_in_procedure n p.entry) (list_any (is_in_procedure n) (map target_of p.code_words)) f.0 in
+    let f = or_parts (is_in_procedure n p.entry || list_any (is_in_procedure n) (map target_of p.code_words)) (words_enter is n p.text.lo p.text.words) (not-true (is_entered is p n) c.1) in
+    let g = or_parts (is_in_procedure n p.entry) (list_any (is_in_procedure n) (map target_of p.code_words)) f.0 in
     let r = and_parts (nat_lt 0 n.link) (nat_lt n.link 32) o.1 in
     record {
       link = let k = r.0 in grind (arith, nat_tests);

@@ -3,6 +3,7 @@ use Rattle.std.proofs.Common.{◌≡◌, ℕ, zero, suc, Bool, true, false, not,
 use Rattle.std.specs.Option.{option_map}
 use Rattle.std.specs.List.{Contains}
 use Rattle.std.proofs.lemmas.Option.{slice_get-map}
+use Rattle.std.proofs.lemmas.Bool.{false_from_ne_true}
 use Rattle.law_runs.specs.Follows.{LocksWith}
 use Rattle.sq_memory.specs.Regions.{get}
 use Rattle.sq_system.specs.Starts.{Start, stack_pointer}
@@ -31,7 +32,7 @@ use Rattle.law_program.specs.FileRuns.{watched_start}
 use Rattle.law_lifting.specs.Lifting.{IsLinked, IsReadable, NotesDie, IsFine, IsWorldOf, LiftingKeepsRuns}
 use Rattle.law_lifting.proofs.Lifts.{ties, IsNamed, NeverLost}
 use Rattle.law_lifting.proofs.NoteFacts.{notes_find, IsGoodNote, good_note, used_good, own_number}
-use Rattle.law_lifting.proofs.Cutting.{true_not_false, when_false, kept_from, lead_entry, lead_code}
+use Rattle.law_lifting.proofs.Cutting.{true_not_false, kept_from, lead_entry, lead_code}
 use Rattle.law_lifting.proofs.CutLines.{has_name_of, lifts_whole}
 use Rattle.law_lifting.proofs.Lifting.{lifted_locks, starts_alike}
 
@@ -78,7 +79,7 @@ module _ (p : Program) (is : ℕ → Bool) (linked : IsLinked p) (dec : Decides 
   -- NAMES
 
   outside : (x : ℕ) → ((q : ℕ) (n : Note) → IsGoodNote is p n → is_in_procedure n x ≡ false) → is_in_procedures N x ≡ false
-  outside x f = when_false (is_in_procedures N x) (λ b. let h = notes_find N x b in true_not_false (sym h.holds ∙ f h.number h.note (good_note is p h.number h.note fine.notes h.there)))
+  outside x f = false_from_ne_true (is_in_procedures N x) (λ b. let h = notes_find N x b in true_not_false (sym h.holds ∙ f h.number h.note (good_note is p h.number h.note fine.notes h.there)))
 
   pub entry_named : IsNamed p.text N G p.entry
   entry_named =

@@ -1,7 +1,7 @@
 -- System calls of two runs that agree.
 use Rattle.std.proofs.Common.{◌≡◌, ℕ, zero, suc, ◌+◌, ◌^◌, ◌<◌, Bool, true, false, ◌==◌, ◌&&◌, ◌||◌, List, [], Option, Some, None, take, map, is_some, unwrap_or, nat_le, if◌then◌else◌, refl, sym, ap, ap₂, ◌∙◌, subst, arith}
 use Rattle.std.specs.List.{list_any}
-use Rattle.std.proofs.lemmas.Bool.{eqb-true}
+use Rattle.std.proofs.lemmas.Bool.{eqb-true, or_parts}
 use Rattle.sq_memory.specs.Cells.{is_in_memory, cells_from, Agree, AllAgree}
 use Rattle.sq_memory.proofs.RangeLaws.{cells_from-agree}
 use Rattle.law_runs.specs.Runs.{Broke}
@@ -21,10 +21,6 @@ use Rattle.law_follow.specs.Calls.{CallOperands, has_tagged, number_in, call_of,
 use Rattle.law_patch.specs.Agreement.{Ties, SameValue, SameCell, SameStore, SameMade, IsTied}
 use Rattle.law_patch.proofs.Memories.{if_rel, if_broke, same_numbers, bytes_stored_rel, by_test}
 use Rattle.law_patch.proofs.Loading.{with_code}
-
-or_false : (a b : Bool) → (a || b) ≡ false → (a ≡ false) × (b ≡ false)
-or_false true b e = absurd (cc)
-or_false false b e = (refl, e)
 
 same_presence : {A B : Type 0} (R : A → B → Type 0) (o : Option A) (p : Option B) → Agree R o p → is_some p ≡ is_some o
 same_presence R None None h = refl
@@ -101,9 +97,9 @@ module _ (P : ℕ → Type 0) (T : Ties) (s : Setting) (code : ℕ → Bool) (la
   -- a call that is not known looks at no argument
   ask_rel : (number : ℕ) (r t : CallOperands) (a b : Store) → (number == 93 || number == 94 || number == 214) ≡ false → (number == 63 || number == 64) ≡ false → SameStore P T a b → SameCall number r t a b
   ask_rel number r t a b e f h =
-      let x = or_false (number == 93 || number == 94) (number == 214) e in
-      let y = or_false (number == 93) (number == 94) x.0 in
-      let z = or_false (number == 63) (number == 64) f in
+      let x = or_parts (number == 93 || number == 94) (number == 214) e in
+      let y = or_parts (number == 93) (number == 94) x.0 in
+      let z = or_parts (number == 63) (number == 64) f in
       rw (y.0, y.1, x.1, z.0, z.1) (refl, record { value = refl; store = h })
 
   -- the same call on both sides, but for what the memories show of its buffer
@@ -111,7 +107,7 @@ module _ (P : ℕ → Type 0) (T : Ties) (s : Setting) (code : ℕ → Bool) (la
   seen call readable = record call { readable = readable }
 
   read_fails : (call : CallArgs) → call.number ≡ 63 → takes_buffer call ≡ false → effect_of call ≡ Fail 9
-  read_fails call e f = let g : (call.a0 == 0) ≡ false = (or_false (call.a0 == 0) false (subst (λ n. ((n == 63 && call.a0 == 0) || (n == 64 && (call.a0 == 1 || call.a0 == 2))) ≡ false) e f)).0 in rw (e, g) refl
+  read_fails call e f = let g : (call.a0 == 0) ≡ false = (or_parts (call.a0 == 0) false (subst (λ n. ((n == 63 && call.a0 == 0) || (n == 64 && (call.a0 == 1 || call.a0 == 2))) ≡ false) e f)).0 in rw (e, g) refl
 
   write_fails : (call : CallArgs) → call.number ≡ 64 → takes_buffer call ≡ false → effect_of call ≡ Fail 9
   write_fails call e f = let g : (call.a0 == 1 || call.a0 == 2) ≡ false = subst (λ n. ((n == 63 && call.a0 == 0) || (n == 64 && (call.a0 == 1 || call.a0 == 2))) ≡ false) e f in rw (e, g) refl
@@ -166,8 +162,8 @@ module _ (P : ℕ → Type 0) (T : Ties) (s : Setting) (code : ℕ → Bool) (la
       (λ n. by_test (number == 63 || number == 64)
       (λ m.
       let f : (is_tagged r.a0 || is_tagged r.a1 || is_tagged r.a2) ≡ false = rw (n, m) at e in
-      let g = or_false (is_tagged r.a0 || is_tagged r.a1) (is_tagged r.a2) f in
-      let i = or_false (is_tagged r.a0) (is_tagged r.a1) g.0 in
+      let g = or_parts (is_tagged r.a0 || is_tagged r.a1) (is_tagged r.a2) f in
+      let i = or_parts (is_tagged r.a0) (is_tagged r.a1) g.0 in
       let x = untagged r.a0 t.a0 i.0 o.a0 in
       let y = untagged r.a1 t.a1 i.1 o.a1 in
       let z = untagged r.a2 t.a2 g.1 o.a2 in

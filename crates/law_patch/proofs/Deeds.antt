@@ -2,7 +2,7 @@
 use Rattle.std.proofs.Common.{◌≡◌, ◌≢◌, ◌⊎◌, inl, inr, eq-eqb, ℕ, ◌+◌, zero, suc, ℤ, pos, Bool, true, false, not, ◌==◌, ◌&&◌, ◌||◌, List, [], ◌∷◌, Some, None, slice_index_or, if◌then◌else◌, refl, sym, ◌∙◌, subst, arith}
 use Rattle.std.specs.Ordering.{int_eq}
 use Rattle.std.specs.List.{list_any}
-use Rattle.std.proofs.lemmas.Bool.{eqb-true, cases_eq}
+use Rattle.std.proofs.lemmas.Bool.{eqb-true, cases_eq, or_parts}
 use Rattle.std.proofs.lemmas.Bool.Decides.{nat_tests}
 use Rattle.sq_isa.specs.Forms.{with_registers}
 use Rattle.sq_isa.specs.Registers.{written}
@@ -34,10 +34,6 @@ use Rattle.law_patch.proofs.Rows.{first_source, plain_rel, IsLowerTied, lower_re
 
 both_true : (t : Bool) → t ≡ true → (t && true) ≡ (t || false)
 both_true t e = rw e refl
-
-or_false_both : (a b : Bool) → (a || b) ≡ false → (a ≡ false) × (b ≡ false)
-or_false_both true b e = absurd (cc)
-or_false_both false b e = (refl, e)
 
 yes : (x y : ℕ) → x ≡ y → (x == y) ≡ true
 yes x y e = eq-eqb x y e
@@ -83,7 +79,7 @@ module _ (P : ℕ → Type 0) (T : Ties) where
   sources_rel Stands [] (q ∷ qs) k k' x h e = absurd x
   sources_rel Stands (r ∷ rs) [] k k' x h e = absurd x
   sources_rel Stands (r ∷ rs) (q ∷ qs) k k' x h e =
-      let f = or_false_both (lost_in k r) (list_any (lost_in k) rs) e in
+      let f = or_parts (lost_in k r) (list_any (lost_in k) rs) e in
       let one = source_rel Stands r q k k' x.0 h f.0 in
       let all = sources_rel Stands rs qs k k' x.1 h f.1 in
       (rw (one.0, all.0) refl, cons_operand r q rs qs k k' one.1 all.1)

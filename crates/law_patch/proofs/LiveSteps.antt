@@ -3,6 +3,7 @@ use Rattle.std.proofs.Common.{◌≡◌, ℕ, zero, suc, ◌+◌, ℤ, pos, Bool
 use Rattle.std.specs.List.{Contains}
 use Rattle.std.proofs.lemmas.Bool.{and_parts}
 use Rattle.std.proofs.lemmas.Bool.Decides.{nat_tests}
+use Rattle.std.proofs.Math.Bool.{or-true}
 use Rattle.sq_isa.specs.Registers.{is_among, is_among_but_x0}
 use Rattle.sq_isa.specs.Uses.{sources_of, destination_of}
 use Rattle.sq_isa.specs.Forms.{first_of, second_of, with_registers}
@@ -57,10 +58,6 @@ own_source : (Stands : ℕ → ℕ → Type 0) (r : ℕ) → ((q : ℕ) → r �
 own_source Stands zero h = tt
 own_source Stands (suc r) h = h r refl
 
-true_right : (t : Bool) → (t || true) ≡ true
-true_right true = refl
-true_right false = refl
-
 -- the same upper half
 upper_same : (g : Graph) (n : ℕ) (imm : ℤ) (v u : Value) → SameValue (own_ties g) v u → is_upper_half n imm v ≡ true → is_upper_half n imm u ≡ true
 upper_same g n imm (Num x) u h e = absurd (cc)
@@ -75,7 +72,7 @@ same_one r = grind (arith, nat_tests)
 
 -- what is among the later registers is among all
 later : (r : ℕ) (rs : List ℕ) (q : ℕ) → is_among_but_x0 rs q ≡ true → is_among_but_x0 (r ∷ rs) q ≡ true
-later r rs q e = let p = and_parts (not (q == 0)) (is_among rs q) e in rw (p.0, p.1) (true_right (r == q))
+later r rs q e = let p = and_parts (not (q == 0)) (is_among rs q) e in rw (p.0, p.1) (or-true (r == q))
 
 pub own_sources : (Stands : ℕ → ℕ → Type 0) (rs : List ℕ) → ((r : ℕ) → is_among_but_x0 rs r ≡ true → Stands r r) → AreSources Stands rs rs
 own_sources Stands [] h = tt

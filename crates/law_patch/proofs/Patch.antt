@@ -4,6 +4,7 @@ use Rattle.std.specs.List.{list_any}
 use Rattle.std.proofs.lemmas.Bool.{eqb-true, and_parts, and_from}
 use Rattle.std.proofs.lemmas.Bool.Decides.{nat_tests}
 use Rattle.std.proofs.lemmas.Grind.{common_steps}
+use Rattle.std.proofs.Math.Bool.{or-true}
 use Rattle.sq_isa.specs.Forms.{with_registers}
 use Rattle.sq_isa.specs.Branches.{taken_of, inverse_of}
 use Rattle.sq_isa.specs.Registers.{is_among, is_among_but_x0}
@@ -52,10 +53,6 @@ ties_of C = record {
 abbrev pub Known : (C : Change) → Option C.Mode → List Line → ℕ → ℕ → Type 0
 Known C m lines r s = C.Matters lines r × Stands C m r s
 
-true_right : (t : Bool) → (t || true) ≡ true
-true_right true = refl
-true_right false = refl
-
 -- sources that are known where they matter
 known_source : (P Q : ℕ → ℕ → Type 0) (r s : ℕ) → IsSource P r s → ((q : ℕ) → r ≡ suc q → P r s → Q r s) → IsSource Q r s
 known_source P Q zero zero p h = tt
@@ -68,7 +65,7 @@ same_one r = eq-eqb r r refl
 
 -- what is among the later registers is among all
 pub later : (r : ℕ) (rs : List ℕ) (q : ℕ) → is_among_but_x0 rs q ≡ true → is_among_but_x0 (r ∷ rs) q ≡ true
-later r rs q e = let p = and_parts (not (q == 0)) (is_among rs q) e in rw (p.0, p.1) (true_right (r == q))
+later r rs q e = let p = and_parts (not (q == 0)) (is_among rs q) e in rw (p.0, p.1) (or-true (r == q))
 
 known_sources : (P Q : ℕ → ℕ → Type 0) (rs ss : List ℕ) → AreSources P rs ss → ((r s : ℕ) → is_among_but_x0 rs r ≡ true → P r s → Q r s) → AreSources Q rs ss
 known_sources P Q [] [] p h = tt

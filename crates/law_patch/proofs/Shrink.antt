@@ -1,7 +1,7 @@
 -- What is live in the second graph stands for what is live in the first.
 use Rattle.std.proofs.Common.{◌≡◌, ℕ, zero, suc, Bool, true, false, ◌||◌, ◌⊎◌, List, [], ◌∷◌, Option, Some, None, refl, sym, ap, ◌∙◌, subst, inl, inr, ⊎_elim, not, ◌==◌, ◌&&◌, eq-eqb, arith}
 use Rattle.std.specs.List.{Contains}
-use Rattle.std.proofs.lemmas.Bool.{and_parts, eqb-true}
+use Rattle.std.proofs.lemmas.Bool.{and_parts, eqb-true, or_cases, and_from}
 use Rattle.std.proofs.lemmas.Bool.Decides.{nat_tests}
 use Rattle.sq_isa.specs.Forms.{with_registers}
 use Rattle.sq_isa.specs.Registers.{is_among, is_among_but_x0}
@@ -28,13 +28,6 @@ pub data IsNear (C : Change) (q : ℕ) : List Line → Type 0 where
   near_read : {line : Line} {rest : List Line} → line_reads line q ≡ true → IsNear C q (line ∷ rest)
   near_kept : {line : Line} {rest next : List Line} → line_writes C.after.procedures line q ≡ false → Goes C.after line rest next → IsBacked C q next → IsNear C q (line ∷ rest)
 
-or_split : (a b : Bool) → (a || b) ≡ true → (a ≡ true) ⊎ (b ≡ true)
-or_split true b e = inl refl
-or_split false b e = inr e
-
-both_hold : (a b : Bool) → a ≡ true → b ≡ true → (a && b) ≡ true
-both_hold a b e f = rw (e, f) refl
-
 same_one : (r : ℕ) → (r == r) ≡ true
 same_one r = eq-eqb r r refl
 
@@ -57,8 +50,8 @@ from_sources P (x ∷ rs) (y ∷ qs) q a e =
     let p = and_parts (not (q == 0)) (is_among (y ∷ qs) q) e in
     ⊎_elim
     (λ (t : (y == q) ≡ true). first_source P x y q rs a.0 (eqb-true y q t) p.0)
-    (λ (t : is_among qs q ≡ true). let o = from_sources P rs qs q a.1 (both_hold (not (q == 0)) (is_among qs q) p.0 t) in (o.0, (o.1.0, later x rs o.0 o.1.1)))
-    (or_split (y == q) (is_among qs q) p.1)
+    (λ (t : is_among qs q ≡ true). let o = from_sources P rs qs q a.1 (and_from (not (q == 0)) (is_among qs q) p.0 t) in (o.0, (o.1.0, later x rs o.0 o.1.1)))
+    (or_cases (y == q) (is_among qs q) p.1)
 
 -- a term without sources reads nothing
 pub no_sources : (q : ℕ) → is_among_but_x0 [] q ≡ true → ⊥

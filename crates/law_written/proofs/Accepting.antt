@@ -1,7 +1,7 @@
 -- The reader accepts an output file within the limits, row by row.
 use Rattle.std.proofs.Common.{◌≡◌, ℕ, zero, suc, ◌+◌, ◌*◌, ◌%◌, ◌^◌, ◌<◌, ◌≤◌, Bool, true, false, not, ◌&&◌, ◌||◌, ◌⊎◌, inl, inr, ⊎_elim, nat_eq, nat_lt, nat_le, bit_and, if◌then◌else◌, List, [], ◌∷◌, ◌++◌, length, get_or, Option, Some, None, slice_get, refl, sym, ap, subst, ◌∙◌, arith, length-append}
 use Rattle.std.specs.Option.{is_some, unwrap_or}
-use Rattle.std.proofs.lemmas.Bool.{cases_eq, cases_lt, lt-ltb, le-leb, eqb-true, eq-eqb}
+use Rattle.std.proofs.lemmas.Bool.{cases_eq, cases_lt, lt-ltb, le-leb, eqb-true, eq-eqb, or_from, and_right, not_from_true}
 use Rattle.std.proofs.lemmas.Bool.Decides.{nat_tests}
 use Rattle.std.proofs.lemmas.List.{get_or-take}
 use Rattle.std.proofs.lemmas.Nat.{and_mask}
@@ -81,18 +81,8 @@ if_false : (test x y : Bool) → x ≡ false → y ≡ false → (if test then x
 if_false true x y first second = first
 if_false false x y first second = second
 
-either_false : (x y : Bool) → x ≡ false → y ≡ false → (x || y) ≡ false
-either_false x y first second = rw (first, second) refl
-
-pub second_fails : (x y : Bool) → y ≡ false → (x && y) ≡ false
-second_fails true y fails = fails
-second_fails false y fails = refl
-
-unless : (x : Bool) → x ≡ true → not x ≡ false
-unless x is = rw is refl
-
 stays : (long size end : ℕ) → end ≤ long → (nat_lt 0 size && nat_lt long end) ≡ false
-stays long size end within = second_fails (nat_lt 0 size) (nat_lt long end) (less_not long end within)
+stays long size end within = and_right (nat_lt 0 size) (nat_lt long end) (less_not long end within)
 
 -- the earlier of two in a list
 pub order_at : (ps : List Piece) → AreInOrder ps → (earlier k : ℕ) (p q : Piece) → earlier < k → slice_get ps earlier ≡ Some p → slice_get ps k ≡ Some q → IsBefore p q
@@ -153,11 +143,11 @@ module _ (o : Output) (can : IsAcceptable o) where
   is_elf : (k : ℕ) → k < 7 → is_not_elf_at (output_file o) k ≡ false
   is_elf k within =
       let same : get_or (output_file o) k 0 ≡ get_or identification k 0 = sym (get_or-take 7 (output_file o) k 0 within) ∙ ap (λ bytes. get_or bytes k 0) header.identified in
-      either_false (nat_le (length (output_file o)) k) (not (nat_eq (get_or (output_file o) k 0) (get_or identification k 0)))
-      (at_most_not (length (output_file o)) k (omega (arith, long))) (unless (nat_eq (get_or (output_file o) k 0) (get_or identification k 0)) (equal_is (get_or (output_file o) k 0) (get_or identification k 0) same))
+      or_from (nat_le (length (output_file o)) k) (not (nat_eq (get_or (output_file o) k 0) (get_or identification k 0)))
+      (at_most_not (length (output_file o)) k (omega (arith, long))) (not_from_true (nat_eq (get_or (output_file o) k 0) (get_or identification k 0)) (equal_is (get_or (output_file o) k 0) (get_or identification k 0) same))
 
   count_fits : (n low high : ℕ) → low ≤ n → n ≤ high → (nat_lt n low || nat_lt high n) ≡ false
-  count_fits n low high above below = either_false (nat_lt n low) (nat_lt high n) (less_not n low above) (less_not high n below)
+  count_fits n low high above below = or_from (nat_lt n low) (nat_lt high n) (less_not n low above) (less_not high n below)
 
   some_pieces : 1 ≤ length (pieces_of o)
   some_pieces = omega (arith, length-append o.before (text_piece o ∷ o.after))
@@ -166,7 +156,7 @@ module _ (o : Output) (can : IsAcceptable o) where
   unfolding is_refused_field
   fields_fit k =
       let f = output_file o in
-      let is = λ (a b : ℕ) (same : a ≡ b). unless (nat_eq a b) (equal_is a b same) in
+      let is = λ (a b : ℕ) (same : a ≡ b). not_from_true (nat_eq a b) (equal_is a b same) in
       if_false (nat_eq k 16) _ _ (is (u16_field f 16) 2 header.kind)
       (if_false (nat_eq k 18) _ _ (is (u16_field f 18) 243 header.machine)
       (if_false (nat_eq k 20) _ _ (is (u32_field f 20) 1 header.version)
@@ -177,7 +167,7 @@ module _ (o : Output) (can : IsAcceptable o) where
       (if_false (nat_eq k 48) _ _ (count_fits (u16_field f 48) 1 4096 (omega (arith, header.sections)) (omega (arith, header.sections))) refl)))))))
 
   no_flags : not (nat_eq (flags_of (output_file o)) 0) ≡ false
-  no_flags = unless (nat_eq (flags_of (output_file o)) 0) (equal_is (flags_of (output_file o)) 0 header.flags)
+  no_flags = not_from_true (nat_eq (flags_of (output_file o)) 0) (equal_is (flags_of (output_file o)) 0 header.flags)
 
   -- the tables
 
@@ -204,7 +194,7 @@ module _ (o : Output) (can : IsAcceptable o) where
   stays_inside k within =
       let here = at k within in
       let inside : leaves (output_file o) here.segment.offset here.segment.filesz ≡ false = stays (length (output_file o)) here.segment.filesz (here.segment.offset + here.segment.filesz) here.read.inside in
-      second_fails (is_load (output_file o) k) (leaves (output_file o) (segment_of (output_file o) k).offset (segment_of (output_file o) k).filesz)
+      and_right (is_load (output_file o) k) (leaves (output_file o) (segment_of (output_file o) k).offset (segment_of (output_file o) k).filesz)
       (subst (λ (s : Segment). leaves (output_file o) s.offset s.filesz ≡ false) (sym here.read.is) inside)
 
   loadable : (k : ℕ) (here : Knows o can.fits k) → IsLoadable here.piece
@@ -215,14 +205,14 @@ module _ (o : Output) (can : IsAcceptable o) where
 
   good_shape : (offset : ℕ) (p : Piece) → IsFittingPiece p → IsLoadable p → is_misshapen (segment_at offset p) ≡ false
   good_shape offset p fits loads =
-      either_false (nat_lt p.size (length p.bytes) || nat_lt (2 ^ 32) (p.address + p.size)) (nat_lt (2 ^ 32) (p.load_address + length p.bytes))
-      (either_false (nat_lt p.size (length p.bytes)) (nat_lt (2 ^ 32) (p.address + p.size)) (less_not p.size (length p.bytes) fits.stored) (less_not (2 ^ 32) (p.address + p.size) loads.within))
+      or_from (nat_lt p.size (length p.bytes) || nat_lt (2 ^ 32) (p.address + p.size)) (nat_lt (2 ^ 32) (p.load_address + length p.bytes))
+      (or_from (nat_lt p.size (length p.bytes)) (nat_lt (2 ^ 32) (p.address + p.size)) (less_not p.size (length p.bytes) fits.stored) (less_not (2 ^ 32) (p.address + p.size) loads.within))
       (less_not (2 ^ 32) (p.load_address + length p.bytes) loads.copy_within)
 
   is_good : (k : ℕ) → k < phnum_of (output_file o) → is_bad_segment (output_file o) k ≡ false
   is_good k within =
       let here = at k within in
-      second_fails (is_load (output_file o) k) (is_misshapen (segment_of (output_file o) k))
+      and_right (is_load (output_file o) k) (is_misshapen (segment_of (output_file o) k))
       (subst (λ s. is_misshapen s ≡ false) (sym (made_of k here)) (good_shape here.segment.offset here.piece (fitting k here) (loadable k here)))
 
   is_load_kind : (k : ℕ) → k < phnum_of (output_file o) → is_refused_kind (output_file o) k ≡ false
@@ -234,9 +224,9 @@ module _ (o : Output) (can : IsAcceptable o) where
   no_overlap offset other p q before =
       let own = apart_back p.address p.size q.address q.size (behind_is_apart p.address p.size q.address q.size before.ends) in
       let copies = apart_back p.load_address (copied p) q.load_address (copied q) before.copies in
-      either_false (meets q.address q.size p.address p.size || meets q.address q.size p.load_address (copied p) || meets p.address p.size q.load_address (copied q)) (meets q.load_address (copied q) p.load_address (copied p))
-      (either_false (meets q.address q.size p.address p.size || meets q.address q.size p.load_address (copied p)) (meets p.address p.size q.load_address (copied q))
-      (either_false (meets q.address q.size p.address p.size) (meets q.address q.size p.load_address (copied p)) own before.second) before.first)
+      or_from (meets q.address q.size p.address p.size || meets q.address q.size p.load_address (copied p) || meets p.address p.size q.load_address (copied q)) (meets q.load_address (copied q) p.load_address (copied p))
+      (or_from (meets q.address q.size p.address p.size || meets q.address q.size p.load_address (copied p)) (meets p.address p.size q.load_address (copied q))
+      (or_from (meets q.address q.size p.address p.size) (meets q.address q.size p.load_address (copied p)) own before.second) before.first)
       copies
 
   earlier_apart : (k earlier : ℕ) → k < phnum_of (output_file o) → earlier < k → overlaps_at (output_file o) k earlier ≡ false
@@ -244,7 +234,7 @@ module _ (o : Output) (can : IsAcceptable o) where
       let here = at k within in
       let there = at earlier (omega arith) in
       let order = order_at (pieces_of o) can.in_order earlier k there.piece here.piece below there.is_piece here.is_piece in
-      second_fails (is_load (output_file o) earlier) (overlaps (segment_of (output_file o) k) (segment_of (output_file o) earlier))
+      and_right (is_load (output_file o) earlier) (overlaps (segment_of (output_file o) k) (segment_of (output_file o) earlier))
       (subst (λ s. overlaps s (segment_of (output_file o) earlier) ≡ false) (sym (made_of k here))
       (subst (λ s. overlaps (segment_at here.segment.offset here.piece) s ≡ false) (sym (made_of earlier there))
       (no_overlap here.segment.offset there.segment.offset there.piece here.piece order)))
@@ -254,8 +244,8 @@ module _ (o : Output) (can : IsAcceptable o) where
       let here = at k within in
       let none : first_from (overlaps_at (output_file o) k) 0 k ≡ None = none_from (overlaps_at (output_file o) k) 0 k (λ earlier low high. earlier_apart k earlier within (omega arith)) in
       let no_earlier : is_some (first_from (overlaps_at (output_file o) k) 0 k) ≡ false = ap is_some none in
-      second_fails (is_load (output_file o) k) (meets_copy (segment_of (output_file o) k) (segment_of (output_file o) k) || is_some (first_from (overlaps_at (output_file o) k) 0 k))
-      (either_false (meets_copy (segment_of (output_file o) k) (segment_of (output_file o) k)) (is_some (first_from (overlaps_at (output_file o) k) 0 k))
+      and_right (is_load (output_file o) k) (meets_copy (segment_of (output_file o) k) (segment_of (output_file o) k) || is_some (first_from (overlaps_at (output_file o) k) 0 k))
+      (or_from (meets_copy (segment_of (output_file o) k) (segment_of (output_file o) k)) (is_some (first_from (overlaps_at (output_file o) k) 0 k))
       (subst (λ s. meets_copy s s ≡ false) (sym (made_of k here)) (loadable k here).alone) no_earlier)
 
   -- the sections
@@ -322,7 +312,7 @@ module _ (o : Output) (can : IsAcceptable o) where
       let piece = some_at o.before k below in
       let same = same_piece piece.0 here.piece (slice_get (pieces_of o) k) (at_front o.before (text_piece o ∷ o.after) k piece.0 piece.1) here.is_piece in
       let still : CannotRun here.piece = subst CannotRun same (all_at CannotRun o.before can.before k piece.0 piece.1) in
-      second_fails (is_load (output_file o) k) (holds (segment_of (output_file o) k) (section_of (output_file o) 1))
+      and_right (is_load (output_file o) k) (holds (segment_of (output_file o) k) (section_of (output_file o) 1))
       (subst (λ s. holds s (section_of (output_file o) 1) ≡ false) (sym (made_of k here)) (cannot_hold here.segment.offset here.piece (section_of (output_file o) 1) still))
 
   holder_is : holder_of (output_file o) (section_of (output_file o) 1) ≡ Some (length o.before)
@@ -338,25 +328,25 @@ module _ (o : Output) (can : IsAcceptable o) where
   -- text
 
   some_code : not (is_some (first_executable (output_file o))) ≡ false
-  some_code = unless (is_some (first_executable (output_file o))) (ap is_some first_is)
+  some_code = not_from_true (is_some (first_executable (output_file o))) (ap is_some first_is)
 
   code_forms : (s : ReadSection) → s ≡ code_section o → is_some (holder_of (output_file o) s) ≡ true → (not (nat_eq s.kind 1) || not (nat_eq (s.address % 4) 0) || not (nat_eq (s.size % 4) 0) || not (is_some (holder_of (output_file o) s))) ≡ false
   code_forms s is held =
       let kind : s.kind ≡ 1 = ap (λ (t : ReadSection). t.kind) is in
       let address : s.address ≡ o.start = ap (λ (t : ReadSection). t.address) is in
       let size : s.size ≡ text_size o = ap (λ (t : ReadSection). t.size) is in
-      either_false (not (nat_eq s.kind 1) || not (nat_eq (s.address % 4) 0) || not (nat_eq (s.size % 4) 0)) (not (is_some (holder_of (output_file o) s)))
-      (either_false (not (nat_eq s.kind 1) || not (nat_eq (s.address % 4) 0)) (not (nat_eq (s.size % 4) 0))
-      (either_false (not (nat_eq s.kind 1)) (not (nat_eq (s.address % 4) 0)) (unless (nat_eq s.kind 1) (equal_is s.kind 1 kind)) (unless (nat_eq (s.address % 4) 0) (equal_is (s.address % 4) 0 (ap (λ n. n % 4) address ∙ can.start))))
-      (unless (nat_eq (s.size % 4) 0) (equal_is (s.size % 4) 0 (omega (arith, size, length_words o.text)))))
-      (unless (is_some (holder_of (output_file o) s)) held)
+      or_from (not (nat_eq s.kind 1) || not (nat_eq (s.address % 4) 0) || not (nat_eq (s.size % 4) 0)) (not (is_some (holder_of (output_file o) s)))
+      (or_from (not (nat_eq s.kind 1) || not (nat_eq (s.address % 4) 0)) (not (nat_eq (s.size % 4) 0))
+      (or_from (not (nat_eq s.kind 1)) (not (nat_eq (s.address % 4) 0)) (not_from_true (nat_eq s.kind 1) (equal_is s.kind 1 kind)) (not_from_true (nat_eq (s.address % 4) 0) (equal_is (s.address % 4) 0 (ap (λ n. n % 4) address ∙ can.start))))
+      (not_from_true (nat_eq (s.size % 4) 0) (equal_is (s.size % 4) 0 (omega (arith, size, length_words o.text)))))
+      (not_from_true (is_some (holder_of (output_file o) s)) held)
 
   good_section : (k : ℕ) → k < shnum_of (output_file o) → is_bad_text_section (output_file o) k ≡ false
   good_section k within =
       ⊎_elim
       (λ (same : k ≡ 1).
       subst (λ j. is_bad_text_section (output_file o) j ≡ false) (sym same)
-      (second_fails (is_executable (section_of (output_file o) 1)) _ (code_forms (section_of (output_file o) 1) code_is (ap is_some holder_is))))
+      (and_right (is_executable (section_of (output_file o) 1)) _ (code_forms (section_of (output_file o) 1) code_is (ap is_some holder_is))))
       (λ (apart : k ≡ 1 → ⊥). rw (no_code (section_of (output_file o) k) (plain k within apart)) refl)
       (cases_eq k 1)
 
@@ -366,7 +356,7 @@ module _ (o : Output) (can : IsAcceptable o) where
       (λ (same : k ≡ 1).
       subst (λ j. splits (output_file o) (text_of (output_file o)) (text_segment_of (output_file o)) j ≡ false) (sym same)
       (let held : holds_at (output_file o) (section_of (output_file o) 1) (text_segment_of (output_file o)) ≡ true = subst (λ j. holds_at (output_file o) (section_of (output_file o) 1) j ≡ true) (sym text_segment_is) holds_text in
-      rw code_runs (unless (holds_at (output_file o) (section_of (output_file o) 1) (text_segment_of (output_file o))) held)))
+      rw code_runs (not_from_true (holds_at (output_file o) (section_of (output_file o) 1) (text_segment_of (output_file o))) held)))
       (λ (apart : k ≡ 1 → ⊥).
       let flags = plain k within apart in
       rw (no_code (section_of (output_file o) k) flags, not_loaded (section_of (output_file o) k) flags) refl)
@@ -376,7 +366,7 @@ module _ (o : Output) (can : IsAcceptable o) where
   unmoved =
       let here = at (length o.before) place_within in
       let is = ap (segment_of (output_file o)) text_segment_is ∙ text_segment here in
-      unless (nat_eq (segment_of (output_file o) (text_segment_of (output_file o))).load_address (segment_of (output_file o) (text_segment_of (output_file o))).address)
+      not_from_true (nat_eq (segment_of (output_file o) (text_segment_of (output_file o))).load_address (segment_of (output_file o) (text_segment_of (output_file o))).address)
       (equal_is (segment_of (output_file o) (text_segment_of (output_file o))).load_address (segment_of (output_file o) (text_segment_of (output_file o))).address
       (ap (λ (s : Segment). s.load_address) is ∙ sym (ap (λ (s : Segment). s.address) is)))
 
@@ -457,7 +447,7 @@ module _ (o : Output) (can : IsAcceptable o) where
 
   sizes_pass : AllPass (size_rows (output_file o))
   sizes_pass =
-      (λ k within. few_pieces, (λ k within. few_bytes, (λ k within. unless (is_text_word (text_of (output_file o)) (entry_of (output_file o))) good_entry, tt)))
+      (λ k within. few_pieces, (λ k within. few_bytes, (λ k within. not_from_true (is_text_word (text_of (output_file o)) (entry_of (output_file o))) good_entry, tt)))
 
   pub accepted : file_refusal_of (output_file o) ≡ None
   unfolding file_refusal_of

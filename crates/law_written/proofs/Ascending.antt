@@ -1,14 +1,13 @@
 -- The segments of an output file ascend by address; its text is the words of the graph.
 use Rattle.std.proofs.Common.{◌≡◌, ℕ, ◌+◌, ◌-◌, ◌*◌, ◌/◌, ◌%◌, ◌<◌, ◌≤◌, nat_eq, nat_lt, nat_le, length, get_or, Some, slice_get, ⊎_elim, refl, sym, ap, subst, arith}
 use Rattle.std.specs.List.Sorted.{IsPermutation, IsNonDecreasingBy}
-use Rattle.std.proofs.lemmas.Bool.{cases_eq, cases_lt, leb-true, ltb-true, eqb-true}
+use Rattle.std.proofs.lemmas.Bool.{cases_eq, cases_lt, leb-true, ltb-true, eqb-true, and_parts}
 use Rattle.std.proofs.lemmas.List.Sorted.{IsPermutation-refl}
 use Rattle.std.proofs.lemmas.Option.{get_or_from_slice_get}
 use Rattle.sq_elf.specs.declared.segment.Segment.{Segment}
 use Rattle.sq_elf.specs.declared.text.Text.{Text}
 use Rattle.sq_elf.specs.Memory.{AreSegments}
 use Rattle.sq_elf.specs.Text.{text_of, is_in_text}
-use Rattle.sq_elf.proofs.TextFacts.{both_true}
 use Rattle.sq_graph.specs.Words.{words_of}
 use Rattle.sq_write.specs.Output.{Piece, Output, pieces_of, pieces_at, output_file}
 use Rattle.sq_write.specs.Written.{written}
@@ -77,7 +76,7 @@ written_text_is_words = λ bytes g can address is.
     let sizes = written_sizes bytes g can in
     let low : (text_of (written bytes g)).lo ≡ (text_of bytes).lo = ap (λ (t : Text). t.lo) sizes.text in
     let high : (text_of (written bytes g)).hi ≡ (text_of bytes).lo + 4 * words_of g = ap (λ (t : Text). t.hi) sizes.text in
-    let parts = both_true (is_in_text (text_of (written bytes g)) address) (nat_eq (address % 4) 0) is in
-    let ends = both_true (nat_le (text_of (written bytes g)).lo address) (nat_lt address (text_of (written bytes g)).hi) parts.0 in
+    let parts = and_parts (is_in_text (text_of (written bytes g)) address) (nat_eq (address % 4) 0) is in
+    let ends = and_parts (nat_le (text_of (written bytes g)).lo address) (nat_lt address (text_of (written bytes g)).hi) parts.0 in
     word_place (text_of bytes).lo ((text_of bytes).lo + 4 * words_of g) address (words_of g) refl (facts bytes can.accepted).inside.low_word
     (omega (arith, low, leb-true (text_of (written bytes g)).lo address ends.0)) (omega (arith, high, ltb-true address (text_of (written bytes g)).hi ends.1)) (eqb-true (address % 4) 0 parts.1)

@@ -1,13 +1,12 @@
 -- Each byte of a written file is below 256.
 use Rattle.std.proofs.Common.{◌≡◌, ℕ, zero, suc, ◌+◌, ◌*◌, ◌%◌, ◌<◌, Bool, true, false, ◌&&◌, ◌⊎◌, inl, inr, nat_lt, List, [], ◌∷◌, ◌++◌, take, drop, replicate, length, codes, get_or, Option, Some, None, refl, arith}
 use Rattle.std.specs.List.{AllByRecursion}
-use Rattle.std.proofs.lemmas.Bool.{cases_Bool, ltb-true}
+use Rattle.std.proofs.lemmas.Bool.{cases_Bool, ltb-true, and_parts}
 use Rattle.byteorder.specs.Endian.{little_bytes}
 use Rattle.sq_elf.specs.declared.segment.Segment.{Segment}
 use Rattle.sq_elf.specs.Memory.{segments_of, file_bytes_of}
 use Rattle.sq_elf.specs.Ranges.{leaves, bytes_at}
 use Rattle.sq_elf.specs.Text.{text_of}
-use Rattle.sq_elf.proofs.TextFacts.{both_true}
 use Rattle.sq_graph.specs.Graph.{Procedure}
 use Rattle.sq_graph.specs.Words.{procedure_words}
 use Rattle.sq_reloc.specs.Outside.{word_start}
@@ -30,7 +29,7 @@ are_bytes (b ∷ bs) = nat_lt b 256 && are_bytes bs
 tested : (bs : List ℕ) → are_bytes bs ≡ true → AllByRecursion (λ b. b < 256) bs
 unfolding are_bytes
 tested [] is = tt
-tested (b ∷ bs) is = let two = both_true (nat_lt b 256) (are_bytes bs) is in (ltb-true b 256 two.0, tested bs two.1)
+tested (b ∷ bs) is = let two = and_parts (nat_lt b 256) (are_bytes bs) is in (ltb-true b 256 two.0, tested bs two.1)
 
 words_bytes : (ns : List ℕ) → AllByRecursion (λ b. b < 256) (words ns)
 words_bytes [] = tt

@@ -2,7 +2,7 @@
 use Rattle.std.proofs.Common.{◌≡◌, ℕ, suc, ◌+◌, ◌*◌, ◌%◌, ◌^◌, ◌<◌, ◌≤◌, Bool, true, false, not, ◌&&◌, ◌⊎◌, inl, inr, ⊎_elim, nat_eq, nat_lt, nat_le, List, [], ◌∷◌, ◌++◌, length, map, filter, Option, Some, None, option_map, refl, sym, ap, subst, ◌∙◌, arith, eq-eqb}
 use Rattle.std.specs.List.{AllByRecursion, find, list_any}
 use Rattle.std.specs.Option.{option_or, is_some}
-use Rattle.std.proofs.lemmas.Bool.{cases_Bool, cases_lt, lt-ltb, le-leb, eqb-true}
+use Rattle.std.proofs.lemmas.Bool.{cases_Bool, cases_lt, lt-ltb, le-leb, eqb-true, and_left, and_right}
 use Rattle.std.proofs.lemmas.Bool.Decides.{nat_tests}
 use Rattle.std.proofs.lemmas.List.Folds.{find-append}
 use Rattle.sq_elf.specs.declared.text.Text.{Text}
@@ -19,7 +19,6 @@ use Rattle.sq_write.specs.Pieces.{set_word_at}
 use Rattle.sq_write.specs.Points.{new_address}
 use Rattle.sq_write.specs.Written.{word_entry, entries_of, written}
 use Rattle.law_written.specs.Written.{IsWritable}
-use Rattle.law_written.proofs.Accepting.{second_fails}
 use Rattle.law_written.proofs.Pairs.{all_append, all_map}
 use Rattle.law_written.proofs.Sound.{facts}
 use Rattle.law_written.proofs.Writing.{written_sizes}
@@ -49,9 +48,6 @@ small_target k r small = omega arith
 
 out_of_text : (low high lower x : ℕ) → lower ≤ high → (nat_le low x && nat_lt x high) ≡ false → (nat_le low x && nat_lt x lower) ≡ false
 out_of_text low high lower x less out = grind (arith, nat_tests)
-
-first_fails : (a b : Bool) → a ≡ false → (a && b) ≡ false
-first_fails a b fails = rw fails refl
 
 or_none : {X : Type 0} (found : Option X) → option_or found None ≡ found
 or_none None = refl
@@ -133,7 +129,7 @@ module _ (bytes : List ℕ) (g : Graph) (can : IsWritable bytes g) where
   makes_none : (k : ℕ) (r : Relocation) → IsWritten r → makes_stale new_text (read_entry k r) ≡ false
   makes_none k r (inl entry) =
       let code : is_code_entry new_text (read_entry k r) ≡ true = subst (λ x. is_code_entry new_text (read_entry k x) ≡ true) (sym entry.is) (word_is_code k entry.word entry.good) in
-      second_fails (is_outside new_text (read_entry k r) && is_data_kind (read_entry k r).kind && is_in_text new_text (target_of (read_entry k r))) (not (is_code_entry new_text (read_entry k r))) (ap not code)
+      and_right (is_outside new_text (read_entry k r) && is_data_kind (read_entry k r).kind && is_in_text new_text (target_of (read_entry k r))) (not (is_code_entry new_text (read_entry k r))) (ap not code)
   makes_none k r (inr half) = rw (half_outside k r half) refl
 
   stale_by_none : (address : ℕ) → is_stale_by (text_of (written bytes g)) (read_entries (written bytes g)) address ≡ false
@@ -141,19 +137,19 @@ module _ (bytes : List ℕ) (g : Graph) (can : IsWritable bytes g) where
       ap (λ t. is_stale_by t (read_entries (written bytes g)) address) text_is
       ∙ ap (λ es. is_stale_by new_text es address) (entries_here bytes g can)
       ∙ none_passes IsWritten (λ e. makes_stale new_text e && touches e address)
-      (λ k r is. first_fails (makes_stale new_text (read_entry k r)) (touches (read_entry k r) address) (makes_none k r is))
+      (λ k r is. and_left (makes_stale new_text (read_entry k r)) (touches (read_entry k r) address) (makes_none k r is))
       (entries_of g (text_of bytes).lo) 0 all_written
 
   untouched : (address : ℕ) → is_touched (written bytes g) address ≡ false
   untouched address =
-      second_fails (not (is_in_text (text_of (written bytes g)) address)) (is_stale_by (text_of (written bytes g)) (read_entries (written bytes g)) address) (stale_by_none address)
+      and_right (not (is_in_text (text_of (written bytes g)) address)) (is_stale_by (text_of (written bytes g)) (read_entries (written bytes g)) address) (stale_by_none address)
 
   pub unbeaten : (address : ℕ) → is_beaten (written bytes g) address ≡ false
   unbeaten address = rw (untouched address, untouched (address + 1), untouched (address + 2), untouched (address + 3)) refl
 
   not_stale : (address : ℕ) → is_stale (written bytes g) address ≡ false
   not_stale address =
-      let beaten = second_fails (is_some (code_target (written bytes g) (word_start address))) (is_beaten (written bytes g) (word_start address)) (unbeaten (word_start address)) in
+      let beaten = and_right (is_some (code_target (written bytes g) (word_start address))) (is_beaten (written bytes g) (word_start address)) (unbeaten (word_start address)) in
       rw (untouched address, beaten) refl
 
   -- The code word at an address
@@ -196,7 +192,7 @@ module _ (bytes : List ℕ) (g : Graph) (can : IsWritable bytes g) where
     halves_fail : (n : ℕ) → find test (numbered n (half_entries bytes g can)) ≡ None
     halves_fail n =
         none_found (IsHalf g (text_of bytes).lo (text_of bytes).lo ((text_of bytes).lo + 4 * words_of g)) test
-        (λ k r half. first_fails (is_code_entry new_text (read_entry k r)) (nat_eq (read_entry k r).offset address) (half_is_no_code k r half))
+        (λ k r half. and_left (is_code_entry new_text (read_entry k r)) (nat_eq (read_entry k r).offset address) (half_is_no_code k r half))
         (half_entries bytes g can) n (text_halves bytes g can)
 
     in_parts : (low half high : List Relocation) → find test (numbered 0 (low ++ half ++ high)) ≡ option_or (option_or (find test (numbered 0 low)) (find test (numbered (0 + length low) half))) (find test (numbered (0 + length (low ++ half)) high))

@@ -1,7 +1,7 @@
 -- What leads into a noted procedure of the file of a graph: its calls alone.
 use Rattle.std.proofs.Common.{◌≡◌, ℕ, zero, suc, pos, ◌+◌, ◌*◌, ◌%◌, ◌^◌, ◌<◌, ◌≤◌, ◌==◌, Bool, true, false, not, ◌&&◌, ◌||◌, ◌⊎◌, inl, inr, List, [], ◌∷◌, ◌++◌, length, map, sum_by, Some, if◌then◌else◌, refl, sym, ap, subst, ◌∙◌, arith, length-append, eq-eqb}
 use Rattle.std.specs.List.{All, list_any}
-use Rattle.std.proofs.lemmas.Bool.{cases_Bool}
+use Rattle.std.proofs.lemmas.Bool.{cases_Bool, or_from, and_left, and_right}
 use Rattle.std.proofs.lemmas.Bool.Decides.{nat_tests}
 use Rattle.std.proofs.lemmas.List.Elements.{All-head, All-tail}
 use Rattle.std.proofs.lemmas.List.Sums.{sum_by-cons}
@@ -31,7 +31,6 @@ use Rattle.law_program.specs.Notes.{is_within, is_in_procedure, is_call, enters_
 use Rattle.sq_write.specs.Points.{Point, new_address, new_start, call_link, offset_to, item_point, items_points, stop_insn, plain_point, term_points, block_points, blocks_points, procedure_points, procedures_at, procedures_points}
 use Rattle.sq_write.proofs.Fitting.{new_spot}
 use Rattle.sq_write.proofs.Lengths.{length_items, length_term}
-use Rattle.law_written.proofs.Accepting.{second_fails}
 use Rattle.law_written.specs.Programs.{word_at_point}
 use Rattle.law_written.specs.Words.{point_mark}
 use Rattle.law_written.proofs.Faults.{no_target, stop_facts, own_word, some_room, rest_stops, procedure_placed, block_placed, IsPlaced}
@@ -64,12 +63,6 @@ is_inside at (suc n) (suc j) less =
 
 -- ONE WORD
 
-either_false : (x y : Bool) → x ≡ false → y ≡ false → (x || y) ≡ false
-either_false x y first second = rw (first, second) refl
-
-first_fails : (a b : Bool) → a ≡ false → (a && b) ≡ false
-first_fails a b fails = rw fails refl
-
 module _ (n : Note) where
   abbrev within : ℕ → Bool
   within x = is_in_procedure n x
@@ -80,15 +73,15 @@ module _ (n : Note) where
   -- from outside: neither the half, nor the next word, nor a target other than a call leads in
   outside_quiet : (at : ℕ) (mark : Mark) (insn : Insn) → list_any within (half_target mark) ≡ false → list_any within (next_word at insn) ≡ false → list_any (λ x. within x && not (is_call n insn x)) (jump_target at insn) ≡ false → Quiet at mark insn
   outside_quiet at mark insn half next jump =
-      either_false (list_any within (half_target mark)) (enters_from_outside n at insn) half
-      (second_fails (not (within at)) (list_any within (next_word at insn) || list_any (λ x. within x && not (is_call n insn x)) (jump_target at insn))
-      (either_false (list_any within (next_word at insn)) (list_any (λ x. within x && not (is_call n insn x)) (jump_target at insn)) next jump))
+      or_from (list_any within (half_target mark)) (enters_from_outside n at insn) half
+      (and_right (not (within at)) (list_any within (next_word at insn) || list_any (λ x. within x && not (is_call n insn x)) (jump_target at insn))
+      (or_from (list_any within (next_word at insn)) (list_any (λ x. within x && not (is_call n insn x)) (jump_target at insn)) next jump))
 
   -- from inside: the half doesn't
   inside_quiet : (at : ℕ) (mark : Mark) (insn : Insn) → within at ≡ true → list_any within (half_target mark) ≡ false → Quiet at mark insn
   inside_quiet at mark insn inside half =
-      either_false (list_any within (half_target mark)) (enters_from_outside n at insn) half
-      (first_fails (not (within at)) (list_any within (next_word at insn) || list_any (λ x. within x && not (is_call n insn x)) (jump_target at insn)) (ap not inside))
+      or_from (list_any within (half_target mark)) (enters_from_outside n at insn) half
+      (and_left (not (within at)) (list_any within (next_word at insn) || list_any (λ x. within x && not (is_call n insn x)) (jump_target at insn)) (ap not inside))
 
   next_out : (at : ℕ) (insn : Insn) → (within (at + 4) ≡ false) ⊎ (insn_goes_on insn ≡ false) → list_any within (next_word at insn) ≡ false
   next_out at insn (inl out) = by_test (insn_goes_on insn)
@@ -117,8 +110,8 @@ module _ (n : Note) where
   none_enters is at (p ∷ ps) fits quiet =
       let there : insn_in (word_at_point p) ≡ Some p.insn = insn_of-word_of p.insn fits.0 in
       let one : marked_enters n at (point_mark p) (insn_in (word_at_point p)) ≡ false = ap (marked_enters n at (point_mark p)) there ∙ quiet.0 in
-      either_false (is at && marked_enters n at (point_mark p) (insn_in (word_at_point p))) (words_enter is n (at + 4) (map word_at_point ps))
-      (second_fails (is at) (marked_enters n at (point_mark p) (insn_in (word_at_point p))) one)
+      or_from (is at && marked_enters n at (point_mark p) (insn_in (word_at_point p))) (words_enter is n (at + 4) (map word_at_point ps))
+      (and_right (is at) (marked_enters n at (point_mark p) (insn_in (word_at_point p))) one)
       (none_enters is (at + 4) ps fits.1 quiet.1)
 
 -- a block of a list that ends stands before the end of the list
@@ -171,8 +164,8 @@ module _ (g : Graph) (lo : ℕ) (rules : IsGraph g) (few : words_of g ≤ 262144
       by_call lead (inr own) =
           let link : (call_link g q == n.link) ≡ true = eq-eqb (call_link g q) n.link (sym own.0) in
           let start : (target_from at (offset_to at (new_start g lo q)) == n.address) ≡ true = eq-eqb (target_from at (offset_to at (new_start g lo q))) n.address (lead ∙ sym own.1) in
-          either_false (is_in_procedure n (target_from at (offset_to at (new_start g lo q))) && not ((call_link g q == n.link) && (target_from at (offset_to at (new_start g lo q)) == n.address))) false
-          (second_fails (is_in_procedure n (target_from at (offset_to at (new_start g lo q)))) (not ((call_link g q == n.link) && (target_from at (offset_to at (new_start g lo q)) == n.address))) (rw (link, start) refl)) refl
+          or_from (is_in_procedure n (target_from at (offset_to at (new_start g lo q))) && not ((call_link g q == n.link) && (target_from at (offset_to at (new_start g lo q)) == n.address))) false
+          (and_right (is_in_procedure n (target_from at (offset_to at (new_start g lo q)))) (not ((call_link g q == n.link) && (target_from at (offset_to at (new_start g lo q)) == n.address))) (rw (link, start) refl)) refl
 
   abbrev Keeps : Item → Type 0
   Keeps = ItemStands (HasBlock g) (HasProcedure g)

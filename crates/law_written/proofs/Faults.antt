@@ -2,7 +2,7 @@
 use Rattle.std.proofs.Common.{◌≡◌, ℕ, zero, suc, pos, ◌+◌, ◌*◌, ◌%◌, ◌^◌, ◌<◌, ◌≤◌, ◌==◌, Bool, true, false, not, ◌&&◌, ◌⊎◌, inl, inr, List, [], ◌∷◌, ◌++◌, length, map, sum_by, Some, None, slice_get, refl, ap, subst, ◌∙◌, arith, length-append, eq-eqb}
 use Rattle.std.specs.List.{All, list_any}
 use Rattle.std.specs.Option.{is_some, unwrap_or}
-use Rattle.std.proofs.lemmas.Bool.{cases_Bool}
+use Rattle.std.proofs.lemmas.Bool.{cases_Bool, and_right}
 use Rattle.std.proofs.lemmas.Bool.Decides.{nat_tests}
 use Rattle.std.proofs.lemmas.List.{length-map}
 use Rattle.std.proofs.lemmas.List.Elements.{All-head, All-tail}
@@ -34,7 +34,6 @@ use Rattle.law_program.specs.Faults.{mark_refusal, is_astray, falls_off, is_auip
 use Rattle.sq_write.specs.Points.{Point, new_address, new_start, call_link, offset_to, low_entry, item_point, items_points, stop_insn, plain_point, term_points, block_points, blocks_points, procedure_points, procedures_at, procedures_points, text_points}
 use Rattle.sq_write.proofs.Fitting.{new_spot, text_stands}
 use Rattle.sq_write.proofs.Lengths.{length_items, length_term, length_blocks, length_text}
-use Rattle.law_written.proofs.Accepting.{second_fails}
 use Rattle.law_written.proofs.Lists.{some_at}
 use Rattle.law_written.specs.Faults.{WrittenTextIsNotRefused}
 use Rattle.law_written.specs.Programs.{word_at_point, graph_text}
@@ -83,7 +82,7 @@ plain_fine t at insn straight stays no_auipc = record {
   straight = rw straight refl;
   stays = stays;
   no_auipc = no_auipc;
-  reads = second_fails (is_access insn) false refl;
+  reads = and_right (is_access insn) false refl;
   agrees = refl;
   paired = refl;
 }
@@ -152,11 +151,11 @@ module _ (g : Graph) (lo : ℕ) (rules : IsGraph g) (few : words_of g ≤ 262144
   even_place : (x : ℕ) → IsPlaced x → (is_in_text (graph_text g lo) x && not (x % 4 == 0)) ≡ false
   even_place x placed =
       let aligned : (x % 4 == 0) ≡ true = eq-eqb (x % 4) 0 (omega (arith, placed.is, even)) in
-      second_fails (is_in_text (graph_text g lo) x) (not (x % 4 == 0)) (ap not aligned)
+      and_right (is_in_text (graph_text g lo) x) (not (x % 4 == 0)) (ap not aligned)
 
   -- text goes on behind the word, or the instruction doesn't
   more_text : (at : ℕ) (insn : Insn) → at + 4 < lo + 4 * words_of g → falls_off (graph_text g lo) at insn ≡ false
-  more_text at insn less = second_fails (insn_goes_on insn) (at + 4 == end_of (graph_text g lo)) (not_there (at + 4) (end_of (graph_text g lo)) (omega (arith, size, less)))
+  more_text at insn less = and_right (insn_goes_on insn) (at + 4 == end_of (graph_text g lo)) (not_there (at + 4) (end_of (graph_text g lo)) (omega (arith, size, less)))
 
   last_word : (at : ℕ) (insn : Insn) → insn_goes_on insn ≡ false → falls_off (graph_text g lo) at insn ≡ false
   last_word at insn stops = rw stops refl

@@ -2,7 +2,7 @@
 use Rattle.std.proofs.Common.{◌≡◌, ◌≢◌, inl, inr, ℕ, zero, suc, ◌+◌, ◌%◌, ◌^◌, ◌<◌, ◌≤◌, nat_eq, nat_le, nat_lt, max, Bool, true, false, ◌==◌, ◌&&◌, ◌||◌, List, [], ◌∷◌, ◌++◌, length, map, Option, Some, None, slice_get, slice_index, if◌then◌else◌, refl, sym, ap, ◌∙◌, subst, arith}
 use Rattle.std.specs.Option.{option_map}
 use Rattle.std.specs.List.{All, AllByRecursion, find, flat_map}
-use Rattle.std.proofs.lemmas.Bool.{cases_lt, cases_eq}
+use Rattle.std.proofs.lemmas.Bool.{cases_lt, cases_eq, and_parts, or_parts}
 use Rattle.std.proofs.lemmas.Bool.Decides.{nat_tests}
 use Rattle.std.proofs.lemmas.List.{map-append}
 use Rattle.std.proofs.lemmas.List.Elements.{All-head, All-tail}
@@ -20,7 +20,7 @@ use Rattle.sq_elf.specs.Text.{text_of as text_range, text_segment_of}
 use Rattle.sq_elf.proofs.Accepted.{segments_accepted}
 use Rattle.sq_elf.proofs.Apart.{pieces_are_apart}
 use Rattle.sq_elf.proofs.Passing.{IsFirst, found_from, row_passes}
-use Rattle.sq_elf.proofs.TextFacts.{both_true, neither, second_false, TextFacts, text_facts}
+use Rattle.sq_elf.proofs.TextFacts.{second_false, TextFacts, text_facts}
 use Rattle.sq_reloc.specs.declared.mark.CodeWord.{CodeWord}
 use Rattle.sq_reloc.specs.Outside.{is_stale, word_start}
 use Rattle.sq_reloc.specs.CodeWords.{listed_at, IsCodeWord}
@@ -186,8 +186,8 @@ module _ (bytes : List ℕ) (is : ℕ → Bool) (p : Program) (g : Graph) (read 
     where
       by : (j : ℕ) → j < phnum_of bytes → has_word bytes a j ≡ true → Stored a
       by j below has =
-          let parts = both_true (is_load bytes j) (nat_le (segment_of bytes j).address a && nat_le (a + 4) ((segment_of bytes j).address + (segment_of bytes j).filesz)) has in
-          let ends = both_true (nat_le (segment_of bytes j).address a) (nat_le (a + 4) ((segment_of bytes j).address + (segment_of bytes j).filesz)) parts.1 in
+          let parts = and_parts (is_load bytes j) (nat_le (segment_of bytes j).address a && nat_le (a + 4) ((segment_of bytes j).address + (segment_of bytes j).filesz)) has in
+          let ends = and_parts (nat_le (segment_of bytes j).address a) (nat_le (a + 4) ((segment_of bytes j).address + (segment_of bytes j).filesz)) parts.1 in
           record { index = j; within = below; load = parts.0; low = le_of (segment_of bytes j).address a ends.0; high = le_of (a + 4) ((segment_of bytes j).address + (segment_of bytes j).filesz) ends.1 }
         where
           le_of : (a b : ℕ) → nat_le a b ≡ true → a ≤ b
@@ -271,7 +271,7 @@ module _ (bytes : List ℕ) (is : ℕ → Bool) (p : Program) (g : Graph) (read 
             meet : lo < s.address + s.memsz → s.address < hi → ⊥
             meet more less =
                 let some = facts.inside.some in
-                let memory : 0 < s.memsz = lt_of 0 s.memsz (both_true (is_load bytes k) (nat_lt 0 s.memsz) has).1 in
+                let memory : 0 < s.memsz = lt_of 0 s.memsz (and_parts (is_load bytes k) (nat_lt 0 s.memsz) has).1 in
                 let x : ℕ = max lo s.address in
                 alone bytes read.file number facts.within facts.load (max lo s.address) (in_text_segment (max lo s.address) (omega arith) (omega (arith, some, less))) k within load differ
                 (record { from = omega arith; below = omega (arith, more, memory) })
@@ -283,7 +283,7 @@ module _ (bytes : List ℕ) (is : ℕ → Bool) (p : Program) (g : Graph) (read 
     loads =
         let good : is_bad_segment bytes k ≡ false = row_passes (bad_segment bytes) (segment_kind bytes ∷ segment_overlap bytes ∷ []) (segments_accepted bytes read.file) k within in
         let shaped = second_false (is_load bytes k) (is_misshapen s) good load in
-        let ends = neither (nat_lt s.memsz s.filesz || nat_lt (2 ^ 32) (s.address + s.memsz)) (nat_lt (2 ^ 32) (s.load_address + s.filesz)) shaped in
+        let ends = or_parts (nat_lt s.memsz s.filesz || nat_lt (2 ^ 32) (s.address + s.memsz)) (nat_lt (2 ^ 32) (s.load_address + s.filesz)) shaped in
         not_less (2 ^ 32) (s.load_address + s.filesz) ends.1
       where
         not_less : (a b : ℕ) → nat_lt a b ≡ false → b ≤ a

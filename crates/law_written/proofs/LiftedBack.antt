@@ -1,7 +1,7 @@
 -- The graph that is lifted from the file of a graph is that graph, with new addresses for names.
 use Rattle.std.proofs.Common.{◌≡◌, ℕ, pos, ◌+◌, ◌*◌, ◌-◌, ◌%◌, ◌^◌, ◌<◌, ◌≤◌, ◌==◌, Bool, true, false, not, ◌||◌, ◌⊎◌, inl, inr, List, [], ◌∷◌, ◌++◌, length, map, sum_by, refl, sym, ap, subst, ◌∙◌, arith, length-append, eq-eqb}
 use Rattle.std.specs.List.{All, AllByRecursion, flat_map}
-use Rattle.std.proofs.lemmas.Bool.{cases_lt, or_cases, or_left, or_right, or_from, and_from, and_right, eqb-true}
+use Rattle.std.proofs.lemmas.Bool.{cases_lt, or_cases, or_left, or_right, or_from, and_from, and_right, eqb-true, false_from_ne_true}
 use Rattle.std.proofs.lemmas.List.{length-map}
 use Rattle.std.proofs.lemmas.List.Elements.{All-nil, All-cons, All-head, All-tail, All-append, All-weaker}
 use Rattle.std.proofs.lemmas.List.Sums.{sum_by-cons}
@@ -50,10 +50,6 @@ among_all P (x ∷ xs) n all h =
       | inl here ↦ subst P (eqb-true x n here) (All-head P x xs all)
       | inr later ↦ among_all P xs n (All-tail P x xs all) later
     ]
-
-when_false : (b : Bool) → (b ≡ true → ⊥) → b ≡ false
-when_false true never = absurd (never refl)
-when_false false never = refl
 
 -- WORDS OF PROCEDURES
 
@@ -222,7 +218,7 @@ module _ (g : Graph) (lo : ℕ) (rules : IsGraph g) (few : words_of g ≤ 262144
       )
     where
       inside : (k : ℕ) → 0 < k → k < block_words b → leads (at + 4 * k) ≡ false
-      inside k more less = when_false (leads (at + 4 * k)) (λ h. let found = only_blocks (at + 4 * k) h in clash found (lies_apart g lo canonical b bs at split found.name found.there))
+      inside k more less = false_from_ne_true (leads (at + 4 * k)) (λ h. let found = only_blocks (at + 4 * k) h in clash found (lies_apart g lo canonical b bs at split found.name found.there))
         where
           clash : (found : IsNewAddress g lo (at + 4 * k)) → (new_address g lo found.name ≤ at) ⊎ (at + 4 * block_words b ≤ new_address g lo found.name) → ⊥
           clash found (inl low) = let same = found.is in omega (arith, low, same, more)

@@ -2,7 +2,7 @@
 use Rattle.std.proofs.Common.{◌≡◌, ◌≢◌, ℕ, zero, suc, pos, ◌+◌, ◌*◌, ◌%◌, ◌^◌, ◌<◌, ◌≤◌, ◌==◌, Bool, true, false, not, ◌||◌, ◌⊎◌, inl, inr, nat_lt, List, [], ◌∷◌, ◌++◌, length, map, sum_by, Option, Some, None, option_map, slice_get, refl, sym, ap, subst, ◌∙◌, arith, length-append, append_assoc, eq-eqb}
 use Rattle.std.specs.List.{All, list_any}
 use Rattle.std.specs.Option.{unwrap_or, option_or, option_and_then}
-use Rattle.std.proofs.lemmas.Bool.{lt-ltb}
+use Rattle.std.proofs.lemmas.Bool.{lt-ltb, or_from}
 use Rattle.std.proofs.lemmas.Bool.Decides.{nat_tests}
 use Rattle.std.proofs.lemmas.List.Elements.{All-head, All-tail}
 use Rattle.std.proofs.lemmas.List.Sums.{sum_by-cons, sum_by-append}
@@ -93,9 +93,6 @@ good_parts prog is before n order body quiet = rw (order, body, quiet) (by_test 
     by_test true = refl
     by_test false = refl
 
-either_false : (x y : Bool) → x ≡ false → y ≡ false → (x || y) ≡ false
-either_false x y first second = rw (first, second) refl
-
 module _ (g : Graph) (lo : ℕ) (rules : IsGraph g) (few : words_of g ≤ 262144) (ends : lo + 4 * words_of g ≤ 2 ^ 32) (even : lo % 4 ≡ 0) where
   abbrev Keeps : Item → Type 0
   Keeps = ItemStands (HasBlock g) (HasProcedure g)
@@ -166,7 +163,7 @@ module _ (g : Graph) (lo : ℕ) (rules : IsGraph g) (few : words_of g ≤ 262144
     words_out : (words : List CodeRef) → All (HasBlock g) (map (λ w. w.block) words) → list_any (is_in_procedure note) (map target_of (map (new_code_word g lo) words)) ≡ false
     words_out [] all = refl
     words_out (word ∷ words) all =
-        either_false (is_in_procedure note (new_address g lo word.block)) (list_any (is_in_procedure note) (map target_of (map (new_code_word g lo) words)))
+        or_from (is_in_procedure note (new_address g lo word.block)) (list_any (is_in_procedure note) (map target_of (map (new_code_word g lo) words)))
         (block_out word.block (All-head (HasBlock g) word.block (map (λ w. w.block) words) all)) (words_out words (All-tail (HasBlock g) word.block (map (λ w. w.block) words) all))
 
     text_quiet : AreQuiet note lo (text_points g lo)
@@ -183,8 +180,8 @@ module _ (g : Graph) (lo : ℕ) (rules : IsGraph g) (few : words_of g ≤ 262144
     not_entered : (is : ℕ → Bool) → AllFit (text_points g lo) → is_entered is (graph_program g lo) note ≡ false
     not_entered is fits =
         let by = by_block (HasBlock g) (HasProcedure g) g rules rules.named_all rules.called_all in
-        either_false (is_in_procedure note (new_address g lo g.entry) || list_any (is_in_procedure note) (map target_of (map (new_code_word g lo) g.code_words))) (words_enter is note lo (map word_at_point (text_points g lo)))
-        (either_false (is_in_procedure note (new_address g lo g.entry)) (list_any (is_in_procedure note) (map target_of (map (new_code_word g lo) g.code_words))) (block_out g.entry by.entry) (words_out g.code_words by.words))
+        or_from (is_in_procedure note (new_address g lo g.entry) || list_any (is_in_procedure note) (map target_of (map (new_code_word g lo) g.code_words))) (words_enter is note lo (map word_at_point (text_points g lo)))
+        (or_from (is_in_procedure note (new_address g lo g.entry)) (list_any (is_in_procedure note) (map target_of (map (new_code_word g lo) g.code_words))) (block_out g.entry by.entry) (words_out g.code_words by.words))
         (none_enters note is lo (text_points g lo) fits text_quiet)
 
   -- EACH NOTE

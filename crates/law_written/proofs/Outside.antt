@@ -1,6 +1,6 @@
 -- The code words in the file of a graph: each stands in a piece beside text, and the word there is the new address.
 use Rattle.std.proofs.Common.{◌≡◌, ℕ, zero, suc, ◌+◌, ◌-◌, ◌%◌, ◌^◌, ◌<◌, ◌≤◌, Bool, true, false, ◌⊎◌, inl, inr, ⊎_elim, nat_lt, nat_le, min, List, [], ◌∷◌, ◌++◌, length, map, filter, take, drop, Option, Some, None, option_map, slice_get, if◌then◌else◌, refl, sym, ap, subst, ◌∙◌, arith}
-use Rattle.std.proofs.lemmas.Bool.{cases_Bool, cases_lt, lt-ltb, le-leb}
+use Rattle.std.proofs.lemmas.Bool.{cases_Bool, cases_lt, lt-ltb, le-leb, and_right}
 use Rattle.std.proofs.lemmas.List.{length-take, length-drop}
 use Rattle.std.proofs.lemmas.Option.{slice_get_within}
 use Rattle.byteorder.specs.Endian.{little_bytes}
@@ -25,7 +25,7 @@ use Rattle.law_written.specs.Accepting.{IsAcceptable}
 use Rattle.law_written.specs.Fitting.{IsFittingPiece}
 use Rattle.law_written.specs.Reading.{segment_at}
 use Rattle.law_written.specs.Written.{IsWritable}
-use Rattle.law_written.proofs.Accepting.{some_from, at_most_not, second_fails, order_at, at, made_of, same_piece}
+use Rattle.law_written.proofs.Accepting.{some_from, at_most_not, order_at, at, made_of, same_piece}
 use Rattle.law_written.proofs.Lists.{all_at}
 use Rattle.law_written.proofs.Pairs.{all_map}
 use Rattle.law_written.proofs.OutputParts.{PartAt, part_here, part_behind as part_later, part_from, part_in, word_read}
@@ -165,7 +165,7 @@ word_is_set set x (suc m) v (b ∷ bs) aligned is long =
 
 module _ (o : Output) (can : IsAcceptable o) (j : ℕ) (p : Piece) (is_piece : slice_get (pieces_of o) j ≡ Some p) (w v : ℕ) (low : p.address ≤ w) (has : PartAt p.bytes (w - p.address) (little_bytes 4 v)) (high : w + 4 ≤ p.address + length p.bytes) (small : v < 2 ^ 32) where
   not_in : (q : Piece) → q.address + length q.bytes ≤ p.address → lies_in w 4 q.address (length q.bytes) ≡ false
-  not_in q ends = second_fails (nat_le q.address w) (nat_le (w + 4) (q.address + length q.bytes)) (at_most_not (w + 4) (q.address + length q.bytes) (omega arith))
+  not_in q ends = and_right (nat_le q.address w) (nat_le (w + 4) (q.address + length q.bytes)) (at_most_not (w + 4) (q.address + length q.bytes) (omega arith))
 
   within : j < phnum_of (output_file o)
   within = omega (arith, count_is o can.fits, slice_get_within (pieces_of o) j p is_piece)
@@ -175,7 +175,7 @@ module _ (o : Output) (can : IsAcceptable o) (j : ℕ) (p : Piece) (is_piece : s
       let here = at o can i (omega (arith, within)) in
       let before = order_at (pieces_of o) can.in_order i j here.piece p below here.is_piece is_piece in
       let fitting = all_at IsFittingPiece (pieces_of o) can.fits.pieces i here.piece here.is_piece in
-      second_fails (is_load (output_file o) i) (lies_in w 4 (segment_of (output_file o) i).address (segment_of (output_file o) i).filesz)
+      and_right (is_load (output_file o) i) (lies_in w 4 (segment_of (output_file o) i).address (segment_of (output_file o) i).filesz)
       (subst (λ (s : Segment). lies_in w 4 s.address s.filesz ≡ false) (sym (made_of o can i here)) (not_in here.piece (omega (arith, before.ends, fitting.stored))))
 
   here : Knows o can.fits j

@@ -4,11 +4,11 @@ use Rattle.std.specs.List.{Any, list_any}
 use Rattle.std.specs.Int.Bits.{and_zero_r}
 use Rattle.std.proofs.lemmas.Bool.Decides.{nat_tests}
 use Rattle.std.proofs.lemmas.Nat.{and_block, and_mask}
+use Rattle.std.proofs.lemmas.Bool.{and_from, and_parts}
 use Rattle.sq_system.specs.Starts.{Start}
 use Rattle.sq_system.specs.World.{PF_X, PF_W, is_in, is_in_with, is_writable, is_executable}
 use Rattle.sq_system.specs.declared.piece.Piece.{Piece}
 use Rattle.sq_elf.specs.Memory.{MemoryPiece}
-use Rattle.sq_elf.proofs.TextFacts.{both_true}
 use Rattle.sq_machine.specs.Starts.{piece_of, world_at_start}
 use Rattle.sq_run.specs.FileRuns.{start_piece}
 use Rattle.sq_write.specs.Pieces.{without_x}
@@ -55,13 +55,10 @@ never_executed flags = ap (λ n. not (n == 0)) (first_bit flags)
 abbrev plain : MemoryPiece → Piece
 plain m = piece_of (start_piece m)
 
-and_true : (a b : Bool) → a ≡ true → b ≡ true → (a && b) ≡ true
-and_true a b e f = rw (e, f) refl
-
 module _ (x : ℕ) where
   inside : (m : MemoryPiece) → is_in x (plain m) ≡ true → (m.address ≤ x) × (x < m.address + m.length)
   inside m e =
-      let p = both_true (nat_le m.address x) (nat_lt x (m.address + m.length)) e in
+      let p = and_parts (nat_le m.address x) (nat_lt x (m.address + m.length)) e in
       (le_of m.address x p.0, lt_of x (m.address + m.length) p.1)
     where
       le_of : (a b : ℕ) → nat_le a b ≡ true → a ≤ b
@@ -71,7 +68,7 @@ module _ (x : ℕ) where
       lt_of a b e = grind (arith, nat_tests)
 
   is_inside : (m : MemoryPiece) → m.address ≤ x → x < m.address + m.length → is_in x (plain m) ≡ true
-  is_inside m low high = and_true (nat_le m.address x) (nat_lt x (m.address + m.length)) (le_is m.address x low) (lt_is x (m.address + m.length) high)
+  is_inside m low high = and_from (nat_le m.address x) (nat_lt x (m.address + m.length)) (le_is m.address x low) (lt_is x (m.address + m.length) high)
     where
       le_is : (a b : ℕ) → a ≤ b → nat_le a b ≡ true
       le_is a b h = grind (arith, nat_tests)
@@ -97,11 +94,11 @@ module _ (x : ℕ) where
 
   with_in : (permission : ℕ) (m : MemoryPiece) → is_in_with permission x (plain m) ≡ true → InWith (passes permission) x m
   with_in permission m e =
-      let p = both_true (is_in x (plain m)) (not (bit_and m.flags permission == 0)) e in
+      let p = and_parts (is_in x (plain m)) (not (bit_and m.flags permission == 0)) e in
       let i = inside m p.0 in (i.0, i.1, p.1)
 
   in_with : (permission : ℕ) (m : MemoryPiece) → InWith (passes permission) x m → is_in_with permission x (plain m) ≡ true
-  in_with permission m h = and_true (is_in x (plain m)) (not (bit_and m.flags permission == 0)) (is_inside m h.0 h.1) h.2
+  in_with permission m h = and_from (is_in x (plain m)) (not (bit_and m.flags permission == 0)) (is_inside m h.0 h.1) h.2
 
   pub executable_in : (start : Start) (ms : List MemoryPiece) → is_executable (world_at_start (map start_piece ms) start) x ≡ true → Somewhere (InWith (passes PF_X) x) ms
   unfolding is_executable

@@ -1,6 +1,6 @@
 -- No step of the plain machine changes text, where the tagged step doesn't break.
 use Rattle.std.proofs.Common.{◌≡◌, ◌⊎◌, inl, inr, ℕ, ◌+◌, ◌-◌, ◌^◌, ◌<◌, ◌≤◌, Bool, true, false, not, ◌==◌, ◌&&◌, ◌||◌, List, length, take, length-take, min, max, Option, Some, None, if◌then◌else◌, refl, sym, ◌∙◌, subst, arith, nat_lt, nat_le}
-use Rattle.std.proofs.lemmas.Bool.{and_parts, eqb-true, cases_lt}
+use Rattle.std.proofs.lemmas.Bool.{and_parts, eqb-true, cases_lt, not-false, or_parts}
 use Rattle.std.proofs.lemmas.Bool.Decides.{nat_tests}
 use Rattle.byteorder.specs.Endian.{little_bytes}
 use Rattle.sq_isa.specs.Words.{wrapped, unsigned, upper_word}
@@ -49,17 +49,13 @@ either : (P : Effect → Type 0) (b : Bool) (x y : Effect) → (b ≡ true → P
 either P true x y f g = f refl
 either P false x y f g = g refl
 
-is_true : (b : Bool) → not b ≡ false → b ≡ true
-is_true true e = refl
-is_true false e = absurd (cc)
-
 least_first : (a b : ℕ) → min a b ≤ a
 least_first a b = omega arith
 
 read_guarded : (call : CallArgs) → (call.number == 63) ≡ true → IsGuarded call (read_effect call)
 read_guarded call n =
     either (IsGuarded call) (not (call.a0 == 0)) _ _ (λ e. tt)
-    (λ e. either (IsGuarded call) (not call.writable) _ _ (λ f. tt) (λ f. (n, is_true (call.a0 == 0) e, is_true call.writable f, least_first call.a2 call.left)))
+    (λ e. either (IsGuarded call) (not call.writable) _ _ (λ f. tt) (λ f. (n, not-false (call.a0 == 0) e, not-false call.writable f, least_first call.a2 call.left)))
 
 write_guarded : (call : CallArgs) → IsGuarded call (write_effect call)
 write_guarded call =
@@ -73,10 +69,6 @@ effect_guarded call =
     (λ _. either (IsGuarded call) (call.number == 63) _ _ (λ e. read_guarded call e)
     (λ _. either (IsGuarded call) (call.number == 64) _ _ (λ _. write_guarded call)
     (λ _. either (IsGuarded call) (call.number == 214) _ _ (λ _. tt) (λ _. tt)))))
-
-or_false : (a b : Bool) → (a || b) ≡ false → (a ≡ false) × (b ≡ false)
-or_false true b e = absurd (cc)
-or_false false b e = (refl, e)
 
 -- unless the tagged step breaks
 abbrev pub Unbroken : Step → Type 0 → Type 0
@@ -261,8 +253,8 @@ module _ (E : Erasing) (s : Setting) (w : Layout) where
   buffer_apart n v0 v1 v2 v7 x0 x1 x2 a h0 h1 h2 tags out e z =
       let m : n ≡ 63 = eqb-true n 63 e in
       let none : (is_tagged v0 || is_tagged v1 || is_tagged v2) ≡ false = subst (λ k. has_tagged k (Regs v0 v1 v2 v7) ≡ false) m tags in
-      let last = or_false (is_tagged v0 || is_tagged v1) (is_tagged v2) none in
-      let first = or_false (is_tagged v0) (is_tagged v1) last.0 in
+      let last = or_parts (is_tagged v0 || is_tagged v1) (is_tagged v2) none in
+      let first = or_parts (is_tagged v0) (is_tagged v1) last.0 in
       let zero_ : (number_in v0 == 0) ≡ true = rw (numbered v0 x0 first.0 h0) z in
       let buffer : ((63 == 63 && number_in v0 == 0) || false) ≡ true = rw zero_ refl in
       let some : (((63 == 63 && number_in v0 == 0) || (63 == 64 && (number_in v0 == 1 || number_in v0 == 2))) && meets_text s (number_in v1) (number_in v2)) ≡ false = subst (λ k. (takes_buffer (call_of s k (Regs v0 v1 v2 v7) a) && meets_text s (number_in v1) (number_in v2)) ≡ false) m out in

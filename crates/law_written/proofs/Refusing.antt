@@ -2,7 +2,7 @@
 use Rattle.std.proofs.Common.{◌≡◌, ℕ, zero, suc, ◌+◌, ◌*◌, ◌%◌, ◌<◌, ◌≤◌, Bool, true, false, not, ◌&&◌, ◌||◌, ◌⊎◌, inl, inr, nat_eq, nat_lt, nat_le, List, [], ◌∷◌, ◌++◌, length, slice_index, Option, Some, None, refl, sym, ap, subst, ◌∙◌, arith, eq-eqb}
 use Rattle.std.specs.List.{AllByRecursion, list_any}
 use Rattle.std.specs.Option.{is_some, option_and_then}
-use Rattle.std.proofs.lemmas.Bool.{lt-ltb, le-leb}
+use Rattle.std.proofs.lemmas.Bool.{lt-ltb, le-leb, or_from, and_left, and_right}
 use Rattle.std.proofs.lemmas.Bool.Decides.{nat_tests}
 use Rattle.sq_num.specs.Refusals.{Row, first_from, first_refusal}
 use Rattle.sq_num.proofs.Places.{refused_later}
@@ -30,7 +30,7 @@ use Rattle.sq_write.specs.Written.{entries_of, word_entry, written_output, writt
 use Rattle.law_written.specs.Fitting.{IsFitting}
 use Rattle.law_written.specs.Reading.{output_sections}
 use Rattle.law_written.specs.Written.{IsWritable}
-use Rattle.law_written.proofs.Accepting.{some_from, second_fails}
+use Rattle.law_written.proofs.Accepting.{some_from}
 use Rattle.law_written.proofs.Headers.{headers_are_read}
 use Rattle.law_written.proofs.Laid.{laid_part}
 use Rattle.law_written.proofs.Pairs.{all_append, all_map, all_both}
@@ -65,13 +65,7 @@ less_not : (a b : ℕ) → b ≤ a → nat_lt a b ≡ false
 less_not a b le = grind (arith, nat_tests)
 
 stays : (long size end : ℕ) → end ≤ long → (nat_lt 0 size && nat_lt long end) ≡ false
-stays long size end within = second_fails (nat_lt 0 size) (nat_lt long end) (less_not long end within)
-
-either_false : (x y : Bool) → x ≡ false → y ≡ false → (x || y) ≡ false
-either_false x y first second = rw (first, second) refl
-
-first_fails : (a b : Bool) → a ≡ false → (a && b) ≡ false
-first_fails a b fails = rw fails refl
+stays long size end within = and_right (nat_lt 0 size) (nat_lt long end) (less_not long end within)
 
 each_passes : (P : Relocation → Type 0) (test : Entry → Bool) → ((k : ℕ) (r : Relocation) → P r → test (read_entry k r) ≡ false) → (rs : List Relocation) (n place : ℕ) → AllByRecursion P rs → place < length (numbered n rs) → test (nth_entry (numbered n rs) place) ≡ false
 each_passes P test fails [] n place all within = absurd (let f : place < 0 = within in omega arith)
@@ -184,17 +178,17 @@ module _ (bytes : List ℕ) (g : Graph) (can : IsWritable bytes g) where
       ∙ eq-eqb (new_address g (text_of bytes).lo entry.word.block) (target_of (read_entry k (word_entry g (text_of bytes).lo entry.word))) (sym target)
       in
       let agrees : disagrees_outside (written bytes g) (read_entry k (word_entry g (text_of bytes).lo entry.word)) ≡ false =
-      second_fails
+      and_right
       (is_code_entry (text_of (written bytes g)) (read_entry k (word_entry g (text_of bytes).lo entry.word)) && not (is_beaten (written bytes g) entry.word.at))
       (not (is_word (word_of (written bytes g) entry.word.at) (target_of (read_entry k (word_entry g (text_of bytes).lo entry.word)))))
       (ap not there)
       in
       subst (λ x. is_refused_outside (written bytes g) (read_entry k x) ≡ false) (sym entry.is)
-      (second_fails (is_outside (text_of (written bytes g)) (read_entry k (word_entry g (text_of bytes).lo entry.word))) (not (is_data_kind 1) || disagrees_outside (written bytes g) (read_entry k (word_entry g (text_of bytes).lo entry.word)))
-      (either_false (not (is_data_kind 1)) (disagrees_outside (written bytes g) (read_entry k (word_entry g (text_of bytes).lo entry.word))) refl agrees))
+      (and_right (is_outside (text_of (written bytes g)) (read_entry k (word_entry g (text_of bytes).lo entry.word))) (not (is_data_kind 1) || disagrees_outside (written bytes g) (read_entry k (word_entry g (text_of bytes).lo entry.word)))
+      (or_from (not (is_data_kind 1)) (disagrees_outside (written bytes g) (read_entry k (word_entry g (text_of bytes).lo entry.word))) refl agrees))
   not_refused k r (inr half) =
       let inside : is_outside (text_of (written bytes g)) (read_entry k r) ≡ false = subst (λ t. is_outside t (read_entry k r) ≡ false) (sym (text_is bytes g can)) (half_outside bytes g can k r half.0) in
-      first_fails (is_outside (text_of (written bytes g)) (read_entry k r)) (not (is_data_kind r.kind) || disagrees_outside (written bytes g) (read_entry k r)) inside
+      and_left (is_outside (text_of (written bytes g)) (read_entry k r)) (not (is_data_kind r.kind) || disagrees_outside (written bytes g) (read_entry k r)) inside
 
   refused_row : (place : ℕ) → place < length (read_entries (written bytes g)) → is_refused_outside (written bytes g) (nth_entry (read_entries (written bytes g)) place) ≡ false
   refused_row =
@@ -274,12 +268,12 @@ module _ (o : Output) (fits : IsFitting o) where
       where
         bad_none : (f : List ℕ) (s : ReadSection) → is_rel s ≡ false → nat_le (shnum_of f) s.info ≡ false → is_malformed f s ≡ false → lacks_symbols f s ≡ false → list_any (is_stray f) (table_entries f 4 s) ≡ false → is_bad_table f 4 s ≡ false
         bad_none f s rel info formed symbols entries =
-            either_false ((is_rela s && nat_le (shnum_of f) s.info) || (is_applied f s && (is_malformed f s || lacks_symbols f s || list_any (is_stray f) (table_entries f 4 s)))) (is_rel s && is_for_memory f s)
-            (either_false (is_rela s && nat_le (shnum_of f) s.info) (is_applied f s && (is_malformed f s || lacks_symbols f s || list_any (is_stray f) (table_entries f 4 s)))
-            (second_fails (is_rela s) (nat_le (shnum_of f) s.info) info)
-            (second_fails (is_applied f s) (is_malformed f s || lacks_symbols f s || list_any (is_stray f) (table_entries f 4 s))
-            (either_false (is_malformed f s || lacks_symbols f s) (list_any (is_stray f) (table_entries f 4 s)) (either_false (is_malformed f s) (lacks_symbols f s) formed symbols) entries)))
-            (first_fails (is_rel s) (is_for_memory f s) rel)
+            or_from ((is_rela s && nat_le (shnum_of f) s.info) || (is_applied f s && (is_malformed f s || lacks_symbols f s || list_any (is_stray f) (table_entries f 4 s)))) (is_rel s && is_for_memory f s)
+            (or_from (is_rela s && nat_le (shnum_of f) s.info) (is_applied f s && (is_malformed f s || lacks_symbols f s || list_any (is_stray f) (table_entries f 4 s)))
+            (and_right (is_rela s) (nat_le (shnum_of f) s.info) info)
+            (and_right (is_applied f s) (is_malformed f s || lacks_symbols f s || list_any (is_stray f) (table_entries f 4 s))
+            (or_from (is_malformed f s || lacks_symbols f s) (list_any (is_stray f) (table_entries f 4 s)) (or_from (is_malformed f s) (lacks_symbols f s) formed symbols) entries)))
+            (and_left (is_rel s) (is_for_memory f s) rel)
 
     pub tables_fine : (k : ℕ) → k < shnum_of (output_file o) → is_bad_table_at (output_file o) k ≡ false
     tables_fine zero within = ap (section_is (is_bad_table (output_file o) 0)) (section_there o fits 0 _ _ refl refl (omega arith))

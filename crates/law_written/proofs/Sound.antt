@@ -2,7 +2,7 @@
 use Rattle.std.proofs.Common.{◌≡◌, ℕ, zero, suc, ◌+◌, ◌-◌, ◌^◌, ◌<◌, ◌≤◌, true, false, not, ◌||◌, ◌⊎◌, inl, inr, ⊎_elim, nat_eq, nat_lt, List, [], ◌∷◌, take, drop, length, sum_by, Option, Some, None, refl, sym, subst, arith}
 use Rattle.std.specs.List.{AllByRecursion}
 use Rattle.std.specs.Option.{is_some}
-use Rattle.std.proofs.lemmas.Bool.{cases_Bool, cases_lt, cases_eq, ltb-true, ltb-false}
+use Rattle.std.proofs.lemmas.Bool.{cases_Bool, cases_lt, cases_eq, ltb-true, ltb-false, and_parts, or_parts}
 use Rattle.std.proofs.lemmas.Bool.Decides.{nat_tests}
 use Rattle.std.proofs.lemmas.List.{length-take}
 use Rattle.std.proofs.lemmas.List.Sums.{sum_by_push}
@@ -18,7 +18,7 @@ use Rattle.sq_elf.specs.Sizes.{total}
 use Rattle.sq_elf.specs.Text.{text_of, text_segment_of}
 use Rattle.sq_elf.proofs.Accepted.{tables_accepted, segments_accepted, text_accepted}
 use Rattle.sq_elf.proofs.Passing.{passes_from, row_passes, behind_row}
-use Rattle.sq_elf.proofs.TextFacts.{both_true, neither, second_false, TextFacts, text_facts}
+use Rattle.sq_elf.proofs.TextFacts.{second_false, TextFacts, text_facts}
 use Rattle.law_written.proofs.Apart.{apart_back, one_behind, IsWithin, apart_within}
 use Rattle.law_written.proofs.Pairs.{Pairwise, all_append, pairs_append}
 
@@ -59,9 +59,9 @@ separate_back s t apart = record {
 
 separate_from : (s t : Segment) → overlaps s t ≡ false → AreSeparate s t
 separate_from s t apart =
-    let copies = neither (meets s.address s.memsz t.address t.memsz || meets_copy s t || meets_copy t s) (meets s.load_address (copy_size s) t.load_address (copy_size t)) apart in
-    let second = neither (meets s.address s.memsz t.address t.memsz || meets_copy s t) (meets_copy t s) copies.0 in
-    let first = neither (meets s.address s.memsz t.address t.memsz) (meets_copy s t) second.0 in
+    let copies = or_parts (meets s.address s.memsz t.address t.memsz || meets_copy s t || meets_copy t s) (meets s.load_address (copy_size s) t.load_address (copy_size t)) apart in
+    let second = or_parts (meets s.address s.memsz t.address t.memsz || meets_copy s t) (meets_copy t s) copies.0 in
+    let first = or_parts (meets s.address s.memsz t.address t.memsz) (meets_copy s t) second.0 in
     record { memory = first.0; first = first.1; second = second.1; copies = copies.1 }
 
 none_found : (found : Option ℕ) → is_some found ≡ false → found ≡ None
@@ -101,7 +101,7 @@ module _ (bytes : List ℕ) (accepted : file_refusal_of bytes ≡ None) where
 
   overlap_tests : (k : ℕ) → k < phnum_of bytes → is_load bytes k ≡ true → (meets_copy (segment_of bytes k) (segment_of bytes k) ≡ false) × (is_some (first_from (overlaps_at bytes k) 0 k) ≡ false)
   overlap_tests k within load =
-      neither (meets_copy (segment_of bytes k) (segment_of bytes k)) (is_some (first_from (overlaps_at bytes k) 0 k))
+      or_parts (meets_copy (segment_of bytes k) (segment_of bytes k)) (is_some (first_from (overlaps_at bytes k) 0 k))
       (second_false (is_load bytes k) (meets_copy (segment_of bytes k) (segment_of bytes k) || is_some (first_from (overlaps_at bytes k) 0 k)) (no_overlap k within) load)
 
   separate_earlier : (k earlier : ℕ) → k < phnum_of bytes → earlier < k → is_load bytes k ≡ true → is_load bytes earlier ≡ true → AreSeparate (segment_of bytes k) (segment_of bytes earlier)
@@ -132,8 +132,8 @@ module _ (bytes : List ℕ) (accepted : file_refusal_of bytes ≡ None) where
   -- the text lies in the memory of its segment
   text_within : IsWithin (text_of bytes).lo ((text_of bytes).hi - (text_of bytes).lo) (segment_of bytes (text_segment_of bytes)).address (segment_of bytes (text_segment_of bytes)).memsz
   text_within =
-      let shaped = neither (nat_lt (segment_of bytes (text_segment_of bytes)).memsz (segment_of bytes (text_segment_of bytes)).filesz || nat_lt (2 ^ 32) ((segment_of bytes (text_segment_of bytes)).address + (segment_of bytes (text_segment_of bytes)).memsz)) (nat_lt (2 ^ 32) ((segment_of bytes (text_segment_of bytes)).load_address + (segment_of bytes (text_segment_of bytes)).filesz)) (well_shaped (text_segment_of bytes) facts.within facts.load) in
-      let sizes = neither (nat_lt (segment_of bytes (text_segment_of bytes)).memsz (segment_of bytes (text_segment_of bytes)).filesz) (nat_lt (2 ^ 32) ((segment_of bytes (text_segment_of bytes)).address + (segment_of bytes (text_segment_of bytes)).memsz)) shaped.0 in
+      let shaped = or_parts (nat_lt (segment_of bytes (text_segment_of bytes)).memsz (segment_of bytes (text_segment_of bytes)).filesz || nat_lt (2 ^ 32) ((segment_of bytes (text_segment_of bytes)).address + (segment_of bytes (text_segment_of bytes)).memsz)) (nat_lt (2 ^ 32) ((segment_of bytes (text_segment_of bytes)).load_address + (segment_of bytes (text_segment_of bytes)).filesz)) (well_shaped (text_segment_of bytes) facts.within facts.load) in
+      let sizes = or_parts (nat_lt (segment_of bytes (text_segment_of bytes)).memsz (segment_of bytes (text_segment_of bytes)).filesz) (nat_lt (2 ^ 32) ((segment_of bytes (text_segment_of bytes)).address + (segment_of bytes (text_segment_of bytes)).memsz)) shaped.0 in
       let stored = ltb-false (segment_of bytes (text_segment_of bytes)).memsz (segment_of bytes (text_segment_of bytes)).filesz sizes.0 in
       record { low = λ some. facts.inside.low; high = λ some. omega (arith, facts.inside.high, facts.inside.some, stored) }
 
@@ -156,8 +156,8 @@ module _ (bytes : List ℕ) (accepted : file_refusal_of bytes ≡ None) where
 
   pub sound_at : (k : ℕ) → k < phnum_of bytes → is_load bytes k ≡ true → 0 < (segment_of bytes k).memsz → IsSound bytes (segment_of bytes k)
   sound_at k within load some =
-      let shaped = neither (nat_lt (segment_of bytes k).memsz (segment_of bytes k).filesz || nat_lt (2 ^ 32) ((segment_of bytes k).address + (segment_of bytes k).memsz)) (nat_lt (2 ^ 32) ((segment_of bytes k).load_address + (segment_of bytes k).filesz)) (well_shaped k within load) in
-      let sizes = neither (nat_lt (segment_of bytes k).memsz (segment_of bytes k).filesz) (nat_lt (2 ^ 32) ((segment_of bytes k).address + (segment_of bytes k).memsz)) shaped.0 in
+      let shaped = or_parts (nat_lt (segment_of bytes k).memsz (segment_of bytes k).filesz || nat_lt (2 ^ 32) ((segment_of bytes k).address + (segment_of bytes k).memsz)) (nat_lt (2 ^ 32) ((segment_of bytes k).load_address + (segment_of bytes k).filesz)) (well_shaped k within load) in
+      let sizes = or_parts (nat_lt (segment_of bytes k).memsz (segment_of bytes k).filesz) (nat_lt (2 ^ 32) ((segment_of bytes k).address + (segment_of bytes k).memsz)) shaped.0 in
       record {
         some = some;
         fits = ltb-false (2 ^ 32) ((segment_of bytes k).address + (segment_of bytes k).memsz) sizes.1;
@@ -176,7 +176,7 @@ module _ (bytes : List ℕ) (accepted : file_refusal_of bytes ≡ None) where
 
   memory_tests : (k : ℕ) → has_memory bytes k ≡ true → (is_load bytes k ≡ true) × (0 < (segment_of bytes k).memsz)
   memory_tests k e =
-      let both = both_true (is_load bytes k) (nat_lt 0 (segment_of bytes k).memsz) e in
+      let both = and_parts (is_load bytes k) (nat_lt 0 (segment_of bytes k).memsz) e in
       (both.0, ltb-true 0 (segment_of bytes k).memsz both.1)
 
   all_sound : (n : ℕ) → n ≤ phnum_of bytes → AllByRecursion (IsSound bytes) (segments_before bytes n)

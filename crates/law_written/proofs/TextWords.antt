@@ -1,6 +1,6 @@
 -- The words of the text of an output file, as they are read.
 use Rattle.std.proofs.Common.{◌≡◌, ℕ, ◌+◌, ◌-◌, ◌*◌, ◌^◌, ◌<◌, ◌≤◌, true, false, nat_le, map, length, Some, slice_get, option_map, refl, sym, ap, subst, ◌∙◌, arith}
-use Rattle.std.proofs.lemmas.Bool.{le-leb}
+use Rattle.std.proofs.lemmas.Bool.{le-leb, and_right}
 use Rattle.std.proofs.lemmas.Option.{slice_get_within, slice_get-map}
 use Rattle.sq_num.specs.Refusals.{first_from}
 use Rattle.sq_elf.specs.declared.segment.Segment.{Segment}
@@ -16,7 +16,7 @@ use Rattle.sq_write.proofs.Splitting.{length_words}
 use Rattle.law_written.specs.Accepting.{IsAcceptable}
 use Rattle.law_written.specs.Contents.{WordsAreRead, WrittenWordsAreRead}
 use Rattle.law_written.specs.Fitting.{IsFittingPiece}
-use Rattle.law_written.proofs.Accepting.{some_from, second_fails, at_most_not, order_at, at_middle, at, made_of, place_within, text_segment, same_piece}
+use Rattle.law_written.proofs.Accepting.{some_from, at_most_not, order_at, at_middle, at, made_of, place_within, text_segment, same_piece}
 use Rattle.law_written.proofs.Lists.{all_at}
 use Rattle.law_written.proofs.OutputParts.{PartAt, word_at}
 use Rattle.law_written.proofs.Segments.{Knows, piece_stored}
@@ -29,7 +29,7 @@ module _ (o : Output) (can : IsAcceptable o) (k word : ℕ) (is : slice_get o.te
   -- the pieces before text end before the word
   not_in : (offset : ℕ) (p : Piece) → p.address + length p.bytes ≤ o.start → lies_in (o.start + 4 * k) 4 p.address (length p.bytes) ≡ false
   not_in offset p ends =
-      second_fails (nat_le p.address (o.start + 4 * k)) (nat_le (o.start + 4 * k + 4) (p.address + length p.bytes))
+      and_right (nat_le p.address (o.start + 4 * k)) (nat_le (o.start + 4 * k + 4) (p.address + length p.bytes))
       (at_most_not (o.start + 4 * k + 4) (p.address + length p.bytes) (omega arith))
 
   earlier_not : (j : ℕ) → j < length o.before → has_word (output_file o) (o.start + 4 * k) j ≡ false
@@ -37,7 +37,7 @@ module _ (o : Output) (can : IsAcceptable o) (k word : ℕ) (is : slice_get o.te
       let here = at o can j (omega (arith, place_within o can)) in
       let before = order_at (pieces_of o) can.in_order j (length o.before) here.piece (text_piece o) below here.is_piece (at_middle o.before (text_piece o) o.after) in
       let fitting = all_at IsFittingPiece (pieces_of o) can.fits.pieces j here.piece here.is_piece in
-      second_fails (is_load (output_file o) j) (lies_in (o.start + 4 * k) 4 (segment_of (output_file o) j).address (segment_of (output_file o) j).filesz)
+      and_right (is_load (output_file o) j) (lies_in (o.start + 4 * k) 4 (segment_of (output_file o) j).address (segment_of (output_file o) j).filesz)
       (subst (λ (s : Segment). lies_in (o.start + 4 * k) 4 s.address s.filesz ≡ false) (sym (made_of o can j here))
       (not_in here.segment.offset here.piece (omega (arith, before.ends, fitting.stored))))
 

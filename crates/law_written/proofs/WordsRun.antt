@@ -3,7 +3,7 @@ use Rattle.std.proofs.Common.{◌≡◌, ◌≢◌, ◌⊎◌, inl, inr, ℕ, ze
 use Rattle.std.specs.Option.{option_map}
 use Rattle.std.specs.Ordering.{int_eq}
 use Rattle.std.specs.List.{list_any}
-use Rattle.std.proofs.lemmas.Bool.{and_parts, eqb-true}
+use Rattle.std.proofs.lemmas.Bool.{and_parts, eqb-true, or_parts}
 use Rattle.std.proofs.lemmas.Bool.Decides.{nat_tests, Decides-int_eq}
 use Rattle.std.proofs.lemmas.Int.{ints}
 use Rattle.sq_num.specs.Halves.{high_half, low_half}
@@ -100,10 +100,6 @@ wrapped_below x = omega arith
 plus_zero : (x : ℕ) → x + 0 ≡ x
 plus_zero x = omega arith
 
-or_false : (a b : Bool) → (a || b) ≡ false → (a ≡ false) × (b ≡ false)
-or_false true b e = absurd (cc)
-or_false false b e = (refl, e)
-
 zero_written : (d v : ℕ) (k : ℕ → ℕ) → k 0 ≡ 0 → written d v k 0 ≡ 0
 zero_written d v k h = go (0 == d && not (d == 0)) (grind (arith, nat_tests))
   where
@@ -116,7 +112,7 @@ other_written : (d r v : ℕ) (k : ℕ → ℕ) (more : Bool) → r ≢ 0 → (n
 other_written d r v k more some e =
     let none : (r == 0) ≡ false = grind (arith, nat_tests) in
     let either : (d == r || more) ≡ false = rw none at e in
-    let other : (d == r) ≡ false = (or_false (d == r) more either).0 in
+    let other : (d == r) ≡ false = (or_parts (d == r) more either).0 in
     let apart : (r == d) ≡ false = grind (arith, nat_tests) in
     rw apart refl
 
@@ -349,8 +345,8 @@ module _ (w : World) (g : Graph) (can : IsWritable g w.lo w.hi) (start : Start) 
 
   sources_kept : (rs : List ℕ) (k : ℕ → Held) (i : ℕ) → list_any (lost_in k) rs ≡ false → lost_in k (slice_index_or rs i 0) ≡ false
   sources_kept [] k i e = refl
-  sources_kept (r ∷ rs) k zero e = (or_false (lost_in k r) (list_any (lost_in k) rs) e).0
-  sources_kept (r ∷ rs) k (suc i) e = sources_kept rs k i (or_false (lost_in k r) (list_any (lost_in k) rs) e).1
+  sources_kept (r ∷ rs) k zero e = (or_parts (lost_in k r) (list_any (lost_in k) rs) e).0
+  sources_kept (r ∷ rs) k (suc i) e = sources_kept rs k i (or_parts (lost_in k r) (list_any (lost_in k) rs) e).1
 
   operands_erased : (insn : Insn) (core : Core) (b : State) → reads_lost (sources_of insn) core ≡ false → IsWrittenCore core b → (i : ℕ) → IsErased E (operands insn core.registers i) (b.registers (source insn i))
   operands_erased insn core b e h i = read_value (source insn i) core b (sources_kept (sources_of insn) core.registers i e) h
@@ -575,7 +571,7 @@ module _ (w : World) (g : Graph) (can : IsWritable g w.lo w.hi) (start : Start) 
       go false = refl
 
   one_source : (r : ℕ) (core : Core) (b : State) → reads_lost (r ∷ []) core ≡ false → IsWrittenCore core b → IsErased E (register_value r core.registers) (b.registers r)
-  one_source r core b kept h = read_value r core b (or_false (lost_in core.registers r) false kept).0 h
+  one_source r core b kept h = read_value r core b (or_parts (lost_in core.registers r) false kept).0 h
 
   term_write : (term : Term) (rest : List Line) (at : ℕ) (core : Core) (b : State) → EndStands g w.lo There at term → Stands g w.lo There (at + 4) rest → b.pc ≡ wrapped at → IsWrittenCore core b → reads_lost (term_sources term) core ≡ false → Match (graph.term_step S g term rest core) (step_of plain_world b)
   term_write Fall rest at core b t s e h kept = absurd t
@@ -585,11 +581,11 @@ module _ (w : World) (g : Graph) (can : IsWritable g w.lo w.hi) (start : Start) 
       (arrive to (target_of (offset_to at (address to)) b) core (with_register 0 (next_pc b) b) (block_target at to insn b t.0 e t.1) (no_register_core (next_pc b) core b h))
   term_write (Branch cond x y to) rest at core b t s e h kept =
       let insn : Insn = BranchInsn cond x y (offset_to at (address to)) in
-      let lost = or_false (lost_in core.registers x) (lost_in core.registers y || false) kept in
+      let lost = or_parts (lost_in core.registers x) (lost_in core.registers y || false) kept in
       let v : Value = register_value x core.registers in
       let u : Value = register_value y core.registers in
       let first_ : IsErased E v (b.registers x) = read_value x core b lost.0 h in
-      let second_ : IsErased E u (b.registers y) = read_value y core b (or_false (lost_in core.registers y) false lost.1).0 h in
+      let second_ : IsErased E u (b.registers y) = read_value y core b (or_parts (lost_in core.registers y) false lost.1).0 h in
       by_insn at insn core b (graph.branch g to rest core (is_taken S cond v u)) t.0 e h
       (branch_write cond x y to at rest core b (is_taken S cond v u) (block_target at to insn b t.0 e t.1) s e h
       (λ c f. taken_erased P E S plain_world naming laid cond v u (b.registers x) (b.registers y) c first_ second_ f))

@@ -2,7 +2,7 @@
 use Rattle.std.proofs.Common.{◌≡◌, ℕ, ◌+◌, ◌*◌, ◌^◌, ◌<◌, ◌≤◌, Bool, true, false, ◌⊎◌, inl, inr, nat_lt, nat_le, List, [], ◌∷◌, ◌++◌, map, filter, Option, Some, None, IsSome, option_map, refl, sym, ap, subst, arith, suc, nat_eq, get_or, eq-eqb, length}
 use Rattle.std.specs.List.{All, AllByRecursion, find}
 use Rattle.std.specs.List.Sorted.{IsStrictlyIncreasing}
-use Rattle.std.proofs.lemmas.Bool.{cases_Bool, leb-true}
+use Rattle.std.proofs.lemmas.Bool.{cases_Bool, leb-true, and_parts}
 use Rattle.std.proofs.lemmas.Bool.Decides.{nat_tests}
 use Rattle.std.proofs.lemmas.List.Elements.{All-head, All-tail}
 use Rattle.sq_num.specs.Refusals.{first_from}
@@ -12,7 +12,6 @@ use Rattle.sq_elf.specs.Reading.{has_word, word_in, word_of}
 use Rattle.sq_elf.specs.Refusing.{file_refusal_of}
 use Rattle.sq_elf.specs.Text.{text_of}
 use Rattle.sq_elf.proofs.Passing.{found_from}
-use Rattle.sq_elf.proofs.TextFacts.{both_true}
 use Rattle.sq_reloc.specs.CodeWords.{IsCodeWord}
 use Rattle.sq_reloc.specs.Entries.{entries_of as read_entries}
 use Rattle.sq_reloc.specs.Kinds.{is_ignored}
@@ -54,8 +53,8 @@ stands_in bytes w word is = by_index (first_from (has_word bytes w) 0 (phnum_of 
     by_index None first some = absurd (cc some)
     by_index (Some index) first some =
         let found = found_from (has_word bytes w) 0 (phnum_of bytes) index first in
-        let parts = both_true (is_load bytes index) (lies_in w 4 (segment_of bytes index).address (segment_of bytes index).filesz) found.here in
-        let ends = both_true (nat_le (segment_of bytes index).address w) (nat_le (w + 4) ((segment_of bytes index).address + (segment_of bytes index).filesz)) parts.1 in
+        let parts = and_parts (is_load bytes index) (lies_in w 4 (segment_of bytes index).address (segment_of bytes index).filesz) found.here in
+        let ends = and_parts (nat_le (segment_of bytes index).address w) (nat_le (w + 4) ((segment_of bytes index).address + (segment_of bytes index).filesz)) parts.1 in
         record {
           index = index;
           first = first;

@@ -2,6 +2,7 @@
 use Rattle.std.proofs.Common.{◌≡◌, ℕ, suc, ◌+◌, ◌-◌, ◌≤◌, ◌==◌, Bool, true, false, ◌||◌, [], ◌∷◌, length, Option, inl, inr, refl, sym, ap, ◌∙◌, subst, arith}
 use Rattle.std.specs.Prelude.{unwrap_or}
 use Rattle.std.proofs.lemmas.Bool.{cases_Bool, eqb-true, eqb-false, or_right}
+use Rattle.std.proofs.Math.Bool.{or-false}
 use Rattle.sq_graph.specs.Graph.{Block, Graph}
 use Rattle.sq_graph.specs.Rules.{IsGraph}
 use Rattle.sq_layout.specs.Weights.{address_by}
@@ -16,16 +17,12 @@ use Rattle.sq_chain.proofs.Widens.{upto, upto_in, upto_others, upto_same, upto_a
 pub stands_are : (weight : Block → ℕ) (g : Graph) (address : ℕ → Option ℕ) → ((n : ℕ) → address n ≡ address_by weight g.blocks 0 n) → address_at address ≡ stands_at weight g
 stands_are weight g address same = λ i n. unwrap_or (same n i) 0
 
-or_false : (b : Bool) → (b || false) ≡ b
-or_false true = refl
-or_false false = refl
-
 -- the old set, and what is added to it so far
 abbrev pub Added : (ℕ → Bool) → (ℕ → Bool) → (ℕ → Bool) → Graph → ℕ → Type 0
 Added S F now g k = (n : ℕ) → now n ≡ (S n || upto F g k n)
 
 pub none_added : (S F : ℕ → Bool) (g : Graph) → Added S F S g 0
-none_added S F g n = sym (ap (λ t. S n || t) (upto_none F g n) ∙ or_false (S n))
+none_added S F g n = sym (ap (λ t. S n || t) (upto_none F g n) ∙ or-false (S n))
 
 module _ (S F now : ℕ → Bool) (g : Graph) (rules : IsGraph g) (k name : ℕ) (b : IsBlockAt g k name) (added : Added S F now g k) where
   -- the block reaches
@@ -52,7 +49,7 @@ module _ (S F now : ℕ → Bool) (g : Graph) (rules : IsGraph g) (k name : ℕ)
             ∙ sym (or_right (S n) (upto F g (k + 1) n) (subst (λ m. upto F g (k + 1) m ≡ true) (sym (eqb-true n name here)) (upto_in F g rules k name b within)))
         | inr apart ↦
             let none : is_listed (name ∷ []) n ≡ false = rw apart refl in
-            came n ∙ ap (λ t. now n || t) none ∙ or_false (now n) ∙ added n ∙ ap (λ t. S n || t) (sym (upto_others F g rules k name b n (eqb-false n name apart)))
+            came n ∙ ap (λ t. now n || t) none ∙ or-false (now n) ∙ added n ∙ ap (λ t. S n || t) (sym (upto_others F g rules k name b n (eqb-false n name apart)))
       ]
 
 -- in the end each that doesn't reach is added

@@ -2,6 +2,7 @@
 use Rattle.std.proofs.Common.{◌≡◌, ℕ, zero, suc, ◌+◌, ◌<◌, ◌≤◌, Bool, true, false, ◌&&◌, ◌||◌, nat_eq, nat_lt, List, [], ◌∷◌, ◌++◌, Option, Some, None, refl, subst, ◌∙◌, arith}
 use Rattle.std.specs.Option.{is_some}
 use Rattle.std.specs.List.{AllByRecursion}
+use Rattle.std.proofs.lemmas.Bool.{and_parts, or_parts}
 use Rattle.sq_num.specs.Refusals.{first_from}
 use Rattle.sq_elf.specs.declared.segment.Segment.{Segment}
 use Rattle.sq_elf.specs.Headers.{phnum_of, is_load, segment_of}
@@ -11,7 +12,7 @@ use Rattle.sq_elf.specs.Memory.{has_memory, MemoryPiece, own_piece, copy_piece, 
 use Rattle.sq_elf.specs.Refusing.{bad_segment, segment_kind, segment_overlap, file_refusal_of}
 use Rattle.sq_elf.proofs.Passing.{passes_from, row_passes, behind_row}
 use Rattle.sq_elf.proofs.Accepted.{segments_accepted}
-use Rattle.sq_elf.proofs.TextFacts.{both_true, neither, second_false}
+use Rattle.sq_elf.proofs.TextFacts.{second_false}
 
 -- meeting goes both ways
 swap_tests : (w x y z : Bool) → (w && x && y && z) ≡ (x && w && z && y)
@@ -59,9 +60,9 @@ each_piece P bytes s own copy = by_test (nat_lt 0 (copy_size s)) refl
 pieces_apart : (bytes : List ℕ) (s t : Segment) → overlaps t s ≡ false → AreApartFrom (segment_pieces bytes t) (segment_pieces bytes s)
 unfolding AreApartFrom
 pieces_apart bytes s t apart =
-    let copies = neither (meets t.address t.memsz s.address s.memsz || meets_copy t s || meets_copy s t) (meets t.load_address (copy_size t) s.load_address (copy_size s)) apart in
-    let mine = neither (meets t.address t.memsz s.address s.memsz || meets_copy t s) (meets_copy s t) copies.0 in
-    let memory = neither (meets t.address t.memsz s.address s.memsz) (meets_copy t s) mine.0 in
+    let copies = or_parts (meets t.address t.memsz s.address s.memsz || meets_copy t s || meets_copy s t) (meets t.load_address (copy_size t) s.load_address (copy_size s)) apart in
+    let mine = or_parts (meets t.address t.memsz s.address s.memsz || meets_copy t s) (meets_copy s t) copies.0 in
+    let memory = or_parts (meets t.address t.memsz s.address s.memsz) (meets_copy t s) mine.0 in
     each_piece (λ p. AllByRecursion (λ q. pieces_meet p q ≡ false) (segment_pieces bytes t)) bytes s
     (each_piece (λ q. pieces_meet (own_piece bytes s) q ≡ false) bytes t
     (apart_back t.address t.memsz s.address s.memsz memory.0)
@@ -97,7 +98,7 @@ module _ (bytes : List ℕ) (accepted : file_refusal_of bytes ≡ None) where
   module _ (index : ℕ) (within : index < phnum_of bytes) (load : is_load bytes index ≡ true) where
     tests : (meets_copy (segment_of bytes index) (segment_of bytes index) ≡ false) × (is_some (first_from (overlaps_at bytes index) 0 index) ≡ false)
     tests =
-        neither (meets_copy (segment_of bytes index) (segment_of bytes index)) (is_some (first_from (overlaps_at bytes index) 0 index))
+        or_parts (meets_copy (segment_of bytes index) (segment_of bytes index)) (is_some (first_from (overlaps_at bytes index) 0 index))
         (second_false (is_load bytes index) (meets_copy (segment_of bytes index) (segment_of bytes index) || is_some (first_from (overlaps_at bytes index) 0 index)) (no_overlap index within) load)
 
     earlier_apart : (k : ℕ) → k < index → is_load bytes k ≡ true → overlaps (segment_of bytes index) (segment_of bytes k) ≡ false
@@ -114,7 +115,7 @@ module _ (bytes : List ℕ) (accepted : file_refusal_of bytes ≡ None) where
         by_test : AreApartFrom (segment_pieces bytes (segment_of bytes index)) (image_before bytes count) → (has : Bool) → has_memory bytes count ≡ has → AreApartFrom (segment_pieces bytes (segment_of bytes index)) (image_before bytes (suc count))
         by_test front false is = rw is front
         by_test front true is =
-            let loads = both_true (is_load bytes count) (nat_lt 0 (segment_of bytes count).memsz) is in
+            let loads = and_parts (is_load bytes count) (nat_lt 0 (segment_of bytes count).memsz) is in
             rw is (all_append (λ p. AllByRecursion (λ q. pieces_meet p q ≡ false) (segment_pieces bytes (segment_of bytes index))) (image_before bytes count) (segment_pieces bytes (segment_of bytes count)) front (pieces_apart bytes (segment_of bytes count) (segment_of bytes index) (earlier_apart count (omega arith) loads.0)))
 
   image_apart : (count : ℕ) → count ≤ phnum_of bytes → AreApart (image_before bytes count)
@@ -125,7 +126,7 @@ module _ (bytes : List ℕ) (accepted : file_refusal_of bytes ≡ None) where
       by_test : AreApart (image_before bytes count) → (has : Bool) → has_memory bytes count ≡ has → AreApart (image_before bytes (suc count))
       by_test front false is = rw is front
       by_test front true is =
-          let loads = both_true (is_load bytes count) (nat_lt 0 (segment_of bytes count).memsz) is in
+          let loads = and_parts (is_load bytes count) (nat_lt 0 (segment_of bytes count).memsz) is in
           let below : count < phnum_of bytes = omega arith in
           rw is
           (apart_append (image_before bytes count) (segment_pieces bytes (segment_of bytes count)) front

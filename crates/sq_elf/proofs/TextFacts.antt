@@ -1,7 +1,7 @@
 -- The text of a file that is not refused lies, in whole words, in the file bytes of the text segment.
 use Rattle.std.proofs.Common.{◌≡◌, ◌⊎◌, inl, inr, ℕ, zero, suc, ◌+◌, ◌%◌, ◌^◌, ◌<◌, ◌≤◌, Bool, true, false, not, ◌&&◌, ◌||◌, nat_eq, nat_lt, nat_le, min, max, bit_and, if◌then◌else◌, List, [], ◌∷◌, Option, Some, None, refl, ◌∙◌, arith}
 use Rattle.std.specs.Option.{is_some, unwrap_or}
-use Rattle.std.proofs.lemmas.Bool.{cases_lt}
+use Rattle.std.proofs.lemmas.Bool.{cases_lt, and_parts, or_parts, not-false}
 use Rattle.std.proofs.lemmas.Bool.Decides.{nat_tests}
 use Rattle.sq_num.specs.declared.refusal.Refusal.TheVariants.{NoText}
 use Rattle.sq_num.specs.Refusals.{first_from}
@@ -22,21 +22,9 @@ split_if false held other fine is = absurd (cc is)
 split_if true false other fine is = absurd (cc fine)
 split_if true true other fine is = refl
 
-pub both_true : (x y : Bool) → (x && y) ≡ true → (x ≡ true) × (y ≡ true)
-both_true false y is = absurd (cc is)
-both_true true y is = (refl, is)
-
-pub neither : (x y : Bool) → (x || y) ≡ false → (x ≡ false) × (y ≡ false)
-neither true y is = absurd (cc is)
-neither false y is = (refl, is)
-
 pub second_false : (x y : Bool) → (x && y) ≡ false → x ≡ true → y ≡ false
 second_false false y fine is = absurd (cc is)
 second_false true y fine is = fine
-
-not_false : (x : Bool) → not x ≡ false → x ≡ true
-not_false false fine = absurd (cc fine)
-not_false true fine = refl
 
 le_of : (a b : ℕ) → nat_le a b ≡ true → a ≤ b
 le_of a b is = grind (arith, nat_tests)
@@ -128,20 +116,20 @@ held_by : (bytes : List ℕ) (index at : ℕ) → holds_at bytes (section_of byt
 held_by bytes index at holding fine is =
     let s : Section = section_of bytes index in
     let segment : Segment = segment_of bytes at in
-    let loaded = both_true (is_load bytes at) (holds segment s) holding in
-    let lying = both_true (nat_eq (bit_and segment.flags 1) 1) (nat_le segment.address s.address && nat_le (s.address + s.size) (segment.address + segment.filesz)) loaded.1 in
-    let ends = both_true (nat_le segment.address s.address) (nat_le (s.address + s.size) (segment.address + segment.filesz)) lying.1 in
-    let sized = both_true (nat_eq (bit_and s.flags 6) 6) (nat_lt 0 s.size) is in
+    let loaded = and_parts (is_load bytes at) (holds segment s) holding in
+    let lying = and_parts (nat_eq (bit_and segment.flags 1) 1) (nat_le segment.address s.address && nat_le (s.address + s.size) (segment.address + segment.filesz)) loaded.1 in
+    let ends = and_parts (nat_le segment.address s.address) (nat_le (s.address + s.size) (segment.address + segment.filesz)) lying.1 in
+    let sized = and_parts (nat_eq (bit_and s.flags 6) 6) (nat_lt 0 s.size) is in
     let forms = second_false (is_executable s) (not (nat_eq s.kind 1) || not (nat_eq (s.address % 4) 0) || not (nat_eq (s.size % 4) 0) || not (is_some (holder_of bytes s))) fine is in
-    let whole = neither (not (nat_eq s.kind 1) || not (nat_eq (s.address % 4) 0) || not (nat_eq (s.size % 4) 0)) (not (is_some (holder_of bytes s))) forms in
-    let sizes = neither (not (nat_eq s.kind 1) || not (nat_eq (s.address % 4) 0)) (not (nat_eq (s.size % 4) 0)) whole.0 in
-    let addresses = neither (not (nat_eq s.kind 1)) (not (nat_eq (s.address % 4) 0)) sizes.0 in
+    let whole = or_parts (not (nat_eq s.kind 1) || not (nat_eq (s.address % 4) 0) || not (nat_eq (s.size % 4) 0)) (not (is_some (holder_of bytes s))) forms in
+    let sizes = or_parts (not (nat_eq s.kind 1) || not (nat_eq (s.address % 4) 0)) (not (nat_eq (s.size % 4) 0)) whole.0 in
+    let addresses = or_parts (not (nat_eq s.kind 1)) (not (nat_eq (s.address % 4) 0)) sizes.0 in
     record {
       low = le_of segment.address s.address ends.0;
       high = le_of (s.address + s.size) (segment.address + segment.filesz) ends.1;
       some = lt_of 0 s.size sized.1;
-      low_word = eq_of (s.address % 4) 0 (not_false (nat_eq (s.address % 4) 0) addresses.1);
-      size_word = eq_of (s.size % 4) 0 (not_false (nat_eq (s.size % 4) 0) sizes.1);
+      low_word = eq_of (s.address % 4) 0 (not-false (nat_eq (s.address % 4) 0) addresses.1);
+      size_word = eq_of (s.size % 4) 0 (not-false (nat_eq (s.size % 4) 0) sizes.1);
     }
 
 module _ (bytes : List ℕ) (accepted : file_refusal_of bytes ≡ None) where
@@ -189,7 +177,7 @@ module _ (bytes : List ℕ) (accepted : file_refusal_of bytes ≡ None) where
   segment_within k first within is =
       let s : Section = section_of bytes k in
       let forms = second_false (is_executable s) (not (nat_eq s.kind 1) || not (nat_eq (s.address % 4) 0) || not (nat_eq (s.size % 4) 0) || not (is_some (holder_of bytes s))) (good_section k within) is in
-      let whole = neither (not (nat_eq s.kind 1) || not (nat_eq (s.address % 4) 0) || not (nat_eq (s.size % 4) 0)) (not (is_some (holder_of bytes s))) forms in
+      let whole = or_parts (not (nat_eq s.kind 1) || not (nat_eq (s.address % 4) 0) || not (nat_eq (s.size % 4) 0)) (not (is_some (holder_of bytes s))) forms in
       rw (segment_is k first) (holder_within s (holder_of bytes s) refl whole.1)
 
   -- a PT_LOAD does not end past 2^32
@@ -197,8 +185,8 @@ module _ (bytes : List ℕ) (accepted : file_refusal_of bytes ≡ None) where
   fits_memory k within load =
       let s : Segment = segment_of bytes k in
       let shaped = second_false (is_load bytes k) (is_misshapen s) (good_segment k within) load in
-      let ends = neither (nat_lt s.memsz s.filesz || nat_lt (2 ^ 32) (s.address + s.memsz)) (nat_lt (2 ^ 32) (s.load_address + s.filesz)) shaped in
-      let sizes = neither (nat_lt s.memsz s.filesz) (nat_lt (2 ^ 32) (s.address + s.memsz)) ends.0 in
+      let ends = or_parts (nat_lt s.memsz s.filesz || nat_lt (2 ^ 32) (s.address + s.memsz)) (nat_lt (2 ^ 32) (s.load_address + s.filesz)) shaped in
+      let sizes = or_parts (nat_lt s.memsz s.filesz) (nat_lt (2 ^ 32) (s.address + s.memsz)) ends.0 in
       omega (arith, not_less s.memsz s.filesz sizes.0, not_less (2 ^ 32) (s.address + s.memsz) sizes.1)
 
   -- what is known of the text
@@ -212,7 +200,7 @@ module _ (bytes : List ℕ) (accepted : file_refusal_of bytes ≡ None) where
   by_first k first =
       let found : IsFirst (is_executable_at bytes) 0 (shnum_of bytes) k = found_from (is_executable_at bytes) 0 (shnum_of bytes) k first in
       let below : k < shnum_of bytes = omega (arith, found.high) in
-      let load = both_true (is_load bytes (text_segment_of bytes)) (holds (segment_of bytes (text_segment_of bytes)) (section_of bytes k)) (in_segment k below found.here) in
+      let load = and_parts (is_load bytes (text_segment_of bytes)) (holds (segment_of bytes (text_segment_of bytes)) (section_of bytes k)) (in_segment k below found.here) in
       let among : text_segment_of bytes < phnum_of bytes = segment_within k first below found.here in
       let fits : (segment_of bytes (text_segment_of bytes)).address + (segment_of bytes (text_segment_of bytes)).filesz ≤ 2 ^ 32 = fits_memory (text_segment_of bytes) among load.0 in
       let inside : IsTextIn (segment_of bytes (text_segment_of bytes)) (text_of bytes) = text_in bytes (segment_of bytes (text_segment_of bytes)) fits held k below found.here in
@@ -232,8 +220,8 @@ module _ (bytes : List ℕ) (accepted : file_refusal_of bytes ≡ None) where
   pub text_has_words : (address : ℕ) → is_text_word (text_of bytes) address ≡ true → is_some (word_of bytes address) ≡ true
   text_has_words address is =
       let segment : Segment = segment_of bytes (text_segment_of bytes) in
-      let parts = both_true (is_in_text (text_of bytes) address) (nat_eq (address % 4) 0) is in
-      let ends = both_true (nat_le (text_of bytes).lo address) (nat_lt address (text_of bytes).hi) parts.0 in
+      let parts = and_parts (is_in_text (text_of bytes) address) (nat_eq (address % 4) 0) is in
+      let ends = and_parts (nat_le (text_of bytes).lo address) (nat_lt address (text_of bytes).hi) parts.0 in
       let low : (text_of bytes).lo ≤ address = le_of (text_of bytes).lo address ends.0 in
       let high : address < (text_of bytes).hi = lt_of address (text_of bytes).hi ends.1 in
       let word : address % 4 ≡ 0 = eq_of (address % 4) 0 parts.1 in

@@ -4,6 +4,7 @@ use Rattle.std.specs.List.{flat_map}
 use Rattle.std.proofs.lemmas.Bool.{cases_Bool, eqb-true, eqb-false, eq-eqb, ne_eqb}
 use Rattle.std.proofs.lemmas.List.{append-nil, map-append, length-map, take_more}
 use Rattle.std.proofs.lemmas.List.Concat.{flat_map-append}
+use Rattle.std.proofs.Math.Bool.{or_comm}
 use Rattle.sq_arena.specs.Entries.{keys, HasDistinctKeys, value_of, with_value, last_key, previous_key}
 use Rattle.sq_arena.proofs.EntriesLaws.{distinct_back}
 use Rattle.sq_isa.specs.Registers.{is_among}
@@ -18,12 +19,6 @@ use Rattle.sq_graph.proofs.BackWalks.{up_to, last_of, no_last, IsIn, is_in, up_t
 or_assoc : (a b c : Bool) → (a || (b || c)) ≡ ((a || b) || c)
 or_assoc true b c = refl
 or_assoc false b c = refl
-
-or_comm : (a b : Bool) → (a || b) ≡ (b || a)
-or_comm true true = refl
-or_comm true false = refl
-or_comm false true = refl
-or_comm false false = refl
 
 pub is_among-append : (xs ys : List ℕ) (n : ℕ) → is_among (xs ++ ys) n ≡ (is_among xs n || is_among ys n)
 is_among-append [] ys n = refl

@@ -5,6 +5,7 @@ use Rattle.std.proofs.lemmas.List.Elements.{All-from_recursion}
 use Rattle.std.proofs.lemmas.List.Sorted.{All-permutation}
 use Rattle.std.proofs.lemmas.Map.Keys.{IsDistinct-head, IsDistinct-tail, IsDistinct-cons, IsDistinct-IsPermutation}
 use Rattle.std.specs.List.{AllByRecursion, IsDistinct}
+use Rattle.std.proofs.lemmas.Bool.{and_parts, or_parts}
 use Rattle.sq_elf.specs.declared.segment.Segment.{Segment}
 use Rattle.sq_elf.specs.Headers.{phnum_of, is_load, segment_of}
 use Rattle.sq_elf.specs.Ranges.{meets}
@@ -14,7 +15,7 @@ use Rattle.sq_elf.specs.Refusing.{bad_segment, segment_kind, segment_overlap, fi
 use Rattle.sq_elf.proofs.Passing.{row_passes}
 use Rattle.sq_elf.proofs.Accepted.{segments_accepted}
 use Rattle.sq_elf.proofs.Apart.{pieces_are_apart}
-use Rattle.sq_elf.proofs.TextFacts.{both_true, neither, second_false, lt_of}
+use Rattle.sq_elf.proofs.TextFacts.{second_false, lt_of}
 use Rattle.sq_hex.specs.Flash.{AreLoads}
 use Rattle.sq_hex.specs.States.{AreBounded}
 
@@ -39,8 +40,8 @@ not_less a b fails = grind (arith, nat_tests)
 
 sound_shape : (s : Segment) → is_misshapen s ≡ false → IsSound s
 sound_shape s good =
-    let last = neither (nat_lt s.memsz s.filesz || nat_lt (2 ^ 32) (s.address + s.memsz)) (nat_lt (2 ^ 32) (s.load_address + s.filesz)) good in
-    let first = neither (nat_lt s.memsz s.filesz) (nat_lt (2 ^ 32) (s.address + s.memsz)) last.0 in
+    let last = or_parts (nat_lt s.memsz s.filesz || nat_lt (2 ^ 32) (s.address + s.memsz)) (nat_lt (2 ^ 32) (s.load_address + s.filesz)) good in
+    let first = or_parts (nat_lt s.memsz s.filesz) (nat_lt (2 ^ 32) (s.address + s.memsz)) last.0 in
     record { whole = not_less s.memsz s.filesz first.0; bounded = not_less (2 ^ 32) (s.load_address + s.filesz) last.1 }
 
 -- two load ranges have a byte in common
@@ -71,9 +72,9 @@ meets_from a size b other p q r s = rw (lt_test 0 size p, lt_test 0 other q, lt_
 
 pub meeting : (a size b other : ℕ) → meets a size b other ≡ true → (0 < size) × (0 < other) × (a < b + other) × (b < a + size)
 meeting a size b other is =
-    let x = both_true (nat_lt 0 size && nat_lt 0 other && nat_lt a (b + other)) (nat_lt b (a + size)) is in
-    let y = both_true (nat_lt 0 size && nat_lt 0 other) (nat_lt a (b + other)) x.0 in
-    let z = both_true (nat_lt 0 size) (nat_lt 0 other) y.0 in
+    let x = and_parts (nat_lt 0 size && nat_lt 0 other && nat_lt a (b + other)) (nat_lt b (a + size)) is in
+    let y = and_parts (nat_lt 0 size && nat_lt 0 other) (nat_lt a (b + other)) x.0 in
+    let z = and_parts (nat_lt 0 size) (nat_lt 0 other) y.0 in
     (lt_of 0 size z.0, lt_of 0 other z.1, lt_of a (b + other) y.1, lt_of b (a + size) x.1)
 
 shorter_meets : (a size less b other : ℕ) → less ≤ size → meets a size b other ≡ false → meets a less b other ≡ false
@@ -125,7 +126,7 @@ module _ (file : List ℕ) (accepted : file_refusal_of file ≡ None) where
 
   sound_at : (k : ℕ) → k < phnum_of file → has_memory file k ≡ true → IsSound (segment_of file k)
   sound_at k within has =
-      let loads = both_true (is_load file k) (nat_lt 0 (segment_of file k).memsz) has in
+      let loads = and_parts (is_load file k) (nat_lt 0 (segment_of file k).memsz) has in
       sound_shape (segment_of file k) (second_false (is_load file k) (is_misshapen (segment_of file k)) (not_bad k within) loads.0)
 
   all_sound : (count : ℕ) → count ≤ phnum_of file → AllByRecursion IsSound (segments_before file count)

@@ -5,6 +5,7 @@ use Rattle.std.proofs.lemmas.List.Concat.{flat_map-append}
 use Rattle.std.proofs.lemmas.List.Folds.{list_any-append}
 use Rattle.std.proofs.lemmas.Option.{slice_get_cases}
 use Rattle.std.specs.List.{flat_map}
+use Rattle.std.proofs.Math.Bool.{or_assoc}
 use Rattle.sq_graph.specs.Graph.{Block, Procedure, Graph}
 use Rattle.sq_graph.specs.Blocks.{items_of_blocks, items_of_bodies, all_items}
 use Rattle.sq_graph.specs.Uses.{item_uses, items_uses, terms_uses, code_word_uses, uses}
@@ -17,17 +18,13 @@ or_false : (a : Bool) → a ≡ (a || false)
 or_false true = refl
 or_false false = refl
 
-or_or : (a b c : Bool) → ((a || b) || c) ≡ (a || (b || c))
-or_or true b c = refl
-or_or false b c = refl
-
 pub adds_none : (names : List ℕ) → Adds [] names names
 adds_none names = record { each = λ n. or_false (is_listed names n) }
 
 pub adds_then : (names more s t u : List ℕ) → Adds names s t → Adds more t u → Adds (names ++ more) s u
 adds_then names more s t u first second = record {
   each = λ n.
-      second.each n ∙ ap (λ b. b || is_listed more n) (first.each n) ∙ or_or (is_listed s n) (is_listed names n) (is_listed more n)
+      second.each n ∙ ap (λ b. b || is_listed more n) (first.each n) ∙ or_assoc (is_listed s n) (is_listed names n) (is_listed more n)
       ∙ ap (λ b. is_listed s n || b) (sym (is_listed-append names more n));
 }
 

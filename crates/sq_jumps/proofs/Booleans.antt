@@ -1,17 +1,10 @@
 -- Truth values.
 use Rattle.std.proofs.Common.{◌≡◌, ◌⊎◌, ℕ, Bool, true, false, not, ◌||◌, inl, inr, refl, sym, ◌==◌, ◌&&◌}
-use Rattle.std.proofs.lemmas.Bool.{ne_eqb, eqb-false, or_left, or_right}
-
-pub or_cases : (a b : Bool) → (a || b) ≡ true → (a ≡ true) ⊎ (b ≡ true)
-or_cases true b e = inl refl
-or_cases false b e = inr e
+use Rattle.std.proofs.lemmas.Bool.{ne_eqb, eqb-false, or_left, or_right, or_cases}
+use Rattle.std.proofs.Math.Bool.{and-false}
 
 pub other_way : (a b : ℕ) → (a == b) ≡ false → (b == a) ≡ false
 other_way a b e = ne_eqb b a (λ same. eqb-false a b e (sym same))
-
-pub and_false : (b : Bool) → (b && false) ≡ false
-and_false true = refl
-and_false false = refl
 
 -- one of four holds, once another stands for the third
 pub one_of_four : (Q : Type 0) (a b c c' d : Bool) → (c ≡ true → (c' ≡ true) ⊎ Q) → (a || (b || (c || d))) ≡ true → ((a || (b || (c' || d))) ≡ true) ⊎ Q

@@ -1,7 +1,8 @@
 -- Row J2 keeps a canonical graph canonical, where something names the detour.
 use Rattle.std.proofs.Common.{◌≡◌, ◌⊎◌, ℕ, Bool, true, false, not, ◌||◌, List, [], ◌∷◌, None, Some, inl, inr, refl, sym, ap, ◌∙◌, subst, ◌==◌, map, if◌then◌else◌, ◌++◌, ◌&&◌}
 use Rattle.std.specs.List.{All}
-use Rattle.std.proofs.lemmas.Bool.{cases_Bool, eqb-true, eq-eqb, ne_eqb, or_left, or_right}
+use Rattle.std.proofs.lemmas.Bool.{cases_Bool, eqb-true, eq-eqb, ne_eqb, or_left, or_right, or_cases}
+use Rattle.std.proofs.Math.Bool.{and-false}
 use Rattle.sq_graph.specs.declared.item.Item.{Item}
 use Rattle.sq_graph.specs.declared.item.Term.{Term}
 use Rattle.sq_graph.specs.declared.item.Term.TheVariants.{Branch, PartJump, Fall, Jump, Call, Indirect, Stop}
@@ -34,7 +35,7 @@ use Rattle.sq_graph.proofs.Marks.{is_among-append}
 use Rattle.sq_graph.proofs.Eachs.{All-left, All-right}
 use Rattle.sq_graph.proofs.Bypassing.{is_fall-other, is_bare-other}
 use Rattle.sq_graph.proofs.RetargetRules.{uses-other}
-use Rattle.sq_jumps.proofs.Booleans.{or_cases, other_way, and_false, one_of_four}
+use Rattle.sq_jumps.proofs.Booleans.{other_way, one_of_four}
 use Rattle.sq_jumps.proofs.Leaders.{absent_tail, falls_on, three_uses}
 use Rattle.sq_jumps.proofs.Blocks.{goes_on-retargeted}
 use Rattle.sq_jumps.proofs.DetourApplied.{detour_made, detour_applied}
@@ -129,7 +130,7 @@ module _ (name to : ℕ) (back : List Block) where
   follows_still (c ∷ []) n apart e =
       let own = goes_on c.term && not (is_fall c.term) in
       elim (or_cases (goes_on c.term && not (is_fall c.term) && name == n) (follows_a_term (jumping ∷ back) n) e) [
-        | inl here ↦ absurd (let none : (own && name == n) ≡ false = ap (λ t. own && t) apart ∙ and_false own in cc)
+        | inl here ↦ absurd (let none : (own && name == n) ≡ false = ap (λ t. own && t) apart ∙ and-false own in cc)
         | inr later ↦ behind_front c back n (follows_still [] n apart later)
       ]
   follows_still (c ∷ d ∷ front) n apart e =

@@ -2,7 +2,7 @@
 -- be made canonical once.
 use Rattle.std.proofs.Common.{◌≡◌, ℕ, ◌+◌, ◌≤◌, ◌==◌, Bool, true, false, ◌&&◌, ◌||◌, not, List, [], ◌∷◌, ◌++◌, take, drop, length, None, Some, inl, inr, refl, sym, ap, ◌∙◌, subst, arith, append_assoc}
 use Rattle.std.specs.List.{All}
-use Rattle.std.proofs.lemmas.Bool.{cases_Bool, or_left, or_right}
+use Rattle.std.proofs.lemmas.Bool.{cases_Bool, or_left, or_right, or_cases}
 use Rattle.std.proofs.lemmas.List.{take_at, take_all, length-take-le, take-append-drop}
 use Rattle.std.proofs.lemmas.List.Elements.{All-cons, All-head, All-tail, All-append}
 use Rattle.sq_arena.specs.Entries.{HasDistinctKeys, value_of, first_key}
@@ -37,7 +37,7 @@ use Rattle.sq_jumps.specs.Fall.{falling, JumpsToNext, IsPlainFall, IsCanonicalTo
 use Rattle.sq_jumps.proofs.FallApplied.{fall_applied, fall_rules}
 use Rattle.sq_jumps.proofs.Leaders.{three_uses, absent_tail, absent_parts}
 use Rattle.sq_jumps.proofs.Blocks.{HasFirst, first_is, names-changed}
-use Rattle.sq_jumps.proofs.Booleans.{or_cases, other_way, one_of_four}
+use Rattle.sq_jumps.proofs.Booleans.{other_way, one_of_four}
 use Rattle.sq_jumps.proofs.Ruled.{behind_it}
 use Rattle.sq_jumps.proofs.Rewritten.{row_rewritten}
 

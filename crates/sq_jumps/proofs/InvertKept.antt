@@ -1,7 +1,8 @@
 -- Row J3 keeps a canonical graph canonical.
 use Rattle.std.proofs.Common.{◌≡◌, ◌⊎◌, ℕ, Bool, true, false, not, ◌||◌, List, [], ◌∷◌, None, Some, inl, inr, refl, sym, ap, ◌∙◌, subst, ◌==◌, ◌++◌, ◌&&◌, append_assoc}
 use Rattle.std.specs.List.{All}
-use Rattle.std.proofs.lemmas.Bool.{or_left, or_right}
+use Rattle.std.proofs.lemmas.Bool.{or_left, or_right, or_cases}
+use Rattle.std.proofs.Math.Bool.{and-false}
 use Rattle.sq_isa.specs.declared.instructions.Cond.{Cond}
 use Rattle.sq_isa.specs.Branches.{inverse_of}
 use Rattle.sq_graph.specs.declared.item.Item.{Item}
@@ -31,7 +32,7 @@ use Rattle.sq_jumps.specs.Candidates.{IsCandidate, described}
 use Rattle.sq_graph.proofs.Changes.{with_blocks-at}
 use Rattle.sq_graph.proofs.Marks.{is_among-append}
 use Rattle.sq_graph.proofs.Eachs.{All-left, All-right}
-use Rattle.sq_jumps.proofs.Booleans.{or_cases, other_way, and_false, one_of_four}
+use Rattle.sq_jumps.proofs.Booleans.{other_way, one_of_four}
 use Rattle.sq_jumps.proofs.Leaders.{absent_tail, absent_parts, falls_on, three_uses}
 use Rattle.sq_jumps.proofs.Blocks.{HasFirst, first_is}
 use Rattle.sq_jumps.proofs.InvertApplied.{invert_made, invert_applied}
@@ -96,7 +97,7 @@ module _ (name over to a b : ℕ) (cond new : Cond) (items : List Item) (n : Blo
       let P : Block → Type 0 = λ c. is_bare c ≡ false in
       let rest = All-tail P branching (jumping ∷ n ∷ back) (All-right P front (branching ∷ jumping ∷ n ∷ back) all) in
       All-append P front (turned ∷ n ∷ back) (All-left P front (branching ∷ jumping ∷ n ∷ back) all)
-      (All-cons P turned (n ∷ back) (and_false (has_no_items items)) (All-tail P jumping (n ∷ back) rest))
+      (All-cons P turned (n ∷ back) (and-false (has_no_items items)) (All-tail P jumping (n ∷ back) rest))
 
   module _ (leads others : ℕ → Bool) (more : (k : ℕ) → (k == over) ≡ false → leads k ≡ true → others k ≡ true) (name_apart : (name == over) ≡ false) (back_apart : value_of (named (n ∷ back)) over ≡ None) where
     falls_here : FallsIntoLeaders leads (branching ∷ jumping ∷ n ∷ back) → FallsIntoLeaders others (turned ∷ n ∷ back)

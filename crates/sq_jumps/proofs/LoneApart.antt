@@ -1,7 +1,7 @@
 -- Lone Jumps of which none leads to another don't disturb one another.
 use Rattle.std.proofs.Common.{Result, Ok, Err, ◌≡◌, ◌≢◌, ◌⊎◌, ℕ, ◌==◌, Bool, true, false, ◌||◌, if◌then◌else◌, nat_eq, List, [], ◌∷◌, ◌++◌, map, length, Option, None, Some, is_some, inl, inr, refl, sym, ap, ◌∙◌, subst}
 use Rattle.std.specs.Prelude.{option_map, OnOk}
-use Rattle.std.proofs.lemmas.Bool.{cases_Bool, eqb-true, eqb-false, eq-eqb, ne_eqb, or_left, or_right}
+use Rattle.std.proofs.lemmas.Bool.{cases_Bool, eqb-true, eqb-false, eq-eqb, ne_eqb, or_left, or_right, or_parts, or_cases}
 use Rattle.std.proofs.lemmas.List.{length-map}
 use Rattle.sq_arena.specs.Entries.{first_key, next_key}
 use Rattle.sq_num.specs.declared.memory.Memory.{Memory}
@@ -35,7 +35,6 @@ use Rattle.sq_jumps.proofs.DetourApplied.{detour_to, detour_shrinks, detour_rule
 use Rattle.sq_jumps.proofs.LoneFalls.{next_other, lone_fall_rules}
 use Rattle.sq_jumps.proofs.Blocks.{retargeted_before, gone_block, goes_on-retargeted, next-redirected}
 use Rattle.sq_jumps.proofs.Distances.{detour_near}
-use Rattle.sq_jumps.proofs.Booleans.{or_cases}
 use Rattle.sq_jumps.proofs.DetourKept.{name_used}
 use Rattle.sq_jumps.proofs.OldSurveys.{without_still}
 use Rattle.sq_jumps.proofs.Adding.{is_listed-append}
@@ -222,10 +221,6 @@ listed_among xs n e = among_listed xs n ∙ e
 pub here_listed : (n : ℕ) (rest : List ℕ) → is_listed (n ∷ rest) n ≡ true
 here_listed n rest = or_left (nat_eq n n) (is_listed rest n) (eq-eqb n n refl)
 
-pub none_of_two : (a b : Bool) → (a || b) ≡ false → (a ≡ false) × (b ≡ false)
-none_of_two true b e = absurd (cc)
-none_of_two false b e = (refl, e)
-
 -- once the first went, the others go together still
 module _ (row : Row) (g : Graph) (gone : ℕ) (rest : List ℕ) (rules : IsGraph g) (t : GoTogether row g (gone ∷ rest)) where
   pub first : IsBypassable row g gone
@@ -280,7 +275,7 @@ module _ (row : Row) (g : Graph) (gone : ℕ) (rest : List ℕ) (rules : IsGraph
     apart_still : (to : ℕ) → jump_from (without_jump g gone first.to) n ≡ Some to → is_listed rest to ≡ false
     apart_still to e =
         let same : to ≡ own.to = let f : Some to ≡ Some own.to = sym e ∙ jump_still in cc in
-        ap (is_listed rest) same ∙ (none_of_two (nat_eq own.to gone) (is_listed rest own.to) (t.apart n own.to too own.jump)).1
+        ap (is_listed rest) same ∙ (or_parts (nat_eq own.to gone) (is_listed rest own.to) (t.apart n own.to too own.jump)).1
 
   pub rest_together : GoTogether row (without_jump g gone first.to) rest
   rest_together = record { go = still; apart = λ n to listed. apart_still n listed to; once = t.once.1 }
@@ -309,7 +304,7 @@ alone_not block n other = rw (ne_eqb n block other) refl
 once_more : (xs : List ℕ) (n : ℕ) → AreOnce xs → is_listed xs n ≡ false → AreOnce (xs ++ n ∷ [])
 once_more [] n once none = (refl, tt)
 once_more (x ∷ xs) n once none =
-    let parts = none_of_two (nat_eq n x) (is_listed xs n) none in
+    let parts = or_parts (nat_eq n x) (is_listed xs n) none in
     let other : x ≢ n = λ same. absurd (let is : nat_eq n x ≡ true = eq-eqb n x (sym same) in let no = parts.0 in cc) in
     (is_listed-append xs (n ∷ []) x ∙ rw (once.0, alone_not n x other) refl, once_more xs n once.1 parts.1)
 

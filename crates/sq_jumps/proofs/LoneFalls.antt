@@ -1,8 +1,9 @@
 -- Row J1 at a lone Jump: the empty block that is left gives its names to the next slot and goes, and the graph is canonical.
 use Rattle.std.proofs.Common.{◌≡◌, ◌≢◌, ℕ, Bool, true, false, not, ◌&&◌, ◌==◌, if◌then◌else◌, List, [], ◌∷◌, ◌++◌, None, Some, is_some, inl, inr, refl, sym, ap, ◌∙◌, subst, append_assoc}
 use Rattle.std.specs.List.{All}
-use Rattle.std.proofs.lemmas.Bool.{cases_Bool, eq-eqb, or_left, or_right}
+use Rattle.std.proofs.lemmas.Bool.{cases_Bool, eq-eqb, or_left, or_right, or_cases}
 use Rattle.std.proofs.lemmas.List.Elements.{All-head, All-tail}
+use Rattle.std.proofs.Math.Bool.{and-false}
 use Rattle.sq_arena.specs.Entries.{HasDistinctKeys, value_of}
 use Rattle.sq_arena.proofs.EntriesLaws.{absent_ahead, distinct_back}
 use Rattle.sq_isa.specs.Registers.{is_among}
@@ -34,7 +35,7 @@ use Rattle.sq_pass.specs.Rewrites.{IsRewritten}
 use Rattle.sq_jumps.specs.Candidates.{IsCandidate, described}
 use Rattle.sq_jumps.specs.Fall.{falling, JumpsToNext}
 use Rattle.sq_jumps.proofs.Blocks.{HasFirst, first_is, next-term, next-redirected}
-use Rattle.sq_jumps.proofs.Booleans.{or_cases, other_way, and_false}
+use Rattle.sq_jumps.proofs.Booleans.{other_way}
 use Rattle.sq_jumps.proofs.DetourApplied.{lone_redirected, lone_there}
 use Rattle.sq_jumps.proofs.DetourKept.{jumping, before, after, target_used, used_elsewhere, follows_still, follows-other, falls-other, solid-other, solid_still, without-retargeted, spot, is_jump, whole, behind, moved}
 use Rattle.sq_jumps.proofs.FallApplied.{fall_applied, fall_rules}
@@ -53,7 +54,7 @@ follows_there (b ∷ next ∷ bs) n none e =
     let later = (absent_tail b (next ∷ bs) n none).1 in
     let own = goes_on b.term && not (is_fall b.term) in
     elim (or_cases (own && next.name == n) (follows_a_term (next ∷ bs) n) e) [
-      | inl here ↦ absurd (let off : (own && next.name == n) ≡ false = ap (λ t. own && t) (absent_tail next bs n later).0 ∙ and_false own in cc)
+      | inl here ↦ absurd (let off : (own && next.name == n) ≡ false = ap (λ t. own && t) (absent_tail next bs n later).0 ∙ and-false own in cc)
       | inr there ↦ follows_there (next ∷ bs) n later there
     ]
 
@@ -75,7 +76,7 @@ module _ (name : ℕ) (n : Block) (rest : List Block) (back_apart : value_of (na
       let own = goes_on c.term && not (is_fall c.term) in
       let later = (absent_tail c (d ∷ front) name apart).1 in
       elim (or_cases (own && d.name == name) (follows_a_term (d ∷ (front ++ over ∷ n ∷ rest)) name) e) [
-        | inl here ↦ absurd (let off : (own && d.name == name) ≡ false = ap (λ t. own && t) (absent_tail d front name later).0 ∙ and_false own in cc)
+        | inl here ↦ absurd (let off : (own && d.name == name) ≡ false = ap (λ t. own && t) (absent_tail d front name later).0 ∙ and-false own in cc)
         | inr there ↦ or_right (own && d.name == n.name) (follows_a_term (d ∷ (front ++ n ∷ rest)) n.name) (follows_over (d ∷ front) later there)
       ]
 

@@ -2,7 +2,7 @@
 use Rattle.std.proofs.Common.{◌≡◌, ℕ, ◌+◌, ◌≤◌, ◌==◌, true, false, ◌||◌, if◌then◌else◌, nat_eq, List, [], ◌∷◌, Some, is_some, inl, inr, refl, sym, ap, ◌∙◌, subst, arith}
 use mathlib.Core.Path.{fun_ext}
 use Rattle.std.specs.Prelude.{option_map}
-use Rattle.std.proofs.lemmas.Bool.{cases_Bool, eqb-true, eqb-false, eq-eqb, ne_eqb}
+use Rattle.std.proofs.lemmas.Bool.{cases_Bool, eqb-true, eqb-false, eq-eqb, ne_eqb, or_parts}
 use Rattle.sq_num.specs.declared.packed.Savings.{Savings}
 use Rattle.sq_isa.specs.Registers.{is_among}
 use Rattle.sq_graph.specs.declared.item.Term.TheVariants.{Jump}
@@ -31,7 +31,7 @@ use Rattle.sq_jumps.proofs.DetourApplied.{detour_made, detour_applied}
 use Rattle.sq_jumps.proofs.DetourKept.{without-retargeted, detour_rewritten}
 use Rattle.sq_jumps.proofs.FallApplied.{fall_applied}
 use Rattle.sq_jumps.proofs.LoneFalls.{lone_fall_rewritten}
-use Rattle.sq_jumps.proofs.LoneApart.{none_of_two, among_listed, bypassed_rules, first, aside, term_still, rest_together}
+use Rattle.sq_jumps.proofs.LoneApart.{among_listed, bypassed_rules, first, aside, term_still, rest_together}
 
 jump_term : (row : Row) (g : Graph) (n : ℕ) (d : IsBypassable row g n) → term_of g n ≡ Some (Jump d.to)
 jump_term row g n d = lone_term g n d.to (lone g n d.to d.jump)
@@ -61,7 +61,7 @@ module _ (row : Row) (g : Graph) (gone : ℕ) (rest : List ℕ) (rules : IsGraph
   gone_goes : goes_to h rest (swapped gone to gone) ≡ goes_to g (gone ∷ rest) gone
   gone_goes =
       let itself : (gone == gone) ≡ true = eq-eqb gone gone refl in
-      let stays : is_among rest to ≡ false = among_listed rest to ∙ (none_of_two (nat_eq to gone) (is_listed rest to) (aside row g gone rest rules t)).1 in
+      let stays : is_among rest to ≡ false = among_listed rest to ∙ (or_parts (nat_eq to gone) (is_listed rest to) (aside row g gone rest rules t)).1 in
       ap (λ b. goes_to h rest (if b then to else gone)) itself
       ∙ ap (λ b. if b then named_by to (term_of h to) else to) stays
       ∙ sym (ap (λ b. if b || is_among rest gone then named_by gone (term_of g gone) else gone) itself ∙ ap (named_by gone) (jump_term row g gone (first row g gone rest rules t)))

@@ -2,6 +2,7 @@
 use Rattle.std.proofs.Common.{◌≡◌, ℕ, zero, suc, Bool, true, false, not, ◌||◌, List, [], ◌∷◌, length, slice_get, Some, inl, inr, refl, sym, ap, ◌∙◌, subst, arith, ◌+◌, ◌==◌, ◌++◌, ◌&&◌, take, append_assoc, append-nil}
 use Rattle.std.specs.List.{All}
 use Rattle.std.proofs.lemmas.Bool.{cases_Bool, eqb-true, eq-eqb, ne_eqb, or_left, or_right}
+use Rattle.std.proofs.Math.Bool.{and-false}
 use Rattle.sq_graph.specs.declared.item.Item.{Item}
 use Rattle.sq_graph.specs.declared.item.Item.TheVariants.{Hi}
 use Rattle.sq_graph.specs.declared.item.Term.TheVariants.{PartJump}
@@ -38,10 +39,6 @@ goes_on_same (suc link) part to = sym (ap not (not_zero link))
 no_fall : (link to : ℕ) → is_fall (short_jump link to) ≡ false
 no_fall zero to = refl
 no_fall (suc link) to = refl
-
-and_false : (b : Bool) → (b && false) ≡ false
-and_false true = refl
-and_false false = refl
 
 -- USES
 
@@ -110,7 +107,7 @@ module _ (name link part to : ℕ) (init : List Item) (back : List Block) where
   follows_same (b ∷ c ∷ front) n = ap (λ later. goes_on b.term && not (is_fall b.term) && c.name == n || later) (follows_same (c ∷ front) n)
 
   bare_short : is_bare short ≡ false
-  bare_short = ap (λ fall. has_no_items init && fall) (no_fall link to) ∙ and_false (has_no_items init)
+  bare_short = ap (λ fall. has_no_items init && fall) (no_fall link to) ∙ and-false (has_no_items init)
 
   still_solid : (front : List Block) → All (λ b. is_bare b ≡ false) (front ++ long ∷ back) → All (λ b. is_bare b ≡ false) (front ++ short ∷ back)
   still_solid [] all = All-cons (λ b. is_bare b ≡ false) short back bare_short (All-tail (λ b. is_bare b ≡ false) long back all)

@@ -1,6 +1,6 @@
 -- Row C at the first of some blocks: each is for C in the graph that those before it left, which keeps names and their order.
 use Rattle.std.proofs.Common.{◌≡◌, ℕ, suc, ◌+◌, ◌<◌, true, false, ◌||◌, nat_eq, List, [], ◌∷◌, ◌++◌, length, map, take, get_or, refl, sym, ap, ◌∙◌, subst, arith}
-use Rattle.std.proofs.lemmas.Bool.{ne_eqb, eqb-false}
+use Rattle.std.proofs.lemmas.Bool.{ne_eqb, eqb-false, or_parts}
 use Rattle.std.specs.List.{All, AllByRecursion, IsDistinct}
 use Rattle.std.proofs.lemmas.List.{take_more, length-take-le}
 use Rattle.std.proofs.lemmas.List.Elements.{All-nil, All-head, All-tail, All-push}
@@ -19,7 +19,6 @@ use Rattle.sq_pass.proofs.Rewriting.{lighter_itself, lighter_through}
 use Rattle.sq_jumps.specs.Shorten.{JumpsByDeadPart, shortened_at, shortened_each, AreShortened, AreFirstShortable}
 use Rattle.sq_jumps.proofs.ShortenSwept.{shorten_names, shorten_rules_at, shorten_canonical_at, shorten_lighter, shorten_others, distinct_pushed}
 use Rattle.sq_jumps.proofs.Adding.{is_listed-append}
-use Rattle.sq_jumps.proofs.LoneApart.{none_of_two}
 use Rattle.sq_jumps.proofs.UnreachedGo.{contains_listed}
 
 -- NAMES ARE KEPT
@@ -86,7 +85,7 @@ pub record IsFoundFirst (g : Graph) (blocks : List ℕ) (count : ℕ) (found : L
 apart_from : (names : List ℕ) (n : ℕ) → is_listed names n ≡ false → AllByRecursion (λ m. nat_eq m n ≡ false) names
 apart_from [] n none = tt
 apart_from (m ∷ names) n none =
-    let (here, later) = none_of_two (nat_eq n m) (is_listed names n) none in
+    let (here, later) = or_parts (nat_eq n m) (is_listed names n) none in
     (ne_eqb m n (λ same. eqb-false n m here (sym same)), apart_from names n later)
 
 pub found_first_none : (g : Graph) (blocks found : List ℕ) → found ≡ [] → IsFoundFirst g blocks 0 found

@@ -1,7 +1,7 @@
 -- Calls among items and blocks.
 use Rattle.std.proofs.Common.{◌≡◌, ◌≢◌, ℕ, zero, suc, ◌+◌, ◌-◌, ◌<◌, if◌then◌else◌, Bool, true, false, ◌||◌, nat_eq, List, [], ◌∷◌, ◌++◌, map, remove, length, get_or, slice_get, refl, sym, ap, ◌∙◌, subst, arith, length-append}
 use Rattle.std.specs.List.{All, flat_map}
-use Rattle.std.proofs.lemmas.Bool.{eqb-false, eq-eqb}
+use Rattle.std.proofs.lemmas.Bool.{eqb-false, eq-eqb, or_right, or_parts}
 use Rattle.std.proofs.lemmas.List.{length-map}
 use Rattle.std.proofs.lemmas.List.Edits.{length-remove}
 use Rattle.std.proofs.lemmas.List.Elements.{All-nil, All-cons, All-head, All-tail, All-append}
@@ -22,10 +22,6 @@ use Rattle.sq_jumps.specs.Unreached.{is_called_in}
 use Rattle.sq_jumps.specs.UnreachedClear.{is_called, without_uncalled}
 use Rattle.sq_jumps.proofs.Adding.{is_listed-append}
 
-or_right : (a b : Bool) → b ≡ true → (a || b) ≡ true
-or_right true b e = refl
-or_right false b e = e
-
 -- the call that was found
 pub call_found : (items : List Item) (k q : ℕ) (item : Item) → k < length items → item ≡ get_or items k item → item ≡ Out q → true ≡ is_listed (flat_map item_calls items) q
 call_found [] k q item below is call = absurd (omega (arith, below))
@@ -38,20 +34,16 @@ call_found (x ∷ items) zero q item below is call =
 call_found (x ∷ items) (suc k) q item below is call =
     sym (is_listed-append (item_calls x) (flat_map item_calls items) q ∙ or_right (is_listed (item_calls x) q) (is_listed (flat_map item_calls items) q) (sym (call_found items k q item (omega (arith, below)) is call)))
 
-neither : (a b : Bool) → (a || b) ≡ false → (a ≡ false) × (b ≡ false)
-neither true b e = absurd (cc)
-neither false b e = (refl, e)
-
 pub all_unlisted : (xs : List ℕ) (q : ℕ) → is_listed xs q ≡ false → All (λ n. n ≢ q) xs
 all_unlisted [] q e = All-nil (λ n. n ≢ q)
 all_unlisted (x ∷ xs) q e =
-    let both = neither (nat_eq q x) (is_listed xs q) e in
+    let both = or_parts (nat_eq q x) (is_listed xs q) e in
     All-cons (λ n. n ≢ q) x xs (λ same. eqb-false q x both.0 (sym same)) (all_unlisted xs q both.1)
 
 blocks_without : (bs : List Block) (q : ℕ) → is_called_in (λ n. true) bs q ≡ false → All (λ item. All (λ n. n ≢ q) (item_calls item)) (items_of_blocks bs)
 blocks_without [] q e = All-nil {X = Item} (λ item. All (λ n. n ≢ q) (item_calls item))
 blocks_without (b ∷ bs) q e =
-    let both = neither (is_listed (flat_map item_calls b.items) q) (is_called_in (λ n. true) bs q) e in
+    let both = or_parts (is_listed (flat_map item_calls b.items) q) (is_called_in (λ n. true) bs q) e in
     All-append {X = Item} (λ item. All (λ n. n ≢ q) (item_calls item)) b.items (items_of_blocks bs)
     (All-each (λ n. n ≢ q) item_calls b.items (all_unlisted (flat_map item_calls b.items) q both.0)) (blocks_without bs q both.1)
 

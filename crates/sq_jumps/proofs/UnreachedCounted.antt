@@ -3,6 +3,7 @@ use Rattle.std.proofs.Common.{◌≡◌, ℕ, suc, ◌+◌, ◌<◌, ◌≤◌, 
 use Rattle.std.specs.List.{filter, flat_map}
 use Rattle.std.proofs.lemmas.Bool.{cases_Bool, eqb-true, eq-eqb, ne_eqb}
 use Rattle.std.proofs.lemmas.List.Sums.{sum_by-cons, sum_by-append, sum_by-take-drop}
+use Rattle.std.proofs.Math.Bool.{or_assoc, or-false}
 use Rattle.sq_arena.specs.Entries.{value_of}
 use Rattle.sq_graph.specs.declared.item.Item.{Item}
 use Rattle.sq_graph.specs.Graph.{Block, Procedure, Graph}
@@ -22,26 +23,18 @@ use Rattle.sq_jumps.proofs.UnreachedLeft.{own_there, words_fall}
 
 -- ONE BLOCK MORE
 
-or_or : (a b c : Bool) → ((a || b) || c) ≡ (a || (b || c))
-or_or true b c = refl
-or_or false b c = refl
-
-or_false : (a : Bool) → (a || false) ≡ a
-or_false true = refl
-or_false false = refl
-
 called_append : (keep : ℕ → Bool) (front : List Block) (b : Block) (q : ℕ) → is_called_in keep (front ++ b ∷ []) q ≡ (is_called_in keep front q || (keep b.name && is_listed (flat_map item_calls b.items) q))
-called_append keep [] b q = or_false (keep b.name && is_listed (flat_map item_calls b.items) q)
+called_append keep [] b q = or-false (keep b.name && is_listed (flat_map item_calls b.items) q)
 called_append keep (x ∷ front) b q =
     ap (λ t. (keep x.name && is_listed (flat_map item_calls x.items) q) || t) (called_append keep front b q)
-    ∙ sym (or_or (keep x.name && is_listed (flat_map item_calls x.items) q) (is_called_in keep front q) (keep b.name && is_listed (flat_map item_calls b.items) q))
+    ∙ sym (or_assoc (keep x.name && is_listed (flat_map item_calls x.items) q) (is_called_in keep front q) (keep b.name && is_listed (flat_map item_calls b.items) q))
 
 called_more : (keep : ℕ → Bool) (front all : List Block) (b : Block) (q : ℕ) → all ≡ front ++ b ∷ [] → is_called_in keep all q ≡ (is_called_in keep front q || (keep b.name && is_listed (flat_map item_calls b.items) q))
 called_more keep front all b q more = ap (λ bs. is_called_in keep bs q) more ∙ called_append keep front b q
 
 pub called_skips : (keep : ℕ → Bool) (front all : List Block) (b : Block) (q : ℕ) → all ≡ front ++ b ∷ [] → keep b.name ≡ false → is_called_in keep all q ≡ is_called_in keep front q
 called_skips keep front all b q more goes_so =
-    called_more keep front all b q more ∙ ap (λ t. is_called_in keep front q || (t && is_listed (flat_map item_calls b.items) q)) goes_so ∙ or_false (is_called_in keep front q)
+    called_more keep front all b q more ∙ ap (λ t. is_called_in keep front q || (t && is_listed (flat_map item_calls b.items) q)) goes_so ∙ or-false (is_called_in keep front q)
 
 pub called_adds : (keep : ℕ → Bool) (front all : List Block) (b : Block) (q : ℕ) → all ≡ front ++ b ∷ [] → keep b.name ≡ true → is_called_in keep all q ≡ (is_called_in keep front q || is_listed (flat_map item_calls b.items) q)
 called_adds keep front all b q more kept_so =

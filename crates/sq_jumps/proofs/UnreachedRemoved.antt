@@ -1,7 +1,7 @@
 -- Blocks go that nothing uses, and into which nothing that stays goes on.
 use Rattle.std.proofs.Common.{◌≡◌, ◌≢◌, ℕ, ◌+◌, ◌<◌, ◌≤◌, ◌==◌, Bool, true, false, ◌||◌, not, nat_eq, List, [], ◌∷◌, drop, add-one, drop-cons, length, get_or, Option, None, Some, is_some, refl, sym, ap, ◌∙◌, subst, inl, inr, arith}
 use Rattle.std.specs.List.{All, filter}
-use Rattle.std.proofs.lemmas.Bool.{cases_Bool, eqb-true, eqb-false, eq-eqb}
+use Rattle.std.proofs.lemmas.Bool.{cases_Bool, eqb-true, eqb-false, eq-eqb, or_left, or_right, or_parts}
 use Rattle.std.proofs.lemmas.List.Elements.{All-tail, All-append, All-weaker}
 use Rattle.sq_arena.specs.Entries.{HasDistinctKeys, value_of, first_key, next_key}
 use Rattle.sq_arena.specs.Links.{times, places}
@@ -78,18 +78,6 @@ each_goes (n ∷ rest) g distinct =
 
 -- WHAT MAY GO
 
-or_left : (a b : Bool) → a ≡ true → (a || b) ≡ true
-or_left true b e = refl
-or_left false b e = absurd (cc)
-
-or_right : (a b : Bool) → b ≡ true → (a || b) ≡ true
-or_right true b e = refl
-or_right false b e = e
-
-neither : (a b : Bool) → (a || b) ≡ false → (a ≡ false) × (b ≡ false)
-neither true b e = absurd (cc)
-neither false b e = (refl, e)
-
 listed_first : (n : ℕ) (rest : List ℕ) → is_listed (n ∷ rest) n ≡ true
 listed_first n rest = or_left (nat_eq n n) (is_listed rest n) (eq-eqb n n refl)
 
@@ -97,7 +85,7 @@ listed_later : (n m : ℕ) (rest : List ℕ) → is_listed rest m ≡ true → i
 listed_later n m rest e = or_right (nat_eq m n) (is_listed rest m) e
 
 not_listed : (n m : ℕ) (rest : List ℕ) → is_listed (n ∷ rest) m ≡ false → (m ≢ n) × (is_listed rest m ≡ false)
-not_listed n m rest e = let both = neither (nat_eq m n) (is_listed rest m) e in (eqb-false m n both.0, both.1)
+not_listed n m rest e = let both = or_parts (nat_eq m n) (is_listed rest m) e in (eqb-false m n both.0, both.1)
 
 first_weaker : (n : ℕ) (rest : List ℕ) (bs : List Block) → first_listed rest bs ≡ true → first_listed (n ∷ rest) bs ≡ true
 first_weaker n rest [] e = absurd (cc)

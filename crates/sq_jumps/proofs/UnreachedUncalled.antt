@@ -5,6 +5,7 @@ use Rattle.std.proofs.lemmas.Bool.{cases_Bool, cases_lt, ne_eqb}
 use Rattle.std.proofs.lemmas.Bool.Decides.{nat_tests}
 use Rattle.std.proofs.lemmas.List.{length-map}
 use Rattle.std.proofs.lemmas.List.Edits.{length-remove}
+use Rattle.std.proofs.Math.Bool.{or-true, or-false}
 use Rattle.sq_graph.specs.declared.item.Item.{Item}
 use Rattle.sq_graph.specs.declared.item.Item.TheVariants.{Op, Hi, Lo, Out}
 use Rattle.sq_graph.specs.Graph.{Block, Procedure, Graph}
@@ -148,14 +149,6 @@ only_held h g = recalled (number_held h) (record g { procedures = procedures_hel
 abbrev pub held_from : Graph → ℕ → ℕ → Bool
 held_from g q n = is_called g n || not (nat_lt n q)
 
-or_true : (a : Bool) → (a || true) ≡ true
-or_true true = refl
-or_true false = refl
-
-or_false : (a : Bool) → (a || false) ≡ a
-or_false true = refl
-or_false false = refl
-
 lowered_same : (q n p : ℕ) → n < q → nat_eq n (lowered q p) ≡ nat_eq n p
 lowered_same q n p below =
     elim (cases_lt q p) [
@@ -189,12 +182,12 @@ less_one g q none = record {
   above = λ k a.
       let s : nat_lt k q ≡ false = grind (arith, nat_tests) in
       let t : nat_lt (suc k) (suc q) ≡ false = grind (arith, nat_tests) in
-      rw (s, t) (or_true (is_called (without_procedure g q) k) ∙ sym (or_true (is_called g (suc k))));
+      rw (s, t) (or-true (is_called (without_procedure g q) k) ∙ sym (or-true (is_called g (suc k))));
 }
 
 pub uncalled_is : (q : ℕ) (g : Graph) → q ≤ length g.procedures → without_uncalled q g ≡ only_held (held_from g q) g
 uncalled_is zero g within =
-    let all : (n : ℕ) → held_from g 0 n ≡ true = λ n. let t : nat_lt n 0 ≡ false = grind (arith, nat_tests) in rw t (or_true (is_called g n)) in
+    let all : (n : ℕ) → held_from g 0 n ≡ true = λ n. let t : nat_lt n 0 ≡ false = grind (arith, nat_tests) in rw t (or-true (is_called g n)) in
     let own : (n : ℕ) → number_held (held_from g 0) n ≡ n = λ n. all_numbers (held_from g 0) n all in
     sym (
     ap (λ (bs : List Block). record g { blocks = bs; procedures = map (recalled_procedure (number_held (held_from g 0))) (procedures_held (held_from g 0) g.procedures) }) (blocks_own (number_held (held_from g 0)) own g.blocks)

@@ -4,6 +4,7 @@ use Rattle.std.specs.Option.{option_and_then}
 use Rattle.std.specs.List.{list_any}
 use Rattle.std.proofs.lemmas.Bool.{cases_Bool, eqb-true, eqb-false, eq-eqb, ne_eqb}
 use Rattle.std.proofs.lemmas.Bool.Decides.{nat_tests}
+use Rattle.std.proofs.Math.Bool.{or-false}
 use Rattle.sq_isa.specs.declared.instructions.Insn.{Insn}
 use Rattle.sq_isa.specs.declared.instructions.Insn.TheVariants.{Lui, Auipc, Jal, Jalr, Branch as BranchInsn, Load, Store, OpImm, Op as OpInsn, Fence, Ecall, Ebreak, Unimp, Atomic}
 use Rattle.sq_reloc.specs.declared.mark.Mark.{Mark}
@@ -17,10 +18,6 @@ use Rattle.sq_lift.specs.Search.{is_among}
 use Rattle.sq_lift.specs.Entrances.{merged, entrance_if, jump_entrance, marked_entrance, words_entrance, entrance_of, is_entered_but_by, is_open, some_open, is_fallen_into, is_entered_by}
 
 -- TESTS
-
-or_false : (a : Bool) → (a || false) ≡ a
-or_false true = refl
-or_false false = refl
 
 -- of pairs of tests
 or_swap : (a b c d : Bool) → ((a || b) || (c || d)) ≡ ((a || c) || (b || d))
@@ -172,7 +169,7 @@ enters_merged true link Closed d = refl
 enters_merged false link Closed d = refl
 enters_merged true link Open d = refl
 enters_merged false link Open d = refl
-enters_merged true link (Calls r) Closed = sym (or_false (not (r == link)))
+enters_merged true link (Calls r) Closed = sym (or-false (not (r == link)))
 enters_merged false link (Calls r) Closed = refl
 enters_merged true link (Calls r) Open = sym (or_true (not (r == link)))
   where
@@ -265,11 +262,11 @@ module _ (note : Note) where
   enter_jumps at (Jal rd offset) = one (target_from at offset)
     where
       one : (t : ℕ) → some_enter (λ x. entrance_if (is_among (t ∷ []) x) (Calls rd)) ≡ ((P t && not (rd == note.link && t == note.address)) || false)
-      one t = enter_one t (Calls rd) ∙ ap (λ b. P t && b) (jal_enters rd t (nat_eq t note.address)) ∙ sym (or_false (P t && not (rd == note.link && t == note.address)))
+      one t = enter_one t (Calls rd) ∙ ap (λ b. P t && b) (jal_enters rd t (nat_eq t note.address)) ∙ sym (or-false (P t && not (rd == note.link && t == note.address)))
   enter_jumps at (BranchInsn cond a b offset) = one (target_from at offset)
     where
       one : (t : ℕ) → some_enter (λ x. entrance_if (is_among (t ∷ []) x) Open) ≡ ((P t && true) || false)
-      one t = enter_one t Open ∙ ap (λ b. P t && b) (open_enters (nat_eq t note.address)) ∙ sym (or_false (P t && true))
+      one t = enter_one t Open ∙ ap (λ b. P t && b) (open_enters (nat_eq t note.address)) ∙ sym (or-false (P t && true))
   enter_jumps at (Lui rd upper) = enter_closed
   enter_jumps at (Auipc rd upper) = enter_closed
   enter_jumps at (Jalr rd rs offset) = enter_closed
@@ -331,7 +328,7 @@ module _ (note : Note) where
         or_true : (a : Bool) → (a || true) ≡ true
         or_true true = refl
         or_true false = refl
-    tests false false q r true false e f = or_false q ∙ e
+    tests false false q r true false e f = or-false q ∙ e
     tests false false q r false true e f = refl
     tests false false q r false false e f = refl
 
@@ -348,7 +345,7 @@ module _ (note : Note) where
         in_range n = list_any (is_within note.address n) (half_target mark) || (not (is_within note.address n at) && (list_any (is_within note.address n) (next_word at insn) || list_any (λ x. is_within note.address n x && not (is_call note insn x)) (jump_target at insn)))
 
         next_any : (goes : Bool) → list_any P (if goes then (at + 4) ∷ [] else []) ≡ (goes && P (at + 4))
-        next_any true = or_false (P (at + 4))
+        next_any true = or-false (P (at + 4))
         next_any false = refl
 
     -- where no jump stands in the procedure
@@ -403,7 +400,7 @@ module _ (note : Note) where
             let low : nat_le 4 a ≡ true = le_is 4 a (omega (arith, same)) in
             let before : a - 4 ≡ at = omega (arith, same) in
             (λ i. (is at && same_goes a at (insn_in w) same i) || falls_past a (at + 4) words (omega (arith, same)) i)
-            ∙ or_false (is at && insn_is insn_goes_on (insn_in w))
+            ∙ or-false (is at && insn_is insn_goes_on (insn_in w))
             ∙ sym (rw (low, before, eq-eqb at at refl) refl)
 
         falls_there : (a at : ℕ) (w : Word) (words : List Word) → (at + 4 ≡ a → ⊥) → falls_in_words a (at + 4) words ≡ (nat_le 4 a && (is (a - 4) && insn_is insn_goes_on (option_and_then insn_in (word_from (a - 4) (at + 4) words)))) → falls_in_words a at (w ∷ words) ≡ (nat_le 4 a && (is (a - 4) && insn_is insn_goes_on (option_and_then insn_in (word_from (a - 4) at (w ∷ words)))))

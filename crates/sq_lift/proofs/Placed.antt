@@ -3,7 +3,7 @@ use Rattle.std.proofs.Common.{Bor, get_or, nat_lt, is_some, IfSome, ◌≡◌, �
 use Rattle.std.specs.Prelude.{slice_get}
 use Rattle.std.specs.Option.{option_and_then, option_map}
 use Rattle.std.proofs.lemmas.Option.{slice_get_past, slice_get-get_or}
-use Rattle.std.proofs.lemmas.Bool.{cases_Bool, eqb-true, eqb-false, eq-eqb}
+use Rattle.std.proofs.lemmas.Bool.{cases_Bool, eqb-true, eqb-false, eq-eqb, and_from}
 use Rattle.std.proofs.lemmas.Bool.Decides.{nat_tests}
 use Rattle.law_program.specs.Programs.{Word, Text, word_from, word_at, is_word, end_of}
 use Rattle.sq_lift.specs.Places.{place_of}
@@ -13,9 +13,6 @@ le_is a b le = grind (arith, nat_tests)
 
 le_of : (a b : ℕ) → nat_le a b ≡ true → a ≤ b
 le_of a b is = grind (arith, nat_tests)
-
-both : (a b : Bool) → a ≡ true → b ≡ true → (a && b) ≡ true
-both a b p q = rw (p, q) refl
 
 first_of_both : (a b : Bool) → (a && b) ≡ true → a ≡ true
 first_of_both true b p = refl
@@ -39,7 +36,7 @@ place_at lo k =
     let low : nat_le lo (lo + 4 * k) ≡ true = le_is lo (lo + 4 * k) (omega arith) in
     let whole : ((lo + 4 * k - lo) % 4 == 0) ≡ true = eq-eqb ((lo + 4 * k - lo) % 4) 0 (omega arith) in
     let place : (lo + 4 * k - lo) / 4 ≡ k = omega arith in
-    rw (both (nat_le lo (lo + 4 * k)) ((lo + 4 * k - lo) % 4 == 0) low whole) (ap Some place)
+    rw (and_from (nat_le lo (lo + 4 * k)) ((lo + 4 * k - lo) % 4 == 0) low whole) (ap Some place)
 
 pub place_is : (lo x k : ℕ) → place_of lo x ≡ Some k → x ≡ lo + 4 * k
 unfolding place_of

@@ -4,6 +4,7 @@ use Rattle.std.specs.Prelude.{option_to_list}
 use Rattle.std.proofs.lemmas.Bool.{cases_Bool, eqb-true, eqb-false, eq-eqb, ne_eqb}
 use Rattle.std.proofs.lemmas.List.{take_more, map-append, length-take}
 use Rattle.std.proofs.lemmas.List.Folds.{list_any-append}
+use Rattle.std.proofs.Math.Bool.{or-false}
 use Rattle.sq_isa.specs.Registers.{is_among}
 use Rattle.law_program.specs.Programs.{Word, Text, Note, Program, is_word, target_of}
 use Rattle.law_program.specs.Readings.{reading_of}
@@ -15,10 +16,6 @@ use Rattle.sq_lift.proofs.Reaching.{reaches_new, reaches_old}
 use Rattle.sq_lift.specs.Raised.{Raises}
 
 -- TESTS
-
-or_false : (a : Bool) → (a || false) ≡ a
-or_false true = refl
-or_false false = refl
 
 same_test : (a b : ℕ) → nat_eq a b ≡ nat_eq b a
 same_test a b =
@@ -64,19 +61,19 @@ raises_one old new a true added is =
     let r = reaches_new old [] a (sym added) in
     let all : Raises (λ x. a == x) old (with_flag old a) = record {
       words = r.words;
-      flags = λ x. r.reached x ∙ ap (λ b. is_flagged old x || (has_word old x && b)) (or_false (nat_eq x a) ∙ same_test x a);
+      flags = λ x. r.reached x ∙ ap (λ b. is_flagged old x || (has_word old x && b)) (or-false (nat_eq x a) ∙ same_test x a);
     } in
     subst (Raises (λ x. a == x) old) (sym is) all
 raises_one old new a false added is =
     let r = reaches_old (record { reached = old; waiting = [] }) a (sym added) in
     let all : Raises (λ x. a == x) old old = record {
       words = r.words;
-      flags = λ x. r.reached x ∙ ap (λ b. is_flagged old x || (has_word old x && b)) (or_false (nat_eq x a) ∙ same_test x a);
+      flags = λ x. r.reached x ∙ ap (λ b. is_flagged old x || (has_word old x && b)) (or-false (nat_eq x a) ∙ same_test x a);
     } in
     subst (Raises (λ x. a == x) old) (sym is) all
 
 pub raises_listed : {old new : Flags} (a : ℕ) → Raises (λ x. a == x) old new → Raises (is_among (a ∷ [])) old new
-raises_listed a one = raises_same one (λ x. sym (or_false (nat_eq a x)))
+raises_listed a one = raises_same one (λ x. sym (or-false (nat_eq a x)))
 
 pub raises_some : (old new : Flags) (o : Option ℕ) (a : ℕ) → o ≡ Some a → Raises (λ x. a == x) old new → Raises (is_among (option_to_list o)) old new
 raises_some old new o a is one = subst (λ o. Raises (is_among (option_to_list o)) old new) (sym is) (raises_listed a one)
@@ -128,7 +125,7 @@ module _ (is : ℕ → Bool) (ns : List Note) (t : Text) where
   word_leads at w x = is at && is_among (reading_leads ns at (reading_of t at w)) x
 
   lead_append : (x at : ℕ) (ws : List Word) (w : Word) → words_lead is ns t at (ws ++ w ∷ []) x ≡ (words_lead is ns t at ws x || word_leads (at + 4 * length ws) w x)
-  lead_append x at [] w = let e : at + 4 * 0 ≡ at = omega arith in rw e (or_false (word_leads at w x))
+  lead_append x at [] w = let e : at + 4 * 0 ≡ at = omega arith in rw e (or-false (word_leads at w x))
   lead_append x at (v ∷ ws) w =
       let e : at + 4 + 4 * length ws ≡ at + 4 * suc (length ws) = omega arith in
       ap (λ b. word_leads at v x || b) (lead_append x (at + 4) ws w ∙ ap (λ n. words_lead is ns t (at + 4) ws x || word_leads n w x) e)
@@ -178,7 +175,7 @@ nothing_past s at n far = record { words = λ x. refl; flags = λ x. by x (is_wi
         ]
 
     by : (x : ℕ) (b : Bool) → is_within at n x ≡ b → is_flagged s x ≡ (is_flagged s x || (has_word s x && is_within at n x))
-    by x true e = let none = none_past s x (let h = within_from at n x e in omega (arith, far, h)) in sym ((λ i. is_flagged s x || (none i && is_within at n x)) ∙ or_false (is_flagged s x))
+    by x true e = let none = none_past s x (let h = within_from at n x e in omega (arith, far, h)) in sym ((λ i. is_flagged s x || (none i && is_within at n x)) ∙ or-false (is_flagged s x))
     by x false e = rw e (none_raised (is_flagged s x) (has_word s x))
 
 -- what is left of a procedure's words, from a set in which the one at `at` is
@@ -208,6 +205,6 @@ raises_procedure ns i n {old} {mid} {new} h is first second =
     let more : take (i + 1) ns ≡ take i ns ++ n ∷ [] = take_more ns i n h ∙ ap (λ (m : Note). take i ns ++ m ∷ []) (sym is) in
     raises_same (raises_then first second)
     (λ x.
-    ap (λ b. is_in_procedures (take i ns) x || b) (sym (or_false (is_in_procedure n x)))
+    ap (λ b. is_in_procedures (take i ns) x || b) (sym (or-false (is_in_procedure n x)))
     ∙ sym (list_any-append (λ note. is_in_procedure note x) (take i ns) (n ∷ []))
     ∙ ap (λ ms. is_in_procedures ms x) (sym more))

@@ -1,6 +1,6 @@
 -- A search over the words of text, from its start to its end.
 use Rattle.std.proofs.Common.{◌≡◌, ℕ, zero, suc, ◌+◌, ◌<◌, Bool, true, false, ◌&&◌, ◌||◌, not, List, [], ◌∷◌, ◌++◌, length, map, inl, inr, nat_eq, refl, sym, ap, ◌∙◌, subst, arith}
-use Rattle.std.proofs.lemmas.Bool.{cases_Bool, eqb-true, eq-eqb}
+use Rattle.std.proofs.lemmas.Bool.{cases_Bool, eqb-true, eq-eqb, and_from, or_left, or_right}
 use Rattle.std.proofs.lemmas.Cmp.{nat_eq_equiv}
 use Rattle.std.proofs.lemmas.List.{length-append}
 use Rattle.std.proofs.lemmas.Map.Views.{list_any-from_Contains}
@@ -10,7 +10,7 @@ use Rattle.law_program.specs.Reached.{leads_from, IsReached, entry, code_word, w
 use Rattle.sq_lift.specs.Flags.{has_word, is_flagged}
 use Rattle.sq_lift.specs.Search.{Found, Reaches, is_among, unflagged_count}
 use Rattle.sq_lift.proofs.Flagged.{no_flags, same_words, none_flagged}
-use Rattle.sq_lift.proofs.Reaching.{among-append, reaches_then, or_left, or_right}
+use Rattle.sq_lift.proofs.Reaching.{among-append, reaches_then}
 
 among_from_contains : (xs : List ℕ) (x : ℕ) → Contains xs x → is_among xs x ≡ true
 among_from_contains xs x h = list_any-from_Contains nat_eq_equiv x xs h
@@ -31,10 +31,6 @@ pub record IsSearch (p : Program) (s : Found) : Type 0 where
   pub targets : (x : ℕ) → is_word p.text x ≡ true → is_among (map target_of p.code_words) x ≡ true → is_flagged s.reached x ≡ true
   pub waits : (x : ℕ) → is_among s.waiting x ≡ true → is_flagged s.reached x ≡ true
   pub closed : (x y : ℕ) → is_flagged s.reached x ≡ true → is_among s.waiting x ≡ false → is_word p.text y ≡ true → is_among (leads_from p.text x) y ≡ true → is_flagged s.reached y ≡ true
-
--- of tests
-both : (a b : Bool) → a ≡ true → b ≡ true → (a && b) ≡ true
-both a b e f = rw (e, f) refl
 
 first_of_both : (a b : Bool) → (a && b) ≡ true → a ≡ true
 first_of_both true b e = refl
@@ -62,7 +58,7 @@ started p s t first second = record {
 
     flags : (x : ℕ) → is_word p.text x ≡ true → is_among (p.entry ∷ map target_of p.code_words) x ≡ true → is_flagged t.reached x ≡ true
     flags x word among =
-        all.reached x ∙ or_right (is_flagged (no_flags p.text) x) _ (both (has_word (no_flags p.text) x) _ (same_words p.text x ∙ word) among)
+        all.reached x ∙ or_right (is_flagged (no_flags p.text) x) _ (and_from (has_word (no_flags p.text) x) _ (same_words p.text x ∙ word) among)
 
     start : (x : ℕ) → is_word p.text x ≡ true → is_among (p.entry ∷ map target_of p.code_words) x ≡ true → IsReached p x
     start x word among =
@@ -128,7 +124,7 @@ looked_at p s rest t a is search more = record {
         elim (cases_Bool (nat_eq x a)) [
           | inl here ↦
               more.reached y
-              ∙ or_right (is_flagged rest.reached y) _ (both (has_word rest.reached y) _ (before.words y ∙ word) (subst (λ z. is_among (leads_from p.text z) y ≡ true) (eqb-true x a here) next))
+              ∙ or_right (is_flagged rest.reached y) _ (and_from (has_word rest.reached y) _ (before.words y ∙ word) (subst (λ z. is_among (leads_from p.text z) y ≡ true) (eqb-true x a here) next))
           | inr apart ↦ keeps y (before.closed x y e (pushed x ∙ rw (h, apart) refl) word next)
         ]
 

@@ -3,7 +3,7 @@ use Rattle.std.proofs.Common.{◌≡◌, ◌⊎◌, inl, inr, ℕ, zero, suc, po
 use Rattle.std.specs.List.{AllByRecursion, flat_map}
 use Rattle.std.specs.Option.{option_and_then, option_map}
 use Rattle.std.proofs.lemmas.Option.{slice_get-map}
-use Rattle.std.proofs.lemmas.Bool.{eqb-true, and_parts, or_left, or_right}
+use Rattle.std.proofs.lemmas.Bool.{eqb-true, and_parts, or_left, or_right, false_from_ne_true, or_parts, or_cases}
 use Rattle.std.proofs.lemmas.List.Elements.{All-from_recursion}
 use Rattle.sq_isa.specs.Registers.{is_among}
 use Rattle.sq_graph.specs.declared.item.Item.{Item}
@@ -22,10 +22,10 @@ use Rattle.law_program.specs.Lifted.{Form, ItemForm, TermForm, link_form, form_o
 use Rattle.law_lifting.specs.Lifting.{IsLinked, IsReadable}
 use Rattle.law_lifting.proofs.TextWords.{same_itself, at_here, at_later, stood}
 use Rattle.law_lifting.proofs.Lifts.{form_line, closes}
-use Rattle.law_lifting.proofs.Facts.{or_false, ReadWord}
-use Rattle.law_lifting.proofs.NoteFacts.{or_cases, notes_find, good_note, read_item, IsReturn, return_is, BodyWord, item_word, return_word, body_word}
+use Rattle.law_lifting.proofs.Facts.{ReadWord}
+use Rattle.law_lifting.proofs.NoteFacts.{notes_find, good_note, read_item, IsReturn, return_is, BodyWord, item_word, return_word, body_word}
 use Rattle.law_lifting.proofs.ReadingFacts.{IsReadTerm, IsForm}
-use Rattle.law_lifting.proofs.Cutting.{kept_is, kept_from, read_at, next_kept, true_not_false, when_false}
+use Rattle.law_lifting.proofs.Cutting.{kept_is, kept_from, read_at, next_kept, true_not_false}
 use Rattle.law_lifting.proofs.CutLines.{N, K, L, G, Cut, IsSuffix, tail_suffix, form_at, IsTermForm, term_lead, goes_of, closed_cut, first_lead}
 use Rattle.law_lifting.proofs.Whole.{names_are}
 use Rattle.sq_lifted.proofs.Blocks.{IsFormGood, IsBlockGood, IsRestGood, reads_here, reading_blocks}
@@ -64,7 +64,7 @@ full (TermForm term) rest name h = h
 among_append : (xs ys : List ℕ) (x : ℕ) → is_among (xs ++ ys) x ≡ false → (is_among xs x ≡ false) × (is_among ys x ≡ false)
 among_append [] ys x h = (refl, h)
 among_append (a ∷ xs) ys x h =
-    let b = or_false (a == x) (is_among (xs ++ ys) x) h in
+    let b = or_parts (a == x) (is_among (xs ++ ys) x) h in
     let c = among_append xs ys x b.1 in
     (rw b.0 c.0, c.1)
 
@@ -256,7 +256,7 @@ module _ (p : Program) (is : ℕ → Bool) (linked : IsLinked p) (dec : Decides 
 
   fewer : (x : ℕ) (b : Block) (blocks : List Block) → follows_a_term (b ∷ blocks) x ≡ false → follows_a_term blocks x ≡ false
   fewer x b [] h = refl
-  fewer x b (c ∷ cs) h = (or_false (goes_on b.term && not (is_fall b.term) && c.name == x) (follows_a_term (c ∷ cs) x) h).1
+  fewer x b (c ∷ cs) h = (or_parts (goes_on b.term && not (is_fall b.term) && c.name == x) (follows_a_term (c ∷ cs) x) h).1
 
   behind_fall : (x : ℕ) (blocks : List Block) → follows_a_term blocks x ≡ false → NotBehind x (between blocks)
   behind_fall x [] h = refl
@@ -278,7 +278,7 @@ module _ (p : Program) (is : ℕ → Bool) (linked : IsLinked p) (dec : Decides 
   clash : (x : ℕ) (term : Term) (blocks : List Block) (c : Block) (cs : List Block) → goes_on term ≡ true → is_fall term ≡ false → blocks ≡ c ∷ cs → c.name ≡ x → follows_a_term (record { name = 0; items = []; term = term } ∷ blocks) x ≡ false → ⊥
   clash x term blocks c cs g f e n h =
       let h' : follows_a_term (record { name = 0; items = []; term = term } ∷ c ∷ cs) x ≡ false = subst (λ bs. follows_a_term (record { name = 0; items = []; term = term } ∷ bs) x ≡ false) e h in
-      let first = (or_false (goes_on term && not (is_fall term) && c.name == x) (follows_a_term (c ∷ cs) x) h').0 in
+      let first = (or_parts (goes_on term && not (is_fall term) && c.name == x) (follows_a_term (c ∷ cs) x) h').0 in
       let all : (goes_on term && not (is_fall term) && c.name == x) ≡ true = rw (g, f, n) (same_itself x) in
       true_not_false (sym all ∙ first)
 
@@ -318,7 +318,7 @@ module _ (p : Program) (is : ℕ → Bool) (linked : IsLinked p) (dec : Decides 
 
   module _ (x : ℕ) (unused : is_among (uses g) x ≡ false) (unfollowed : follows_a_term g.blocks x ≡ false) where
     after_entry : is_among (code_word_uses g.code_words ++ (terms_uses g.blocks ++ items_uses (all_items g))) x ≡ false
-    after_entry = (or_false (g.entry == x) (is_among (code_word_uses g.code_words ++ (terms_uses g.blocks ++ items_uses (all_items g))) x) unused).1
+    after_entry = (or_parts (g.entry == x) (is_among (code_word_uses g.code_words ++ (terms_uses g.blocks ++ items_uses (all_items g))) x) unused).1
 
     in_blocks : is_among (terms_uses g.blocks ++ items_uses (all_items g)) x ≡ false
     in_blocks = (among_append (code_word_uses g.code_words) (terms_uses g.blocks ++ items_uses (all_items g)) x after_entry).1
@@ -385,13 +385,13 @@ module _ (p : Program) (is : ℕ → Bool) (linked : IsLinked p) (dec : Decides 
         go false i = kept_leads l.pc (kept_from p is linked.text dec fine l.pc l.reached i) rd (subst (λ o. is_among (reading_leads ns l.pc o) x ≡ true) reads l.leads)
 
     not_lead : lead x ≡ false
-    not_lead = when_false (lead x) (λ l. go (or_cases (p.entry == x || is_among (map target_of p.code_words) x) (words_lead is ns t t.lo t.words x) l))
+    not_lead = false_from_ne_true (lead x) (λ l. go (or_cases (p.entry == x || is_among (map target_of p.code_words) x) (words_lead is ns t t.lo t.words x) l))
       where
         codes : is_among (map target_of p.code_words) x ≡ false
         codes = subst (λ xs. is_among xs x ≡ false) (names_are p is linked dec fine p.code_words) (among_append (code_word_uses g.code_words) (terms_uses g.blocks ++ items_uses (all_items g)) x after_entry).0
 
         first : ((p.entry == x) ≡ true) ⊎ (is_among (map target_of p.code_words) x ≡ true) → ⊥
-        first (inl e) = true_not_false (sym e ∙ (or_false (g.entry == x) (is_among (code_word_uses g.code_words ++ (terms_uses g.blocks ++ items_uses (all_items g))) x) unused).0)
+        first (inl e) = true_not_false (sym e ∙ (or_parts (g.entry == x) (is_among (code_word_uses g.code_words ++ (terms_uses g.blocks ++ items_uses (all_items g))) x) unused).0)
         first (inr e) = true_not_false (sym e ∙ codes)
 
         go : ((p.entry == x || is_among (map target_of p.code_words) x) ≡ true) ⊎ (words_lead is ns t t.lo t.words x ≡ true) → ⊥
@@ -403,7 +403,7 @@ module _ (p : Program) (is : ℕ → Bool) (linked : IsLinked p) (dec : Decides 
     where
       go : (b : Bool) → is_leader g x ≡ b → b ≡ true
       go true e = refl
-      go false e = let u = or_false (is_among (uses g) x) (follows_a_term g.blocks x) e in true_not_false (sym l ∙ not_lead x u.0 u.1)
+      go false e = let u = or_parts (is_among (uses g) x) (follows_a_term g.blocks x) e in true_not_false (sym l ∙ not_lead x u.0 u.1)
 
   falls : (blocks : List Block) → AllByRecursion IsFullLeader blocks → FallsIntoLeaders (is_leader g) blocks
   falls [] h = tt

@@ -2,7 +2,7 @@
 -- have words of their own.
 use Rattle.std.proofs.Common.{◌≡◌, ◌≢◌, ◌⊎◌, inl, inr, ℕ, zero, suc, ◌+◌, ◌-◌, ◌*◌, ◌≤◌, ◌<◌, Bool, true, false, not, ◌==◌, ◌&&◌, ◌||◌, List, [], ◌∷◌, map, length, Some, None, slice_get, if◌then◌else◌, refl, sym, ap, ◌∙◌, subst, arith}
 use Rattle.std.specs.List.{Contains, AllByRecursion, list_any, sum_by}
-use Rattle.std.proofs.lemmas.Bool.{eqb-true, and_parts, cases_lt}
+use Rattle.std.proofs.lemmas.Bool.{eqb-true, and_parts, cases_lt, false_from_ne_true, or_parts, or_cases}
 use Rattle.std.proofs.lemmas.List.Sums.{sum_by-cons}
 use Rattle.sq_graph.specs.declared.item.Item.{Item}
 use Rattle.sq_graph.specs.Graph.{Graph}
@@ -14,9 +14,9 @@ use Rattle.law_program.specs.Notes.{is_within, is_in_procedure, is_in_procedures
 use Rattle.law_program.specs.Lifted.{Form, ItemForm, TermForm, form_of, Rest, between, with_form, with_reading, begun_if, body_from, procedure_of, procedure_at}
 use Rattle.law_lifting.specs.Lifting.{IsLinked, IsReadable}
 use Rattle.law_lifting.proofs.Lifts.{form_line, closes}
-use Rattle.law_lifting.proofs.Facts.{or_false, any_none, one, ReadWord, next_reached}
-use Rattle.law_lifting.proofs.NoteFacts.{or_cases, in_procedure_start, read_item, return_is, own_number, IsGoodNote, good_note}
-use Rattle.law_lifting.proofs.Cutting.{kept_is, read_at, true_not_false, when_false}
+use Rattle.law_lifting.proofs.Facts.{any_none, one, ReadWord, next_reached}
+use Rattle.law_lifting.proofs.NoteFacts.{in_procedure_start, read_item, return_is, own_number, IsGoodNote, good_note}
+use Rattle.law_lifting.proofs.Cutting.{kept_is, read_at, true_not_false}
 use Rattle.law_lifting.proofs.CutLines.{N, K, L, G, Cut, IsSuffix, tail_suffix, form_at, goes_of, IsTermForm, closed_cut, first_lead}
 use Rattle.sq_lifted.specs.Lifted.{LiftedIsGood}
 use Rattle.sq_lifted.proofs.Blocks.{item_open}
@@ -93,7 +93,7 @@ count_within a (suc n) lo words f =
     later i h w = let e : a + 4 * suc i ≡ (a + 4) + 4 * i = omega arith in (w.0, subst (λ x. word_from x lo words ≡ Some w.0) e w.1)
 
     apart : AreApart (λ x. a == x) (is_within (a + 4) n)
-    apart x e = when_false (is_within (a + 4) n x) (λ h. let p = place (a + 4) n x h in let q : a ≡ x = eqb-true a x e in let i = p.is in let no_way : ⊥ = omega arith in no_way)
+    apart x e = false_from_ne_true (is_within (a + 4) n x) (λ h. let p = place (a + 4) n x h in let q : a ≡ x = eqb-true a x e in let i = p.is in let no_way : ⊥ = omega arith in no_way)
 
 -- lists of notes no two of which hold a word
 abbrev IsApart : List Note → Type 0
@@ -277,16 +277,16 @@ module _ (p : Program) (is : ℕ → Bool) (linked : IsLinked p) (dec : Decides 
           let rd = read_at p is linked.text dec fine y b.reached in
           let goes = item_goes y b.item rd b.reads in
           let none = subst (λ o. marked_enters m y rd.word.mark o ≡ false) rd.sound.is (good_m.words y rd.word b.reached rd.there) in
-          let a = or_false (list_any (is_in_procedure m) (half_target rd.word.mark)) (enters_from_outside m y rd.sound.insn) none in
-          let out : is_in_procedure m y ≡ false = when_false (is_in_procedure m y) (λ h. let q = place m.address (m.length + 1) y h in let i = q.is in let no_way : ⊥ = omega arith in no_way) in
-          let c = or_false (list_any (is_in_procedure m) (next_word y rd.sound.insn)) (list_any (λ z. is_in_procedure m z && not (is_call m rd.sound.insn z)) (jump_target y rd.sound.insn))
+          let a = or_parts (list_any (is_in_procedure m) (half_target rd.word.mark)) (enters_from_outside m y rd.sound.insn) none in
+          let out : is_in_procedure m y ≡ false = false_from_ne_true (is_in_procedure m y) (λ h. let q = place m.address (m.length + 1) y h in let i = q.is in let no_way : ⊥ = omega arith in no_way) in
+          let c = or_parts (list_any (is_in_procedure m) (next_word y rd.sound.insn)) (list_any (λ z. is_in_procedure m z && not (is_call m rd.sound.insn z)) (jump_target y rd.sound.insn))
           (subst (λ b. (not b && (list_any (is_in_procedure m) (next_word y rd.sound.insn) || list_any (λ z. is_in_procedure m z && not (is_call m rd.sound.insn z)) (jump_target y rd.sound.insn))) ≡ false) out a.1) in
           let next : Contains (next_word y rd.sound.insn) (y + 4) = rw goes (one (y + 4)) in
           let into : is_in_procedure m (y + 4) ≡ true = subst (λ z. is_in_procedure m z ≡ true) (sym before) (in_procedure_start m) in
           true_not_false (sym into ∙ any_none (is_in_procedure m) (next_word y rd.sound.insn) (y + 4) c.0 next)
 
   notes_apart : IsApart ns
-  notes_apart = all_apart ns (λ q r n m e g ne x h. when_false (is_in_procedure m x) (λ h'. both q r n m e g ne x h h'))
+  notes_apart = all_apart ns (λ q r n m e g ne x h. false_from_ne_true (is_in_procedure m x) (λ h'. both q r n m e g ne x h h'))
     where
       both : (q r : ℕ) (n m : Note) → slice_get ns q ≡ Some n → slice_get ns r ≡ Some m → q ≢ r → (x : ℕ) → is_in_procedure n x ≡ true → is_in_procedure m x ≡ true → ⊥
       both q r n m e g ne x hn hm = order (cases_lt n.address m.address) (cases_lt m.address n.address)

@@ -2,7 +2,7 @@
 use Rattle.std.proofs.Common.{◌≡◌, ℕ, zero, suc, ◌+◌, ◌-◌, ◌*◌, ◌/◌, ◌%◌, ◌^◌, ◌≤◌, ◌<◌, nat_eq, nat_le, nat_lt, Bool, true, false, not, ◌==◌, ◌&&◌, ◌||◌, List, [], ◌∷◌, drop, length, map, Option, Some, None, is_some, if◌then◌else◌, refl, sym, ap, ◌∙◌, subst, arith}
 use Rattle.std.specs.Option.{unwrap_or, option_map, option_map_or, option_and_then}
 use Rattle.std.specs.List.{Contains, AllByRecursion, find, list_any}
-use Rattle.std.proofs.lemmas.Bool.{eqb-true, and_from}
+use Rattle.std.proofs.lemmas.Bool.{eqb-true, and_from, and_parts}
 use Rattle.std.proofs.lemmas.Bool.Decides.{nat_tests}
 use Rattle.byteorder.specs.Endian.{little_number}
 use Rattle.sq_isa.specs.Table.{insn_of}
@@ -15,7 +15,7 @@ use Rattle.sq_elf.specs.Text.{text_of as text_range, is_in_text as range_has, is
 use Rattle.sq_elf.specs.Refusing.{too_many_pieces, too_many_bytes, bad_entry, without_text, bad_text_section, text_split, text_moved, text_too_large, text_size, largest_text}
 use Rattle.sq_elf.proofs.Accepted.{single_passes, text_accepted, sizes_accepted}
 use Rattle.sq_elf.proofs.Passing.{behind_row}
-use Rattle.sq_elf.proofs.TextFacts.{both_true, TextFacts, text_facts, text_has_words}
+use Rattle.sq_elf.proofs.TextFacts.{TextFacts, text_facts, text_has_words}
 use Rattle.sq_reloc.specs.declared.mark.Mark.{Mark}
 use Rattle.sq_reloc.specs.declared.mark.Mark.TheVariants.{Plain, Hi, Lo, Unsupported, Disagrees, Conflict, Lone}
 use Rattle.sq_reloc.specs.declared.mark.CodeWord.{CodeWord}
@@ -184,7 +184,7 @@ module _ (bytes : List ℕ) (is : ℕ → Bool) (p : Program) (read : IsReadAs b
 
   text_word_is : (x : ℕ) → is_text_word (text_range bytes) x ≡ true → IsWord (text_of bytes) x
   text_word_is x h =
-      let a = both_true (range_has (text_range bytes) x) (nat_eq (x % 4) 0) h in
+      let a = and_parts (range_has (text_range bytes) x) (nat_eq (x % 4) 0) h in
       let whole : x % 4 ≡ 0 = eqb-true (x % 4) 0 a.1 in
       in_text_word (text_of bytes) x facts.inside.low_word (subst (λ e. (nat_le lo x && nat_lt x e) ≡ true) (sym ends_at) a.0) whole
 

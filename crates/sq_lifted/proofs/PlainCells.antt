@@ -2,7 +2,7 @@
 use Rattle.std.proofs.Common.{◌≡◌, ◌≢◌, ℕ, zero, suc, ◌+◌, ◌-◌, ◌%◌, ◌≤◌, ◌<◌, nat_eq, nat_le, Bool, true, false, not, ◌==◌, ◌&&◌, List, [], ◌∷◌, ◌++◌, length, map, take, drop, replicate, Option, Some, None, slice_get, if◌then◌else◌, refl, sym, ap, ◌∙◌, subst, arith}
 use Rattle.std.specs.Option.{option_map}
 use Rattle.std.specs.List.{Contains, AllByRecursion, find}
-use Rattle.std.proofs.lemmas.Bool.{eqb-true, eqb-false}
+use Rattle.std.proofs.lemmas.Bool.{eqb-true, eqb-false, and_parts}
 use Rattle.std.proofs.lemmas.Bool.Decides.{nat_tests}
 use Rattle.std.proofs.lemmas.List.{take_all, length-drop}
 use Rattle.std.proofs.lemmas.Option.{slice_get-map, slice_get_within}
@@ -15,7 +15,6 @@ use Rattle.sq_elf.specs.Memory.{file_bytes_of}
 use Rattle.sq_elf.specs.Reading.{has_word, word_in, word_of}
 use Rattle.sq_elf.specs.Text.{text_of as text_range, is_in_text as range_has}
 use Rattle.sq_elf.proofs.Passing.{IsFirst, found_from}
-use Rattle.sq_elf.proofs.TextFacts.{both_true}
 use Rattle.sq_reloc.specs.declared.entry.Entry.{Entry}
 use Rattle.sq_reloc.specs.declared.mark.CodeWord.{CodeWord}
 use Rattle.sq_reloc.specs.Entries.{no_entry, target_of as entry_target, entries_of}
@@ -135,8 +134,8 @@ module _ (bytes : List ℕ) (is : ℕ → Bool) (p : Program) (fit : AllByRecurs
         by : (j : ℕ) → j < phnum_of bytes → has_word bytes a j ≡ true → word_in bytes (segment_of bytes j) a ≡ target → slice_get (little_bytes 4 target) ((segment.address + i) % 4) ≡ Some b
         by j below has word =
             let s : Segment = segment_of bytes j in
-            let parts = both_true (is_load bytes j) (nat_le s.address a && nat_le (a + 4) (s.address + s.filesz)) has in
-            let ends = both_true (nat_le s.address a) (nat_le (a + 4) (s.address + s.filesz)) parts.1 in
+            let parts = and_parts (is_load bytes j) (nat_le s.address a && nat_le (a + 4) (s.address + s.filesz)) has in
+            let ends = and_parts (nat_le s.address a) (nat_le (a + 4) (s.address + s.filesz)) parts.1 in
             let low : s.address ≤ a = least s.address ends.0 in
             let high : a + 4 ≤ s.address + s.filesz = most (s.address + s.filesz) ends.1 in
             same_segment j below parts.0 low high word (index == j) refl
@@ -233,11 +232,11 @@ module _ (bytes : List ℕ) (is : ℕ → Bool) (p : Program) (fit : AllByRecurs
           where
             never : (e : Entry) → at_start e ≡ true → ⊥
             never e passes =
-                let tests = both_true (is_code_entry (text_range bytes) e) (nat_eq e.offset (word_start x)) passes in
+                let tests = and_parts (is_code_entry (text_range bytes) e) (nat_eq e.offset (word_start x)) passes in
                 let same : e.offset ≡ word_start x = eqb-true e.offset (word_start x) tests.1 in
-                let whole = both_true _ _ tests.0 in
-                let placed = both_true _ _ whole.0 in
-                let typed = both_true _ _ placed.0 in
+                let whole = and_parts _ _ tests.0 in
+                let placed = and_parts _ _ whole.0 in
+                let typed = and_parts _ _ placed.0 in
                 let here : range_has (text_range bytes) e.offset ≡ true = subst (λ a. range_has (text_range bytes) a ≡ true) (sym same) begins in
                 not_both (range_has (text_range bytes) e.offset) here typed.0
               where

@@ -2,7 +2,7 @@
 use Rattle.std.proofs.Common.{◌≡◌, ℕ, zero, suc, ◌+◌, ◌-◌, ◌/◌, ◌%◌, ◌^◌, ◌≤◌, ◌<◌, nat_le, nat_lt, Bool, true, false, ◌==◌, ◌&&◌, List, [], ◌∷◌, ◌++◌, length, map, take, drop, replicate, Option, Some, None, is_some, slice_get, get_or, if◌then◌else◌, refl, sym, ap, ◌∙◌, subst, arith}
 use Rattle.std.specs.Option.{unwrap_or, option_map}
 use Rattle.std.specs.List.{AllByRecursion, flat_map}
-use Rattle.std.proofs.lemmas.Bool.{and_from}
+use Rattle.std.proofs.lemmas.Bool.{and_from, and_parts}
 use Rattle.std.proofs.lemmas.Bool.Decides.{nat_tests}
 use Rattle.std.proofs.lemmas.List.{map-append, take_all, length-take-le, length-drop, length-map}
 use Rattle.std.proofs.lemmas.List.Concat.{flat_map-append}
@@ -21,7 +21,7 @@ use Rattle.sq_elf.specs.Memory.{has_memory, own_piece, copy_piece, file_bytes_of
 use Rattle.sq_elf.specs.Text.{text_of as text_range, is_in_text as range_has, text_segment_of}
 use Rattle.sq_elf.specs.Reading.{has_word, word_in, word_of}
 use Rattle.sq_elf.proofs.Passing.{IsFirst, found_from}
-use Rattle.sq_elf.proofs.TextFacts.{both_true, TextFacts, text_facts, text_has_words}
+use Rattle.sq_elf.proofs.TextFacts.{TextFacts, text_facts, text_has_words}
 use Rattle.sq_reloc.specs.declared.mark.CodeWord.{CodeWord}
 use Rattle.sq_reloc.specs.Outside.{word_start}
 use Rattle.sq_machine.specs.Starts.{piece_region as plain_region, ram_region as plain_ram}
@@ -332,8 +332,8 @@ module _ (bytes : List ℕ) (is : ℕ → Bool) (p : Program) (fit : AllByRecurs
       by : (j : ℕ) → j < phnum_of bytes → has_word bytes x j ≡ true → number_at (file_state bytes start).memory x 4 ≡ Some (word_in bytes (segment_of bytes j) x)
       by j below has =
           let s : Segment = segment_of bytes j in
-          let parts = both_true (is_load bytes j) (nat_le s.address x && nat_le (x + 4) (s.address + s.filesz)) has in
-          let ends = both_true (nat_le s.address x) (nat_le (x + 4) (s.address + s.filesz)) parts.1 in
+          let parts = and_parts (is_load bytes j) (nat_le s.address x && nat_le (x + 4) (s.address + s.filesz)) has in
+          let ends = and_parts (nat_le s.address x) (nat_le (x + 4) (s.address + s.filesz)) parts.1 in
           plain_number j below parts.0 x (le_of s.address x ends.0) (le_of (x + 4) (s.address + s.filesz) ends.1)
         where
           le_of : (a b : ℕ) → nat_le a b ≡ true → a ≤ b
@@ -368,7 +368,7 @@ module _ (bytes : List ℕ) (is : ℕ → Bool) (p : Program) (fit : AllByRecurs
 
   in_text_of : (x : ℕ) → is_in_text (text_of bytes) x ≡ true → (lo ≤ x) × (x < hi)
   in_text_of x e =
-      let a = both_true (nat_le lo x) (nat_lt x (end_of (text_of bytes))) e in
+      let a = and_parts (nat_le lo x) (nat_lt x (end_of (text_of bytes))) e in
       let top = ends_at bytes is p read in
       (least a.0, (let m = most (end_of (text_of bytes)) a.1 in omega (arith, m, top)))
     where

@@ -5,6 +5,7 @@ use Rattle.std.proofs.Common.{◌≡◌, ℕ, zero, suc, ◌<◌, Bool, true, fa
 use Rattle.std.specs.List.{Contains, All}
 use Rattle.std.proofs.lemmas.Bool.Decides.{nat_tests}
 use Rattle.std.proofs.lemmas.Option.{slice_get_within, get_or_from_slice_get}
+use Rattle.std.proofs.lemmas.Bool.{or_cases, or_right, and_parts, not-true, or_parts}
 use Rattle.sq_isa.specs.Registers.{is_among_but_x0}
 use Rattle.sq_isa.specs.Uses.{is_read, is_written}
 use Rattle.sq_graph.specs.declared.item.Item.{Item}
@@ -19,22 +20,6 @@ use Rattle.sq_graph.specs.Walks.{IsLive, read_here, live_behind, Goes, TermGoes,
 use Rattle.sq_live.specs.declared.effect.Effect.{Effect}
 use Rattle.sq_live.specs.Effects.{effect_reads, effect_writes, item_reads, item_writes, before_items, items_write, call_reads, call_writes, AreCalls}
 use Rattle.sq_live.proofs.Sequences.{before_items-split}
-
-pub or_split : (a b : Bool) → (a || b) ≡ true → (a ≡ true) ⊎ (b ≡ true)
-or_split true b e = inl refl
-or_split false b e = inr e
-
-pub or_right : (a b : Bool) → b ≡ true → (a || b) ≡ true
-or_right true b e = refl
-or_right false b e = e
-
-pub and_both : (a b : Bool) → (a && b) ≡ true → (a ≡ true) × (b ≡ true)
-and_both true b e = (refl, e)
-and_both false b e = absurd (cc)
-
-pub not_true : (a : Bool) → not a ≡ true → a ≡ false
-not_true true e = absurd (cc)
-not_true false e = refl
 
 -- what is kept behind something that doesn't write it
 pub kept : (a b y : Bool) → b ≡ false → y ≡ true → (a || (not b && y)) ≡ true
@@ -93,10 +78,6 @@ call_goes false a b y e f = f
 call_comes : (l a b y : Bool) → ((not l && a) || (not (l || b) && y)) ≡ true → (l ≡ false) × ((a || (not b && y)) ≡ true)
 call_comes true a b y e = absurd (cc)
 call_comes false a b y e = (refl, e)
-
-call_keeps : (l b : Bool) → (l || b) ≡ false → (l ≡ false) × (b ≡ false)
-call_keeps true b e = absurd (cc)
-call_keeps false b e = (refl, e)
 
 -- the procedure that an item calls is there
 abbrev pub IsThere : Graph → Item → Type 0
@@ -201,21 +182,21 @@ module _ (g : Graph) (calls : List Effect) (r : ℕ) (small : r < 32) (are : Are
   plain_sound (Op insn ∷ items) y rest h live e =
       ⊎_elim (λ (a : is_read insn r ≡ true). read_here a)
       (λ (b : (not (is_written insn r) && before_items [] items y r) ≡ true).
-      let p = and_both (not (is_written insn r)) (before_items [] items y r) b in
-      live_behind (not_true (is_written insn r) p.0) refl (plain_sound items y rest (all_tail (λ item. item_calls item ≡ []) (Op insn) items h) live p.1))
-      (or_split (is_read insn r) (not (is_written insn r) && before_items [] items y r) e)
+      let p = and_parts (not (is_written insn r)) (before_items [] items y r) b in
+      live_behind (not-true (is_written insn r) p.0) refl (plain_sound items y rest (all_tail (λ item. item_calls item ≡ []) (Op insn) items h) live p.1))
+      (or_cases (is_read insn r) (not (is_written insn r) && before_items [] items y r) e)
   plain_sound (Hi rd to ∷ items) y rest h live e =
       ⊎_elim (λ (a : item_reads [] (Hi rd to) r ≡ true). read_here a)
       (λ (b : (not (item_writes [] (Hi rd to) r) && before_items [] items y r) ≡ true).
-      let p = and_both (not (item_writes [] (Hi rd to) r)) (before_items [] items y r) b in
-      live_behind (not_true (item_writes [] (Hi rd to) r) p.0) refl (plain_sound items y rest (all_tail (λ item. item_calls item ≡ []) (Hi rd to) items h) live p.1))
-      (or_split (item_reads [] (Hi rd to) r) (not (item_writes [] (Hi rd to) r) && before_items [] items y r) e)
+      let p = and_parts (not (item_writes [] (Hi rd to) r)) (before_items [] items y r) b in
+      live_behind (not-true (item_writes [] (Hi rd to) r) p.0) refl (plain_sound items y rest (all_tail (λ item. item_calls item ≡ []) (Hi rd to) items h) live p.1))
+      (or_cases (item_reads [] (Hi rd to) r) (not (item_writes [] (Hi rd to) r) && before_items [] items y r) e)
   plain_sound (Lo rd rs to ∷ items) y rest h live e =
       ⊎_elim (λ (a : item_reads [] (Lo rd rs to) r ≡ true). read_here a)
       (λ (b : (not (item_writes [] (Lo rd rs to) r) && before_items [] items y r) ≡ true).
-      let p = and_both (not (item_writes [] (Lo rd rs to) r)) (before_items [] items y r) b in
-      live_behind (not_true (item_writes [] (Lo rd rs to) r) p.0) refl (plain_sound items y rest (all_tail (λ item. item_calls item ≡ []) (Lo rd rs to) items h) live p.1))
-      (or_split (item_reads [] (Lo rd rs to) r) (not (item_writes [] (Lo rd rs to) r) && before_items [] items y r) e)
+      let p = and_parts (not (item_writes [] (Lo rd rs to) r)) (before_items [] items y r) b in
+      live_behind (not-true (item_writes [] (Lo rd rs to) r) p.0) refl (plain_sound items y rest (all_tail (λ item. item_calls item ≡ []) (Lo rd rs to) items h) live p.1))
+      (or_cases (item_reads [] (Lo rd rs to) r) (not (item_writes [] (Lo rd rs to) r) && before_items [] items y r) e)
   plain_sound (Out procedure ∷ items) y rest h live e =
       absurd (let n = all_head (λ item. item_calls item ≡ []) (Out procedure) items h in cc)
 
@@ -231,21 +212,21 @@ module _ (g : Graph) (calls : List Effect) (r : ℕ) (small : r < 32) (are : Are
   items_sound (Op insn ∷ items) y rest h live e =
       ⊎_elim (λ (a : is_read insn r ≡ true). read_here a)
       (λ (b : (not (is_written insn r) && before_items calls items y r) ≡ true).
-      let p = and_both (not (is_written insn r)) (before_items calls items y r) b in
-      live_behind (not_true (is_written insn r) p.0) refl (items_sound items y rest (all_tail (IsThere g) (Op insn) items h) live p.1))
-      (or_split (is_read insn r) (not (is_written insn r) && before_items calls items y r) e)
+      let p = and_parts (not (is_written insn r)) (before_items calls items y r) b in
+      live_behind (not-true (is_written insn r) p.0) refl (items_sound items y rest (all_tail (IsThere g) (Op insn) items h) live p.1))
+      (or_cases (is_read insn r) (not (is_written insn r) && before_items calls items y r) e)
   items_sound (Hi rd to ∷ items) y rest h live e =
       ⊎_elim (λ (a : item_reads calls (Hi rd to) r ≡ true). read_here a)
       (λ (b : (not (item_writes calls (Hi rd to) r) && before_items calls items y r) ≡ true).
-      let p = and_both (not (item_writes calls (Hi rd to) r)) (before_items calls items y r) b in
-      live_behind (not_true (item_writes calls (Hi rd to) r) p.0) refl (items_sound items y rest (all_tail (IsThere g) (Hi rd to) items h) live p.1))
-      (or_split (item_reads calls (Hi rd to) r) (not (item_writes calls (Hi rd to) r) && before_items calls items y r) e)
+      let p = and_parts (not (item_writes calls (Hi rd to) r)) (before_items calls items y r) b in
+      live_behind (not-true (item_writes calls (Hi rd to) r) p.0) refl (items_sound items y rest (all_tail (IsThere g) (Hi rd to) items h) live p.1))
+      (or_cases (item_reads calls (Hi rd to) r) (not (item_writes calls (Hi rd to) r) && before_items calls items y r) e)
   items_sound (Lo rd rs to ∷ items) y rest h live e =
       ⊎_elim (λ (a : item_reads calls (Lo rd rs to) r ≡ true). read_here a)
       (λ (b : (not (item_writes calls (Lo rd rs to) r) && before_items calls items y r) ≡ true).
-      let p = and_both (not (item_writes calls (Lo rd rs to) r)) (before_items calls items y r) b in
-      live_behind (not_true (item_writes calls (Lo rd rs to) r) p.0) refl (items_sound items y rest (all_tail (IsThere g) (Lo rd rs to) items h) live p.1))
-      (or_split (item_reads calls (Lo rd rs to) r) (not (item_writes calls (Lo rd rs to) r) && before_items calls items y r) e)
+      let p = and_parts (not (item_writes calls (Lo rd rs to) r)) (before_items calls items y r) b in
+      live_behind (not-true (item_writes calls (Lo rd rs to) r) p.0) refl (items_sound items y rest (all_tail (IsThere g) (Lo rd rs to) items h) live p.1))
+      (or_cases (item_reads calls (Lo rd rs to) r) (not (item_writes calls (Lo rd rs to) r) && before_items calls items y r) e)
   items_sound (Out k ∷ items) y rest h live e =
       let p = all_head (IsThere g) (Out k) items h k (0, omega arith, refl) in
       enter_sound k p.0 (before_items calls items y r) (map line_of items ++ rest) p.1

@@ -3,6 +3,8 @@ use Rattle.std.proofs.Common.{◌≡◌, ℕ, zero, suc, ◌+◌, ◌<◌, ◌�
 use Rattle.std.specs.List.{Contains, All}
 use Rattle.std.proofs.lemmas.Option.{slice_get_within, slice_get_past}
 use Rattle.std.proofs.lemmas.List.Elements.{All-drop}
+use Rattle.std.proofs.lemmas.Bool.{or_cases, or_right, and_parts, not-true}
+use Rattle.std.proofs.Math.Bool.{or-false}
 use Rattle.sq_isa.specs.Registers.{is_member, is_among_but_x0}
 use Rattle.sq_graph.specs.declared.item.Item.{Item}
 use Rattle.sq_graph.specs.declared.item.Term.{Term}
@@ -19,9 +21,9 @@ use Rattle.sq_live.specs.Search.{list_at, Leads, read_in, leads_on}
 use Rattle.sq_live.specs.Places.{any_member, before_term, AreInBlock, AreBlockPlaces}
 use Rattle.sq_live.specs.Liveness.{IsLivenessOf, places_of}
 use Rattle.std.specs.Map.{lookup}
-use Rattle.sq_live.proofs.Sequences.{before_items-split, or_false}
+use Rattle.sq_live.proofs.Sequences.{before_items-split}
 use Rattle.sq_live.proofs.Searches.{contains_head}
-use Rattle.sq_live.proofs.Ahead.{or_split, or_right, and_both, not_true, grows, no_sources, leads, ahead, items_ahead, term_ahead, covers, items_sound, IsThere}
+use Rattle.sq_live.proofs.Ahead.{grows, no_sources, leads, ahead, items_ahead, term_ahead, covers, items_sound, IsThere}
 use Rattle.sq_live.proofs.Nodes.{none_or_some, listed_cases, contains_right, nodes_contains, nodes_come, drop_suc, get_drop, names_in, IsFound, IsLaidOut, IsSolved, names_count, at_block, at_nothing, block_rest, exits_at, exits_of_targets, position_below, exits_there, there}
 use Rattle.sq_live.proofs.Tables.{table_of, table_places}
 
@@ -43,26 +45,26 @@ module _ (g : Graph) (names : List ℕ) (at : ℕ → Option ℕ) (calls effects
 
   any_listed : (a b : Option ℕ) → any_member nodes (listed a b) r ≡ (value a || value b)
   any_listed None None = refl
-  any_listed None (Some k) = or_false (has k)
+  any_listed None (Some k) = or-false (has k)
   any_listed (Some j) None = refl
-  any_listed (Some j) (Some k) = ap (λ b. has j || b) (or_false (has k))
+  any_listed (Some j) (Some k) = ap (λ b. has j || b) (or-false (has k))
 
   abbrev goes : Term → Bool → Bool
   goes t next = leads g calls r small s.laid.calls_are s.laid.rules.procedures X T t next
 
   any_exit : (t : Term) (next : Option ℕ) → any_member nodes (term_exits at (length names) next t) r ≡ goes t (value next)
-  any_exit Fall next = any_listed next None ∙ or_false (value next)
-  any_exit (Jump to) next = any_listed (at to) None ∙ or_false (X to)
+  any_exit Fall next = any_listed next None ∙ or-false (value next)
+  any_exit (Jump to) next = any_listed (at to) None ∙ or-false (X to)
   any_exit (Branch cond a b to) next = any_listed (at to) next
-  any_exit (Call link to) next = any_listed (at to) None ∙ or_false (X to)
-  any_exit (PartJump link part to) next = any_listed (at to) None ∙ or_false (X to)
-  any_exit (Indirect link x offset) next = any_listed (Some (length names)) None ∙ or_false T
+  any_exit (Call link to) next = any_listed (at to) None ∙ or-false (X to)
+  any_exit (PartJump link part to) next = any_listed (at to) None ∙ or-false (X to)
+  any_exit (Indirect link x offset) next = any_listed (Some (length names)) None ∙ or-false T
   any_exit (Stop word) next = any_listed None None
 
   goes_up : (t : Term) (a b : Bool) → (a ≡ true → b ≡ true) → goes t a ≡ true → goes t b ≡ true
   goes_up Fall a b h e = h e
   goes_up (Jump to) a b h e = e
-  goes_up (Branch cond x y to) a b h e = ⊎_elim (λ (f : X to ≡ true). rw f refl) (λ (f : a ≡ true). or_right (X to) b (h f)) (or_split (X to) a e)
+  goes_up (Branch cond x y to) a b h e = ⊎_elim (λ (f : X to ≡ true). rw f refl) (λ (f : a ≡ true). or_right (X to) b (h f)) (or_cases (X to) a e)
   goes_up (Call link to) a b h e = e
   goes_up (PartJump link part to) a b h e = e
   goes_up (Indirect link x offset) a b h e = e
@@ -79,7 +81,7 @@ module _ (g : Graph) (names : List ℕ) (at : ℕ → Option ℕ) (calls effects
   any_comes (to ∷ list) e =
       ⊎_elim (λ (f : has to ≡ true). (to, (contains_head to list, f)))
       (λ (f : any_member nodes list r ≡ true). let d = any_comes list f in (d.0, (contains_right (to ∷ []) list d.0 d.1.0, d.1.1)))
-      (or_split (has to) (any_member nodes list r) e)
+      (or_cases (has to) (any_member nodes list r) e)
 
   to_leads : (k : ℕ) → k < length effects → has k ≡ true → Leads effects exits r k
   to_leads k within e = (s.nodes_are k r within above small).0 e
@@ -180,12 +182,12 @@ module _ (g : Graph) (names : List ℕ) (at : ℕ → Option ℕ) (calls effects
   term_sound k b back rest e =
       ⊎_elim (λ (f : is_among_but_x0 (term_sources b.term) r ≡ true). source_sound b.term (lines_of back) f)
       (λ (f : (not (is_register (term_link b.term) r) && any_member nodes (list_at exits k) r) ≡ true).
-      let d = and_both (not (is_register (term_link b.term) r)) (any_member nodes (list_at exits k) r) f in
+      let d = and_parts (not (is_register (term_link b.term) r)) (any_member nodes (list_at exits k) r) f in
       let to = any_comes (list_at exits k) d.1 in
       let within = exits_there g names at calls effects exits s.laid k to.0 to.1.0 in
       let p = sound_at (to_leads to.0 within to.1.1) in
-      exit_sound b.term k to.0 back (drop_suc g.blocks k b back rest) (not_true (is_register (term_link b.term) r) d.0) (subst (λ xs. Contains xs to.0) (exits_at g names at calls effects exits s.laid k b back rest) to.1.0) p)
-      (or_split (is_among_but_x0 (term_sources b.term) r) (not (is_register (term_link b.term) r) && any_member nodes (list_at exits k) r) e)
+      exit_sound b.term k to.0 back (drop_suc g.blocks k b back rest) (not-true (is_register (term_link b.term) r) d.0) (subst (λ xs. Contains xs to.0) (exits_at g names at calls effects exits s.laid k b back rest) to.1.0) p)
+      (or_cases (is_among_but_x0 (term_sources b.term) r) (not (is_register (term_link b.term) r) && any_member nodes (list_at exits k) r) e)
 
   -- COMPLETENESS
 
@@ -215,16 +217,16 @@ module _ (g : Graph) (names : List ℕ) (at : ℕ → Option ℕ) (calls effects
       (⊎_elim
       (λ (f : R ≡ true). read_in (reads ∙ rw f refl))
       (λ (f : (not W && before_term b nodes (list_at exits k) r) ≡ true).
-      let d = and_both (not W) (before_term b nodes (list_at exits k) r) f in
+      let d = and_parts (not W) (before_term b nodes (list_at exits k) r) f in
       ⊎_elim
-      (λ (a : S ≡ true). read_in (reads ∙ rw (not_true W d.0, a) (or_right R true refl)))
+      (λ (a : S ≡ true). read_in (reads ∙ rw (not-true W d.0, a) (or_right R true refl)))
       (λ (a : (not link && any_member nodes (list_at exits k) r) ≡ true).
-      let c = and_both (not link) (any_member nodes (list_at exits k) r) a in
+      let c = and_parts (not link) (any_member nodes (list_at exits k) r) a in
       let to = any_comes (list_at exits k) c.1 in
-      leads_on (writes ∙ rw (not_true W d.0, not_true link c.0) refl) to.1.0
+      leads_on (writes ∙ rw (not-true W d.0, not-true link c.0) refl) to.1.0
       (to_leads to.0 (exits_there g names at calls effects exits s.laid k to.0 to.1.0) to.1.1))
-      (or_split S (not link && any_member nodes (list_at exits k) r) d.1))
-      (or_split R (not W && before_term b nodes (list_at exits k) r) (sym (before_items-split calls b.items (before_term b nodes (list_at exits k) r) r) ∙ e)))
+      (or_cases S (not link && any_member nodes (list_at exits k) r) d.1))
+      (or_cases R (not W && before_term b nodes (list_at exits k) r) (sym (before_items-split calls b.items (before_term b nodes (list_at exits k) r) r) ∙ e)))
 
   abbrev first_node : ℕ → List Block → Option ℕ
   first_node k [] = None

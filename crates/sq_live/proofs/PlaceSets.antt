@@ -2,6 +2,7 @@
 use Rattle.std.proofs.Common.{◌≡◌, ℕ, zero, suc, ◌+◌, ◌<◌, ◌≤◌, ◌||◌, ◌&&◌, not, ⊎_elim, List, [], ◌∷◌, ◌++◌, Vec, Some, slice_get, take, drop, get_or, length, refl, sym, ap, ◌∙◌, subst, arith}
 use Rattle.std.proofs.lemmas.Bool.{cases_eq}
 use Rattle.std.proofs.lemmas.List.{take_more}
+use Rattle.std.proofs.Math.Bool.{or-false, or_assoc}
 use Rattle.sq_isa.specs.Registers.{is_member, is_among_but_x0}
 use Rattle.sq_graph.specs.declared.item.Item.{Item}
 use Rattle.sq_graph.specs.declared.item.Term.{Term}
@@ -11,7 +12,6 @@ use Rattle.sq_live.specs.declared.effect.Effect.{Effect}
 use Rattle.sq_live.specs.Effects.{before_items}
 use Rattle.sq_live.specs.Search.{list_at, lists}
 use Rattle.sq_live.specs.Places.{any_member, before_term, ArePlaces, AreInBlock}
-use Rattle.sq_live.proofs.Sequences.{or_assoc, or_false}
 
 pub any_member-append : (nodes xs ys : List ℕ) (r : ℕ) → any_member nodes (xs ++ ys) r ≡ (any_member nodes xs r || any_member nodes ys r)
 any_member-append nodes [] ys r = refl
@@ -24,7 +24,7 @@ pub any_member_more : (nodes list : List ℕ) (i r : ℕ) → i < length list �
 any_member_more nodes list i r within =
     ap (λ xs. any_member nodes xs r) (take_more list i 0 within)
     ∙ any_member-append nodes (take i list) (get_or list i 0 ∷ []) r
-    ∙ ap (λ b. any_member nodes (take i list) r || b) (or_false (is_member (get_or nodes (get_or list i 0) 0) r))
+    ∙ ap (λ b. any_member nodes (take i list) r || b) (or-false (is_member (get_or nodes (get_or list i 0) 0) r))
 
 -- The places of one more block
 

@@ -4,6 +4,7 @@ use Rattle.std.proofs.lemmas.List.{take_more}
 use Rattle.std.specs.List.{flat_map}
 use Rattle.std.proofs.lemmas.List.{append-nil}
 use Rattle.std.proofs.lemmas.List.Concat.{flat_map-append}
+use Rattle.std.proofs.Math.Bool.{or-false, or_assoc}
 use Rattle.sq_isa.specs.Registers.{is_member}
 use Rattle.sq_graph.specs.Graph.{Procedure}
 use Rattle.sq_graph.specs.Walks.{is_register}
@@ -16,14 +17,6 @@ pub then_before : (a b c d y : Bool) → (a || (not b && (c || (not d && y)))) �
 then_before true b c d y = refl
 then_before false true c d y = refl
 then_before false false c d y = refl
-
-pub or_false : (a : Bool) → (a || false) ≡ a
-or_false true = refl
-or_false false = refl
-
-pub or_assoc : (a b c : Bool) → ((a || b) || c) ≡ (a || (b || c))
-or_assoc true b c = refl
-or_assoc false b c = refl
 
 pub before_items-append : (calls : List Effect) (xs ys : List Item) (behind : Bool) (r : ℕ) → before_items calls (xs ++ ys) behind r ≡ before_items calls xs (before_items calls ys behind r) r
 before_items-append calls [] ys behind r = refl
@@ -60,11 +53,11 @@ pub items_write_more : (calls : List Effect) (xs : List Item) (i : ℕ) (x : Ite
 items_write_more calls xs i x r within here =
     ap (λ ys. items_write calls ys r) (take_more xs i x within ∙ ap (λ y. take i xs ++ y ∷ []) (sym here))
     ∙ items_write-append calls (take i xs) (x ∷ []) r
-    ∙ ap (λ b. items_write calls (take i xs) r || b) (or_false (item_writes calls x r))
+    ∙ ap (λ b. items_write calls (take i xs) r || b) (or-false (item_writes calls x r))
 
 -- a set of one register
 pub alone : (link r : ℕ) → is_register link r ≡ (not (r == 0) && link == r)
-alone link r = ap (λ b. not (r == 0) && b) (or_false (link == r))
+alone link r = ap (λ b. not (r == 0) && b) (or-false (link == r))
 
 pub flat_map-push : {X Y : Type 0} (f : X → List Y) (xs : List X) (x : X) → flat_map f (xs ++ x ∷ []) ≡ flat_map f xs ++ f x
 flat_map-push f xs x = flat_map-append f xs (x ∷ []) ∙ ap (λ ys. flat_map f xs ++ ys) (append-nil (f x))

@@ -3,14 +3,11 @@ use Rattle.std.proofs.Common.{◌≡◌, ℕ, zero, suc, ◌+◌, ◌<◌, ◌�
 use Rattle.std.proofs.lemmas.Bool.Decides.{nat_tests}
 use Rattle.std.proofs.lemmas.Iterator.Adapters.{position_from-zero}
 use Rattle.std.specs.List.{list_any, position_from}
+use Rattle.std.proofs.lemmas.Bool.{and_from, or_right}
 use Rattle.sq_system.specs.declared.piece.Piece.{Piece}
 use Rattle.sq_system.specs.World.{World, PF_X, PF_W, is_in, is_in_with, is_in_ram, is_executable, is_writable, are_all}
 use Rattle.sq_machine.specs.Ranges.{allows_all, meets_ram, IsBareRam}
 use Rattle.sq_machine.specs.declared.bare_ram.BareRam.{BareRam}
-
-both : (a b : Bool) → a ≡ true → b ≡ true → (a && b) ≡ true
-both true b e f = f
-both false b e f = absurd (cc)
 
 first_of_both : (a b : Bool) → (a && b) ≡ true → a ≡ true
 first_of_both true b e = refl
@@ -32,15 +29,11 @@ place_of test xs = ap is_some (position_from-zero test xs) ∙ found_from test x
 each : (test : ℕ → Bool) (x n : ℕ) → ((y : ℕ) → x ≤ y → y < x + n → test y ≡ true) → are_all test x n ≡ true
 each test x zero h = refl
 each test x (suc n) h =
-    both (are_all test x n) (test (x + n)) (each test x n (λ y from below. h y from (omega arith))) (h (x + n) (omega arith) (omega arith))
+    and_from (are_all test x n) (test (x + n)) (each test x n (λ y from below. h y from (omega arith))) (h (x + n) (omega arith) (omega arith))
 
 -- each byte of a range that a piece allows is allowed by it
 allowed : (permission x n y : ℕ) (piece : Piece) → x ≤ y → y < x + n → allows_all permission x n piece ≡ true → is_in_with permission y piece ≡ true
 allowed permission x n y piece from below e = grind (arith, nat_tests)
-
-or_right : (a b : Bool) → b ≡ true → (a || b) ≡ true
-or_right true b e = refl
-or_right false b e = e
 
 -- what holds of one of two holds of one of two others
 one_of_two : (a b c d : Bool) → (a ≡ true → c ≡ true) → (b ≡ true → d ≡ true) → (a || b) ≡ true → (c || d) ≡ true

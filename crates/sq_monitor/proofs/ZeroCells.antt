@@ -3,6 +3,7 @@ use Rattle.std.proofs.Common.{◌≡◌, ℕ, ◌+◌, ◌*◌, ◌<◌, ◌≤�
 use Rattle.std.proofs.lemmas.Bool.Decides.{nat_tests}
 use Rattle.std.specs.Option.{option_or}
 use Rattle.std.specs.HashSet as set
+use Rattle.std.proofs.lemmas.Bool.{or_left, or_right}
 use Rattle.sq_memory.specs.Cells.{Cells, map_cells}
 use Rattle.sq_memory.specs.Regions.{or_else}
 use Rattle.sq_pages.specs.Pages.{over, one_cell, same_cell}
@@ -164,14 +165,6 @@ word_given (Some other) b to some first second = first refl
 word_given None true to some first second = second refl
 word_given None false to some first second = absurd (cc)
 
-or_first : (a b : Bool) → a ≡ true → (a || b) ≡ true
-or_first true b e = refl
-or_first false b e = absurd (cc)
-
-or_second : (a b : Bool) → b ≡ true → (a || b) ≡ true
-or_second true b e = refl
-or_second false b e = e
-
 eq_self : (n : ℕ) → nat_eq n n ≡ true
 eq_self n = grind arith
 
@@ -184,8 +177,8 @@ words_step words i pages new within before is = λ x some.
     let w = get_or words i no_word in
     let given = subst IsSome (listed_more words i no_word x (listed_at (take i words) x) within refl) some in
     is (x / 4096) ∙ word_given (listed_at (take i words) x) (nat_eq w.at x) w.to given
-    (λ h. or_first (is_on pages x) (nat_eq (w.at / 4096) (x / 4096)) (before x h))
-    (λ h. or_second (is_on pages x) (nat_eq (w.at / 4096) (x / 4096)) (ap (λ y. nat_eq (y / 4096) (x / 4096)) (same_number w.at x h) ∙ eq_self (x / 4096)))
+    (λ h. or_left (is_on pages x) (nat_eq (w.at / 4096) (x / 4096)) (before x h))
+    (λ h. or_right (is_on pages x) (nat_eq (w.at / 4096) (x / 4096)) (ap (λ y. nat_eq (y / 4096) (x / 4096)) (same_number w.at x h) ∙ eq_self (x / 4096)))
 
 pub kept_step : (pages new : PageSet) (at : ℕ) → ((page : ℕ) → set.contains nat_eq new page ≡ (set.contains nat_eq pages page || nat_eq at page)) → (page : ℕ) → set.contains nat_eq pages page ≡ true → set.contains nat_eq new page ≡ true
-kept_step pages new at is page h = is page ∙ or_first (set.contains nat_eq pages page) (nat_eq at page) h
+kept_step pages new at is page h = is page ∙ or_left (set.contains nat_eq pages page) (nat_eq at page) h

@@ -2,6 +2,7 @@
 use Rattle.std.proofs.Common.{◌≡◌, ◌≢◌, ℕ, zero, suc, ◌+◌, ◌<◌, ◌≤◌, ◌%◌, drop, length, get_or, nat_lt, ◌&&◌, Bool, true, false, List, [], ◌∷◌, inl, inr, refl, sym, subst, arith}
 use Rattle.std.proofs.lemmas.Bool.Decides.{nat_tests}
 use Rattle.std.proofs.lemmas.List.{drop_all}
+use Rattle.std.proofs.lemmas.Bool.{and_parts}
 use Rattle.sq_graph.specs.declared.item.Item.{Item}
 use Rattle.sq_graph.specs.Graph.{Graph}
 use Rattle.sq_outline.specs.declared.sites.Site.{Site}
@@ -17,16 +18,12 @@ abbrev all_registers : List ℕ → Bool
 all_registers [] = true
 all_registers (x ∷ xs) = (nat_lt 0 x && nat_lt x 32) && all_registers xs
 
-both : (a b : Bool) → (a && b) ≡ true → (a ≡ true) × (b ≡ true)
-both true b e = (refl, e)
-both false b e = absurd (cc)
-
 first_register : (xs : List ℕ) (P : ℕ → Type 0) (r : ℕ) → all_registers xs ≡ true → IsFirstOf xs P r → (nat_lt 0 r && nat_lt r 32) ≡ true
 first_register [] P r all first = absurd first
 first_register (x ∷ xs) P r all (inl is) =
-    subst (λ y. (nat_lt 0 y && nat_lt y 32) ≡ true) (sym is.0) (both (nat_lt 0 x && nat_lt x 32) (all_registers xs) all).0
+    subst (λ y. (nat_lt 0 y && nat_lt y 32) ≡ true) (sym is.0) (and_parts (nat_lt 0 x && nat_lt x 32) (all_registers xs) all).0
 first_register (x ∷ xs) P r all (inr later) =
-    first_register xs P r (both (nat_lt 0 x && nat_lt x 32) (all_registers xs) all).1 later.1
+    first_register xs P r (and_parts (nat_lt 0 x && nat_lt x 32) (all_registers xs) all).1 later.1
 
 -- the walk over the registers in their order
 pub first_here : (xs : List ℕ) (P : ℕ → Type 0) (i : ℕ) → i < length xs → P (get_or xs i 0) → IsFirstOf (drop i xs) P (get_or xs i 0)
@@ -44,8 +41,8 @@ none_left xs P i past r first = subst (λ ys. IsFirstOf ys P r) (drop_all i xs p
 
 registers_at : (xs : List ℕ) (i : ℕ) → all_registers xs ≡ true → i < length xs → nat_lt (get_or xs i 0) 32 ≡ true
 registers_at [] i all there = absurd (omega arith)
-registers_at (x ∷ xs) zero all there = (both (nat_lt 0 x) (nat_lt x 32) (both (nat_lt 0 x && nat_lt x 32) (all_registers xs) all).0).1
-registers_at (x ∷ xs) (suc i) all there = registers_at xs i (both (nat_lt 0 x && nat_lt x 32) (all_registers xs) all).1 (omega arith)
+registers_at (x ∷ xs) zero all there = (and_parts (nat_lt 0 x) (nat_lt x 32) (and_parts (nat_lt 0 x && nat_lt x 32) (all_registers xs) all).0).1
+registers_at (x ∷ xs) (suc i) all there = registers_at xs i (and_parts (nat_lt 0 x && nat_lt x 32) (all_registers xs) all).1 (omega arith)
 
 -- each of them is the register of its low bits
 pub register_at : (i : ℕ) → i < length link_order → get_or link_order i 0 % 32 ≡ get_or link_order i 0
@@ -59,7 +56,7 @@ module _ (g : Graph) (body : List Item) (places : List Site) (link : ℕ) (is : 
   link_may = first_holds link_order (MayLink g body places) link is
 
   is_register : (nat_lt 0 link ≡ true) × (nat_lt link 32 ≡ true)
-  is_register = both (nat_lt 0 link) (nat_lt link 32) (first_register link_order (MayLink g body places) link refl is)
+  is_register = and_parts (nat_lt 0 link) (nat_lt link 32) (first_register link_order (MayLink g body places) link refl is)
 
   pub link_above : 0 < link
   link_above = let e = is_register.0 in grind (arith, nat_tests)

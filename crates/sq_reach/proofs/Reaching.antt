@@ -4,27 +4,17 @@ use Rattle.std.proofs.lemmas.List.{append-nil, take_more}
 use Rattle.std.proofs.lemmas.List.Concat.{flat_map-append}
 use Rattle.std.proofs.lemmas.List.Folds.{list_any-append}
 use Rattle.std.specs.List.{flat_map}
+use Rattle.std.proofs.lemmas.Bool.{or_left, or_right}
+use Rattle.std.proofs.Math.Bool.{or_assoc}
 use Rattle.sq_reach.specs.Marks.{is_marked}
 use Rattle.sq_reach.specs.Search.{Found, Reaches}
 
 is_marked-append : (xs ys : List ℕ) (n : ℕ) → is_marked (xs ++ ys) n ≡ (is_marked xs n || is_marked ys n)
 is_marked-append xs ys n = list_any-append (nat_eq n) xs ys
 
-pub or_left : (a b : Bool) → a ≡ true → (a || b) ≡ true
-or_left true b e = refl
-or_left false b e = absurd (cc)
-
-pub or_right : (a b : Bool) → b ≡ true → (a || b) ≡ true
-or_right true b e = refl
-or_right false b e = e
-
 or_false : (a : Bool) → a ≡ (a || false)
 or_false true = refl
 or_false false = refl
-
-or_or : (a b c : Bool) → ((a || b) || c) ≡ (a || (b || c))
-or_or true b c = refl
-or_or false b c = refl
 
 -- what waits after two steps: r is reached at first, w waits at first, and the steps reach a and b
 both_steps : (r w a b : Bool) → ((w || (a && not r)) || (b && not (r || a))) ≡ (w || ((a || b) && not r))
@@ -42,7 +32,7 @@ both_steps false false false b = refl
 pub reaches_then : {names more : List ℕ} {s t u : Found} → Reaches names s t → Reaches more t u → Reaches (names ++ more) s u
 reaches_then {names} {more} {s} {t} {u} first second = record {
   reached = λ n.
-      second.reached n ∙ ap (λ b. b || is_marked more n) (first.reached n) ∙ or_or (is_marked s.reached n) (is_marked names n) (is_marked more n)
+      second.reached n ∙ ap (λ b. b || is_marked more n) (first.reached n) ∙ or_assoc (is_marked s.reached n) (is_marked names n) (is_marked more n)
       ∙ ap (λ b. is_marked s.reached n || b) (sym (is_marked-append names more n));
   waiting = λ n.
       second.waiting n

@@ -1,6 +1,6 @@
 -- A search over the blocks of a graph, from its start to its end.
 use Rattle.std.proofs.Common.{◌≡◌, ℕ, zero, suc, ◌+◌, ◌-◌, ◌<◌, ◌≤◌, Bool, true, false, ◌==◌, ◌&&◌, ◌||◌, not, List, [], ◌∷◌, ◌++◌, length, map, inl, inr, IsSome, nat_eq, refl, sym, ap, ◌∙◌, subst, arith}
-use Rattle.std.proofs.lemmas.Bool.{cases_Bool, eqb-true, eq-eqb}
+use Rattle.std.proofs.lemmas.Bool.{cases_Bool, eqb-true, eq-eqb, or_left, or_right}
 use Rattle.std.proofs.lemmas.Cmp.{nat_eq_equiv}
 use Rattle.std.proofs.lemmas.List.{length-map, length-append}
 use Rattle.std.proofs.lemmas.List.Folds.{list_any-append}
@@ -16,7 +16,7 @@ use Rattle.sq_graph.specs.Walks.{successors, word_name, IsReachedBlock, entry, c
 use Rattle.sq_reach.specs.Marks.{is_marked, AreReached}
 use Rattle.sq_reach.specs.Search.{Found, Reaches, KnowsBodies}
 use Rattle.sq_reach.proofs.Blocks.{reached_has}
-use Rattle.sq_reach.proofs.Reaching.{reaches_then, or_left, or_right}
+use Rattle.sq_reach.proofs.Reaching.{reaches_then}
 
 marked_from_contains : (names : List ℕ) (n : ℕ) → Contains names n → is_marked names n ≡ true
 marked_from_contains names n h = list_any-from_Contains nat_eq_equiv n names h

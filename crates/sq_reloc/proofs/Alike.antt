@@ -1,10 +1,10 @@
 -- Entries of two tables with the same bytes and the same symbols are alike, and no test tells them apart.
 use Rattle.std.proofs.Common.{◌≡◌, ℕ, ◌+◌, ◌-◌, ◌*◌, ◌/◌, ◌%◌, ◌<◌, ◌≤◌, Bool, true, ◌&&◌, nat_eq, nat_le, List, Some, refl, sym, ap, ◌∙◌, arith}
 use Rattle.std.proofs.lemmas.Bool.Decides.{nat_tests}
+use Rattle.std.proofs.lemmas.Bool.{and_parts}
 use Rattle.sq_elf.specs.declared.section.Section.{Section}
 use Rattle.sq_elf.specs.Fields.{u32_field}
 use Rattle.sq_elf.specs.Reading.{section_at}
-use Rattle.sq_elf.proofs.TextFacts.{both_true}
 use Rattle.sq_reloc.specs.declared.entry.Entry.{Entry}
 use Rattle.sq_reloc.specs.Entries.{kind_of, symbol_of, symbol_value, symbols_of, entry_at}
 use Rattle.sq_reloc.specs.Repeats.{has_entries_of}
@@ -91,13 +91,13 @@ module _ (other table : Section) (has : has_entries_of other table ≡ true) whe
   count_fits = nat_le ((table.offset - other.offset) / 12 + table.size / 12) (other.size / 12)
 
   fits : ((near && whole) ≡ true) × (count_fits ≡ true)
-  fits = both_true (near && whole) count_fits has
+  fits = and_parts (near && whole) count_fits has
 
   steps : (near ≡ true) × (whole ≡ true)
-  steps = both_true near whole fits.0
+  steps = and_parts near whole fits.0
 
   starts : (nat_eq other.link table.link ≡ true) × (nat_le other.offset table.offset ≡ true)
-  starts = both_true (nat_eq other.link table.link) (nat_le other.offset table.offset) steps.0
+  starts = and_parts (nat_eq other.link table.link) (nat_le other.offset table.offset) steps.0
 
   pub same_link : other.link ≡ table.link
   same_link = equal_of other.link table.link starts.0

@@ -3,12 +3,13 @@ use Rattle.std.proofs.Common.{◌≡◌, ℕ, ◌%◌, ◌<◌, Bool, true, fals
 use Rattle.std.specs.Option.{option_map}
 use Rattle.std.specs.List.{find}
 use Rattle.std.proofs.lemmas.Bool.Decides.{nat_tests}
+use Rattle.std.proofs.lemmas.Bool.{not-true, not-false, and_parts, or_parts}
 use Rattle.sq_num.specs.Refusals.{first_refusal}
 use Rattle.sq_elf.specs.declared.text.Text.{Text}
 use Rattle.sq_elf.specs.Text.{text_of, is_in_text, is_text_word}
 use Rattle.sq_elf.specs.Reading.{word_of}
 use Rattle.sq_elf.proofs.Passing.{row_passes, behind_row}
-use Rattle.sq_elf.proofs.TextFacts.{both_true, neither, second_false}
+use Rattle.sq_elf.proofs.TextFacts.{second_false}
 use Rattle.sq_reloc.specs.declared.entry.Entry.{Entry}
 use Rattle.sq_reloc.specs.Kinds.{is_data_kind}
 use Rattle.sq_reloc.specs.Entries.{no_entry, target_of, entries_of}
@@ -19,14 +20,6 @@ use Rattle.sq_reloc.proofs.Found.{IsFoundAt, found_at}
 
 equal_of : (a b : ℕ) → nat_eq a b ≡ true → a ≡ b
 equal_of a b is = grind (arith, nat_tests)
-
-not_true : (b : Bool) → not b ≡ true → b ≡ false
-not_true false is = refl
-not_true true is = absurd (cc is)
-
-not_false : (b : Bool) → not b ≡ false → b ≡ true
-not_false true is = refl
-not_false false is = absurd (cc is)
 
 word_is : (found : Option ℕ) (value : ℕ) → is_word found value ≡ true → found ≡ Some value
 word_is None value is = absurd (cc is)
@@ -40,10 +33,10 @@ record IsCodeEntry (text : Text) (e : Entry) : Type 0 where
 
 entry_facts : (text : Text) (e : Entry) → is_code_entry text e ≡ true → IsCodeEntry text e
 entry_facts text e is =
-    let whole = both_true (is_outside text e && nat_eq e.kind 1 && nat_eq (e.offset % 4) 0) (is_text_word text (target_of e)) is in
-    let placed = both_true (is_outside text e && nat_eq e.kind 1) (nat_eq (e.offset % 4) 0) whole.0 in
-    let typed = both_true (is_outside text e) (nat_eq e.kind 1) placed.0 in
-    record { outside = not_true (is_in_text text e.offset) typed.0; aligned = equal_of (e.offset % 4) 0 placed.1; to_text = whole.1 }
+    let whole = and_parts (is_outside text e && nat_eq e.kind 1 && nat_eq (e.offset % 4) 0) (is_text_word text (target_of e)) is in
+    let placed = and_parts (is_outside text e && nat_eq e.kind 1) (nat_eq (e.offset % 4) 0) whole.0 in
+    let typed = and_parts (is_outside text e) (nat_eq e.kind 1) placed.0 in
+    record { outside = not-true (is_in_text text e.offset) typed.0; aligned = equal_of (e.offset % 4) 0 placed.1; to_text = whole.1 }
 
 module _ (bytes : List ℕ) (accepted : reloc_refusal_of bytes ≡ None) where
   rows_pass : first_refusal (no_relocs bytes ∷ bad_tables bytes ∷ bad_symbols bytes ∷ refused_outside bytes ∷ []) ≡ None
@@ -63,10 +56,10 @@ module _ (bytes : List ℕ) (accepted : reloc_refusal_of bytes ≡ None) where
   word_agrees e fine code unbeaten =
       let outside : is_outside (text_of bytes) e ≡ true = ap not ((entry_facts (text_of bytes) e code).outside) in
       let inner = second_false (is_outside (text_of bytes) e) (not (is_data_kind e.kind) || disagrees_outside bytes e) fine outside in
-      let agrees = (neither (not (is_data_kind e.kind)) (disagrees_outside bytes e) inner).1 in
+      let agrees = (or_parts (not (is_data_kind e.kind)) (disagrees_outside bytes e) inner).1 in
       let kept : (is_code_entry (text_of bytes) e && not (is_beaten bytes e.offset)) ≡ true = rw (code, unbeaten) refl in
       let last = second_false (is_code_entry (text_of bytes) e && not (is_beaten bytes e.offset)) (not (is_word (word_of bytes e.offset) (target_of e))) agrees kept in
-      word_is (word_of bytes e.offset) (target_of e) (not_false (is_word (word_of bytes e.offset) (target_of e)) last)
+      word_is (word_of bytes e.offset) (target_of e) (not-false (is_word (word_of bytes e.offset) (target_of e)) last)
 
   module _ (address target : ℕ) where
     abbrev at_address : Entry → Bool
@@ -75,7 +68,7 @@ module _ (bytes : List ℕ) (accepted : reloc_refusal_of bytes ≡ None) where
     by_entry : is_beaten bytes address ≡ false → (e : Entry) → find at_address (entries_of bytes) ≡ Some e → target_of e ≡ target → IsCodeWord bytes address target
     by_entry unbeaten e is same =
         let found : IsFoundAt at_address (entries_of bytes) no_entry e = found_at at_address no_entry e (entries_of bytes) is in
-        let tests = both_true (is_code_entry (text_of bytes) e) (nat_eq e.offset address) found.passes in
+        let tests = and_parts (is_code_entry (text_of bytes) e) (nat_eq e.offset address) found.passes in
         let at : e.offset ≡ address = equal_of e.offset address tests.1 in
         let facts : IsCodeEntry (text_of bytes) e = entry_facts (text_of bytes) e tests.0 in
         let Fine : Entry → Type 0 = λ x. is_refused_outside bytes x ≡ false in

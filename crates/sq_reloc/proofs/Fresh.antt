@@ -2,13 +2,12 @@
 use Rattle.std.proofs.Common.{◌≡◌, ◌≢◌, ◌⊎◌, inl, inr, ℕ, zero, suc, ◌+◌, ◌/◌, ◌<◌, Bool, true, false, not, ◌&&◌, cond, if◌then◌else◌, List, [], ◌∷◌, ◌++◌, Option, Some, None, refl, sym, subst, ap, ◌∙◌, arith}
 use Rattle.std.specs.Option.{is_some, option_or}
 use Rattle.std.specs.List.{find}
-use Rattle.std.proofs.lemmas.Bool.{cases_eq}
+use Rattle.std.proofs.lemmas.Bool.{cases_eq, and_parts}
 use Rattle.std.proofs.lemmas.List.Folds.{find-append}
 use Rattle.sq_num.specs.Refusals.{first_from}
 use Rattle.sq_elf.specs.declared.section.Section.{Section}
 use Rattle.sq_elf.specs.Headers.{shnum_of}
 use Rattle.sq_elf.specs.Reading.{section_at}
-use Rattle.sq_elf.proofs.TextFacts.{both_true}
 use Rattle.sq_reloc.specs.declared.entry.Entry.{Entry}
 use Rattle.sq_reloc.specs.Kinds.{is_ignored}
 use Rattle.sq_reloc.specs.Entries.{section_is, is_applied, entry_at, entries_in, table_entries, section_entries, entries_before, entries_of}
@@ -126,7 +125,7 @@ earlier_of bytes index table repeat = by_section (section_at bytes found.place) 
     by_section : (at : Option Section) → section_at bytes found.place ≡ at → section_is (λ other. has_entries_of other table && is_applied bytes other) at ≡ true → IsEarlier bytes index table
     by_section None is passes = absurd (cc passes)
     by_section (Some other) is passes =
-        let parts = both_true (has_entries_of other table) (is_applied bytes other) passes in
+        let parts = and_parts (has_entries_of other table) (is_applied bytes other) passes in
         record { earlier = found.place; other = other; before = omega (arith, found.within); is = is; counts = parts.1; has = parts.0 }
 
 module _ (bytes : List ℕ) (test : Entry → Bool) (respects : Respects bytes test) where

@@ -2,12 +2,12 @@
 use Rattle.std.proofs.Common.{◌≡◌, ◌≢◌, ◌⊎◌, inl, inr, ℕ, zero, suc, ◌+◌, ◌<◌, Bool, true, false, not, ◌&&◌, ◌||◌, nat_le, if◌then◌else◌, List, Option, Some, None, refl, sym, ap, ◌∙◌, arith}
 use Rattle.std.specs.Option.{is_some}
 use Rattle.std.specs.List.{find, list_any}
-use Rattle.std.proofs.lemmas.Bool.{cases_eq}
+use Rattle.std.proofs.lemmas.Bool.{cases_eq, or_parts}
 use Rattle.sq_num.specs.Refusals.{first_from}
 use Rattle.sq_elf.specs.declared.section.Section.{Section}
 use Rattle.sq_elf.specs.Headers.{shnum_of}
 use Rattle.sq_elf.specs.Reading.{section_at}
-use Rattle.sq_elf.proofs.TextFacts.{neither, second_false}
+use Rattle.sq_elf.proofs.TextFacts.{second_false}
 use Rattle.sq_reloc.specs.declared.entry.Entry.{Entry}
 use Rattle.sq_reloc.specs.Entries.{section_is, is_rela, is_rel, is_for_memory, is_applied, table_entries}
 use Rattle.sq_reloc.specs.Repeats.{is_repeat, is_bad_once, is_bad_once_at}
@@ -46,10 +46,10 @@ module _ (bytes : List ℕ) where
   -- a section that counts and is not bad has no stray entry
   fine_strays : (index : ℕ) (s : Section) → is_applied bytes s ≡ true → is_bad_table bytes index s ≡ false → strays index s ≡ false
   fine_strays index s counts fine =
-      let whole = neither ((is_rela s && nat_le (shnum_of bytes) s.info) || (is_applied bytes s && (is_malformed bytes s || lacks_symbols bytes s || strays index s))) (is_rel s && is_for_memory bytes s) fine in
-      let parts = neither (is_rela s && nat_le (shnum_of bytes) s.info) (is_applied bytes s && (is_malformed bytes s || lacks_symbols bytes s || strays index s)) whole.0 in
+      let whole = or_parts ((is_rela s && nat_le (shnum_of bytes) s.info) || (is_applied bytes s && (is_malformed bytes s || lacks_symbols bytes s || strays index s))) (is_rel s && is_for_memory bytes s) fine in
+      let parts = or_parts (is_rela s && nat_le (shnum_of bytes) s.info) (is_applied bytes s && (is_malformed bytes s || lacks_symbols bytes s || strays index s)) whole.0 in
       let formed = second_false (is_applied bytes s) (is_malformed bytes s || lacks_symbols bytes s || strays index s) parts.1 counts in
-      (neither (is_malformed bytes s || lacks_symbols bytes s) (strays index s) formed).1
+      (or_parts (is_malformed bytes s || lacks_symbols bytes s) (strays index s) formed).1
 
   no_stray : (index : ℕ) (s : Section) → strays index s ≡ false → find (is_stray bytes) (table_entries bytes index s) ≡ None
   no_stray index s none = none_found (find (is_stray bytes) (table_entries bytes index s)) (sym (any_found (is_stray bytes) (table_entries bytes index s)) ∙ none)

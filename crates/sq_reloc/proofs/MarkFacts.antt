@@ -2,12 +2,12 @@
 use Rattle.std.proofs.Common.{◌≡◌, ◌≢◌, inl, inr, ℕ, ◌+◌, ◌%◌, ◌^◌, ◌<◌, ◌≤◌, Bool, true, false, not, ◌&&◌, ◌||◌, nat_eq, nat_lt, nat_le, cond, if◌then◌else◌, List, [], ◌∷◌, Option, Some, None, refl, sym, subst, ap, ◌∙◌, arith}
 use Rattle.std.specs.Option.{option_map, option_map_or}
 use Rattle.std.specs.List.{find, filter, list_any}
-use Rattle.std.proofs.lemmas.Bool.{cases_eq}
+use Rattle.std.proofs.lemmas.Bool.{cases_eq, not-false, and_parts, or_parts, or_cases}
 use Rattle.std.proofs.lemmas.Bool.Decides.{nat_tests}
 use Rattle.sq_num.specs.Halves.{high_half, low_half}
 use Rattle.sq_isa.specs.declared.instructions.Insn.{Insn}
 use Rattle.sq_elf.specs.Text.{text_of, is_in_text}
-use Rattle.sq_elf.proofs.TextFacts.{both_true, neither, second_false}
+use Rattle.sq_elf.proofs.TextFacts.{second_false}
 use Rattle.sq_reloc.specs.declared.entry.Entry.{Entry}
 use Rattle.sq_reloc.specs.declared.mark.Mark.{Mark}
 use Rattle.sq_reloc.specs.declared.mark.Mark.TheVariants.{Plain, Hi, Lo, Unsupported, Disagrees, Conflict, Lone}
@@ -15,11 +15,7 @@ use Rattle.sq_reloc.specs.Kinds.{is_call, is_text_kind, width_of, touches_word}
 use Rattle.sq_reloc.specs.Entries.{target_of, entries_of}
 use Rattle.sq_reloc.specs.Required.{insn_at, distance, is_lui, is_auipc, has_low_i, has_low_s, is_upper_half, upper_target, paired_target, paired_half, meets_ask, meets_low_i, meets_low_s, loads_upper, takes_low, next_of, has_pair, has_call_of_none, agrees}
 use Rattle.sq_reloc.specs.Marks.{is_unsupported, is_disagreeing, is_lone_entry, differ, paired_mark, mark_here, mark_behind, entry_mark, first_mark, faulty, mark_by, touching, mark_of, IsMarked}
-use Rattle.sq_reloc.proofs.MarkedInsns.{either_true, lui_loads, auipc_loads, low_i_takes, low_s_takes, pair_loads, pair_takes, none_loads}
-
-fact_of : (b : Bool) → not b ≡ false → b ≡ true
-fact_of true is = refl
-fact_of false is = absurd (cc is)
+use Rattle.sq_reloc.proofs.MarkedInsns.{lui_loads, auipc_loads, low_i_takes, low_s_takes, pair_loads, pair_takes, none_loads}
 
 in_text_marked : (insn : Option Insn) (test : Bool) (mark : Mark) → IsMarked insn mark → IsMarked insn (if test then mark else Plain)
 in_text_marked insn true mark marked = marked
@@ -43,7 +39,7 @@ module _ (bytes : List ℕ) (upper : Option ℕ) (e : Entry) where
 
   call_loads : (has_pair bytes e || has_call_of_none bytes e) ≡ true → loads_upper here ≡ true
   call_loads is =
-      elim (either_true (has_pair bytes e) (has_call_of_none bytes e) is) [
+      elim (or_cases (has_pair bytes e) (has_call_of_none bytes e) is) [
         | inl pair ↦ pair_loads e.offset (target_of e) here (insn_at bytes (next_of e.offset)) pair
         | inr none ↦ none_loads (target_of e) here (insn_at bytes (next_of e.offset)) none
       ]
@@ -70,7 +66,7 @@ module _ (bytes : List ℕ) (upper : Option ℕ) (e : Entry) where
 
   upper_loads : is_upper_half bytes e.offset (target_of e) ≡ true → loads_upper here ≡ true
   upper_loads is =
-      elim (either_true (is_auipc (high_half (distance e.offset (target_of e))) here) (is_lui (high_half (target_of e)) here) is) [
+      elim (or_cases (is_auipc (high_half (distance e.offset (target_of e))) here) (is_lui (high_half (target_of e)) here) is) [
         | inl auipc ↦ auipc_loads (high_half (distance e.offset (target_of e))) here auipc
         | inr lui ↦ lui_loads (high_half (target_of e)) here lui
       ]
@@ -171,9 +167,9 @@ module _ (bytes : List ℕ) (upper : Option ℕ) (e : Entry) where
 
     marked_here : is_text_kind e.kind ≡ true → MarkedHere
     marked_here is =
-        elim (either_true (nat_le 16 e.kind && nat_le e.kind 19) (nat_le 23 e.kind && nat_le e.kind 28) is) [
-          | inl within ↦ (let ends = both_true (nat_le 16 e.kind) (nat_le e.kind 19) within in first_kinds (at_most 16 e.kind ends.0) (at_most e.kind 19 ends.1))
-          | inr within ↦ (let ends = both_true (nat_le 23 e.kind) (nat_le e.kind 28) within in other_kinds (at_most 23 e.kind ends.0) (at_most e.kind 28 ends.1))
+        elim (or_cases (nat_le 16 e.kind && nat_le e.kind 19) (nat_le 23 e.kind && nat_le e.kind 28) is) [
+          | inl within ↦ (let ends = and_parts (nat_le 16 e.kind) (nat_le e.kind 19) within in first_kinds (at_most 16 e.kind ends.0) (at_most e.kind 19 ends.1))
+          | inr within ↦ (let ends = and_parts (nat_le 23 e.kind) (nat_le e.kind 28) within in other_kinds (at_most 23 e.kind ends.0) (at_most e.kind 28 ends.1))
         ]
 
 -- the second word of a call
@@ -187,8 +183,8 @@ less_of a b is = grind (arith, nat_tests)
 behind_is : (e : Entry) (address : ℕ) → is_call e.kind ≡ true → touches_word e address ≡ true → e.offset % 4 ≡ 0 → address % 4 ≡ 0 → address < 2 ^ 32 → address ≢ e.offset → next_of e.offset ≡ address
 behind_is e address call touching_it offset_word word small apart =
     let width : width_of e.kind ≡ 8 = call_width e.kind call in
-    let whole = both_true (nat_lt 0 (width_of e.kind) && nat_lt 0 4 && nat_lt e.offset (address + 4)) (nat_lt address (e.offset + width_of e.kind)) touching_it in
-    let before = both_true (nat_lt 0 (width_of e.kind) && nat_lt 0 4) (nat_lt e.offset (address + 4)) whole.0 in
+    let whole = and_parts (nat_lt 0 (width_of e.kind) && nat_lt 0 4 && nat_lt e.offset (address + 4)) (nat_lt address (e.offset + width_of e.kind)) touching_it in
+    let before = and_parts (nat_lt 0 (width_of e.kind) && nat_lt 0 4) (nat_lt e.offset (address + 4)) whole.0 in
     let high : address < e.offset + width_of e.kind = less_of address (e.offset + width_of e.kind) whole.1 in
     let low : e.offset < address + 4 = less_of e.offset (address + 4) before.1 in
     let same : e.offset + 4 ≡ address = omega (arith, width) in
@@ -201,7 +197,7 @@ module _ (bytes : List ℕ) (address : ℕ) (word : address % 4 ≡ 0) (small : 
   behind_by : (e : Entry) → touches_word e address ≡ true → e.offset % 4 ≡ 0 → address ≢ e.offset → (test : Bool) → (is_call e.kind && has_pair bytes e) ≡ test → Marked (mark_behind bytes e)
   behind_by e touching_it offset_word apart false is = rw is tt
   behind_by e touching_it offset_word apart true is =
-      let parts = both_true (is_call e.kind) (has_pair bytes e) is in
+      let parts = and_parts (is_call e.kind) (has_pair bytes e) is in
       let Takes : ℕ → Type 0 = λ a. takes_low (insn_at bytes a) ≡ true in
       let takes : takes_low (insn_at bytes address) ≡ true =
       subst Takes (behind_is e address parts.0 touching_it offset_word word small apart) (pair_takes e.offset (target_of e) (insn_at bytes e.offset) (insn_at bytes (next_of e.offset)) parts.1) in
@@ -215,14 +211,14 @@ module _ (bytes : List ℕ) (address : ℕ) (word : address % 4 ≡ 0) (small : 
 
   by_place : (e : Entry) → is_unsupported (text_of bytes) e ≡ false → agrees bytes (upper_target bytes e) e ≡ true → touches_word e address ≡ true → (test : Bool) → nat_eq address e.offset ≡ test → Marked (entry_mark bytes address e)
   by_place e supported agreed touching_it true is =
-      let parts = neither (not (is_in_text (text_of bytes) e.offset) || not (is_text_kind e.kind)) (not (nat_eq (e.offset % 4) 0)) supported in
-      let typed = neither (not (is_in_text (text_of bytes) e.offset)) (not (is_text_kind e.kind)) parts.0 in
+      let parts = or_parts (not (is_in_text (text_of bytes) e.offset) || not (is_text_kind e.kind)) (not (nat_eq (e.offset % 4) 0)) supported in
+      let typed = or_parts (not (is_in_text (text_of bytes) e.offset)) (not (is_text_kind e.kind)) parts.0 in
       let There : ℕ → Type 0 = λ a. IsMarked (insn_at bytes a) (mark_here (text_of bytes) (upper_target bytes e) e) in
-      let marked : There address = subst There (sym (equal address e.offset is)) (marked_here bytes (upper_target bytes e) e agreed (fact_of (is_text_kind e.kind) typed.1)) in
+      let marked : There address = subst There (sym (equal address e.offset is)) (marked_here bytes (upper_target bytes e) e agreed (not-false (is_text_kind e.kind) typed.1)) in
       rw is marked
   by_place e supported agreed touching_it false is =
-      let parts = neither (not (is_in_text (text_of bytes) e.offset) || not (is_text_kind e.kind)) (not (nat_eq (e.offset % 4) 0)) supported in
-      let offset_word : e.offset % 4 ≡ 0 = equal (e.offset % 4) 0 (fact_of (nat_eq (e.offset % 4) 0) parts.1) in
+      let parts = or_parts (not (is_in_text (text_of bytes) e.offset) || not (is_text_kind e.kind)) (not (nat_eq (e.offset % 4) 0)) supported in
+      let offset_word : e.offset % 4 ≡ 0 = equal (e.offset % 4) 0 (not-false (nat_eq (e.offset % 4) 0) parts.1) in
       let marked : Marked (mark_behind bytes e) = behind_by e touching_it offset_word (not_equal address e.offset is) (is_call e.kind && has_pair bytes e) refl in
       rw is marked
 
@@ -264,7 +260,7 @@ module _ (bytes : List ℕ) (address : ℕ) (word : address % 4 ≡ 0) (small : 
       let fine : is_unsupported (text_of bytes) e ≡ false = head_fails (is_unsupported (text_of bytes)) e others supported in
       let agreed_or : is_disagreeing bytes e ≡ false = head_fails (is_disagreeing bytes) e others agreeing in
       let in_place : not (is_unsupported (text_of bytes) e) ≡ true = ap not fine in
-      let agreed : agrees bytes (upper_target bytes e) e ≡ true = fact_of (agrees bytes (upper_target bytes e) e) (second_false (not (is_unsupported (text_of bytes) e)) (not (agrees bytes (upper_target bytes e) e)) agreed_or in_place) in
+      let agreed : agrees bytes (upper_target bytes e) e ≡ true = not-false (agrees bytes (upper_target bytes e) e) (second_false (not (is_unsupported (text_of bytes) e)) (not (agrees bytes (upper_target bytes e) e)) agreed_or in_place) in
       by_place e fine agreed (head_passes (λ x. touches_word x address) (entries_of bytes) e others all) (nat_eq address e.offset) refl
 
   by_entries : (entries : List Entry) → touching bytes address ≡ entries → Marked (mark_by bytes address entries)

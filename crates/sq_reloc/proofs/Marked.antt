@@ -2,9 +2,9 @@
 use Rattle.std.proofs.Common.{◌≡◌, ℕ, ◌+◌, ◌-◌, ◌*◌, ◌/◌, ◌%◌, ◌<◌, ◌≤◌, true, nat_eq, nat_lt, nat_le, List, length, get_or, subst, sym, ap, ◌∙◌, arith}
 use Rattle.std.proofs.lemmas.Bool.Decides.{nat_tests}
 use Rattle.std.proofs.lemmas.List.{get_or_default}
+use Rattle.std.proofs.lemmas.Bool.{and_parts}
 use Rattle.sq_elf.specs.declared.text.Text.{Text}
 use Rattle.sq_elf.specs.Text.{text_of, is_in_text, is_text_word}
-use Rattle.sq_elf.proofs.TextFacts.{both_true}
 use Rattle.sq_reloc.specs.declared.seen.Seen.{Seen}
 use Rattle.sq_reloc.specs.Marks.{touching, mark_of}
 use Rattle.sq_reloc.specs.Seen.{seen_of, nothing_seen, nth_seen, mark_seen, AreWordsBy}
@@ -18,8 +18,8 @@ pub record IsWordOf (text : Text) (address : ℕ) : Type 0 where
 
 pub word_facts : (text : Text) (address : ℕ) → is_text_word text address ≡ true → IsWordOf text address
 word_facts text address is =
-    let parts = both_true (is_in_text text address) (nat_eq (address % 4) 0) is in
-    let ends = both_true (nat_le text.lo address) (nat_lt address text.hi) parts.0 in
+    let parts = and_parts (is_in_text text address) (nat_eq (address % 4) 0) is in
+    let ends = and_parts (nat_le text.lo address) (nat_lt address text.hi) parts.0 in
     let low : nat_le text.lo address ≡ true = ends.0 in
     let high : nat_lt address text.hi ≡ true = ends.1 in
     let word : nat_eq (address % 4) 0 ≡ true = parts.1 in

@@ -1,15 +1,11 @@
 -- What an instruction that is as its entry asks can hold.
 use Rattle.std.proofs.Common.{◌≡◌, ◌⊎◌, inl, inr, ℕ, Bool, true, false, ◌&&◌, ◌||◌, nat_eq, Option, Some, refl, ℤ}
+use Rattle.std.proofs.lemmas.Bool.{or_cases, and_parts}
 use Rattle.sq_num.specs.Halves.{high_half, low_half}
 use Rattle.sq_isa.specs.declared.instructions.Insn.{Insn}
 use Rattle.sq_isa.specs.declared.instructions.Insn.TheVariants.{Lui, Auipc, Jalr, Load, Store, OpImm}
 use Rattle.sq_isa.specs.declared.instructions.ImmOp.TheVariants.{Addi}
-use Rattle.sq_elf.proofs.TextFacts.{both_true}
 use Rattle.sq_reloc.specs.Required.{distance, is_lui, is_auipc, has_low_i, has_low_s, jumps_by, jumps_through_zero, is_pair, loads_upper, takes_low, is_call_of_none}
-
-pub either_true : (x y : Bool) → (x || y) ≡ true → (x ≡ true) ⊎ (y ≡ true)
-either_true true y is = inl refl
-either_true false y is = inr is
 
 pub lui_loads : (half : ℕ) (insn : Option Insn) → is_lui half insn ≡ true → loads_upper insn ≡ true
 lui_loads half (Some (Lui rd upper)) is = refl
@@ -40,11 +36,11 @@ pair_loads address target other second is = absurd (cc is)
 
 pub pair_takes : (address target : ℕ) (first second : Option Insn) → is_pair address target first second ≡ true → takes_low second ≡ true
 pair_takes address target (Some (Auipc r upper)) second is =
-    jumps_takes r (low_half (distance address target)) second ((both_true (nat_eq upper (high_half (distance address target))) (jumps_by r (low_half (distance address target)) second) is).1)
+    jumps_takes r (low_half (distance address target)) second ((and_parts (nat_eq upper (high_half (distance address target))) (jumps_by r (low_half (distance address target)) second) is).1)
 pair_takes address target (Some (Lui r upper)) second is =
-    jumps_takes r (low_half target) second ((both_true (nat_eq upper (high_half target)) (jumps_by r (low_half target) second) is).1)
+    jumps_takes r (low_half target) second ((and_parts (nat_eq upper (high_half target)) (jumps_by r (low_half target) second) is).1)
 pair_takes address target other second is = absurd (cc is)
 
 pub none_loads : (target : ℕ) (first second : Option Insn) → is_call_of_none target first second ≡ true → loads_upper first ≡ true
 none_loads target first second is =
-    (both_true (nat_eq target 0) (loads_upper first) ((both_true (nat_eq target 0 && loads_upper first) (jumps_through_zero second) is).0)).1
+    (and_parts (nat_eq target 0) (loads_upper first) ((and_parts (nat_eq target 0 && loads_upper first) (jumps_through_zero second) is).0)).1

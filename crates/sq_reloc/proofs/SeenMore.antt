@@ -3,6 +3,7 @@ use Rattle.std.proofs.Common.{◌≡◌, ℕ, Bool, true, false, ◌||◌, cond,
 use Rattle.std.specs.Option.{option_map, option_map_or, option_or}
 use Rattle.std.specs.List.{list_any, find, filter}
 use Rattle.std.proofs.lemmas.List.Folds.{find-append, list_any-append}
+use Rattle.std.proofs.Math.Bool.{or-false}
 use Rattle.sq_elf.specs.Text.{text_of}
 use Rattle.sq_reloc.specs.declared.entry.Entry.{Entry}
 use Rattle.sq_reloc.specs.declared.mark.Mark.{Mark}
@@ -11,10 +12,6 @@ use Rattle.sq_reloc.specs.declared.seen.Seen.{Seen}
 use Rattle.sq_reloc.specs.Kinds.{touches_word}
 use Rattle.sq_reloc.specs.Marks.{is_unsupported, is_disagreeing, is_lone_entry, differs, differ, entry_mark, first_mark, faulty, mark_by}
 use Rattle.sq_reloc.specs.Seen.{verdict_of, mark_at, first_of, first_seen, seen_of, is_unlike, kind_if, seen_with, mark_seen}
-
-last_false : (b : Bool) → (b || false) ≡ b
-last_false true = refl
-last_false false = refl
 
 -- the type of the first at fault
 kind_or : (found last : Option Entry) → option_map (λ e. e.kind) (option_or found last) ≡ option_or (option_map (λ e. e.kind) found) (option_map (λ e. e.kind) last)
@@ -36,7 +33,7 @@ fault_more test entries e =
     ∙ ap (option_or (option_map (λ x. x.kind) (find test entries))) (kind_of_one (test e) e)
 
 pub any_more : (test : Entry → Bool) (entries : List Entry) (e : Entry) → list_any test (entries ++ e ∷ []) ≡ (list_any test entries || test e)
-any_more test entries e = list_any-append test entries (e ∷ []) ∙ ap (λ b. list_any test entries || b) (last_false (test e))
+any_more test entries e = list_any-append test entries (e ∷ []) ∙ ap (λ b. list_any test entries || b) (or-false (test e))
 
 first_more : (bytes : List ℕ) (address : ℕ) (entries : List Entry) (e : Entry) → first_seen bytes address (entries ++ e ∷ []) ≡ option_or (first_seen bytes address entries) (Some (first_of e (entry_mark bytes address e)))
 first_more bytes address [] e = refl

@@ -7,6 +7,7 @@ use Rattle.std.specs.declared.hash.BuildHasherDefault.{BuildHasherDefault}
 use Rattle.std.specs.HashSet.{HashSet}
 use Rattle.std.specs.HashSet as set
 use Rattle.std.proofs.lemmas.Bool.Decides.{nat_tests}
+use Rattle.std.proofs.lemmas.Bool.{or_left, and_from, or_right}
 use Rattle.sq_elf.specs.Text.{text_of, is_in_text}
 use Rattle.sq_reloc.specs.Entries.{entries_of}
 use Rattle.sq_reloc.specs.Outside.{is_stale_by, is_touched, is_beaten, is_stale, code_target, word_start}
@@ -18,12 +19,6 @@ same_number a b is = grind (arith, nat_tests)
 
 is_same : (a b : ℕ) → a ≡ b → nat_eq a b ≡ true
 is_same a b is = grind (arith, nat_tests)
-
-first_or : (a b : Bool) → a ≡ true → (a || b) ≡ true
-first_or a b is = rw is refl
-
-both : (a b : Bool) → a ≡ true → b ≡ true → (a && b) ≡ true
-both a b first second = rw (first, second) refl
 
 first_of : (a b : Bool) → (a && b) ≡ true → a ≡ true
 first_of true b is = refl
@@ -43,18 +38,13 @@ by_four false true c d is at_a at_b at_c at_d = at_b refl
 by_four false false true d is at_a at_b at_c at_d = at_c refl
 by_four false false false d is at_a at_b at_c at_d = at_d is
 
--- a number in a list that passes a test
-or_later : (a b : Bool) → b ≡ true → (a || b) ≡ true
-or_later true b is = refl
-or_later false b is = is
-
 passing : (test : ℕ → Bool) (number : ℕ) (numbers : List ℕ) → list_any (nat_eq number) numbers ≡ true → test number ≡ true → list_any test numbers ≡ true
 passing test number [] among passes = among
 passing test number (first ∷ others) among passes = by_same (nat_eq number first) refl (λ rest. passing test number others rest passes)
   where
     by_same : (same : Bool) → nat_eq number first ≡ same → (list_any (nat_eq number) others ≡ true → list_any test others ≡ true) → list_any test (first ∷ others) ≡ true
-    by_same true is later = first_or (test first) (list_any test others) (ap test (sym (same_number number first is)) ∙ passes)
-    by_same false is later = let rest : list_any (nat_eq number) others ≡ true = rw is at among in or_later (test first) (list_any test others) (later rest)
+    by_same true is later = or_left (test first) (list_any test others) (ap test (sym (same_number number first is)) ∙ passes)
+    by_same false is later = let rest : list_any (nat_eq number) others ≡ true = rw is at among in or_right (test first) (list_any test others) (later rest)
 
 record Passing (test : ℕ → Bool) : Type 0 where
   number : ℕ
@@ -99,13 +89,13 @@ module _ (bytes : List ℕ) where
     every = λ address is.
         let byte : TouchedByteIn bytes (page_of address) = touched_byte address is in
         let among : set.contains nat_eq stale byte.address ≡ true = stale_is byte.address ∙ second_of (not (is_in_text (text_of bytes) byte.address)) (is_stale_by (text_of bytes) (entries_of bytes) byte.address) byte.touched in
-        let passes : is_touched_in bytes (page_of address) byte.address ≡ true = both (is_touched bytes byte.address) (nat_eq (page_of byte.address) (page_of address)) byte.touched (is_same (page_of byte.address) (page_of address) byte.in_page) in
+        let passes : is_touched_in bytes (page_of address) byte.address ≡ true = and_from (is_touched bytes byte.address) (nat_eq (page_of byte.address) (page_of address)) byte.touched (is_same (page_of byte.address) (page_of address) byte.in_page) in
         pages_are (page_of address) ∙ passing (is_touched_in bytes (page_of address)) byte.address stale.keys among passes;
     only = λ page is.
         let byte : Passing (is_touched_in bytes page) = one_passing (is_touched_in bytes page) stale.keys (sym (pages_are page) ∙ is) in
         record {
           address = byte.number;
           in_page = same_number (page_of byte.number) page (second_of (is_touched bytes byte.number) (nat_eq (page_of byte.number) page) byte.passes);
-          stale = first_or (is_touched bytes byte.number) (is_some (code_target bytes (word_start byte.number)) && is_beaten bytes (word_start byte.number)) (first_of (is_touched bytes byte.number) (nat_eq (page_of byte.number) page) byte.passes);
+          stale = or_left (is_touched bytes byte.number) (is_some (code_target bytes (word_start byte.number)) && is_beaten bytes (word_start byte.number)) (first_of (is_touched bytes byte.number) (nat_eq (page_of byte.number) page) byte.passes);
         };
   }

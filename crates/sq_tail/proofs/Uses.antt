@@ -1,9 +1,10 @@
 -- A graph with a Jump in place of the end of a block is canonical, where the names of that end are used elsewhere.
 use Rattle.std.proofs.Common.{◌≡◌, ◌≢◌, ◌⊎◌, ℕ, ◌+◌, ◌==◌, Bool, true, false, ◌&&◌, ◌||◌, not, if◌then◌else◌, List, [], ◌∷◌, ◌++◌, take, drop, length, Option, Some, inl, inr, refl, sym, ap, ◌∙◌, subst, take-append-drop}
 use Rattle.std.specs.List.{All}
-use Rattle.std.proofs.lemmas.Bool.{or_left, or_right, eqb-true, eq-eqb}
+use Rattle.std.proofs.lemmas.Bool.{or_left, or_right, eqb-true, eq-eqb, or_cases}
 use Rattle.std.proofs.lemmas.List.Concat.{flat_map-append}
 use Rattle.std.proofs.lemmas.List.Elements.{All-cons, All-tail, All-append}
+use Rattle.std.proofs.Math.Bool.{and-false}
 use Rattle.sq_arena.specs.Entries.{value_of}
 use Rattle.sq_isa.specs.Registers.{is_among}
 use Rattle.sq_graph.specs.Graph.{Block, Graph}
@@ -26,16 +27,8 @@ use Rattle.sq_tail.proofs.Merging.{ended, merged_blocks}
 abbrev pub In : List ℕ → ℕ → Type 0
 In us k = is_among us k ≡ true
 
-pub either : (a b : Bool) → (a || b) ≡ true → (a ≡ true) ⊎ (b ≡ true)
-either true b e = inl refl
-either false b e = inr e
-
-and_false : (b : Bool) → (b && false) ≡ false
-and_false true = refl
-and_false false = refl
-
 pub in_either : (us vs : List ℕ) (k : ℕ) → In (us ++ vs) k → In us k ⊎ In vs k
-in_either us vs k e = either (is_among us k) (is_among vs k) (sym (is_among-append us vs k) ∙ e)
+in_either us vs k e = or_cases (is_among us k) (is_among vs k) (sym (is_among-append us vs k) ∙ e)
 
 pub in_left : (us vs : List ℕ) (k : ℕ) → In us k → In (us ++ vs) k
 in_left us vs k e = is_among-append us vs k ∙ or_left (is_among us k) (is_among vs k) e
@@ -93,7 +86,7 @@ in_uses g h k entry words bodies terms items e =
     let olds = items_uses (items_of_blocks g.blocks ++ items_of_bodies g.procedures) in
     let news = items_uses (items_of_blocks h.blocks ++ items_of_bodies h.procedures) in
     let told = code_word_uses h.code_words in
-    elim (either (g.entry == k) (is_among (code_word_uses g.code_words ++ (terms_uses g.blocks ++ olds)) k) e) [
+    elim (or_cases (g.entry == k) (is_among (code_word_uses g.code_words ++ (terms_uses g.blocks ++ olds)) k) e) [
       | inl first ↦ or_left (h.entry == k) (is_among (told ++ (terms_uses h.blocks ++ news)) k) (ap (λ n. n == k) (sym entry) ∙ first)
       | inr rest ↦
           or_right (h.entry == k) (is_among (told ++ (terms_uses h.blocks ++ news)) k)
@@ -223,10 +216,10 @@ module _ (s : Graph) (dropped at to : ℕ) where
     leads_still k e =
         let used = is_among (uses h) k in
         let follows = follows_a_term h.blocks k in
-        elim (either (is_leader s k) (k == to) e) [
+        elim (or_cases (is_leader s k) (k == to) e) [
           | inr this ↦ or_left used follows (subst (λ m. In (uses h) m) (sym (eqb-true k to this)) jump_in)
           | inl led ↦
-              elim (either (is_among (uses s) k) (follows_a_term s.blocks k) led) [
+              elim (or_cases (is_among (uses s) k) (follows_a_term s.blocks k) led) [
                 | inl named_it ↦ or_left used follows (in_uses s h k refl refl refl (terms_still k) (items_still k) named_it)
                 | inr behind ↦ or_right used follows (sym (follows_still k) ∙ behind)
               ]
@@ -239,7 +232,7 @@ module _ (s : Graph) (dropped at to : ℕ) where
           no_bare =
               subst (λ (bs : List Block). All (λ b. is_bare b ≡ false) bs) (sym now)
               (All-append P spot.front (new_block ∷ spot.back) (All-left P spot.front (spot.block ∷ spot.back) (subst (λ (bs : List Block). All (λ b. is_bare b ≡ false) bs) spot.whole c.solid))
-              (All-cons P new_block spot.back (and_false (has_no_items new_block.items)) (All-tail P spot.block spot.back (All-right P spot.front (spot.block ∷ spot.back) (subst (λ (bs : List Block). All (λ b. is_bare b ≡ false) bs) spot.whole c.solid)))));
+              (All-cons P new_block spot.back (and-false (has_no_items new_block.items)) (All-tail P spot.block spot.back (All-right P spot.front (spot.block ∷ spot.back) (subst (λ (bs : List Block). All (λ b. is_bare b ≡ false) bs) spot.whole c.solid)))));
           leaders =
               subst (λ (bs : List Block). FallsIntoLeaders (is_leader h) bs) (sym now)
               (falls_changed (λ k. is_leader s k || k == to) (is_leader h) leads_still spot.front spot.back spot.block new_block refl refl

@@ -2,6 +2,7 @@
 use Rattle.std.proofs.Common.{◌≡◌, ℕ, zero, suc, ◌+◌, ◌<◌, ◌≤◌, Bool, true, false, ◌&&◌, nat_eq, nat_lt, max, List, [], ◌∷◌, Option, Some, None, if◌then◌else◌, refl, sym, ap, ◌∙◌, arith}
 use Rattle.std.specs.List.{AllByRecursion}
 use Rattle.std.proofs.lemmas.Bool.Decides.{nat_tests}
+use Rattle.std.proofs.Math.Bool.{and-false}
 use Rattle.sq_elf.specs.Text.{text_of}
 use Rattle.sq_reloc.specs.declared.entry.Entry.{Entry}
 use Rattle.sq_reloc.specs.declared.mark.CodeWord.{CodeWord}
@@ -16,15 +17,11 @@ abbrev above : List Entry → ℕ
 above [] = 0
 above (e ∷ entries) = max (e.offset + 1) (above entries)
 
-and_no : (b : Bool) → (b && false) ≡ false
-and_no true = refl
-and_no false = refl
-
 no_target : (test : Entry → Bool) (entries : List Entry) (x : ℕ) → above entries ≤ x → first_target test entries x ≡ None
 no_target test [] x far = refl
 no_target test (e ∷ entries) x far =
     let apart : nat_eq e.offset x ≡ false = grind (arith, nat_tests) in
-    let miss : (test e && nat_eq e.offset x) ≡ false = rw apart (and_no (test e)) in
+    let miss : (test e && nat_eq e.offset x) ≡ false = rw apart (and-false (test e)) in
     rw miss (no_target test entries x (omega arith))
 
 no_word : (bytes : List ℕ) (x : ℕ) → above (entries_of bytes) ≤ x → code_word_at bytes x ≡ None

@@ -3,6 +3,7 @@ use Rattle.std.proofs.Common.{◌≡◌, ℕ, zero, suc, pos, ◌+◌, ◌*◌, 
 use Rattle.std.specs.List.{list_any, slice_get}
 use Rattle.std.proofs.lemmas.Bool.Decides.{nat_tests}
 use Rattle.std.proofs.lemmas.Int.{ints}
+use Rattle.std.proofs.lemmas.Bool.{and_right}
 use Rattle.sq_isa.specs.declared.instructions.Insn.{Insn}
 use Rattle.sq_isa.specs.declared.instructions.Insn.TheVariants.{Jal, Jalr, OpImm, Ecall}
 use Rattle.sq_isa.specs.declared.instructions.ImmOp.TheVariants.{Addi}
@@ -14,7 +15,6 @@ use Rattle.sq_reloc.specs.declared.mark.Mark.TheVariants.{Plain}
 use Rattle.law_program.specs.Programs.{Word, Text, is_word, end_of, insn_in}
 use Rattle.law_program.specs.Reached.{target_from, jump_target, insn_goes_on}
 use Rattle.law_program.specs.Faults.{is_astray, falls_off, is_auipc, is_access, fault_of}
-use Rattle.law_written.proofs.Accepting.{second_fails}
 use Rattle.sq_gen.specs.Generated.{number_after, kind_of, addition, call, words_from}
 
 -- an instruction at a place among n words jumps nowhere, or to one of them
@@ -141,7 +141,7 @@ module _ (t : Text) (n : ℕ) (ends : end_of t ≡ t.lo + 4 * n) (high : t.lo + 
     where
       by_end : (insn_goes_on fine.insn ≡ false) ⊎ (place + 1 < n) → falls_off t (t.lo + 4 * place) fine.insn ≡ false
       by_end (inl stops) = rw stops refl
-      by_end (inr less) = second_fails (insn_goes_on fine.insn) (t.lo + 4 * place + 4 == end_of t) (not_there (t.lo + 4 * place + 4) (end_of t) (omega (arith, ends, less)))
+      by_end (inr less) = and_right (insn_goes_on fine.insn) (t.lo + 4 * place + 4 == end_of t) (not_there (t.lo + 4 * place + 4) (end_of t) (omega (arith, ends, less)))
 
   not_astray : is_astray t (t.lo + 4 * place) Plain fine.insn ≡ false
   not_astray = rw straight refl

@@ -3,7 +3,7 @@ use Rattle.std.proofs.Common.{◌≡◌, ℕ, zero, suc, ◌+◌, ◌*◌, ◌%�
 use Rattle.std.specs.List.{All, AllByRecursion}
 use Rattle.std.specs.List.Sorted.{IsStrictlyIncreasing}
 use Rattle.std.specs.Option.{option_map}
-use Rattle.std.proofs.lemmas.Bool.{cases_Bool, cases_lt, leb-true, lt-ltb}
+use Rattle.std.proofs.lemmas.Bool.{cases_Bool, cases_lt, leb-true, lt-ltb, and_parts}
 use Rattle.std.proofs.lemmas.List.{length-map}
 use Rattle.std.proofs.lemmas.List.Elements.{All-head, All-tail}
 use Rattle.std.proofs.lemmas.List.Filters.{length-filter_both}
@@ -16,7 +16,6 @@ use Rattle.sq_elf.specs.Reading.{has_word, word_in, word_of}
 use Rattle.sq_elf.specs.Memory.{has_memory, segments_before, segments_of}
 use Rattle.sq_elf.specs.Refusing.{file_refusal_of}
 use Rattle.sq_elf.proofs.Passing.{found_from}
-use Rattle.sq_elf.proofs.TextFacts.{both_true}
 use Rattle.sq_reloc.specs.Outside.{code_word_at}
 use Rattle.sq_reloc.specs.CodeWords.{IsCodeWord}
 use Rattle.sq_graph.specs.declared.parts.CodeRef.{CodeRef}
@@ -52,10 +51,10 @@ abbrev outside : Segment → ℕ → Bool
 outside s w = not (stands_in s w)
 
 begins : (s : Segment) (w : ℕ) → stands_in s w ≡ true → s.address ≤ w
-begins s w e = leb-true s.address w (both_true (nat_le s.address w) (nat_le (w + 4) (s.address + s.filesz)) e).0
+begins s w e = leb-true s.address w (and_parts (nat_le s.address w) (nat_le (w + 4) (s.address + s.filesz)) e).0
 
 ends : (s : Segment) (w : ℕ) → stands_in s w ≡ true → w + 4 ≤ s.address + s.filesz
-ends s w e = leb-true (w + 4) (s.address + s.filesz) (both_true (nat_le s.address w) (nat_le (w + 4) (s.address + s.filesz)) e).1
+ends s w e = leb-true (w + 4) (s.address + s.filesz) (and_parts (nat_le s.address w) (nat_le (w + 4) (s.address + s.filesz)) e).1
 
 in_range : (s : Segment) (ws : List ℕ) → AllByRecursion (λ w. w + 4 ≤ s.address + s.filesz) (filter (stands_in s) ws)
 in_range s [] = tt
@@ -124,7 +123,7 @@ module _ (bytes : List ℕ) (accepted : file_refusal_of bytes ≡ None) where
       memory : k ≡ n → has_memory bytes n ≡ true
       memory same =
           let here : has_word bytes w n ≡ true = subst (λ i. has_word bytes w i ≡ true) same has in
-          let both = both_true (is_load bytes n) (stands_in (segment_of bytes n) w) here in
+          let both = and_parts (is_load bytes n) (stands_in (segment_of bytes n) w) here in
           let shaped = shaped_at bytes accepted n (omega arith) both.0 in
           let size : nat_lt 0 (segment_of bytes n).memsz ≡ true = lt-ltb 0 (segment_of bytes n).memsz (omega (arith, shaped.stored, ends (segment_of bytes n) w both.1, begins (segment_of bytes n) w both.1)) in
           rw (both.0, size) refl
@@ -133,7 +132,7 @@ module _ (bytes : List ℕ) (accepted : file_refusal_of bytes ≡ None) where
       by_test (inl e) more (inl less) = rw e (in_front (segments_before bytes n) (segment_of bytes n ∷ []) w (more less))
       by_test (inl e) more (inr same) =
           let here : has_word bytes w n ≡ true = subst (λ i. has_word bytes w i ≡ true) same has in
-          rw e (in_last (segments_before bytes n) (segment_of bytes n) w (both_true (is_load bytes n) (stands_in (segment_of bytes n) w) here).1)
+          rw e (in_last (segments_before bytes n) (segment_of bytes n) w (and_parts (is_load bytes n) (stands_in (segment_of bytes n) w) here).1)
       by_test (inr e) more (inl less) = rw e (more less)
       by_test (inr e) more (inr same) = let some = memory same in absurd (cc)
 

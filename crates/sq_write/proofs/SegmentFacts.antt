@@ -1,7 +1,7 @@
 -- Sizes of an accepted file's segments.
 use Rattle.std.proofs.Common.{◌≡◌, ℕ, zero, suc, ◌+◌, ◌<◌, ◌≤◌, ◌^◌, true, false, nat_lt, ◌||◌, ◌⊎◌, inl, inr, List, [], ◌∷◌, length, sum_by, None, refl, arith, length-append}
 use Rattle.std.specs.List.{All}
-use Rattle.std.proofs.lemmas.Bool.{cases_Bool, ltb-false}
+use Rattle.std.proofs.lemmas.Bool.{cases_Bool, ltb-false, and_parts, or_parts}
 use Rattle.std.proofs.lemmas.List.Elements.{All-nil, All-push}
 use Rattle.std.proofs.lemmas.List.Sorted.{All-permutation, sum_by-IsPermutation, length_permutation}
 use Rattle.std.proofs.lemmas.List.Sums.{sum_by_push}
@@ -15,7 +15,7 @@ use Rattle.sq_elf.specs.Memory.{has_memory, segments_before, segments_of, AreSeg
 use Rattle.sq_elf.specs.Refusing.{file_too_long, not_elf, short_header, header_field, flags, is_refused_field, bad_segment, segment_kind, segment_overlap, without_text, bad_text_section, text_split, text_moved, text_too_large, text_size, file_refusal_of, largest_text}
 use Rattle.sq_elf.proofs.Accepted.{header_accepted, segments_accepted, text_accepted, few_loaded}
 use Rattle.sq_elf.proofs.Passing.{row_passes, behind_row}
-use Rattle.sq_elf.proofs.TextFacts.{both_true, neither, second_false}
+use Rattle.sq_elf.proofs.TextFacts.{second_false}
 use Rattle.sq_write.specs.Pieces.{by_address}
 use Rattle.sq_write.proofs.Segments.{by_address_moves}
 
@@ -29,8 +29,8 @@ module _ (bytes : List ℕ) (accepted : file_refusal_of bytes ≡ None) where
   shaped_at k within load =
       let s = segment_of bytes k in
       let good = second_false (is_load bytes k) (is_misshapen (segment_of bytes k)) (row_passes (bad_segment bytes) (segment_kind bytes ∷ segment_overlap bytes ∷ []) (segments_accepted bytes accepted) k within) load in
-      let front = neither (nat_lt (segment_of bytes k).memsz (segment_of bytes k).filesz || nat_lt (2 ^ 32) ((segment_of bytes k).address + (segment_of bytes k).memsz)) (nat_lt (2 ^ 32) ((segment_of bytes k).load_address + (segment_of bytes k).filesz)) good in
-      let both = neither (nat_lt (segment_of bytes k).memsz (segment_of bytes k).filesz) (nat_lt (2 ^ 32) ((segment_of bytes k).address + (segment_of bytes k).memsz)) front.0 in
+      let front = or_parts (nat_lt (segment_of bytes k).memsz (segment_of bytes k).filesz || nat_lt (2 ^ 32) ((segment_of bytes k).address + (segment_of bytes k).memsz)) (nat_lt (2 ^ 32) ((segment_of bytes k).load_address + (segment_of bytes k).filesz)) good in
+      let both = or_parts (nat_lt (segment_of bytes k).memsz (segment_of bytes k).filesz) (nat_lt (2 ^ 32) ((segment_of bytes k).address + (segment_of bytes k).memsz)) front.0 in
       record {
         fits = ltb-false (2 ^ 32) ((segment_of bytes k).address + (segment_of bytes k).memsz) both.1;
         stored = ltb-false (segment_of bytes k).memsz (segment_of bytes k).filesz both.0;
@@ -46,7 +46,7 @@ module _ (bytes : List ℕ) (accepted : file_refusal_of bytes ≡ None) where
       by_test more (inl e) =
           rw e
           (All-push IsShaped (segments_before bytes n) (segment_of bytes n) more
-          (shaped_at n (omega arith) (both_true (is_load bytes n) (nat_lt 0 (segment_of bytes n).memsz) e).0))
+          (shaped_at n (omega arith) (and_parts (is_load bytes n) (nat_lt 0 (segment_of bytes n).memsz) e).0))
 
   pub segments_are_shaped : (xs : List Segment) → AreSegments bytes xs → All IsShaped xs
   segments_are_shaped xs are = All-permutation IsShaped (segments_of bytes) xs are.all (shaped_before (phnum_of bytes) (omega arith))
@@ -56,7 +56,7 @@ module _ (bytes : List ℕ) (accepted : file_refusal_of bytes ≡ None) where
   few_headers =
       let rows = behind_row (short_header bytes) (header_field bytes ∷ flags bytes ∷ []) (behind_row (not_elf bytes) (short_header bytes ∷ header_field bytes ∷ flags bytes ∷ []) (behind_row (file_too_long bytes) (not_elf bytes ∷ short_header bytes ∷ header_field bytes ∷ flags bytes ∷ []) (header_accepted bytes accepted))) in
       let field = row_passes (header_field bytes) (flags bytes ∷ []) rows 44 (omega arith) in
-      ltb-false 128 (u16_field bytes 44) (neither (nat_lt (u16_field bytes 44) 1) (nat_lt 128 (u16_field bytes 44)) field).1
+      ltb-false 128 (u16_field bytes 44) (or_parts (nat_lt (u16_field bytes 44) 1) (nat_lt 128 (u16_field bytes 44)) field).1
 
   count_before : (n : ℕ) → length (segments_before bytes n) ≤ n
   unfolding segments_before
@@ -75,7 +75,7 @@ module _ (bytes : List ℕ) (accepted : file_refusal_of bytes ≡ None) where
       by_test : sum_by (λ s. s.filesz) (segments_before bytes n) ≤ total (loaded_at bytes) n → (has_memory bytes n ≡ true) ⊎ (has_memory bytes n ≡ false) → sum_by (λ s. s.filesz) (segments_before bytes (suc n)) ≤ total (loaded_at bytes) (suc n)
       by_test more (inr e) = rw e (omega arith)
       by_test more (inl e) =
-          let load = (both_true (is_load bytes n) (nat_lt 0 (segment_of bytes n).memsz) e).0 in
+          let load = (and_parts (is_load bytes n) (nat_lt 0 (segment_of bytes n).memsz) e).0 in
           let here : loaded_at bytes n ≡ (segment_of bytes n).filesz = rw load refl in
           rw e (omega (arith, more, here, sum_by_push (λ (s : Segment). s.filesz) (segments_before bytes n) (segment_of bytes n)))
 

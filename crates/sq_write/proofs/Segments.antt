@@ -2,7 +2,7 @@
 use Rattle.std.proofs.Common.{◌≡◌, ℕ, zero, suc, ◌+◌, ◌<◌, ◌≤◌, true, false, nat_eq, nat_lt, nat_le, ◌⊎◌, inl, inr, ⊎_elim, if◌then◌else◌, List, [], ◌∷◌, ◌++◌, sum_by, None, refl, sym, ap, ◌∙◌, subst, arith}
 use Rattle.std.specs.List.{AllByRecursion, Contains}
 use Rattle.std.specs.List.Sorted.{IsPermutation, IsNonDecreasingBy}
-use Rattle.std.proofs.lemmas.Bool.{cases_Bool, lt-ltb, ltb-true, leb-true, eqb-true, eq-eqb}
+use Rattle.std.proofs.lemmas.Bool.{cases_Bool, lt-ltb, ltb-true, leb-true, eqb-true, eq-eqb, and_parts}
 use Rattle.std.proofs.lemmas.Bool.Decides.{nat_tests}
 use Rattle.std.proofs.lemmas.List.Elements.{All-from_recursion, recursion_from_All, All-contains, Contains-append_cases, Contains-append_right}
 use Rattle.std.proofs.lemmas.List.Sorted.{IsPermutation-refl, IsPermutation-sym, IsPermutation-cons, IsPermutation-trans, IsPermutation-middle, Contains-permutation, sum_by-IsPermutation}
@@ -13,7 +13,6 @@ use Rattle.sq_elf.specs.Ranges.{meets}
 use Rattle.sq_elf.specs.Memory.{has_memory, segments_before, segments_of, AreSegments, MemoryPiece, own_piece, segment_pieces, image_before, pieces_meet, AreApart}
 use Rattle.sq_elf.specs.Refusing.{file_refusal_of}
 use Rattle.sq_elf.proofs.Apart.{pieces_are_apart}
-use Rattle.sq_elf.proofs.TextFacts.{both_true}
 use Rattle.sq_write.specs.Pieces.{insert_segment, by_address}
 
 -- Lists of segments that ascend by address
@@ -197,7 +196,7 @@ module _ (bytes : List ℕ) where
       by_test more (inr e) = rw e (more (rw e at apart))
       by_test more (inl e) =
           let here = rw e at apart in
-          let size = ltb-true 0 (segment_of bytes n).memsz (both_true (is_load bytes n) (nat_lt 0 (segment_of bytes n).memsz) e).1 in
+          let size = ltb-true 0 (segment_of bytes n).memsz (and_parts (is_load bytes n) (nat_lt 0 (segment_of bytes n).memsz) e).1 in
           let own = all_first_behind (λ p. meets p.address p.length a other ≡ false) (image_before bytes n) (own_piece bytes (segment_of bytes n)) _ here in
           let front = more (all_front (λ p. meets p.address p.length a other ≡ false) (image_before bytes n) (segment_pieces bytes (segment_of bytes n)) here) in
           let apart : nat_eq (segment_of bytes n).address a ≡ false = not_equal (segment_of bytes n).address a (apart_begins (segment_of bytes n).address (segment_of bytes n).memsz a other size some own) in
@@ -216,7 +215,7 @@ module _ (bytes : List ℕ) where
       by_test more (inr e) = rw e (more (rw e at apart))
       by_test more (inl e) =
           let here = rw e at apart in
-          let size = ltb-true 0 (segment_of bytes n).memsz (both_true (is_load bytes n) (nat_lt 0 (segment_of bytes n).memsz) e).1 in
+          let size = ltb-true 0 (segment_of bytes n).memsz (and_parts (is_load bytes n) (nat_lt 0 (segment_of bytes n).memsz) e).1 in
           let front = more (apart_front (image_before bytes n) (segment_pieces bytes (segment_of bytes n)) here) in
           let others = none_there n (segment_of bytes n).address (segment_of bytes n).memsz size (apart_from_next (image_before bytes n) (own_piece bytes (segment_of bytes n)) _ here) in
           rw e (push (segment_of bytes n) others front)
