@@ -19,7 +19,7 @@ pub fn block_names(alloc: Global, g: &Graph) -> Result<Vec<u32>, Memory>
     requires { IsGraph g.now.graph }
     ensures { IfOk result (λ names. names.items ≡ names_of g.now.graph) }
 {
-    let mut names = Vec::new(alloc);
+    let mut names = Vec::with_capacity(alloc, g.links().len() as usize)?;
     let mut place = Some(g.first());
     while let Some(name) = place {
         names.push(name)?;

@@ -32,13 +32,15 @@ impl Table {
         }
     }
 
-    // Makes room for a name.
+    // Makes room for a name, and for as many again, so that names in a row take few calls.
     fn grow(&mut self, name: u32) -> Result<(), Memory>
         ensures room { OnOk result (name < length self.new) }
         ensures same { (n : ℕ) → number_at self.new n ≡ number_at self.old n }
     {
-        while self.numbers.len() <= name as usize {
-            self.numbers.push(None)?;
+        let len = self.numbers.len();
+        if len <= name as usize {
+            let room = len.saturating_mul(2).max(name as usize + 1);
+            self.numbers.resize(room, None)?;
         }
         Ok(())
     }

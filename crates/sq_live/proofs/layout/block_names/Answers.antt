@@ -11,7 +11,7 @@ loop-place-init c =
     let start = rw c.first.ensures at (from_first (named c.args.g.now.graph.blocks)) in
     record {
       place = start.0;
-      names = rw (c.new-names.ensures.items) (ap keys start.1.1 ∙ keys-named c.args.g.now.graph.blocks);
+      names = rw (c.in_ok-names.ensures.items) (ap keys start.1.1 ∙ keys-named c.args.g.now.graph.blocks);
     }
 
 pub loop-place-smaller : goal.loop-place-smaller
