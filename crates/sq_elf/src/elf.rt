@@ -73,6 +73,15 @@ impl<'a> Elf<'a> {
         self.bytes
     }
 
+    /// It does nothing. Nothing refuses the file by its headers, segments and sections, and its text ends within 2^32.
+    pub fn learn(&self)
+        ensures accepted { file_refusal_of self.now ≡ None }
+        ensures high { (text_of self.now).hi ≤ 2 ^ 32 }
+    {
+        let _bytes = self.bytes();
+        let _text = self.text();
+    }
+
     /// The range of text. It lies in the file bytes of the text segment, in whole words.
     pub fn text(&self) -> Text
         ensures value { result ≡ text_of self.now }

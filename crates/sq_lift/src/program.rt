@@ -32,7 +32,7 @@ pub fn read_program(alloc: Global, elf: &Elf<'_>, relocs: &Relocs<'_>) -> Result
     ensures exact { (refusal : Refusal) → IsTextRefusal elf.now refusal → (result ≡ Err (Denied.Refused refusal)) ⊎ (result ≡ Err Denied.Memory) }
 {
     // Whoever holds an `Elf` knows that nothing before text refuses the file: this call's contract says so.
-    let _bytes = elf.bytes();
+    elf.learn();
     let text = read_text(alloc, elf, relocs)?;
     let reached = reached_words(alloc, &text, elf.entry(), relocs.code_words())?;
     match text_fault(&text, &reached) {
@@ -58,7 +58,7 @@ pub fn read_noted(alloc: Global, elf: &Elf<'_>, relocs: &Relocs<'_>) -> Result<N
     ensures refused { (refusal : Refusal) → result ≡ Err (Denied.Refused refusal) → IsEarlyRefusal elf.now refusal }
     ensures exact { (refusal : Refusal) → IsEarlyRefusal elf.now refusal → (result ≡ Err (Denied.Refused refusal)) ⊎ (result ≡ Err Denied.Memory) }
 {
-    let _bytes = elf.bytes();
+    elf.learn();
     let code_words = relocs.code_words();
     let program = read_program(alloc, elf, relocs)?;
     let Some(notes) = notes_of(alloc, elf, &program.text)? else {

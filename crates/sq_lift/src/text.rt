@@ -68,7 +68,8 @@ impl Text {
 
     /// The address behind the last word.
     pub fn end(&self) -> u64
-        ensures { result ≡ end_of self.now }
+        ensures value { result ≡ end_of self.now }
+        ensures within { result ≤ 2 ^ 32 }
     {
         u64::from(self.lo) + 4 * self.words.len() as u64
     }

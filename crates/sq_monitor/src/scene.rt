@@ -28,7 +28,6 @@ impl Scene {
         ensures word { option_map (λ p. p.word) result ≡ word_at self.now.text pc }
         ensures at { IfSome result (λ p. (p.at ≡ pc) × (pc + 4 ≤ 2 ^ 32)) }
     {
-        let _fits = self.text.words();
         if pc >= self.text.end() {
             return None;
         }

@@ -35,9 +35,8 @@ fn facts(elf: &Elf<'_>, relocs: &Relocs<'_>)
     ensures high { (text_of elf.now).hi ≤ 2 ^ 32 }
     ensures code_words { (address target : ℕ) → code_word_at elf.now address ≡ Some target → IsCodeWord elf.now address target }
 {
-    let _bytes = elf.bytes();
-    let _text = elf.text();
-    let _words = relocs.code_words();
+    elf.learn();
+    relocs.learn();
 }
 
 /// The file of the graph: the data of the file that was read, with the words of the graph as its text.

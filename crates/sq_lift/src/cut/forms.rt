@@ -2,8 +2,7 @@
 
 ghost use Rattle.std.specs.Prelude.{◌≡◌, option_to_list};
 ghost use Rattle.sq_lift.specs.Read.{seen};
-ghost use Rattle.sq_graph.specs.Terms.{goes_on};
-ghost use Rattle.sq_graph.specs.Uses.{item_uses, term_uses};
+ghost use Rattle.sq_graph.specs.Uses.{item_uses};
 ghost use Rattle.law_program.specs.Lifted.{form_of};
 ghost use Rattle.sq_lift.specs.Forms.{shaped};
 
@@ -39,29 +38,5 @@ pub(crate) fn item_target(item: &Item) -> Option<u32>
     match *item {
         Item::Hi { to, .. } | Item::Lo { to, .. } => Some(to),
         Item::Op(_) | Item::Out { .. } => None,
-    }
-}
-
-/// The block that a term names.
-pub(crate) fn term_target(term: &Term) -> Option<u32>
-    ensures { option_to_list result ≡ term_uses term.now }
-{
-    match *term {
-        Term::Jump { to }
-        | Term::Branch { to, .. }
-        | Term::Call { to, .. }
-        | Term::PartJump { to, .. } => Some(to),
-        Term::Fall | Term::Indirect { .. } | Term::Stop { .. } => None,
-    }
-}
-
-/// Whether a term goes on to its next slot: at once, or when what it calls returns.
-pub(crate) fn goes_on(term: &Term) -> bool
-    ensures { result ≡ goes_on term.now }
-{
-    match *term {
-        Term::Fall | Term::Branch { .. } | Term::Call { .. } => true,
-        Term::PartJump { link, .. } | Term::Indirect { link, .. } => link.number() != 0,
-        Term::Jump { .. } | Term::Stop { .. } => false,
     }
 }

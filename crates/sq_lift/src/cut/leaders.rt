@@ -10,7 +10,7 @@ ghost use Rattle.sq_lift.specs.Flags.{is_flagged};
 ghost use Rattle.sq_lift.specs.Forms.{shaped};
 ghost use Rattle.sq_lift.specs.Raised.{Raises};
 
-use crate::cut::forms::{Form, form_of, goes_on, item_target, term_target};
+use crate::cut::forms::{Form, form_of, item_target};
 use crate::cut::procedures::Procedures;
 use crate::{Note, Text, TextWord, WordSet, reading_of};
 use sq_graph::Term;
@@ -49,8 +49,8 @@ fn add_next(set: &mut WordSet, at: u32)
 fn add_term(set: &mut WordSet, at: u32, term: &Term)
     ensures { Raises (is_among (form_leads at (shaped (Form.Term term.now)))) set.old set.new }
 {
-    add_some(set, term_target(term));
-    if goes_on(term) {
+    add_some(set, term.target());
+    if term.goes_on() {
         add_next(set, at);
     }
 }

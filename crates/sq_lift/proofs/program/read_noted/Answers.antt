@@ -23,21 +23,21 @@ returns-in_err-program-clause-exact c = λ refusal early.
 
 pub returns-in_default-clause-refused : goal.returns-in_default-clause-refused
 returns-in_default-clause-refused c = λ refusal is.
-    let found = found_text c.args.elf.now c.args.relocs.now c.in_ok-program.program.text c.code_words-code_words.result.now c.in_ok-program.program.reached c.requires c.in_ok-program.ensures.read c.bytes-bytes.ensures.accepted c.code_words-code_words.ensures.accepted c.code_words-code_words.ensures.value in
+    let found = found_text c.args.elf.now c.args.relocs.now c.in_ok-program.program.text c.code_words-code_words.result.now c.in_ok-program.program.reached c.requires c.in_ok-program.ensures.read c.learn.ensures.accepted c.code_words-code_words.ensures.accepted c.code_words-code_words.ensures.value in
     let none = sym (rw c.in_default.is at c.in_ok-notes.ensures.notes) in
     let same : BadNote 0 ≡ refusal = (cc) in
     subst (IsEarlyRefusal c.args.elf.now) same (unread_note c.args.elf.now c.in_ok-program.program.text c.code_words-code_words.result.now c.in_ok-program.program.reached found none)
 
 pub returns-in_default-clause-exact : goal.returns-in_default-clause-exact
 returns-in_default-clause-exact c = λ refusal early.
-    let found = found_text c.args.elf.now c.args.relocs.now c.in_ok-program.program.text c.code_words-code_words.result.now c.in_ok-program.program.reached c.requires c.in_ok-program.ensures.read c.bytes-bytes.ensures.accepted c.code_words-code_words.ensures.accepted c.code_words-code_words.ensures.value in
+    let found = found_text c.args.elf.now c.args.relocs.now c.in_ok-program.program.text c.code_words-code_words.result.now c.in_ok-program.program.reached c.requires c.in_ok-program.ensures.read c.learn.ensures.accepted c.code_words-code_words.ensures.accepted c.code_words-code_words.ensures.value in
     let none = sym (rw c.in_default.is at c.in_ok-notes.ensures.notes) in
     let unread = unread_note c.args.elf.now c.in_ok-program.program.text c.code_words-code_words.result.now c.in_ok-program.program.reached found none in
     inl (ap (λ r. Err (Refused r)) (one_early c.args.elf.now (BadNote 0) refusal unread early))
 
 pub returns-in-Some-2-clause-refused : goal.returns-in-Some-2-clause-refused
 returns-in-Some-2-clause-refused c = λ refusal is.
-    let found = found_text c.args.elf.now c.args.relocs.now c.in_ok-program.program.text c.code_words-code_words.result.now c.in_ok-program.program.reached c.requires c.in_ok-program.ensures.read c.bytes-bytes.ensures.accepted c.code_words-code_words.ensures.accepted c.code_words-code_words.ensures.value in
+    let found = found_text c.args.elf.now c.args.relocs.now c.in_ok-program.program.text c.code_words-code_words.result.now c.in_ok-program.program.reached c.requires c.in_ok-program.ensures.read c.learn.ensures.accepted c.code_words-code_words.ensures.accepted c.code_words-code_words.ensures.value in
     let some = sym (rw c.in-Some.is at c.in_ok-notes.ensures.notes) in
     let bad = sym (rw c.deref.ensures.value at c.in_ok-entry.ensures) ∙ c.in-Some-2.is in
     let same : BadNote c.in-Some-2.entry ≡ refusal = (cc) in
@@ -45,7 +45,7 @@ returns-in-Some-2-clause-refused c = λ refusal is.
 
 pub returns-in-Some-2-clause-exact : goal.returns-in-Some-2-clause-exact
 returns-in-Some-2-clause-exact c = λ refusal early.
-    let found = found_text c.args.elf.now c.args.relocs.now c.in_ok-program.program.text c.code_words-code_words.result.now c.in_ok-program.program.reached c.requires c.in_ok-program.ensures.read c.bytes-bytes.ensures.accepted c.code_words-code_words.ensures.accepted c.code_words-code_words.ensures.value in
+    let found = found_text c.args.elf.now c.args.relocs.now c.in_ok-program.program.text c.code_words-code_words.result.now c.in_ok-program.program.reached c.requires c.in_ok-program.ensures.read c.learn.ensures.accepted c.code_words-code_words.ensures.accepted c.code_words-code_words.ensures.value in
     let some = sym (rw c.in-Some.is at c.in_ok-notes.ensures.notes) in
     let bad = sym (rw c.deref.ensures.value at c.in_ok-entry.ensures) ∙ c.in-Some-2.is in
     let entry = bad_entry c.args.elf.now c.in_ok-program.program.text c.code_words-code_words.result.now c.in_ok-program.program.reached found c.in-Some.notes.items c.entry.result c.in-Some-2.entry some c.entry.ensures bad in
@@ -53,14 +53,14 @@ returns-in-Some-2-clause-exact c = λ refusal early.
 
 pub returns-in-None-clause-read : goal.returns-in-None-clause-read
 returns-in-None-clause-read c =
-    let found = found_text c.args.elf.now c.args.relocs.now c.in_ok-program.program.text c.code_words-code_words.result.now c.in_ok-program.program.reached c.requires c.in_ok-program.ensures.read c.bytes-bytes.ensures.accepted c.code_words-code_words.ensures.accepted c.code_words-code_words.ensures.value in
+    let found = found_text c.args.elf.now c.args.relocs.now c.in_ok-program.program.text c.code_words-code_words.result.now c.in_ok-program.program.reached c.requires c.in_ok-program.ensures.read c.learn.ensures.accepted c.code_words-code_words.ensures.accepted c.code_words-code_words.ensures.value in
     let some = sym (rw c.in-Some.is at c.in_ok-notes.ensures.notes) in
     let good = sym (rw c.deref.ensures.value at c.in_ok-entry.ensures) ∙ c.in-None.is in
     noted c.args.elf.now c.in_ok-program.program.text c.code_words-code_words.result.now c.in_ok-program.program.reached found c.in-Some.notes.items c.entry.result some c.entry.ensures good
 
 pub returns-in-None-clause-exact : goal.returns-in-None-clause-exact
 returns-in-None-clause-exact c = λ refusal early.
-    let found = found_text c.args.elf.now c.args.relocs.now c.in_ok-program.program.text c.code_words-code_words.result.now c.in_ok-program.program.reached c.requires c.in_ok-program.ensures.read c.bytes-bytes.ensures.accepted c.code_words-code_words.ensures.accepted c.code_words-code_words.ensures.value in
+    let found = found_text c.args.elf.now c.args.relocs.now c.in_ok-program.program.text c.code_words-code_words.result.now c.in_ok-program.program.reached c.requires c.in_ok-program.ensures.read c.learn.ensures.accepted c.code_words-code_words.ensures.accepted c.code_words-code_words.ensures.value in
     let some = sym (rw c.in-Some.is at c.in_ok-notes.ensures.notes) in
     let good = sym (rw c.deref.ensures.value at c.in_ok-entry.ensures) ∙ c.in-None.is in
     let read = noted c.args.elf.now c.in_ok-program.program.text c.code_words-code_words.result.now c.in_ok-program.program.reached found c.in-Some.notes.items c.entry.result some c.entry.ensures good in

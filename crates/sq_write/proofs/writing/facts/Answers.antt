@@ -5,4 +5,4 @@ use Rattle.sq_write.proofs.writing.facts.Goals as goal
 
 pub returns-clause-code_words : goal.returns-clause-code_words
 returns-clause-code_words c =
-    subst (λ bytes. (address target : ℕ) → code_word_at bytes address ≡ Some target → IsCodeWord bytes address target) c.requires c.code_words-words.ensures.each
+    subst (λ bytes. (address target : ℕ) → code_word_at bytes address ≡ Some target → IsCodeWord bytes address target) c.requires c.learn-2.ensures.each
