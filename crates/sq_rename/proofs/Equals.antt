@@ -1,7 +1,7 @@
 -- What `==` tells of instructions and items: whether they are equal.
-use Rattle.std.proofs.Common.{◌≡◌, ℤ, true, false, ◌&&◌, nat_eq, rules, refl, ap, subst}
+use Rattle.std.proofs.Common.{◌≡◌, ℤ, Bool, true, false, ◌&&◌, not, nat_eq, rules, refl, sym, ap, ◌∙◌, subst}
 use Rattle.std.specs.Ordering.{int_eq}
-use Rattle.std.proofs.lemmas.Bool.{and_parts, eqb-true}
+use Rattle.std.proofs.lemmas.Bool.{and_parts, eqb-true, not-false}
 use Rattle.std.proofs.lemmas.Bool.Decides.{Decides-int_eq}
 use denote.Enum.Bare.{same_true}
 use Rattle.sq_isa.specs.contracts.instructions.InsnPartialEq.TheImpl as insn_eq
@@ -166,3 +166,10 @@ item_is a b e = absurd (differ e)
 
 pub item_itself : (a b : Item) → a ≡ b → (item_eq.ghosts).eq a b ≡ true
 item_itself a b e = subst (λ x. (item_eq.ghosts).eq a x ≡ true) e (item_law.refl a)
+
+-- and what `!=` tells
+pub item_same : (a b : Item) (r : Bool) → r ≡ not ((item_eq.ghosts).eq a b) → r ≡ false → a ≡ b
+item_same a b r told e = item_is a b (not-false ((item_eq.ghosts).eq a b) (sym told ∙ e))
+
+pub item_apart : (a b : Item) (r : Bool) → r ≡ not ((item_eq.ghosts).eq a b) → r ≡ true → a ≡ b → ⊥
+item_apart a b r told e same = let f : true ≡ false = sym e ∙ told ∙ ap not (item_itself a b same) in cc

@@ -94,7 +94,7 @@ shape_form item other e = absurd (cc)
 heads : (x y : Item) (xs ys : List Item) → x ∷ xs ≡ y ∷ ys → (x ≡ y) × (xs ≡ ys)
 heads x y xs ys e = let p : x ≡ y = cc in let q : xs ≡ ys = cc in (p, q)
 
-forms_shapes : (items others : List Item) → AreSameForms items others → map shape_of items ≡ map shape_of others
+pub forms_shapes : (items others : List Item) → AreSameForms items others → map shape_of items ≡ map shape_of others
 forms_shapes [] [] f = refl
 forms_shapes [] (j ∷ others) f = absurd f
 forms_shapes (i ∷ items) [] f = absurd f

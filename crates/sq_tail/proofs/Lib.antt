@@ -7,7 +7,6 @@ pub mod Ending
 pub mod Cutting
 pub mod Slots
 pub mod Joined
-pub mod Equals
 pub mod Sizes
 pub mod Numbering
 pub mod Searching

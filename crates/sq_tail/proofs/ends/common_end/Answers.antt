@@ -2,7 +2,7 @@ use Rattle.std.proofs.Common.{false, [], ◌≡◌, ◌-◌, ◌+◌, ◌<◌, l
 use Rattle.std.proofs.lemmas.List.Elements.{All-cons, All-nil, All-head}
 use Rattle.sq_rename.specs.Reservations.{is_reservation}
 use Rattle.sq_tail.specs.Ends.{IsCommonEnd}
-use Rattle.sq_tail.proofs.Equals.{item_same, item_apart}
+use Rattle.sq_rename.proofs.Equals.{item_same, item_apart}
 use Rattle.sq_tail.proofs.Ending.{some_item, back, get_any, common_more, longest}
 use Rattle.sq_tail.proofs.ends.common_end.Goals as goal
 use Rattle.sq_tail.proofs.ends.common_end.Goals.{then-ne-via-then-ne, then-ne-via-else-ne+then-not-has_no_reservations}
