@@ -17,41 +17,9 @@ use Rattle.sq_graph.specs.Matches.{registers_of, item_reads, IsSameForm, AreSame
 use Rattle.sq_graph.specs.Rules.{ItemFits, IsGraph}
 use Rattle.sq_graph.proofs.Eachs.{All-left, All-right}
 use Rattle.sq_rename.specs.Shapes.{shape_of}
+use Rattle.sq_rename.proofs.Forms.{forms_shapes}
 use Rattle.sq_outline.specs.Prints.{mixed_all, sources_number, first_sources, print_of_items, print_of, HasPrints}
 use Rattle.sq_outline.specs.Called.{MayCall}
-
--- the registers are no part of the form
-form_with : (d a b : ℕ) (insn : Insn) → form_of (with_registers d a b insn) ≡ form_of insn
-form_with d a b (Lui rd u) = refl
-form_with d a b (Auipc rd u) = refl
-form_with d a b (Jal rd o) = refl
-form_with d a b (Jalr rd rs o) = refl
-form_with d a b (Branch c x y o) = refl
-form_with d a b (Load k rd rs o) = refl
-form_with d a b (Store k rs src o) = refl
-form_with d a b (OpImm op rd rs i) = refl
-form_with d a b (OpInsn op rd x y) = refl
-form_with d a b (Fence w) = refl
-form_with d a b Ecall = refl
-form_with d a b Ebreak = refl
-form_with d a b (Unimp w) = refl
-form_with d a b (Atomic op order rd rs src) = refl
-
-same_shape : (item other : Item) → IsSameForm item other → shape_of item ≡ shape_of other
-same_shape (Op insn) (Op other) e = ap Op (sym (ap form_of e ∙ form_with (destination_of other) (first_of other) (second_of other) insn))
-same_shape (Hi rd to) (Hi rd' to') e = ap (Hi 0) (sym e)
-same_shape (Lo rd rs to) (Lo rd' rs' to') e = ap (Lo 0 0) (sym e)
-same_shape (Out p) (Out p') e = ap Out (sym e)
-same_shape item other e = absurd e
-
-same_shapes : (items others : List Item) → AreSameForms items others → map shape_of items ≡ map shape_of others
-same_shapes [] [] forms = refl
-same_shapes [] (j ∷ others) forms = absurd forms
-same_shapes (i ∷ items) [] forms = absurd forms
-same_shapes (i ∷ items) (j ∷ others) forms =
-    let first = same_shape i j forms.0 in
-    let rest = same_shapes items others forms.1 in
-    cc
 
 -- what the first item reads is the same in both
 
@@ -147,7 +115,7 @@ firsts_same ps (i ∷ items) (j ∷ others) m = item_same ps i j items others m 
 pub same_print : (ps : List Procedure) (items others : List Item) → Match ps items others → print_of_items others ≡ print_of_items items
 same_print ps items others m =
     ap (λ n. mixed_all n (map shape_of others)) (sym (firsts_same ps items others m))
-    ∙ ap (mixed_all (first_sources items)) (sym (same_shapes items others m.forms))
+    ∙ ap (mixed_all (first_sources items)) (sym (forms_shapes items others m.forms))
 
 pub one_print : (g : Graph) (a b : ℕ) → Match g.procedures (items_of g a) (items_of g b) → print_of g b ≡ print_of g a
 one_print g a b m = same_print g.procedures (items_of g a) (items_of g b) m
