@@ -17,6 +17,8 @@ KIND is one of:
     renamed    COUNT blocks of three items and a call that match one another by renaming
     near       COUNT branches that just reach, with nothing to spare
     tables     1,000 relocation sections over one table of COUNT entries
+    nearby     COUNT branches to a lone jump of their own, whose target comes near only once others' words went
+    nearinvert COUNT branches over a lone jump, whose target comes near only once others' words went
 
 The text has at most 262,144 words, or Squeeze refuses it. Each kind ends with an exit, which every way through it reaches.
 """
@@ -170,6 +172,44 @@ def falls(p, count):
         p.mark(number)
 
 
+def gap(p, group, count):
+    """So many words that go: jumps to the next slot, each behind an item."""
+    for number in range(count):
+        p.items(addi(A0, A0, 1))
+        p.jump(("gap", group, number))
+        p.mark(("gap", group, number))
+
+
+def nearby(p, count):
+    for group in range(-(-count // 200)):
+        numbers = [(group, number) for number in range(min(200, count - 200 * group))]
+        for number in numbers:
+            p.branch(("lone", number))
+        p.jump(("skip", group))
+        for number in numbers:
+            p.mark(("lone", number))
+            p.jump(("target", number))
+        p.mark(("skip", group))
+        gap(p, group, 315)
+        for number in numbers:
+            p.mark(("target", number))
+            p.items(addi(A2, A2, 1))
+
+
+def nearinvert(p, count):
+    for group in range(-(-count // 200)):
+        numbers = [(group, number) for number in range(min(200, count - 200 * group))]
+        for number in numbers:
+            p.branch(("over", number))
+            p.jump(("target", number))
+            p.mark(("over", number))
+        p.items(addi(A0, A0, 1))
+        gap(p, group, 325)
+        for number in numbers:
+            p.mark(("target", number))
+            p.items(addi(A2, A2, 1), addi(A2, A2, 1))
+
+
 def function(p):
     p.jump("exit")
     p.mark("function")
@@ -259,6 +299,8 @@ KINDS = {
     "renamed": (renamed, 4),
     "near": (near, 1),
     "tables": (tables, 1),
+    "nearby": (nearby, 7),
+    "nearinvert": (nearinvert, 8),
 }
 
 
