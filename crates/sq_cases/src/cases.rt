@@ -4,14 +4,14 @@ use crate::case_error::CaseError;
 use std::alloc::Global;
 
 /// A line of a case: its first word, and what stands behind that.
-#[derive(Clone, Copy, Debug)]
+#[derive(Clone, Copy)]
 pub struct Step<'t> {
     pub verb: &'t str,
     pub words: &'t str,
 }
 
 /// A case, with its steps in order.
-#[derive(Debug, Drop)]
+#[derive(Drop)]
 pub struct Case<'t> {
     pub name: &'t str,
     pub steps: Vec<Step<'t>>,

@@ -21,8 +21,20 @@ pub fn linked_of(alloc: Global, parts: &[&str], last: u32) -> Result<Vec<u8>, Ca
     let behind = numbers_of(alloc, behind)?;
     let entries = numbers_of(alloc, entries)?;
     let note = numbers_of(alloc, note)?;
-    let (size, entries_size, note_size) = (size_of(&text), size_of(&entries), size_of(&note));
-    let loaded = size.wrapping_add(size_of(&behind));
+    linked_file(alloc, &text, &behind, &entries, &note, last)
+}
+
+/// The file of these words.
+fn linked_file(
+    alloc: Global,
+    text: &[u32],
+    behind: &[u32],
+    entries: &[u32],
+    note: &[u32],
+    last: u32,
+) -> Result<Vec<u8>, CaseError> {
+    let (size, entries_size, note_size) = (size_of(text), size_of(entries), size_of(note));
+    let loaded = size.wrapping_add(size_of(behind));
     let symbols = loaded.wrapping_add(84);
     let relocs = symbols.wrapping_add(16);
     let noted = relocs.wrapping_add(entries_size);
@@ -35,11 +47,11 @@ pub fn linked_of(alloc: Global, parts: &[&str], last: u32) -> Result<Vec<u8>, Ca
         &mut file,
         &[1, 84, LINKED_TEXT, LINKED_TEXT, loaded, loaded, 5, 1],
     )?;
-    push_words(&mut file, &text)?;
-    push_words(&mut file, &behind)?;
+    push_words(&mut file, text)?;
+    push_words(&mut file, behind)?;
     push_words(&mut file, &[0; 4])?;
-    push_words(&mut file, &entries)?;
-    push_words(&mut file, &note)?;
+    push_words(&mut file, entries)?;
+    push_words(&mut file, note)?;
     push_words(&mut file, &[0; 10])?;
     push_words(&mut file, &[0, 1, 6, LINKED_TEXT, 84, size, 0, 0, 4, 0])?;
     push_words(&mut file, &[0, 2, 0, 0, symbols, 16, 0, 1, 4, 16])?;

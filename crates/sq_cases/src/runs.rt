@@ -15,7 +15,7 @@ pub trait Subject {
 }
 
 /// How many cases passed, and how many failed.
-#[derive(Clone, Copy, Debug)]
+#[derive(Clone, Copy)]
 struct Tally {
     passed: u64,
     failed: u64,
