@@ -1,7 +1,6 @@
 -- Truth values.
-use Rattle.std.proofs.Common.{◌≡◌, ◌⊎◌, ℕ, Bool, true, false, not, ◌||◌, inl, inr, refl, sym, ◌==◌, ◌&&◌}
-use Rattle.std.proofs.lemmas.Bool.{ne_eqb, eqb-false, or_left, or_right, or_cases}
-use Rattle.std.proofs.Math.Bool.{and-false}
+use Rattle.std.proofs.Common.{◌≡◌, ◌⊎◌, ℕ, Bool, true, false, not, ◌||◌, inl, inr, refl, sym, ◌==◌}
+use Rattle.std.proofs.lemmas.Bool.{ne_eqb, eqb-false, or_left, or_right}
 
 pub other_way : (a b : ℕ) → (a == b) ≡ false → (b == a) ≡ false
 other_way a b e = ne_eqb b a (λ same. eqb-false a b e (sym same))

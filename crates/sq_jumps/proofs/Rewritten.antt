@@ -1,12 +1,10 @@
--- What one rewrite of a row for one block adds to a sweep.
-use Rattle.std.proofs.Common.{◌≡◌, ℕ, true, List, [], ◌∷◌, Option, None, Some, inr, refl, sym, subst, arith, is_some, Result, Ok, Err, ◌++◌}
-use Rattle.std.specs.List.{All}
+-- What one rewrite of a row adds to a sweep.
+use Rattle.std.proofs.Common.{◌≡◌, ℕ, [], ◌∷◌, inl, inr, refl, sym, ap, ◌∙◌, subst, arith, Result, Ok, Err}
 use Rattle.sq_graph.specs.Graph.{Graph}
 use Rattle.sq_graph.specs.Places.{IsInReach}
 use Rattle.sq_graph.specs.Rules.{IsGraph}
 use Rattle.sq_graph.specs.Words.{words_of}
-use Rattle.std.specs.Prelude.{IfOk, IfSome}
-use Rattle.std.proofs.lemmas.List.Elements.{All-nil, All-cons, All-append}
+use Rattle.std.specs.Prelude.{IfOk}
 use Rattle.sq_graph.specs.Canonical.{canonical_of}
 use Rattle.sq_pass.specs.Applied.{IsApplied}
 use Rattle.sq_num.specs.declared.memory.Memory.{Memory}
@@ -17,11 +15,15 @@ use Rattle.sq_graph.proofs.CanonicalLaws.{canonical_again}
 use Rattle.sq_graph.proofs.CanonicalReach.{canonical_in_reach}
 use Rattle.law_follow.specs.Follows.{Follows}
 use Rattle.law_patch.proofs.Joining.{canonical_follows, canonical_sound}
+use Rattle.sq_pass.specs.declared.cut.Cut.{Cut}
 use Rattle.sq_pass.specs.declared.cut.Row.{Row}
+use Rattle.sq_pass.specs.declared.cut.Row.TheVariants.{U}
 use Rattle.sq_pass.specs.Counted.{counted}
 use Rattle.sq_pass.specs.Rewrites.{IsLighter, IsRewritten}
 use Rattle.sq_pass.proofs.Rewriting.{lighter_itself, rewrite_made, lighter_made, rewritten_once, rewritten_through}
-use Rattle.sq_jumps.specs.Candidates.{HasRow, cut_at, IsCandidate, rewritten, described}
+use Rattle.sq_jumps.specs.Candidates.{HasRow, cut_at, IsUnreachedCut, IsCandidate, rewritten, described}
+use Rattle.sq_jumps.specs.Unreached.{without_all}
+use Rattle.sq_jumps.proofs.Cutting.{unreached_gone}
 
 -- a row is applied at one of its blocks, and what is left is made canonical
 pub block_rewritten : (row : Row) (block : ℕ) (before : Savings) (g mid new : Graph) → HasRow row g block → IsApplied 1 (rewritten row g (block ∷ [])) g mid → new ≡ canonical_of mid → IsLighter 0 mid new → IsRewritten IsCandidate described before (counted before row 1) g new
@@ -58,13 +60,11 @@ pub swept_on : (before at : Savings) (old mid new : Graph) (r : Result Savings M
 swept_on before at old mid new (Ok after) first second = rewritten_through IsCandidate described before at after old mid new first second
 swept_on before at old mid new (Err memory) first second = second
 
--- BLOCKS FOR WHICH A ROW IS
-
-abbrev pub AreJumps : Graph → List ℕ → Type 0
-AreJumps g blocks = All (λ block. (row : Row) × HasRow row g block) blocks
-
-pub one_listed : (g : Graph) (blocks more : List ℕ) (block : ℕ) (o : Option Row) → is_some o ≡ true → IfSome o (λ row. HasRow row g block) → more ≡ blocks ++ block ∷ [] → AreJumps g blocks → AreJumps g more
-one_listed g blocks more block None some has is are = absurd (cc)
-one_listed g blocks more block (Some row) some has is are =
-    let P : ℕ → Type 0 = λ n. (row : Row) × HasRow row g n in
-    subst (λ ns. AreJumps g ns) (sym is) (All-append P blocks (block ∷ []) are (All-cons P block [] (row, has) (All-nil P)))
+-- what isn't reached goes, and then the canonical graph
+pub unreached_rewritten : (cut : Cut) (before after : Savings) (g mid new : Graph) → IsGraph g → IsUnreachedCut g cut → IsGraph mid → mid ≡ without_all g cut.blocks → new ≡ canonical_of mid → IsCanonical new → words_of new ≡ words_of mid → after ≡ counted before U cut.saving → IsRewritten IsCandidate described before after g new
+unreached_rewritten cut before after g mid new rules u mid_rules is made canonical words counts =
+    let applied = unreached_gone g mid cut rules u mid_rules is in
+    subst (λ s. IsRewritten IsCandidate described before s g new) (sym (counts ∙ ap (λ row. counted before row cut.saving) (sym u.row)))
+    (rewritten_once IsCandidate described before (record { row = cut.row; saving = cut.saving }) g new
+    (rewrite_made IsCandidate described cut g mid new (inl u) applied made)
+    (lighter_made cut.saving (described g cut) g mid new applied (canonical_lighter mid new mid_rules made canonical words)))

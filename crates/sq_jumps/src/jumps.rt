@@ -22,9 +22,8 @@ ghost use Rattle.sq_jumps.specs.Candidates.{HasRow, IsJumpCut, rewritten};
 
 use crate::cut::{cut_at, no_register, only_block};
 use crate::detour::{is_detour, remove_detour};
-use crate::fall::{fall, jumps_to_next, sweep_falls};
-use crate::invert::{branches_over_jump, invert, sweep_branches};
-use crate::lone::sweep_lone_jumps;
+use crate::fall::{fall, jumps_to_next};
+use crate::invert::{branches_over_jump, invert};
 use crate::shorten::{jumps_by_dead_part, shorten, sweep_calls};
 use crate::survey::{Survey, survey_of};
 use crate::sweep::sweep_jumps;
@@ -242,13 +241,9 @@ impl Pass for Jumps {
         }
     }
 
-    /// A few looks at the whole graph; for each round of lone Jumps one at all uses of names; and for each candidate of J1,
-    /// J2 and J3 that the other walks leave, a look at each word a few times.
+    /// A few looks at the whole graph, and in each of at most 32 rounds a few more.
     fn sweep(&self, alloc: Global, graph: &mut Graph, savings: Savings) -> Result<Savings, Memory> {
         let after_calls = sweep_calls(alloc, graph, savings)?;
-        let after_detours = sweep_lone_jumps(alloc, graph, Row::J2, after_calls)?;
-        let after_branches = sweep_branches(alloc, graph, after_detours)?;
-        let after_falls = sweep_falls(alloc, graph, after_branches)?;
-        sweep_jumps(alloc, graph, after_falls)
+        sweep_jumps(alloc, graph, after_calls)
     }
 }

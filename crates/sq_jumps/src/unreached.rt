@@ -5,16 +5,20 @@
 //!              b: ..              c: ..
 //!              c: ..
 //!
-//! What the cut is and how it is found is here, and `clear` has how it is applied.
+//! What the cut is, how it is found, and the walk of a sweep are here, and `clear` has how it is applied.
 
 mod clear;
 
-ghost use Rattle.std.specs.Prelude.{◌≡◌, IfOk, IfSome, ℕ, ◌<◌, ◌^◌, not, sum_by, None, Ok, OnOk};
-ghost use Rattle.sq_jumps.specs.Candidates.{IsUnreachedCut};
+ghost use Rattle.std.specs.Prelude.{◌≡◌, ◌+◌, ◌≤◌, IfOk, IfSome, ℕ, ◌<◌, ◌^◌, not, sum_by, None, Ok, OnOk};
+ghost use Rattle.sq_jumps.specs.Candidates.{IsUnreachedCut, IsCandidate, described};
 ghost use Rattle.std.specs.List.{filter, flat_map};
 ghost use Rattle.sq_graph.specs.Parts.{names_of};
 ghost use Rattle.sq_graph.specs.Rules.{IsGraph};
-ghost use Rattle.sq_graph.specs.Words.{words_of, block_words, procedure_words};
+ghost use Rattle.sq_graph.specs.Words.{words_of, most_words, block_words, procedure_words};
+ghost use Rattle.sq_graph.specs.Leaders.{IsCanonical};
+ghost use Rattle.sq_num.specs.Saved.{words_saved};
+ghost use Rattle.law_follow.specs.Follows.{Follows};
+ghost use Rattle.sq_pass.specs.Rewrites.{IsRewritten};
 ghost use Rattle.sq_graph.specs.Uses.{item_calls};
 ghost use Rattle.law_patch.specs.Restrictions.{procedures_held};
 ghost use Rattle.sq_pass.specs.declared.cut.Cut.{Cut as Told};
@@ -29,8 +33,8 @@ use sq_graph::{Graph, Item};
 use sq_layout::block_words;
 use sq_live::block_names;
 use sq_lookup::Names;
-use sq_num::Memory;
-use sq_pass::{Blocks, Cut, Row};
+use sq_num::{Memory, Savings};
+use sq_pass::{Blocks, Cut, Rewrite, Row};
 use sq_reach::{Marks, reachable};
 use std::alloc::Global;
 
@@ -157,4 +161,30 @@ pub(crate) fn admit_unreached(
     }
     let names = block_names(alloc, graph)?;
     find_unreached(alloc, graph, &names)
+}
+
+/// Rewrites the graph by row U, where that has a candidate. It looks at each word a few times, and once at the blocks for
+/// each procedure.
+pub(crate) fn sweep_unreached(
+    alloc: Global,
+    graph: &mut Graph,
+    savings: Savings,
+) -> Result<Savings, Memory>
+    requires canonical { IsCanonical graph.old.graph }
+    requires words { words_of graph.old.graph + words_saved savings ≤ most_words }
+    ensures rewritten { IfOk result (λ after. IsRewritten IsCandidate described savings after graph.old.graph graph.new.graph) }
+    ensures follows { Follows graph.old.graph graph.new.graph }
+{
+    graph.learn();
+    let names = block_names(alloc, graph)?;
+    let Some(cut) = find_unreached(alloc, graph, &names)? else {
+        return Ok(savings);
+    };
+    drop_unreached(graph, cut.blocks.as_slice());
+    graph.canonical();
+    let done = Rewrite {
+        row: Row::U,
+        saving: cut.saving,
+    };
+    Ok(done.count(savings))
 }
