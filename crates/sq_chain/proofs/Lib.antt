@@ -15,4 +15,5 @@ pub mod Chains
 pub mod Lighter
 pub mod Carried
 pub mod Orders
+pub mod Surveyed
 pub mod Moved

@@ -1,4 +1,4 @@
--- The names of the blocks once a chain stands behind the Jump to it.
+-- The order of the blocks once a chain stands behind the Jump to it.
 use Rattle.std.proofs.Common.{◌≡◌, ℕ, ◌+◌, ◌≤◌, ◌<◌, List, [], ◌∷◌, ◌++◌, map, length, take, drop, Option, None, IsSome, is_some, inl, inr, refl, sym, ap, ◌∙◌, subst, arith, slice_get, get_or, length-append}
 use Rattle.std.proofs.lemmas.List.{take-append-drop, length-take, length-map, map-append, drop_all}
 use Rattle.std.proofs.lemmas.Option.{slice_get_cases, slice_get-map}
@@ -15,10 +15,9 @@ use Rattle.sq_graph.specs.Rules.{IsGraph}
 use Rattle.sq_graph.proofs.BlockMoves.{through-in, through-out, behind-out, exchanged_pieces}
 use Rattle.sq_graph.proofs.Located.{named-append}
 use Rattle.sq_live.proofs.Layouts.{IsBlockAt, block_at}
-use Rattle.sq_chain.specs.Moves.{chain_end, IsMovable, IsOrder, carried}
-use Rattle.sq_chain.proofs.Carried.{carried_words}
+use Rattle.sq_chain.specs.Moves.{chain_end, IsMovable, carried}
 use Rattle.sq_chain.proofs.Fallen.{named_length}
-use Rattle.sq_chain.proofs.Reordered.{Exchanges, apart_from, some_or_none, whole, moves_back, moves_ahead, chain_run, chain_moved_rules, chain_moved_length, chain_reordered}
+use Rattle.sq_chain.proofs.Reordered.{Exchanges, apart_from, some_or_none, whole, moves_back, moves_ahead, chain_run}
 
 take_length : {T : Type 0} (k : ℕ) (xs : List T) → k < length xs → length (take k xs) ≡ k
 take_length k xs within = omega (arith, within, length-take k xs)
@@ -62,22 +61,22 @@ module _ (g : Graph) (rules : IsGraph g) (k n : ℕ) (b : IsBlockAt g k n) where
 pub found_at : (g : Graph) (names : List ℕ) (k n : ℕ) → IsGraph g → names ≡ names_of g → k < length names → get_or names k 0 ≡ n → IsBlockAt g k n
 found_at g names k n rules e within there = subst (IsBlockAt g k) there (block_at g names k rules e within)
 
--- THE NAMES
+-- THE BLOCKS IN THEIR ORDER
 
-names_mapped : (bs : List Block) → map (λ (b : Block). b.name) bs ≡ map (λ (e : ℕ × Block). e.1.name) (named bs)
-names_mapped [] = refl
-names_mapped (b ∷ bs) = ap (λ (ns : List ℕ). b.name ∷ ns) (names_mapped bs)
+blocks_mapped : {T : Type 0} (f : Block → T) (bs : List Block) → map f bs ≡ map (λ (e : ℕ × Block). f e.1) (named bs)
+blocks_mapped f [] = refl
+blocks_mapped f (b ∷ bs) = ap (λ ts. f b ∷ ts) (blocks_mapped f bs)
 
-names_moved : (es : List (ℕ × Block)) → map (λ (b : Block). b.name) (map (λ (e : ℕ × Block). e.1) es) ≡ map (λ (e : ℕ × Block). e.1.name) es
-names_moved [] = refl
-names_moved (e ∷ es) = ap (λ (ns : List ℕ). e.1.name ∷ ns) (names_moved es)
+blocks_moved : {T : Type 0} (f : Block → T) (es : List (ℕ × Block)) → map f (map (λ (e : ℕ × Block). e.1) es) ≡ map (λ (e : ℕ × Block). f e.1) es
+blocks_moved f [] = refl
+blocks_moved f (e ∷ es) = ap (λ ts. f e.1 ∷ ts) (blocks_moved f es)
 
-by_exchange : (old new : List (ℕ × Block)) (x : Exchanges old new) (p q r : ℕ) → p ≡ length x.first → q ≡ p + length x.second → r ≡ q + length x.third → exchanged (map (λ (e : ℕ × Block). e.1.name) old) p q r ≡ map (λ (e : ℕ × Block). e.1.name) new
-by_exchange old new x p q r first second third =
-    let f : ℕ × Block → ℕ = λ (e : ℕ × Block). e.1.name in
-    let parts : (a b c d : List (ℕ × Block)) → map (λ (e : ℕ × Block). e.1.name) (a ++ (b ++ (c ++ d))) ≡ map (λ (e : ℕ × Block). e.1.name) a ++ (map (λ (e : ℕ × Block). e.1.name) b ++ (map (λ (e : ℕ × Block). e.1.name) c ++ map (λ (e : ℕ × Block). e.1.name) d)) = λ a b c d.
-    map-append f a (b ++ (c ++ d)) ∙ ap (λ (ns : List ℕ). map f a ++ ns) (map-append f b (c ++ d)) ∙ ap (λ (ns : List ℕ). map f a ++ (map f b ++ ns)) (map-append f c d) in
-    ap (λ (ns : List ℕ). exchanged ns p q r) (ap (map f) x.was ∙ parts x.first x.second x.third x.rest)
+by_exchange : {T : Type 0} (v : Block → T) (old new : List (ℕ × Block)) (x : Exchanges old new) (p q r : ℕ) → p ≡ length x.first → q ≡ p + length x.second → r ≡ q + length x.third → exchanged (map (λ (e : ℕ × Block). v e.1) old) p q r ≡ map (λ (e : ℕ × Block). v e.1) new
+by_exchange {T} v old new x p q r first second third =
+    let f : ℕ × Block → T = λ (e : ℕ × Block). v e.1 in
+    let parts : (a b c d : List (ℕ × Block)) → map (λ (e : ℕ × Block). v e.1) (a ++ (b ++ (c ++ d))) ≡ map (λ (e : ℕ × Block). v e.1) a ++ (map (λ (e : ℕ × Block). v e.1) b ++ (map (λ (e : ℕ × Block). v e.1) c ++ map (λ (e : ℕ × Block). v e.1) d)) = λ a b c d.
+    map-append f a (b ++ (c ++ d)) ∙ ap (λ (ts : List T). map f a ++ ts) (map-append f b (c ++ d)) ∙ ap (λ (ts : List T). map f a ++ (map f b ++ ts)) (map-append f c d) in
+    ap (λ (ts : List T). exchanged ts p q r) (ap (map f) x.was ∙ parts x.first x.second x.third x.rest)
     ∙ exchanged_pieces (map f x.first) (map f x.second) (map f x.third) (map f x.rest) p q r (omega (arith, first, length-map x.first f)) (omega (arith, second, length-map x.second f)) (omega (arith, third, length-map x.third f))
     ∙ sym (ap (map f) x.is ∙ parts x.first x.third x.second x.rest)
 
@@ -102,15 +101,6 @@ module _ (g : Graph) (from to : ℕ) (rules : IsGraph g) (movable : IsMovable g 
 
   all : es ≡ A ++ (R ++ C)
   all = whole g from to rules movable
-
-  pub is_order : IsOrder g (carried g from to) (names_of (carried g from to))
-  is_order = record {
-    rules = chain_moved_rules g from to rules movable;
-    same = (chain_reordered g from to rules movable).same;
-    listed = refl;
-    words = carried_words g from to rules movable;
-    many = chain_moved_length g from to rules movable;
-  }
 
   split : es ≡ A ++ S
   split = all ∙ ap (λ (ps : List (ℕ × Block)). A ++ ps) (through-behind S last)
@@ -182,13 +172,13 @@ module _ (g : Graph) (from to : ℕ) (rules : IsGraph g) (movable : IsMovable g 
           before_length g rules i to at_to,
         )
 
-    pub order_back : k + 1 ≤ i → exchanged (names_of g) (k + 1) i (j + 1) ≡ names_of (carried g from to)
-    order_back less =
+    pub order_back : {T : Type 0} (f : Block → T) → k + 1 ≤ i → exchanged (map f g.blocks) (k + 1) i (j + 1) ≡ map f (carried g from to).blocks
+    order_back {T} f less =
         elim (some_or_none (value_of A from)) [
           | inl some ↦
-              ap (λ (ns : List ℕ). exchanged ns (k + 1) i (j + 1)) (names_mapped g.blocks)
-              ∙ by_exchange es _ (moves_back g from to rules movable some) (k + 1) i (j + 1) (omega (arith, ahead some)) (omega (arith, ahead_of_chain some)) (omega (arith, lengths))
-              ∙ sym (names_moved _)
+              ap (λ (ts : List T). exchanged ts (k + 1) i (j + 1)) (blocks_mapped f g.blocks)
+              ∙ by_exchange f es _ (moves_back g from to rules movable some) (k + 1) i (j + 1) (omega (arith, ahead some)) (omega (arith, ahead_of_chain some)) (omega (arith, lengths))
+              ∙ sym (blocks_moved f _)
           | inr none ↦
               let shape = shape_of es to last (chain_run g from to rules movable) in
               absurd (omega (arith, less, lengths, past_chain none, ap (λ (ps : List (ℕ × Block)). length ps) shape.is))
@@ -201,12 +191,12 @@ module _ (g : Graph) (from to : ℕ) (rules : IsGraph g) (movable : IsMovable g 
           | inr none ↦ omega (arith, past_chain none)
         ]
 
-    pub order_ahead : i ≤ k → exchanged (names_of g) i (j + 1) (k + 1) ≡ names_of (carried g from to)
-    order_ahead more =
+    pub order_ahead : {T : Type 0} (f : Block → T) → i ≤ k → exchanged (map f g.blocks) i (j + 1) (k + 1) ≡ map f (carried g from to).blocks
+    order_ahead {T} f more =
         elim (some_or_none (value_of A from)) [
           | inl some ↦ absurd (omega (arith, more, ahead_of_chain some))
           | inr none ↦
-              ap (λ (ns : List ℕ). exchanged ns i (j + 1) (k + 1)) (names_mapped g.blocks)
-              ∙ by_exchange es _ (moves_ahead g from to rules movable none) i (j + 1) (k + 1) (omega (arith, before_length g rules i to at_to)) (omega (arith, lengths)) (omega (arith, past_chain none))
-              ∙ sym (names_moved _)
+              ap (λ (ts : List T). exchanged ts i (j + 1) (k + 1)) (blocks_mapped f g.blocks)
+              ∙ by_exchange f es _ (moves_ahead g from to rules movable none) i (j + 1) (k + 1) (omega (arith, before_length g rules i to at_to)) (omega (arith, lengths)) (omega (arith, past_chain none))
+              ∙ sym (blocks_moved f _)
         ]

@@ -1,5 +1,6 @@
 pub mod Widening
 pub mod Least
 pub mod Laws
+pub mod Surveys
 pub mod Moves
 pub mod Candidates

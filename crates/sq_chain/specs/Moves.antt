@@ -1,13 +1,11 @@
 -- Chains of blocks, and their moves.
-use Rattle.std.specs.Prelude.{◌≡◌, ℕ, ◌≤◌, ◌==◌, List, [], ◌∷◌, length, Option, Some, if◌then◌else◌}
+use Rattle.std.specs.Prelude.{◌≡◌, ℕ, ◌≤◌, ◌==◌, List, [], ◌∷◌, Option, Some, if◌then◌else◌}
 use Rattle.sq_arena.specs.Entries.{ContainsKey, starting_at, run}
 use Rattle.sq_graph.specs.declared.item.Term.{Term}
 use Rattle.sq_graph.specs.declared.item.Term.TheVariants.{Fall, Jump}
 use Rattle.sq_graph.specs.Graph.{Block, Graph}
-use Rattle.sq_graph.specs.Blocks.{named, block_of, next_of, term_of}
+use Rattle.sq_graph.specs.Blocks.{named, next_of, term_of}
 use Rattle.sq_graph.specs.Operations.{moved_after}
-use Rattle.sq_graph.specs.Parts.{names_of}
-use Rattle.sq_graph.specs.Rules.{IsGraph}
 use Rattle.sq_graph.specs.Terms.{goes_on}
 use Rattle.sq_graph.specs.Words.{words_of}
 use Rattle.law_patch.specs.LoneJumps.{IsApart}
@@ -37,23 +35,11 @@ pub record JumpsToNext (g : Graph) (block : ℕ) : Type 0 where
   pub jump : term_of g block ≡ Some (Jump to)
   pub next : next_of g block ≡ Some to
 
--- a block ends in a Jump to this next slot
-pub record JumpsTo (g : Graph) (block : ℕ) (next : Option ℕ) : Type 0 where
+-- this term is a Jump to this next slot
+pub record JumpsTo (term : Term) (next : Option ℕ) : Type 0 where
   pub to : ℕ
-  pub jump : term_of g block ≡ Some (Jump to)
+  pub jump : term ≡ Jump to
   pub slot : next ≡ Some to
-
--- the other graph has the same blocks, in the order of these names
-pub record IsOrder (g h : Graph) (names : List ℕ) : Type 0 where
-  pub rules : IsGraph h
-  pub same : (n : ℕ) → block_of h n ≡ block_of g n
-  pub listed : names ≡ names_of h
-  pub words : words_of h ≡ words_of g
-  pub many : length h.blocks ≡ length g.blocks
-
--- there is such a graph
-abbrev pub IsOrdered : Graph → List ℕ → Type 0
-IsOrdered g names = (h : Graph) × IsOrder g h names
 
 -- a Jump to the next slot becomes Fall
 abbrev pub fallen_term : ℕ → Term → Term

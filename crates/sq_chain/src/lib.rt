@@ -14,10 +14,11 @@ mod moving;
 mod order;
 mod outlook;
 mod short;
+mod survey;
 mod sweep;
 mod widening;
 
 pub use chain::movable;
 pub use moving::{move_once, try_move};
-pub use sweep::sweep_moves;
+pub use sweep::{Watch, sweep_moves};
 pub use widening::widen;

@@ -9,10 +9,12 @@ ghost use Rattle.sq_pass.specs.declared.cut.Cut.{Cut as Told};
 ghost use Rattle.sq_pass.specs.Rewrites.{IsRewrite, IsLighter};
 ghost use Rattle.sq_chain.specs.Moves.{IsMovable, moved, IsStill};
 ghost use Rattle.sq_chain.specs.Candidates.{IsCandidate, described, IsMoved, HasMoved, IsStillAt};
+ghost use Rattle.sq_chain.specs.Surveys.{extents_of, IsRoom};
 
 use crate::carry::carry;
 use crate::chain::movable;
 use crate::outlook::{Outlook, outlook_of};
+use crate::survey::{Survey, survey_of};
 use crate::widening::widen;
 use sq_graph::{Graph, Term};
 use sq_layout::words_of;
@@ -27,17 +29,20 @@ use std::alloc::Global;
 pub(crate) fn move_near(
     alloc: Global,
     graph: &mut Graph,
+    survey: &Survey,
     from: u32,
     to: u32,
 ) -> Result<Option<u32>, Memory>
     requires movable { IsMovable graph.old.graph from to }
+    requires extents { survey.now.extents.items ≡ extents_of graph.old.graph }
+    requires room { IsRoom graph.old.graph survey.now.room.items }
     ensures some { IfOk result (λ done. IfSome done (λ saved. 1 ≤ saved)) }
     ensures applied { IfOk result (λ done. IfSome done (λ saved. IsApplied saved (moved graph.old.graph from to) graph.old.graph graph.new.graph)) }
     ensures same { result ≡ Ok None → graph.new ≡ graph.old }
     ensures kept { OnErr result (graph.new ≡ graph.old) }
 {
     graph.learn();
-    match outlook_of(alloc, graph, from, to)? {
+    match outlook_of(alloc, graph, survey, from, to)? {
         Outlook::Near => Ok(Some(carry(graph, from, to))),
         Outlook::Still => Ok(None),
         Outlook::Unsure => Ok(None),
@@ -77,8 +82,29 @@ pub fn try_move(alloc: Global, graph: &mut Graph, from: u32, to: u32) -> Result<
     ensures same { result ≡ Ok false → graph.new ≡ graph.old }
     ensures kept { OnErr result (graph.new ≡ graph.old) }
 {
+    let survey = survey_of(alloc, graph)?;
+    move_surveyed(alloc, graph, &survey, from, to)
+}
+
+/// The same by this survey of the graph.
+fn move_surveyed(
+    alloc: Global,
+    graph: &mut Graph,
+    survey: &Survey,
+    from: u32,
+    to: u32,
+) -> Result<bool, Memory>
+    requires movable { IsMovable graph.old.graph from to }
+    requires blocks { length graph.old.graph.blocks ≤ 16777216 }
+    requires extents { survey.now.extents.items ≡ extents_of graph.old.graph }
+    requires room { IsRoom graph.old.graph survey.now.room.items }
+    ensures moved { result ≡ Ok true → IsMoved from to graph.old.graph graph.new.graph }
+    ensures still { result ≡ Ok false → words_of graph.old.graph ≤ words_of (moved graph.old.graph from to) }
+    ensures same { result ≡ Ok false → graph.new ≡ graph.old }
+    ensures kept { OnErr result (graph.new ≡ graph.old) }
+{
     graph.learn();
-    match outlook_of(alloc, graph, from, to)? {
+    match outlook_of(alloc, graph, survey, from, to)? {
         Outlook::Near => {
             carry(graph, from, to);
             Ok(true)
@@ -108,15 +134,17 @@ pub(crate) fn movable_target(graph: &Graph, from: u32) -> Option<u32>
 }
 
 /// The same for the block to which this one jumps, where the pair is movable.
-fn move_behind(alloc: Global, graph: &mut Graph, from: u32) -> Result<bool, Memory>
+fn move_behind(alloc: Global, graph: &mut Graph, survey: &Survey, from: u32) -> Result<bool, Memory>
     requires blocks { length graph.old.graph.blocks ≤ 16777216 }
+    requires extents { survey.now.extents.items ≡ extents_of graph.old.graph }
+    requires room { IsRoom graph.old.graph survey.now.room.items }
     ensures moved { result ≡ Ok true → HasMoved graph.old.graph graph.new.graph }
     ensures still { result ≡ Ok false → IsStillAt graph.old.graph from }
     ensures same { result ≡ Ok false → graph.new ≡ graph.old }
     ensures kept { OnErr result (graph.new ≡ graph.old) }
 {
     match movable_target(graph, from) {
-        Some(to) => try_move(alloc, graph, from, to),
+        Some(to) => move_surveyed(alloc, graph, survey, from, to),
         None => Ok(false),
     }
 }
@@ -131,8 +159,9 @@ fn move_first(alloc: Global, graph: &mut Graph, names: &[u32]) -> Result<bool, M
     ensures kept { OnErr result (graph.new ≡ graph.old) }
 {
     graph.learn();
+    let survey = survey_of(alloc, graph)?;
     for name in names {
-        if move_behind(alloc, graph, *name)? {
+        if move_behind(alloc, graph, &survey, *name)? {
             return Ok(true);
         }
     }

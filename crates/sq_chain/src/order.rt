@@ -1,74 +1,82 @@
 //! The order of the blocks in which a chain stands behind the Jump to it.
 
-ghost use Rattle.std.specs.Prelude.{◌≡◌, ℕ, ◌≤◌, ◌<◌, length, get_or, IfOk};
-ghost use Rattle.std.specs.Vec.{vec_len};
-ghost use Rattle.sq_graph.specs.Parts.{names_of};
+ghost use Rattle.std.specs.Prelude.{◌≡◌, ℕ, ◌≤◌, ◌<◌, length, get_or, map, IfOk};
 ghost use Rattle.sq_graph.specs.Pieces.{exchanged};
+ghost use Rattle.sq_chain.specs.Surveys.{extents_of};
 ghost use Rattle.sq_chain.specs.Moves.{IsMovable, carried};
 
 use crate::chain::end_of_chain;
+use crate::survey::Extent;
 use sq_graph::Graph;
-use sq_live::block_names;
 use sq_num::Memory;
 use std::alloc::Global;
 
 /// Exchanges two pieces that follow each other: the first from `from` up to `mid`, the second up to `to`.
-fn exchange(names: &mut [u32], from: usize, mid: usize, to: usize)
+fn exchange(extents: &mut [Extent], from: usize, mid: usize, to: usize)
     requires first { from ≤ mid }
     requires second { mid ≤ to }
-    requires there { to ≤ length names.old }
-    ensures { names.new ≡ exchanged names.old from mid to }
+    requires there { to ≤ length extents.old }
+    ensures { extents.new ≡ exchanged extents.old from mid to }
 {
-    let part = &mut names[from..to];
+    let part = &mut extents[from..to];
     part.rotate_left(mid - from);
 }
 
-/// The same of a vector.
-fn exchange_pieces(names: &mut Vec<u32>, from: usize, mid: usize, to: usize)
+/// A copy in which two pieces are exchanged.
+fn with_exchange(
+    alloc: Global,
+    extents: &[Extent],
+    from: usize,
+    mid: usize,
+    to: usize,
+) -> Result<Vec<Extent>, Memory>
     requires first { from ≤ mid }
     requires second { mid ≤ to }
-    requires there { to ≤ vec_len names.old }
-    ensures { names.new.items ≡ exchanged names.old.items from mid to }
+    requires there { to ≤ length extents.now }
+    ensures { IfOk result (λ copy. copy.items ≡ exchanged extents.now from mid to) }
 {
-    exchange(names, from, mid, to);
+    let mut copy = Vec::with_capacity(alloc, extents.len())?;
+    copy.extend_from_slice(extents)?;
+    exchange(&mut copy, from, mid, to);
+    Ok(copy)
 }
 
 /// The place of a name among these.
-fn place_of(names: &[u32], name: u32) -> usize
-    requires { (k : ℕ) × (k < length names.now) × (get_or names.now k 0 ≡ name) }
-    ensures within { result < length names.now }
-    ensures there { get_or names.now result 0 ≡ name }
+fn place_of(extents: &[Extent], name: u32) -> usize
+    requires { (k : ℕ) × (k < length extents.now) × (get_or (map (λ e. e.name) extents.now) k 0 ≡ name) }
+    ensures within { result < length extents.now }
+    ensures there { get_or (map (λ e. e.name) extents.now) result 0 ≡ name }
 {
-    for i in 0..names.len() {
-        if names[i] == name {
+    for i in 0..extents.len() {
+        let other = extents[i].name;
+        if other == name {
             return i;
         }
     }
     unreachable!()
 }
 
-/// The names of the blocks once the chain of `to` stands behind `from`.
-pub(crate) fn carried_names(
+/// The blocks once the chain of `to` stands behind `from`.
+pub(crate) fn carried_extents(
     alloc: Global,
     graph: &Graph,
+    extents: &[Extent],
     from: u32,
     to: u32,
-) -> Result<Vec<u32>, Memory>
-    requires { IsMovable graph.now.graph from to }
-    ensures { IfOk result (λ names. names.items ≡ names_of (carried graph.now.graph from to)) }
+) -> Result<Vec<Extent>, Memory>
+    requires movable { IsMovable graph.now.graph from to }
+    requires extents { extents.now ≡ extents_of graph.now.graph }
+    ensures { IfOk result (λ order. order.items ≡ extents_of (carried graph.now.graph from to)) }
 {
     graph.learn();
     let Some(end) = end_of_chain(graph, to, from) else {
         unreachable!()
     };
-    let mut names = block_names(alloc, graph)?;
-    let start = place_of(&names, to);
-    let behind = place_of(&names, end) + 1;
-    let after = place_of(&names, from) + 1;
+    let start = place_of(extents, to);
+    let behind = place_of(extents, end) + 1;
+    let after = place_of(extents, from) + 1;
     if after <= start {
-        exchange_pieces(&mut names, after, start, behind);
-        return Ok(names);
+        return with_exchange(alloc, extents, after, start, behind);
     }
-    exchange_pieces(&mut names, start, behind, after);
-    Ok(names)
+    with_exchange(alloc, extents, start, behind, after)
 }

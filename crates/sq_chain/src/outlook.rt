@@ -1,8 +1,9 @@
 //! What a move comes to, as one look tells at the blocks in the order that they would have.
 
-ghost use Rattle.std.specs.Prelude.{◌≡◌, ◌↔◌, ℕ, ◌+◌, ◌≤◌, ◌<◌, ◌^◌, if◌then◌else◌, Ok, Some, IsTrue, slice_get, IfOk};
+ghost use Rattle.std.specs.Prelude.{◌≡◌, ◌↔◌, ℕ, ◌+◌, ◌≤◌, ◌<◌, ◌^◌, if◌then◌else◌, Ok, Some, IsTrue, length, option_map, slice_get, nat_eq, IfOk};
+ghost use Rattle.std.specs.Map.{update};
 ghost use Rattle.sq_graph.specs.Graph.{Block, Graph as Parts};
-ghost use Rattle.sq_graph.specs.Blocks.{HasBlock, block_of, next_of, term_of};
+ghost use Rattle.sq_graph.specs.Blocks.{block_of, next_of, term_of};
 ghost use Rattle.sq_graph.specs.Places.{IsInReach};
 ghost use Rattle.sq_graph.specs.Words.{block_words as words_in, words_of};
 ghost use Rattle.sq_layout.specs.Weights.{address_by};
@@ -10,14 +11,14 @@ ghost use Rattle.sq_lookup.specs.Addresses.{address_at};
 ghost use Rattle.sq_lookup.specs.Tables.{number_at};
 ghost use Rattle.sq_chain.specs.Widening.{size_of};
 ghost use Rattle.sq_chain.specs.Least.{is_short, least_widened};
-ghost use Rattle.sq_chain.specs.Moves.{IsMovable, JumpsTo, IsOrder, IsOrdered, fallen_blocks, fallen, carried, moved};
+ghost use Rattle.sq_chain.specs.Moves.{IsMovable, JumpsTo, fallen_blocks, fallen, carried, moved};
+ghost use Rattle.sq_chain.specs.Surveys.{extent_of, extents_of, IsRoom, IsLaidOut};
 ghost use Rattle.sq_chain.specs.declared.outlook.Outlook.TheVariants.{Near, Still};
 
-use crate::order::carried_names;
-use crate::short::falls_short;
+use crate::order::carried_extents;
+use crate::survey::{Extent, Survey};
 use sq_graph::{Graph, Term};
-use sq_layout::block_words;
-use sq_lookup::Table;
+use sq_layout::{distance, reaches};
 use sq_num::Memory;
 use std::alloc::Global;
 
@@ -35,104 +36,145 @@ pub(crate) enum Outlook {
 /// Where blocks stand once each Jump to the next slot is Fall, and how many words that saves.
 #[derive(Drop)]
 struct Fallen {
-    addresses: Table,
+    addresses: Vec<Option<u64>>,
     falls: u32,
 }
 
-/// The name at this place, if there is one.
-fn name_at(names: &[u32], place: usize) -> Option<u32>
-    ensures { result ≡ slice_get names.now place }
+/// The name of the block at this place, if there is one.
+fn name_at(order: &[Extent], place: usize) -> Option<u32>
+    ensures { result ≡ option_map (λ extent. extent.name) (slice_get order.now place) }
 {
-    if place < names.len() {
-        Some(names[place])
+    if place < order.len() {
+        Some(order[place].name)
     } else {
         None
     }
 }
 
-/// Whether the block ends in a Jump to this next slot.
-fn jumps_to(graph: &Graph, block: u32, next: Option<u32>) -> bool
-    requires { HasBlock graph.now.graph block }
-    ensures { IsTrue result ↔ JumpsTo graph.now.graph block next }
+/// Whether the term is a Jump to this next slot.
+fn jumps_to(term: Term, next: Option<u32>) -> bool
+    ensures { IsTrue result ↔ JumpsTo term next }
 {
-    match graph.term(block) {
+    match term {
         Term::Jump { to } => next == Some(to),
         _ => false,
     }
 }
 
 /// How many words the block loses once each Jump to the next slot is Fall, where this is its next slot.
-fn fall_of(graph: &Graph, block: u32, next: Option<u32>) -> u32
-    requires { HasBlock graph.now.graph block }
-    ensures { (h : Parts) (b c : Block) → block_of h block ≡ block_of graph.now.graph block → next_of h block ≡ next → block_of h block ≡ Some b → block_of (fallen h) block ≡ Some c → words_in c + result ≡ words_in b }
+fn fall_of(extent: Extent, next: Option<u32>) -> u32
+    ensures { (h : Parts) (b c : Block) → extent_of b ≡ extent → next_of h b.name ≡ next → block_of h b.name ≡ Some b → block_of (fallen h) b.name ≡ Some c → words_in c + result ≡ words_in b }
 {
-    if jumps_to(graph, block, next) { 1 } else { 0 }
+    if jumps_to(extent.term, next) { 1 } else { 0 }
 }
 
-/// Where the blocks stand in the order of these names once each Jump to the next slot is Fall.
-fn fallen_addresses(alloc: Global, graph: &Graph, names: &[u32]) -> Result<Fallen, Memory>
-    requires { IsOrdered graph.now.graph names.now }
-    ensures addresses { IfOk result (λ they. (h : Parts) → IsOrder graph.now.graph h names.now → (n : ℕ) → number_at they.addresses n ≡ address_by words_in (fallen_blocks h.blocks) 0 n) }
-    ensures small { IfOk result (λ they. (n : ℕ) → address_at (number_at they.addresses) n < 2 ^ 34) }
-    ensures falls { IfOk result (λ they. (h : Parts) → IsOrder graph.now.graph h names.now → words_of (fallen h) + they.falls ≡ words_of h) }
+fn copy_of(alloc: Global, room: &[Option<u64>]) -> Result<Vec<Option<u64>>, Memory>
+    ensures { IfOk result (λ copy. copy.items ≡ room.now) }
 {
-    graph.learn();
-    let mut addresses = Table::new(alloc);
+    let mut copy = Vec::with_capacity(alloc, room.len())?;
+    copy.extend_from_slice(room)?;
+    Ok(copy)
+}
+
+/// Puts an address under a name for which there is room.
+fn put(addresses: &mut Vec<Option<u64>>, name: u32, at: u64)
+    requires { name < length addresses.old.items }
+    ensures length { length addresses.new.items ≡ length addresses.old.items }
+    ensures value { (n : ℕ) → number_at addresses.new.items n ≡ update nat_eq (number_at addresses.old.items) name (Some at) n }
+{
+    addresses[name as usize] = Some(at);
+}
+
+/// Where the blocks stand in this order once each Jump to the next slot is Fall.
+fn fallen_addresses(alloc: Global, room: &[Option<u64>], order: &[Extent]) -> Result<Fallen, Memory>
+    requires { (h : Parts) × IsLaidOut h order.now × IsRoom h room.now }
+    ensures addresses { IfOk result (λ they. (h : Parts) → IsLaidOut h order.now → IsRoom h room.now → (n : ℕ) → number_at they.addresses.items n ≡ address_by words_in (fallen_blocks h.blocks) 0 n) }
+    ensures small { IfOk result (λ they. (n : ℕ) → address_at (number_at they.addresses.items) n < 2 ^ 34) }
+    ensures falls { IfOk result (λ they. (h : Parts) → IsLaidOut h order.now → IsRoom h room.now → words_of (fallen h) + they.falls ≡ words_of h) }
+{
+    let mut addresses = copy_of(alloc, room)?;
     let mut falls = 0;
     let mut at = 0;
-    for i in 0..names.len() {
-        let name = names[i];
-        addresses.insert(name, at)?;
-        let next = name_at(names, i + 1);
-        let fall = fall_of(graph, name, next);
+    for i in 0..order.len() {
+        let extent = order[i];
+        let (name, words) = (extent.name, extent.words);
+        put(&mut addresses, name, at);
+        let next = name_at(order, i + 1);
+        let fall = fall_of(extent, next);
         falls += fall;
-        at += 4 * u64::from(block_words(graph, name) - fall);
+        at += 4 * u64::from(words - fall);
     }
     Ok(Fallen { addresses, falls })
 }
 
-/// 1 for a block that ends in a Branch that doesn't reach by these addresses, and 0 for another one.
-fn one_if_short(graph: &Graph, addresses: &Table, block: u32) -> u32
-    requires block { HasBlock graph.now.graph block }
-    requires small { (n : ℕ) → address_at (number_at addresses.now) n < 2 ^ 34 }
-    ensures { result ≡ (if is_short (address_at (number_at addresses.now)) graph.now.graph block (term_of graph.now.graph block) then 1 else 0) }
+/// The address under this name.
+fn address(addresses: &[Option<u64>], name: u32) -> u64
+    ensures { result ≡ address_at (number_at addresses.now) name }
 {
-    if falls_short(graph, addresses, block) {
-        1
+    let name = name as usize;
+    if name < addresses.len() {
+        addresses[name].unwrap_or(0)
     } else {
         0
     }
 }
 
-/// How many Branches of the blocks of these names don't reach by these addresses.
-fn count_short(graph: &Graph, addresses: &Table, names: &[u32]) -> u32
-    requires order { IsOrdered graph.now.graph names.now }
+/// Whether the block ends in a Branch that doesn't reach by these addresses.
+fn falls_short(addresses: &[Option<u64>], extent: Extent) -> bool
+    requires block { (b : Block) × (extent_of b ≡ extent) }
     requires small { (n : ℕ) → address_at (number_at addresses.now) n < 2 ^ 34 }
-    ensures { (h : Parts) → IsOrder graph.now.graph h names.now → result ≡ size_of h (λ n. is_short (address_at (number_at addresses.now)) graph.now.graph n (term_of graph.now.graph n)) }
+    ensures { (h : Parts) (b : Block) → extent_of b ≡ extent → block_of h b.name ≡ Some b → result ≡ is_short (address_at (number_at addresses.now)) h b.name (term_of h b.name) }
 {
-    graph.learn();
+    let Term::Branch { to, .. } = extent.term else {
+        return false;
+    };
+    let items = extent.words - 1;
+    let at = address(addresses, extent.name) + 4 * u64::from(items);
+    !reaches(distance(address(addresses, to), at))
+}
+
+/// 1 for a block that ends in a Branch that doesn't reach by these addresses, and 0 for another one.
+fn one_if_short(addresses: &[Option<u64>], extent: Extent) -> u32
+    requires block { (b : Block) × (extent_of b ≡ extent) }
+    requires small { (n : ℕ) → address_at (number_at addresses.now) n < 2 ^ 34 }
+    ensures few { result ≤ 1 }
+    ensures value { (h : Parts) (b : Block) → extent_of b ≡ extent → block_of h b.name ≡ Some b → result ≡ (if is_short (address_at (number_at addresses.now)) h b.name (term_of h b.name) then 1 else 0) }
+{
+    if falls_short(addresses, extent) { 1 } else { 0 }
+}
+
+/// How many of these blocks end in a Branch that doesn't reach by these addresses, or `most` where they are more.
+fn count_short(addresses: &[Option<u64>], order: &[Extent], most: u32) -> u32
+    requires order { (h : Parts) × IsLaidOut h order.now }
+    requires small { (n : ℕ) → address_at (number_at addresses.now) n < 2 ^ 34 }
+    ensures most { result ≤ most }
+    ensures some { (h : Parts) → IsLaidOut h order.now → result ≤ size_of h (λ n. is_short (address_at (number_at addresses.now)) h n (term_of h n)) }
+    ensures all { (h : Parts) → IsLaidOut h order.now → result < most → result ≡ size_of h (λ n. is_short (address_at (number_at addresses.now)) h n (term_of h n)) }
+{
     let mut short = 0;
-    for name in names {
-        short += one_if_short(graph, addresses, *name);
+    for extent in order {
+        if short == most {
+            return short;
+        }
+        short += one_if_short(addresses, *extent);
     }
     short
 }
 
-/// What it comes to once the blocks stand in the order of these names, each Jump to the next slot is Fall and the least set of
-/// Branches is widened: that set has each Branch that doesn't reach as the graph falls. It looks at each block twice.
-fn ordered_outlook(alloc: Global, graph: &Graph, names: &[u32]) -> Result<Outlook, Memory>
-    requires { IsOrdered graph.now.graph names.now }
-    ensures near { result ≡ Ok Near → (h : Parts) → IsOrder graph.now.graph h names.now → IsInReach (fallen h) }
-    ensures still { result ≡ Ok Still → (h : Parts) → IsOrder graph.now.graph h names.now → words_of h ≤ words_of (least_widened (fallen h)) }
+/// What it comes to once the blocks stand in this order, each Jump to the next slot is Fall and the least set of Branches is
+/// widened: that set has each Branch that doesn't reach as the graph falls. It looks at each block twice.
+fn ordered_outlook(alloc: Global, room: &[Option<u64>], order: &[Extent]) -> Result<Outlook, Memory>
+    requires { (h : Parts) × IsLaidOut h order.now × IsRoom h room.now }
+    ensures near { result ≡ Ok Near → (h : Parts) → IsLaidOut h order.now → IsRoom h room.now → IsInReach (fallen h) }
+    ensures still { result ≡ Ok Still → (h : Parts) → IsLaidOut h order.now → IsRoom h room.now → words_of h ≤ words_of (least_widened (fallen h)) }
 {
-    graph.learn();
-    let they = fallen_addresses(alloc, graph, names)?;
-    let short = count_short(graph, &they.addresses, names);
-    if short == 0 {
-        return Ok(Outlook::Near);
-    }
+    let they = fallen_addresses(alloc, room, order)?;
+    let short = count_short(&they.addresses, order, they.falls);
     if they.falls <= short {
         return Ok(Outlook::Still);
+    }
+    if short == 0 {
+        return Ok(Outlook::Near);
     }
     Ok(Outlook::Unsure)
 }
@@ -141,14 +183,17 @@ fn ordered_outlook(alloc: Global, graph: &Graph, names: &[u32]) -> Result<Outloo
 pub(crate) fn outlook_of(
     alloc: Global,
     graph: &Graph,
+    survey: &Survey,
     from: u32,
     to: u32,
 ) -> Result<Outlook, Memory>
-    requires { IsMovable graph.now.graph from to }
+    requires movable { IsMovable graph.now.graph from to }
+    requires extents { survey.now.extents.items ≡ extents_of graph.now.graph }
+    requires room { IsRoom graph.now.graph survey.now.room.items }
     ensures near { result ≡ Ok Near → IsInReach (fallen (carried graph.now.graph from to)) }
     ensures still { result ≡ Ok Still → words_of graph.now.graph ≤ words_of (moved graph.now.graph from to) }
 {
     graph.learn();
-    let names = carried_names(alloc, graph, from, to)?;
-    ordered_outlook(alloc, graph, &names)
+    let order = carried_extents(alloc, graph, &survey.extents, from, to)?;
+    ordered_outlook(alloc, &survey.room, &order)
 }

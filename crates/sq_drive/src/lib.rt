@@ -8,6 +8,7 @@
 //! becomes of blocks by the steps.
 #![tactic(auto)]
 
+mod chains;
 mod checking;
 mod hints;
 mod listed;
@@ -18,6 +19,7 @@ mod rows;
 mod settling;
 mod tracking;
 
+pub use chains::sweep_moves;
 pub use checking::check_graph;
 pub use listed::settle_with;
 pub use noting::{Noted, settle_noting};

@@ -1,17 +1,23 @@
 //! The pass of all rows that passes have.
 
-ghost use Rattle.std.specs.Prelude.{◌≡◌, None, Ok, IfOk, IfSome};
+ghost use Rattle.std.specs.Prelude.{◌≡◌, ◌≤◌, ◌+◌, None, Ok, IfOk, IfSome, OnErr};
+ghost use Rattle.sq_num.specs.Saved.{words_saved};
+ghost use Rattle.sq_graph.specs.Leaders.{IsCanonical};
+ghost use Rattle.sq_graph.specs.Words.{words_of, most_words};
+ghost use Rattle.law_follow.specs.Follows.{Follows};
 ghost use Rattle.sq_live.specs.Liveness.{IsLivenessOf};
 ghost use Rattle.sq_pass.specs.declared.cut.Cut.{Cut as Told};
-ghost use Rattle.sq_drive.specs.Rows.{pass_of, IsEarlierCandidate, IsRowCandidate};
+ghost use Rattle.sq_pass.specs.Rewrites.{IsRewrite, IsRewritten, IsLighter};
+ghost use Rattle.sq_drive.specs.Rows.{pass_of, IsEarlierCandidate, IsRowCandidate, row_described};
 
+use crate::once::rewrite_once;
 use sq_graph::{Graph, Room};
 use sq_jumps::Jumps;
 use sq_layout::words_of;
-use sq_live::{Liveness, live};
+use sq_live::Liveness;
 use sq_num::{Memory, Savings};
 use sq_outline::{Outlines, Windows};
-use sq_pass::{Cut, Pass, Row};
+use sq_pass::{Cut, Pass, Rewrite, Row};
 use sq_tail::Tails;
 use std::alloc::Global;
 
@@ -60,6 +66,99 @@ pub(crate) fn find_earlier(
         return Ok(Some(cut));
     }
     Outlines.find(alloc, graph, live)
+}
+
+/// A sweep that saves more words than this is followed by another one before windows are asked.
+const FEW: u32 = 16;
+
+/// How often a sweep looks at all the passes before windows, one look after the other.
+const LOOKS: u32 = 8;
+
+/// What rewrites saved, and whether none of the passes before windows has a candidate left.
+#[derive(Clone, Copy, Debug)]
+pub(crate) struct Settled {
+    pub(crate) savings: Savings,
+    is_whole: bool,
+}
+
+/// The sweeps of the passes that come before windows.
+fn sweep_earlier(alloc: Global, graph: &mut Graph, savings: Savings) -> Result<Savings, Memory>
+    requires canonical { IsCanonical graph.old.graph }
+    requires words { words_of graph.old.graph + words_saved savings ≤ most_words }
+    ensures rewritten { IfOk result (λ after. IsRewritten IsRowCandidate row_described savings after graph.old.graph graph.new.graph) }
+    ensures follows { Follows graph.old.graph graph.new.graph }
+{
+    let after_jumps = Jumps.sweep(alloc, graph, savings)?;
+    let after_tails = Tails.sweep(alloc, graph, after_jumps)?;
+    Outlines.sweep(alloc, graph, after_tails)
+}
+
+/// Rewrites the graph by one candidate of the passes that come before windows, as `rewrite_once` does.
+fn rewrite_earlier(alloc: Global, graph: &mut Graph) -> Result<Option<Rewrite>, Memory>
+    requires canonical { IsCanonical graph.old.graph }
+    requires words { words_of graph.old.graph ≤ most_words }
+    ensures some { IfOk result (λ done. IfSome done (λ rewrite. IsRewrite IsRowCandidate row_described rewrite graph.old.graph graph.new.graph)) }
+    ensures lighter { IfOk result (λ done. IfSome done (λ rewrite. IsLighter rewrite.saving graph.old.graph graph.new.graph)) }
+    ensures none { result ≡ Ok None → graph.new.graph ≡ graph.old.graph }
+    ensures kept { OnErr result (graph.new.graph ≡ graph.old.graph) }
+{
+    if let Some(done) = rewrite_once(alloc, graph, &Jumps)? {
+        return Ok(Some(done));
+    }
+    if let Some(done) = rewrite_once(alloc, graph, &Tails)? {
+        return Ok(Some(done));
+    }
+    rewrite_once(alloc, graph, &Outlines)
+}
+
+/// Rewrites the graph by a few candidates of the passes that come before windows, each by a look of its own.
+pub(crate) fn settle_earlier(
+    alloc: Global,
+    graph: &mut Graph,
+    savings: Savings,
+) -> Result<Settled, Memory>
+    requires canonical { IsCanonical graph.old.graph }
+    requires words { words_of graph.old.graph + words_saved savings ≤ most_words }
+    ensures rewritten { IfOk result (λ settled. IsRewritten IsRowCandidate row_described savings settled.savings graph.old.graph graph.new.graph) }
+    ensures follows { Follows graph.old.graph graph.new.graph }
+{
+    let mut after = savings;
+    for _look in 0..LOOKS {
+        let Some(done) = rewrite_earlier(alloc, graph)? else {
+            return Ok(Settled {
+                savings: after,
+                is_whole: true,
+            });
+        };
+        after = done.count(after);
+    }
+    Ok(Settled {
+        savings: after,
+        is_whole: false,
+    })
+}
+
+/// Sweeps windows, as long as no row before them has a candidate: where one may have, the sweep of windows ends, and that
+/// row is asked before it goes on.
+fn sweep_windows(alloc: Global, graph: &mut Graph, savings: Savings) -> Result<Savings, Memory>
+    requires canonical { IsCanonical graph.old.graph }
+    requires words { words_of graph.old.graph + words_saved savings ≤ most_words }
+    ensures rewritten { IfOk result (λ after. IsRewritten IsRowCandidate row_described savings after graph.old.graph graph.new.graph) }
+    ensures follows { Follows graph.old.graph graph.new.graph }
+{
+    let mut after = savings;
+    for _look in 0..LOOKS {
+        let settled = settle_earlier(alloc, graph, after)?;
+        if !settled.is_whole {
+            return Ok(settled.savings);
+        }
+        let before = words_of(graph);
+        after = Windows.sweep(alloc, graph, settled.savings)?;
+        if words_of(graph) == before {
+            return Ok(after);
+        }
+    }
+    Ok(after)
 }
 
 /// All rows of the cost rule that passes have, as one pass: all but row L, which moves chains. It asks the passes in the
@@ -118,19 +217,13 @@ impl Pass for AllRows {
         }
     }
 
-    /// Windows are swept only where no other row has a candidate.
+    /// Windows are swept only where no row before them has a candidate.
     fn sweep(&self, alloc: Global, graph: &mut Graph, savings: Savings) -> Result<Savings, Memory> {
         let before = words_of(graph);
-        let after_jumps = Jumps.sweep(alloc, graph, savings)?;
-        let after_tails = Tails.sweep(alloc, graph, after_jumps)?;
-        let after_outlines = Outlines.sweep(alloc, graph, after_tails)?;
-        if words_of(graph) < before {
-            return Ok(after_outlines);
+        let after = sweep_earlier(alloc, graph, savings)?;
+        if before - words_of(graph) > FEW {
+            return Ok(after);
         }
-        let live = live(alloc, graph)?;
-        if find_earlier(alloc, graph, &live)?.is_some() {
-            return Ok(after_outlines);
-        }
-        Windows.sweep(alloc, graph, after_outlines)
+        sweep_windows(alloc, graph, after)
     }
 }

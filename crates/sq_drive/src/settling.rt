@@ -1,6 +1,6 @@
 //! Rewriting by one pass, or by all rows, until no candidate is left.
 
-ghost use Rattle.std.specs.Prelude.{◌≤◌, ◌+◌, IfOk, OnOk};
+ghost use Rattle.std.specs.Prelude.{◌≡◌, ◌≤◌, ◌<◌, ◌+◌, false, None, Ok, IfOk, IfSome, OnOk};
 ghost use Rattle.sq_num.specs.Saved.{words_saved};
 ghost use Rattle.sq_graph.specs.Leaders.{IsCanonical};
 ghost use Rattle.sq_graph.specs.Slotted.{IsSlotted};
@@ -11,18 +11,56 @@ ghost use Rattle.sq_pass.specs.Rewrites.{IsRewritten};
 ghost use Rattle.sq_chain.specs.Moves.{IsStill};
 ghost use Rattle.sq_drive.specs.Rows.{IsCandidate, described, IsLeftoverFree};
 
+use crate::chains::move_some;
 use crate::once::rewrite_once;
-use crate::rows::AllRows;
-use sq_chain::{move_once, sweep_moves};
+use crate::rows::{AllRows, settle_earlier};
 use sq_graph::Graph;
 use sq_layout::words_of;
+use sq_live::live;
 use sq_num::{Memory, Savings};
 use sq_pass::Pass;
 use std::alloc::Global;
 
+/// Whether the pass has a candidate. It looks at the whole graph.
+fn has_candidate<P: Pass>(alloc: Global, graph: &Graph, pass: &P) -> Result<bool, Memory>
+    ensures { result ≡ Ok false → (cut : Told) → ¬ P.is_candidate pass.now graph.now.graph cut }
+{
+    let live = live(alloc, graph)?;
+    match pass.find(alloc, graph, &live)? {
+        Some(_) => Ok(true),
+        None => Ok(false),
+    }
+}
+
+/// Rewrites the graph by a sweep of the pass, or where that saves nothing by one candidate. None where there is none.
+fn rewrite_some<P: Pass>(
+    alloc: Global,
+    graph: &mut Graph,
+    pass: &P,
+    savings: Savings,
+) -> Result<Option<Savings>, Memory>
+    requires canonical { IsCanonical graph.old.graph }
+    requires words { words_of graph.old.graph + words_saved savings ≤ most_words }
+    ensures rewritten { IfOk result (λ done. IfSome done (λ after. IsRewritten (P.is_candidate pass.now) (P.described pass.now) savings after graph.old.graph graph.new.graph)) }
+    ensures fewer { IfOk result (λ done. IfSome done (λ after. words_of graph.new.graph < words_of graph.old.graph)) }
+    ensures none { result ≡ Ok None → graph.new.graph ≡ graph.old.graph }
+    ensures left { result ≡ Ok None → (cut : Told) → ¬ P.is_candidate pass.now graph.old.graph cut }
+    ensures follows { Follows graph.old.graph graph.new.graph }
+{
+    let before = words_of(graph);
+    let after = pass.sweep(alloc, graph, savings)?;
+    if words_of(graph) < before {
+        return Ok(Some(after));
+    }
+    let Some(done) = rewrite_once(alloc, graph, pass)? else {
+        return Ok(None);
+    };
+    Ok(Some(done.count(after)))
+}
+
 /// Rewrites the graph by candidates of the pass, one after another, until it has none, and answers the savings with what
-/// each row saved. Where it finds no memory, the graph is left as the rewrites made it so far. Each round is a sweep of the
-/// pass and one rewrite, for which it looks at the whole graph.
+/// each row saved. Where it finds no memory, the graph is left as the rewrites made it so far. Before each sweep of the pass it
+/// looks at the whole graph whether there is a candidate.
 pub fn settle_by<P: Pass>(
     alloc: Global,
     graph: &mut Graph,
@@ -37,17 +75,18 @@ pub fn settle_by<P: Pass>(
 {
     let mut saved = savings;
     loop {
-        saved = pass.sweep(alloc, graph, saved)?;
-        let Some(done) = rewrite_once(alloc, graph, pass)? else {
+        if !has_candidate(alloc, graph, pass)? {
+            return Ok(saved);
+        }
+        let Some(after) = rewrite_some(alloc, graph, pass, saved)? else {
             return Ok(saved);
         };
-        saved = done.count(saved);
+        saved = after;
     }
 }
 
 /// Rewrites the graph by all rows until none has a candidate, and answers the savings with what each row saved. Chains move
-/// only where no other row has a candidate: one is sought in the whole graph, more are moved by one look over it, and then
-/// the other rows are asked again. Where it finds no memory, the graph is left as the rewrites made it so far.
+/// only where no other row has a candidate, and behind each move that gives one of them a candidate the rows are asked again. Where it finds no memory, the graph is left as the rewrites made it so far.
 fn settle_from(alloc: Global, graph: &mut Graph, savings: Savings) -> Result<Savings, Memory>
     requires canonical { IsCanonical graph.old.graph }
     requires words { words_of graph.old.graph + words_saved savings ≤ most_words }
@@ -58,10 +97,11 @@ fn settle_from(alloc: Global, graph: &mut Graph, savings: Savings) -> Result<Sav
     let mut saved = savings;
     loop {
         saved = settle_by(alloc, graph, &AllRows, saved)?;
-        let Some(done) = move_once(alloc, graph)? else {
+        let Some(after) = move_some(alloc, graph, saved)? else {
             return Ok(saved);
         };
-        saved = sweep_moves(alloc, graph, done.count(saved))?;
+        let settled = settle_earlier(alloc, graph, after)?;
+        saved = settled.savings;
     }
 }
 

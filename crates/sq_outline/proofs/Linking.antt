@@ -1,5 +1,5 @@
 -- The link is one of x1 to x31, and may be the link.
-use Rattle.std.proofs.Common.{◌≡◌, ◌≢◌, ℕ, zero, suc, ◌+◌, ◌<◌, ◌≤◌, ◌%◌, drop, length, get_or, nat_lt, ◌&&◌, Bool, true, false, List, [], ◌∷◌, inl, inr, refl, sym, subst, arith}
+use Rattle.std.proofs.Common.{◌≡◌, ◌≢◌, ℕ, zero, suc, ◌+◌, ◌<◌, ◌≤◌, ◌%◌, drop, length, get_or, nat_lt, ◌&&◌, Bool, true, List, [], ◌∷◌, inl, inr, refl, sym, subst, arith}
 use Rattle.std.proofs.lemmas.Bool.Decides.{nat_tests}
 use Rattle.std.proofs.lemmas.List.{drop_all}
 use Rattle.std.proofs.lemmas.Bool.{and_parts}

@@ -6,14 +6,14 @@ use Rattle.std.proofs.lemmas.List.Elements.{All-nil}
 use Rattle.sq_arena.specs.Entries.{value_of}
 use Rattle.sq_isa.specs.declared.instructions.Insn.{Insn}
 use Rattle.sq_isa.specs.declared.instructions.Insn.TheVariants.{Lui, Auipc, Jal, Jalr, Branch, Load, Store, OpImm, Op as OpInsn, Fence, Ecall, Ebreak, Unimp, Atomic}
-use Rattle.sq_isa.specs.Forms.{form_of, first_of, second_of, with_registers}
+use Rattle.sq_isa.specs.Forms.{first_of, second_of, with_registers}
 use Rattle.sq_isa.specs.Registers.{is_among, is_among_but_x0}
 use Rattle.sq_isa.specs.Uses.{destination_of, sources_of}
 use Rattle.sq_graph.specs.declared.item.Item.{Item}
 use Rattle.sq_graph.specs.declared.item.Item.TheVariants.{Op, Hi, Lo, Out}
 use Rattle.sq_graph.specs.Graph.{Block, Procedure, Graph}
 use Rattle.sq_graph.specs.Blocks.{named, HasProcedure, block_items, items_of, body_of, procedure_body, items_of_blocks, items_of_bodies}
-use Rattle.sq_graph.specs.Matches.{registers_of, item_reads, IsSameForm, AreSameForms, IsPairIn, Match}
+use Rattle.sq_graph.specs.Matches.{registers_of, item_reads, IsSameForm, IsPairIn, Match}
 use Rattle.sq_graph.specs.Rules.{ItemFits, IsGraph}
 use Rattle.sq_graph.proofs.Eachs.{All-left, All-right}
 use Rattle.sq_rename.specs.Shapes.{shape_of}

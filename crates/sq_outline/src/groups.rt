@@ -94,7 +94,7 @@ fn print(items: &[Item]) -> u64
 }
 
 /// The print of a block: blocks whose bodies match have one.
-fn block_print(graph: &Graph, block: u32) -> u64
+pub(crate) fn block_print(graph: &Graph, block: u32) -> u64
     requires { HasBlock graph.now.graph block }
     ensures { result ≡ print_of graph.now.graph block }
 {

@@ -177,6 +177,20 @@ fn inline_saving(
     Ok(Some((gone - come) as u32))
 }
 
+/// Whether some procedure would save words in place of its calls if each Branch reached then. Such are called once, have one
+/// item, or have two and are called twice.
+pub(crate) fn any_would_save(alloc: Global, graph: &Graph) -> Result<bool, Memory> {
+    let calls = count_calls(alloc, graph)?;
+    for procedure in 0..graph.procedures() {
+        let count = calls.get(procedure).unwrap_or(0);
+        let size = graph.body(procedure).len();
+        if count == 1 || count > 0 && size < 2 || count == 2 && size == 2 {
+            return Ok(true);
+        }
+    }
+    Ok(false)
+}
+
 // The cut of a procedure whose body comes in place of its calls.
 fn inline_cut(alloc: Global, procedure: u32, saving: u32) -> Cut
     ensures { result ≡ inline_cut procedure saving }

@@ -16,11 +16,15 @@ mod outlines;
 mod plain;
 mod proposals;
 mod recall;
+mod seams;
 mod sets;
 mod sites;
 mod sweep;
+mod unmoved;
+mod ways;
 mod windows;
 
 pub use outlines::Outlines;
 pub use proposals::propose;
+pub use unmoved::Unmoved;
 pub use windows::{Windows, propose_windows};

@@ -1,8 +1,11 @@
 //! The rows on windows: items inside bodies that become calls.
 
+mod doubles;
+mod earlier;
 mod found;
 mod heads;
 mod inside;
+mod joins;
 mod occurrences;
 mod pass;
 mod past;
@@ -12,5 +15,7 @@ mod stands;
 mod sweep;
 mod window;
 
+pub(crate) use joins::may_end_alike;
 pub use pass::Windows;
 pub use proposals::propose_windows;
+pub(crate) use stands::begins;

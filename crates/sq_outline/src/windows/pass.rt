@@ -78,7 +78,7 @@ impl Pass for Windows {
         }
     }
 
-    /// It looks for candidates of V and of W once, and tests each on the graph as it is then.
+    /// It looks for candidates of V once and for those of W a few times, and tests each on the graph as it is then.
     fn sweep(&self, alloc: Global, graph: &mut Graph, savings: Savings) -> Result<Savings, Memory> {
         sweep(alloc, graph, savings)
     }

@@ -12,7 +12,7 @@ ghost use Rattle.sq_outline.specs.WindowsPast.{was_at, shift_of, IsPast};
 use crate::link::{ORDER, is_unmentioned};
 use crate::sites::Site;
 use sq_graph::{Graph, Item};
-use sq_isa::Reg;
+use sq_isa::{Reg, RegSet};
 use sq_live::Liveness;
 use sq_num::Memory;
 
@@ -38,6 +38,23 @@ fn was_at(shifts: &[Shift], block: u32, place: u32) -> Option<u32>
     Some(was)
 }
 
+/// Where items stand, after these calls came, that stood at a place before; `None` where a call took some of them.
+pub(crate) fn now_at(shifts: &[Shift], site: Site) -> Option<Site> {
+    let mut at = site.at;
+    for shift in shifts {
+        if shift.block == site.block && shift.at <= at {
+            at = at.checked_sub(shift.gone)?;
+            if at <= shift.at {
+                return None;
+            }
+        }
+    }
+    Some(Site {
+        block: site.block,
+        at,
+    })
+}
+
 /// Whether the register was dead at a place, and so is.
 pub(crate) fn is_dead_still(
     graph: &Graph,
@@ -56,7 +73,21 @@ pub(crate) fn is_dead_still(
     }
 }
 
-/// The same at each of these places.
+/// The registers that were dead behind a block before these calls came, and so are.
+pub(crate) fn dead_behind(graph: &Graph, live: &Liveness, shifts: &[Shift], block: u32) -> RegSet
+    requires past { IsPast graph.now.graph live.now shifts.now }
+    requires block { HasBlock graph.now.graph block }
+{
+    graph.learn();
+    let items = graph.items(block);
+    let place = items.len() as u32;
+    match was_at(shifts, block, place) {
+        Some(was) => RegSet::all().without(live.live_at(block, was)),
+        None => RegSet::new(),
+    }
+}
+
+/// Whether it is at each of these places.
 fn is_dead_at_each(
     graph: &Graph,
     live: &Liveness,

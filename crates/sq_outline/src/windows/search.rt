@@ -133,6 +133,9 @@ fn push_places(
     graph.learn();
     let items = graph.items(block);
     for at in 0..items.len() {
+        if items.len() - at < window.len() {
+            return Ok(());
+        }
         if begins(window, &items[at..]) {
             places.push(WindowAt {
                 block,

@@ -1,4 +1,4 @@
-//! Takes many candidates of rows V and W by one look at each row, every one tested on the graph as it is then.
+//! Takes many candidates of rows V and W by a few looks, every one tested on the graph as it is then.
 
 ghost use Rattle.std.specs.Prelude.{◌≡◌, ◌≤◌, ◌+◌, IfOk, IfSome, OnOk};
 ghost use Rattle.sq_num.specs.Saved.{words_saved};
@@ -16,11 +16,13 @@ ghost use Rattle.sq_outline.specs.WindowsPlaces.{occurrences};
 ghost use Rattle.sq_outline.specs.WindowsSearch.{AreStanding, AreWindowClasses};
 
 use crate::call::call;
+use crate::plain::are_plain;
 use crate::sites::Site;
-use crate::windows::found::{Found, found_at, found_still};
+use crate::windows::earlier::Earlier;
+use crate::windows::found::{Found, found_at, found_still, items_at};
 use crate::windows::heads::heads;
 use crate::windows::inside::{may_call_still, procedure_inside};
-use crate::windows::past::{Shift, note_calls};
+use crate::windows::past::{Shift, note_calls, now_at};
 use crate::windows::search::{classes_in_line, standing};
 use crate::windows::window::make_window_at;
 use sq_finger::{Groups, WindowAt, all_places, number_items, number_longer_runs, window_laws};
@@ -91,7 +93,9 @@ fn rewrite_inside(
 /// The same where the call may stand there still, by registers that were dead before these calls came.
 #[tactic(auto, using(sq_pass::proofs::Rewriting::rewritten_itself, law_follow::proofs::Following::graph_follows_itself))]
 fn call_if_may(
+    alloc: Global,
     graph: &mut Graph,
+    earlier: &mut Earlier,
     before: &Liveness,
     shifts: &mut Vec<Shift>,
     tried: Call,
@@ -105,16 +109,21 @@ fn call_if_may(
     ensures past { OnOk result (KeepsPast graph.old.graph shifts.old.items graph.new.graph shifts.new.items) }
 {
     let Call { place, procedure } = tried;
-    if !may_call_still(graph, before, shifts, place, procedure) {
+    if earlier.asks() || !may_call_still(graph, before, shifts, place, procedure) {
         return Ok(savings);
     }
-    rewrite_inside(graph, shifts, place, procedure, savings)
+    let words = graph.body(procedure).len() as u64;
+    let after = rewrite_inside(graph, shifts, place, procedure, savings)?;
+    earlier.look_at_call(alloc, graph, before, shifts, place, words)?;
+    Ok(after)
 }
 
 /// The same for each of these calls, from the last on: so those further left in a block stand as they stood.
 #[tactic(auto, using(law_follow::proofs::Following::graph_follows_through))]
 fn call_each(
+    alloc: Global,
     graph: &mut Graph,
+    earlier: &mut Earlier,
     before: &Liveness,
     shifts: &mut Vec<Shift>,
     calls: &[Call],
@@ -129,7 +138,7 @@ fn call_each(
     let mut after = savings;
     for at in 0..calls.len() {
         let tried = calls[calls.len() - 1 - at];
-        after = call_if_may(graph, before, shifts, tried, after)?;
+        after = call_if_may(alloc, graph, earlier, before, shifts, tried, after)?;
     }
     Ok(after)
 }
@@ -137,7 +146,12 @@ fn call_each(
 /// Rewrites the graph by row V, with live registers that are looked for once. It tries the calls that one look finds, and
 /// may leave candidates.
 #[tactic(auto, using(law_follow::proofs::Following::graph_follows_itself))]
-fn sweep_calls(alloc: Global, graph: &mut Graph, savings: Savings) -> Result<Savings, Memory>
+fn sweep_calls(
+    alloc: Global,
+    graph: &mut Graph,
+    earlier: &mut Earlier,
+    savings: Savings,
+) -> Result<Savings, Memory>
     requires canonical { IsCanonical graph.old.graph }
     requires words { words_of graph.old.graph + words_saved savings ≤ most_words }
     ensures rewritten { IfOk result (λ after. IsRewritten IsWindowsCandidate windows_described savings after graph.old.graph graph.new.graph) }
@@ -146,16 +160,14 @@ fn sweep_calls(alloc: Global, graph: &mut Graph, savings: Savings) -> Result<Sav
     let before = live(alloc, graph)?;
     let calls = calls_to_try(alloc, graph, &before)?;
     let mut shifts = Vec::new(alloc);
-    call_each(graph, &before, &mut shifts, &calls, savings)
+    call_each(alloc, graph, earlier, &before, &mut shifts, &calls, savings)
 }
 
-/// A window that a look found: where it occurs first, in a block of so many items, and which part of the words that it takes
-/// it saves, in sixteenths.
+/// A window that a look found: where it occurred first, and which part of the words that it takes it saves, in sixteenths.
 #[derive(Clone, Copy, Debug)]
 struct Hint {
     first: Site,
     n: u32,
-    items: usize,
     sixteenths: u64,
 }
 
@@ -187,7 +199,6 @@ fn push_hints(
             hints.push(Hint {
                 first: found.first,
                 n,
-                items: graph.items(found.first.block).len(),
                 sixteenths: sixteenths(n, found.saving),
             })?;
         }
@@ -213,21 +224,30 @@ fn windows_to_try(alloc: Global, graph: &Graph, live: &Liveness) -> Result<Vec<H
     Ok(hints)
 }
 
-/// The places where the window of a hint stands, where the block of the first has as many items as it had, and the window may
-/// pay.
-fn places_of(alloc: Global, graph: &Graph, hint: Hint) -> Result<Option<Vec<WindowAt>>, Memory>
+/// The places where the window of a hint stands, where its items stand still and the window may pay.
+fn places_of(
+    alloc: Global,
+    graph: &Graph,
+    shifts: &[Shift],
+    hint: Hint,
+) -> Result<Option<Vec<WindowAt>>, Memory>
     ensures least { IfOk result (λ found. IfSome found (λ places. 3 ≤ hint.n)) }
     ensures most { IfOk result (λ found. IfSome found (λ places. hint.n ≤ 16)) }
     ensures places { IfOk result (λ found. IfSome found (λ places. AreStanding graph.now.graph hint.n places.items)) }
 {
     graph.learn();
-    let Site { block, at } = hint.first;
+    let Some(Site { block, at }) = now_at(shifts, hint.first) else {
+        return Ok(None);
+    };
     let n = hint.n;
     if n < 3 || n > 16 || !is_block(graph, block) {
         return Ok(None);
     }
     let count = graph.items(block).len();
-    if count != hint.items || count < at as usize + n as usize {
+    if count < at as usize + n as usize {
+        return Ok(None);
+    }
+    if !are_plain(items_at(graph, block, at, n)) {
         return Ok(None);
     }
     let places = standing(alloc, graph, block, at, n)?;
@@ -275,6 +295,7 @@ fn rewrite_window(
 fn make_if_may(
     alloc: Global,
     graph: &mut Graph,
+    earlier: &mut Earlier,
     before: &Liveness,
     shifts: &mut Vec<Shift>,
     hint: Hint,
@@ -288,16 +309,20 @@ fn make_if_may(
     ensures follows { Follows graph.old.graph graph.new.graph }
     ensures past { OnOk result (KeepsPast graph.old.graph shifts.old.items graph.new.graph shifts.new.items) }
 {
-    if hint.sixteenths != sixteenths {
+    if earlier.asks() || hint.sixteenths != sixteenths {
         return Ok(savings);
     }
-    let Some(places) = places_of(alloc, graph, hint)? else {
+    let Some(places) = places_of(alloc, graph, shifts, hint)? else {
         return Ok(savings);
     };
     let Some((found, sites)) = found_still(alloc, graph, before, shifts, hint.n, &places)? else {
         return Ok(savings);
     };
-    rewrite_window(graph, shifts, hint.n, found, &sites, savings)
+    // The procedure's own words went from blocks, too.
+    let words = u64::from(found.saving) + u64::from(hint.n) + 1;
+    let after = rewrite_window(graph, shifts, hint.n, found, &sites, savings)?;
+    earlier.look_at_procedure(alloc, graph, before, shifts, words)?;
+    Ok(after)
 }
 
 /// The same for each of these that saves so many sixteenths, the longest first.
@@ -305,6 +330,7 @@ fn make_if_may(
 fn make_each(
     alloc: Global,
     graph: &mut Graph,
+    earlier: &mut Earlier,
     before: &Liveness,
     shifts: &mut Vec<Shift>,
     hints: &[Hint],
@@ -321,7 +347,9 @@ fn make_each(
     let mut after = savings;
     for at in 0..hints.len() {
         let hint = hints[hints.len() - 1 - at];
-        after = make_if_may(alloc, graph, before, shifts, hint, sixteenths, after)?;
+        after = make_if_may(
+            alloc, graph, earlier, before, shifts, hint, sixteenths, after,
+        )?;
     }
     Ok(after)
 }
@@ -331,6 +359,7 @@ fn make_each(
 fn make_all(
     alloc: Global,
     graph: &mut Graph,
+    earlier: &mut Earlier,
     before: &Liveness,
     shifts: &mut Vec<Shift>,
     hints: &[Hint],
@@ -344,34 +373,62 @@ fn make_all(
 {
     let mut after = savings;
     for step in 0..16 {
-        after = make_each(alloc, graph, before, shifts, hints, 15 - step, after)?;
+        after = make_each(
+            alloc,
+            graph,
+            earlier,
+            before,
+            shifts,
+            hints,
+            15 - step,
+            after,
+        )?;
     }
     Ok(after)
 }
 
-/// Rewrites the graph by row W, with live registers that are looked for once, and again where a procedure's link isn't sure
-/// without them. It tries the windows that one look finds, and may leave candidates.
-#[tactic(auto, using(law_follow::proofs::Following::graph_follows_itself))]
-fn sweep_windows(alloc: Global, graph: &mut Graph, savings: Savings) -> Result<Savings, Memory>
+/// So many looks for windows leave none, or few.
+const LOOKS: u32 = 8;
+
+/// Rewrites the graph by row W, in rounds. Each tries the windows that one look finds, with live registers that are looked
+/// for once, and again where a procedure's link isn't sure without them. It ends where an earlier row is to be asked, and may
+/// leave candidates.
+fn sweep_windows(
+    alloc: Global,
+    graph: &mut Graph,
+    earlier: &mut Earlier,
+    savings: Savings,
+) -> Result<Savings, Memory>
     requires canonical { IsCanonical graph.old.graph }
     requires words { words_of graph.old.graph + words_saved savings ≤ most_words }
     ensures rewritten { IfOk result (λ after. IsRewritten IsWindowsCandidate windows_described savings after graph.old.graph graph.new.graph) }
     ensures follows { Follows graph.old.graph graph.new.graph }
 {
-    let before = live(alloc, graph)?;
-    let hints = windows_to_try(alloc, graph, &before)?;
-    let mut shifts = Vec::new(alloc);
-    make_all(alloc, graph, &before, &mut shifts, &hints, savings)
+    let mut after = savings;
+    for _look in 0..LOOKS {
+        if earlier.asks() {
+            return Ok(after);
+        }
+        let before = live(alloc, graph)?;
+        let hints = windows_to_try(alloc, graph, &before)?;
+        if hints.is_empty() {
+            return Ok(after);
+        }
+        let mut shifts = Vec::new(alloc);
+        after = make_all(alloc, graph, earlier, &before, &mut shifts, &hints, after)?;
+    }
+    Ok(after)
 }
 
-/// Rewrites the graph by rows V and W. It looks for the candidates and the live registers of each once. It may leave
-/// candidates.
+/// Rewrites the graph by rows V and W. It looks for candidates of V and live registers once, and so for W a few times. It may
+/// leave candidates.
 pub(crate) fn sweep(alloc: Global, graph: &mut Graph, savings: Savings) -> Result<Savings, Memory>
     requires canonical { IsCanonical graph.old.graph }
     requires words { words_of graph.old.graph + words_saved savings ≤ most_words }
     ensures rewritten { IfOk result (λ after. IsRewritten IsWindowsCandidate windows_described savings after graph.old.graph graph.new.graph) }
     ensures follows { Follows graph.old.graph graph.new.graph }
 {
-    let called = sweep_calls(alloc, graph, savings)?;
-    sweep_windows(alloc, graph, called)
+    let mut earlier = Earlier::look(alloc, graph)?;
+    let called = sweep_calls(alloc, graph, &mut earlier, savings)?;
+    sweep_windows(alloc, graph, &mut earlier, called)
 }

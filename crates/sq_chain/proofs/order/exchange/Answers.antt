@@ -4,7 +4,7 @@ use Rattle.sq_chain.proofs.order.exchange.Goals as goal
 
 pub returns : goal.returns
 returns c =
-    let xs = c.args.names.now in
+    let xs = c.args.extents.now in
     let from = c.args.from in
     let mid = c.args.mid in
     let to = c.args.to in

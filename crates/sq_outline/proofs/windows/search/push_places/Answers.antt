@@ -1,7 +1,9 @@
-use Rattle.std.proofs.Common.{true, false, ◌++◌, length, ap, ◌∙◌, arith}
+use Rattle.std.proofs.Common.{true, false, List, ◌++◌, length, sym, ap, ◌∙◌, arith}
+use Rattle.std.proofs.lemmas.List.{append-nil}
+use Rattle.sq_graph.specs.declared.item.Item.{Item}
 use Rattle.sq_layout.proofs.Walks.{items_few}
 use Rattle.sq_outline.proofs.WindowsLast.{begins_from}
-use Rattle.sq_outline.proofs.WindowsListed.{one_listed, none_listed}
+use Rattle.sq_outline.proofs.WindowsListed.{listed_from, one_listed, none_listed, none_left}
 use Rattle.sq_outline.proofs.windows.search.push_places.Goals as goal
 use Rattle.sq_outline.proofs.windows.search.push_places.Goals.{then-begins+in_ok-push, else-begins}
 
@@ -11,6 +13,11 @@ overflow_cast-at c =
     let is = ap length c.items-items.ensures in
     let within = c.loop-at-test.true in
     omega (arith, few, is, within)
+
+pub returns-then-items-at : goal.returns-then-items-at
+returns-then-items-at c =
+    let none = none_left c.args.window.now c.items-items.result.now c.args.block c.loop-at.at (let few = c.if-items-at.true in omega (arith, few)) in
+    sym (append-nil c.loop-at.places.items) ∙ ap (λ ps. c.loop-at.places.items ++ ps) (sym none) ∙ c.loop-at.invariant ∙ ap (λ (is : List Item). c.args.places.now.items ++ listed_from c.args.window.now is c.args.block 0) c.items-items.ensures
 
 pub loop-at-preserved : goal.loop-at-preserved
 loop-at-preserved c =

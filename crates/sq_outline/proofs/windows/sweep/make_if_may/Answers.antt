@@ -1,8 +1,8 @@
 use Rattle.law_follow.proofs.Following.{graph_follows_itself}
 use Rattle.sq_outline.proofs.windows.sweep.make_if_may.Goals as goal
 
-pub returns-then-hint-sixteenths-clause-follows : goal.returns-then-hint-sixteenths-clause-follows
-returns-then-hint-sixteenths-clause-follows c = graph_follows_itself c.args.graph.now.graph
+pub returns-then-asks-clause-follows : goal.returns-then-asks-clause-follows
+returns-then-asks-clause-follows c = graph_follows_itself c.args.graph.now.graph
 
 pub returns-in_err-places-clause-follows : goal.returns-in_err-places-clause-follows
 returns-in_err-places-clause-follows c = graph_follows_itself c.args.graph.now.graph

@@ -8,6 +8,6 @@ use Rattle.sq_outline.proofs.windows.sweep.places_of.Goals as goal
 pub returns-clause-places : goal.returns-clause-places
 returns-clause-places c =
     let g = c.args.graph.now.graph in
-    let site = c.args.hint.first in
-    let within : c.args.hint.first.at + c.args.hint.n ≤ length (items_of c.args.graph.now.graph c.args.hint.first.block) = omega (arith, c.if-count-at.false, ap length c.items-count.ensures) in
+    let site = c.in-Some.field-0 in
+    let within : c.in-Some.field-0.at + c.args.hint.n ≤ length (items_of c.args.graph.now.graph c.in-Some.field-0.block) = omega (arith, c.if-count-at.false, ap length c.items-count.ensures) in
     are_standing g (items_at g site.block site.at c.args.hint.n) c.args.hint.n c.in_ok-places.places.items (sym (long_at g site.block site.at c.args.hint.n within)) c.in_ok-places.ensures

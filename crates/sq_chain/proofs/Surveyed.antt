@@ -1,0 +1,106 @@
+-- The blocks of a graph by what decides where they stand.
+use Rattle.std.proofs.Common.{◌≡◌, ℕ, ◌+◌, ◌<◌, ◌^◌, List, [], ◌∷◌, map, drop, length, get_or, slice_get, Option, Some, IsSome, refl, sym, ap, ◌∙◌, subst, arith}
+use Rattle.std.specs.Prelude.{option_map}
+use Rattle.std.proofs.lemmas.List.{length-map}
+use Rattle.std.proofs.lemmas.Option.{slice_get-map, slice_get-get_or}
+use Rattle.sq_graph.specs.Graph.{Block, Graph}
+use Rattle.sq_graph.specs.Blocks.{HasBlock, block_of, next_of}
+use Rattle.sq_graph.specs.Parts.{names_of}
+use Rattle.sq_graph.specs.Rules.{IsGraph}
+use Rattle.sq_graph.specs.Words.{words_of}
+use Rattle.sq_lookup.proofs.Targets.{name_listed}
+use Rattle.sq_live.proofs.Layouts.{IsBlockAt, block_at, length-names}
+use Rattle.sq_chain.specs.declared.survey.Extent.{Extent}
+use Rattle.sq_chain.specs.Moves.{IsMovable, fallen_blocks, fallen, carried}
+use Rattle.sq_chain.specs.Surveys.{extent_of, extents_of, IsRoom, IsLaidOut}
+use Rattle.sq_chain.proofs.Carried.{carried_words}
+use Rattle.sq_chain.proofs.Fallen.{fallen_keeps}
+use Rattle.sq_chain.proofs.Lighter.{fallen_names}
+use Rattle.sq_chain.proofs.Orders.{next_listed, found_at}
+use Rattle.sq_chain.proofs.Reordered.{chain_moved_rules, chain_reordered}
+
+names_mapped : (bs : List Block) → map (λ (e : Extent). e.name) (map extent_of bs) ≡ map (λ (b : Block). b.name) bs
+names_mapped [] = refl
+names_mapped (b ∷ bs) = ap (λ (ns : List ℕ). b.name ∷ ns) (names_mapped bs)
+
+-- their names
+pub extent_names : (g : Graph) (order : List Extent) → order ≡ extents_of g → map (λ (e : Extent). e.name) order ≡ names_of g
+extent_names g order e = ap (map (λ (x : Extent). x.name)) e ∙ names_mapped g.blocks
+
+pub extents_length : (g : Graph) (order : List Extent) → order ≡ extents_of g → length order ≡ length g.blocks
+extents_length g order e = ap (λ (es : List Extent). length es) e ∙ length-map g.blocks extent_of
+
+-- the block at a place
+pub record IsExtentAt (g : Graph) (order : List Extent) (k : ℕ) (e : Extent) : Type 0 where
+  pub at : IsBlockAt g k (get_or (names_of g) k 0)
+  pub is : extent_of at.block ≡ e
+  pub named : at.block.name ≡ e.name
+  pub found : block_of g at.block.name ≡ Some at.block
+  pub next : next_of g at.block.name ≡ option_map (λ (x : Extent). x.name) (slice_get order (k + 1))
+
+same_extent : (x y : Extent) → Some x ≡ Some y → x ≡ y
+same_extent x y e = cc
+
+pub extent_at : (g : Graph) (order : List Extent) (k : ℕ) (x : Extent) → IsGraph g → order ≡ extents_of g → k < length order → x ≡ get_or order k x → IsExtentAt g order k x
+extent_at g order k x rules e within here =
+    let within' : k < length (names_of g) = subst (λ (n : ℕ). k < n) (extents_length g order e ∙ sym (length-names g (names_of g) refl)) within in
+    let b = block_at g (names_of g) k rules refl within' in
+    let got : slice_get order k ≡ Some (extent_of b.block) = ap (λ (es : List Extent). slice_get es k) e ∙ slice_get-map extent_of g.blocks k ∙ ap (option_map extent_of) b.at in
+    let is : extent_of b.block ≡ x = same_extent (extent_of b.block) (get_or order k x) (sym got ∙ slice_get-get_or order k x within) ∙ sym here in
+    record {
+      at = b;
+      is = is;
+      named = ap (λ (y : Extent). y.name) is;
+      found = subst (λ (n : ℕ). block_of g n ≡ Some b.block) (sym b.has_name) b.found;
+      next =
+          ap (next_of g) b.has_name ∙ next_listed g rules k (get_or (names_of g) k 0) b
+          ∙ ap (λ (ns : List ℕ). slice_get ns (k + 1)) (sym (extent_names g order e))
+          ∙ slice_get-map (λ (y : Extent). y.name) order (k + 1);
+    }
+
+-- a block is among them
+pub name_at : (g : Graph) (order : List Extent) (n : ℕ) → order ≡ extents_of g → HasBlock g n → (k : ℕ) × (k < length order) × (get_or (map (λ (e : Extent). e.name) order) k 0 ≡ n)
+name_at g order n e has =
+    let w = subst (λ (ns : List ℕ). (k : ℕ) × (k < length ns) × (get_or ns k 0 ≡ n)) (sym (extent_names g order e)) (name_listed g.blocks n has) in
+    (w.0, subst (λ (len : ℕ). w.0 < len) (length-map order (λ (x : Extent). x.name)) w.1, w.2)
+
+pub found_among : (g : Graph) (order : List Extent) (k n : ℕ) → IsGraph g → order ≡ extents_of g → k < length order → get_or (map (λ (e : Extent). e.name) order) k 0 ≡ n → IsBlockAt g k n
+found_among g order k n rules e within there =
+    found_at g (map (λ (x : Extent). x.name) order) k n rules (extent_names g order e) (subst (λ (len : ℕ). k < len) (sym (length-map order (λ (x : Extent). x.name))) within) there
+
+-- and what it is once each Jump to the next slot is Fall
+pub record IsFallingAt (g : Graph) (order : List Extent) (k : ℕ) (e : Extent) : Type 0 where
+  pub here : IsExtentAt g order k e
+  pub block : Block
+  pub named : block.name ≡ e.name
+  pub found : block_of (fallen g) here.at.block.name ≡ Some block
+  pub rest : drop k (fallen_blocks g.blocks) ≡ block ∷ drop (k + 1) (fallen_blocks g.blocks)
+
+pub falling_at : (g : Graph) (order : List Extent) (k : ℕ) (x : Extent) → IsGraph g → order ≡ extents_of g → k < length order → x ≡ get_or order k x → IsFallingAt g order k x
+falling_at g order k x rules e within is =
+    let here = extent_at g order k x rules e within is in
+    let within' : k < length (names_of g) = subst (λ (n : ℕ). k < n) (extents_length g order e ∙ sym (length-names g (names_of g) refl)) within in
+    let f = block_at (fallen g) (names_of g) k (fallen_keeps g rules).rules (sym (fallen_names g)) within' in
+    let same : get_or (names_of g) k 0 ≡ here.at.block.name = sym here.at.has_name in
+    record {
+      here = here;
+      block = f.block;
+      named = f.has_name ∙ same ∙ here.named;
+      found = subst (λ (n : ℕ). block_of (fallen g) n ≡ Some f.block) same f.found;
+      rest = f.rest;
+    }
+
+-- once a chain stands behind the Jump to it
+module _ (g : Graph) (from to : ℕ) (rules : IsGraph g) (movable : IsMovable g from to) where
+  pub carried_laid : (order : List Extent) → words_of g < 2 ^ 31 → order ≡ extents_of (carried g from to) → IsLaidOut (carried g from to) order
+  carried_laid order few e = record {
+    rules = chain_moved_rules g from to rules movable;
+    few = omega (arith, few, carried_words g from to rules movable);
+    listed = e;
+  }
+
+  pub carried_room : (room : List (Option ℕ)) → IsRoom g room → IsRoom (carried g from to) room
+  carried_room room is = record {
+    within = λ n has. is.within n (subst (λ (o : Option Block). IsSome o) ((chain_reordered g from to rules movable).same n) has);
+    none = is.none;
+  }

@@ -1,0 +1,204 @@
+//! Whether a row may have a candidate since a chain moved. The words stay but for Jumps, so what may be new stands where blocks
+//! became one, or is a Branch that reaches now, or a procedure that may come in place of its calls now.
+
+ghost use Rattle.sq_graph.specs.Blocks.{HasBlock};
+
+use crate::groups::{block_print, procedure_prints};
+use crate::inline::{any_would_save, find_inline};
+use crate::seams::may_pay_at;
+use crate::ways::near_jumps;
+use crate::windows::may_end_alike;
+use sq_graph::{Graph, Term};
+use sq_live::block_names;
+use sq_lookup::{Names, is_block};
+use sq_num::Memory;
+use std::alloc::Global;
+
+/// A block before the move: how many items it had, and whether it ended in a Jump.
+#[derive(Clone, Copy, Debug)]
+struct Was {
+    block: u32,
+    count: usize,
+    jumped: bool,
+}
+
+/// What there was before a chain moved.
+#[derive(Drop)]
+pub struct Unmoved {
+    blocks: Vec<Was>,
+    // The lone Jumps that stay though each Branch that leads by them reaches where they lead.
+    near: Names,
+    // Whether a procedure waits for Branches to reach.
+    inlines: bool,
+}
+
+/// Whether another block of as many items has the print of this one.
+fn has_likeness(graph: &Graph, blocks: &[Was], block: u32) -> bool
+    requires { HasBlock graph.now.graph block }
+{
+    graph.learn();
+    let count = graph.items(block).len();
+    let print = block_print(graph, block);
+    for was in blocks {
+        let other = was.block;
+        if other != block
+            && is_block(graph, other)
+            && graph.items(other).len() == count
+            && block_print(graph, other) == print
+        {
+            return true;
+        }
+    }
+    false
+}
+
+/// What a block is like.
+fn was_of(graph: &Graph, block: u32) -> Was
+    requires { HasBlock graph.now.graph block }
+{
+    graph.learn();
+    Was {
+        block,
+        count: graph.items(block).len(),
+        jumped: matches!(graph.term(block), Term::Jump { .. }),
+    }
+}
+
+/// A set of these names.
+fn set_of(alloc: Global, names: &[u32]) -> Result<Names, Memory> {
+    let mut set = Names::new(alloc);
+    for name in names {
+        set.insert(*name)?;
+    }
+    Ok(set)
+}
+
+impl Unmoved {
+    /// One look at each block of a graph in which no row has a candidate.
+    pub fn look(alloc: Global, graph: &Graph) -> Result<Unmoved, Memory> {
+        graph.learn();
+        let names = block_names(alloc, graph)?;
+        let mut blocks = Vec::new(alloc);
+        for name in &names {
+            if is_block(graph, *name) {
+                blocks.push(was_of(graph, *name))?;
+            }
+        }
+        Ok(Unmoved {
+            blocks,
+            near: set_of(alloc, &near_jumps(alloc, graph)?)?,
+            inlines: any_would_save(alloc, graph)?,
+        })
+    }
+
+    /// The places at which a block that had so many items may have become one with others.
+    fn seams(
+        &self,
+        alloc: Global,
+        graph: &Graph,
+        block: u32,
+        count: usize,
+    ) -> Result<Vec<usize>, Memory>
+        requires { HasBlock graph.now.graph block }
+    {
+        graph.learn();
+        let now = graph.items(block).len();
+        let mut seams = Vec::new(alloc);
+        seams.push(count)?;
+        for was in &self.blocks {
+            if !is_block(graph, was.block) && was.count < now {
+                seams.push(now - was.count)?;
+            }
+        }
+        Ok(seams)
+    }
+
+    /// Whether a block that had so many items became one with others, and a row may have a candidate in it since.
+    fn may_pay(
+        &self,
+        alloc: Global,
+        graph: &Graph,
+        block: u32,
+        count: usize,
+    ) -> Result<bool, Memory>
+        requires { HasBlock graph.now.graph block }
+    {
+        graph.learn();
+        if matches!(graph.term(block), Term::PartJump { .. }) {
+            return Ok(true);
+        }
+        let prints = procedure_prints(alloc, graph)?;
+        if prints.contains_key(&block_print(graph, block))
+            || has_likeness(graph, &self.blocks, block)
+        {
+            return Ok(true);
+        }
+        let names = block_names(alloc, graph)?;
+        for seam in &self.seams(alloc, graph, block, count)? {
+            if may_pay_at(graph, &names, block, *seam) {
+                return Ok(true);
+            }
+        }
+        Ok(false)
+    }
+
+    /// Whether a block has other items or another end than before the move, and a row may have a candidate in it since.
+    fn has_more_at(&self, alloc: Global, graph: &Graph, was: Was) -> Result<bool, Memory> {
+        let block = was.block;
+        if !is_block(graph, block) {
+            return Ok(false);
+        }
+        graph.learn();
+        if graph.items(block).len() != was.count {
+            return self.may_pay(alloc, graph, block, was.count);
+        }
+        if !was.jumped {
+            return Ok(false);
+        }
+        match graph.term(block) {
+            Term::Jump { .. } | Term::Fall => Ok(false),
+            Term::PartJump { .. } => Ok(true),
+            _ => may_end_alike(alloc, graph, block),
+        }
+    }
+
+    /// Whether a lone Jump may go that stayed before.
+    fn has_more_near(&mut self, alloc: Global, graph: &Graph) -> Result<bool, Memory> {
+        let near = near_jumps(alloc, graph)?;
+        let before = &self.near;
+        let more = near.iter().any(|jump| !before.has(*jump));
+        self.near = set_of(alloc, &near)?;
+        Ok(more)
+    }
+
+    /// Whether a row may have a candidate in one of the blocks since the move.
+    fn has_more_in_one(&self, alloc: Global, graph: &Graph) -> Result<bool, Memory> {
+        for was in &self.blocks {
+            if self.has_more_at(alloc, graph, *was)? {
+                return Ok(true);
+            }
+        }
+        Ok(false)
+    }
+
+    /// Takes the blocks as they are now.
+    fn renew(&mut self, graph: &Graph) {
+        self.blocks.retain(|was| is_block(graph, was.block));
+        for at in 0..self.blocks.len() {
+            let block = self.blocks[at].block;
+            if is_block(graph, block) {
+                self.blocks[at] = was_of(graph, block);
+            }
+        }
+    }
+
+    /// Whether a row may have a candidate since the chain moved, where none had one before. From then on the graph counts as
+    /// unmoved. It looks at each block a few times, and where blocks became one, at each word a few times.
+    pub fn may_have_more(&mut self, alloc: Global, graph: &Graph) -> Result<bool, Memory> {
+        let more = self.has_more_near(alloc, graph)?
+            || self.inlines && find_inline(alloc, graph)?.is_some()
+            || self.has_more_in_one(alloc, graph)?;
+        self.renew(graph);
+        Ok(more)
+    }
+}

@@ -1,0 +1,266 @@
+//! Branches that rows J2 and J3 would lead elsewhere if they reached: so that it is told, as words go, when one does.
+
+ghost use Rattle.sq_graph.specs.Blocks.{HasBlock};
+
+use sq_graph::{Graph, Term};
+use sq_layout::block_words;
+use sq_live::block_names;
+use sq_lookup::{Names, Table, address, block_addresses, is_block, jump_from};
+use sq_num::Memory;
+use std::alloc::Global;
+
+/// The most slots along which a Branch's new target is looked for, and the bytes behind which it counts as far.
+const SLOTS: u32 = 1400;
+
+const FAR: u64 = 5120;
+
+/// A block that ends in a Branch, a lone Jump to which or over which that leads, and where the Jump leads.
+#[derive(Clone, Copy, Debug)]
+struct Way {
+    from: u32,
+    over: u32,
+    to: u32,
+    // How many bytes have to go in all before it is worth while to look whether the Branch reaches.
+    rest: u64,
+}
+
+/// The block before this one, if there is one.
+fn previous(graph: &Graph, block: u32) -> Option<u32>
+    requires { HasBlock graph.now.graph block }
+{
+    graph.links().previous(block)
+}
+
+/// The bytes from the Branch of the way to the start of a block that stands behind it, once the lone Jump is gone.
+fn bytes_ahead(graph: &Graph, way: Way) -> Option<u64> {
+    graph.learn();
+    if !is_block(graph, way.from) {
+        return None;
+    }
+    let mut bytes: u64 = 4;
+    let mut at = graph.next(way.from)?;
+    for _slot in 0..SLOTS {
+        if at == way.to {
+            return Some(bytes);
+        }
+        if bytes > FAR || !is_block(graph, at) {
+            return None;
+        }
+        if at != way.over {
+            bytes = bytes.saturating_add(4 * u64::from(block_words(graph, at)));
+        }
+        at = graph.next(at)?;
+    }
+    None
+}
+
+/// The bytes from the start of a block that stands before it, or is its own, to the Branch.
+fn bytes_back(graph: &Graph, way: Way) -> Option<u64> {
+    graph.learn();
+    if !is_block(graph, way.from) {
+        return None;
+    }
+    let mut bytes = 4 * graph.items(way.from).len() as u64;
+    let mut at = way.from;
+    for _slot in 0..SLOTS {
+        if at == way.to {
+            return Some(bytes);
+        }
+        if bytes > FAR || !is_block(graph, at) {
+            return None;
+        }
+        at = previous(graph, at)?;
+        if at != way.over && is_block(graph, at) {
+            bytes = bytes.saturating_add(4 * u64::from(block_words(graph, at)));
+        }
+    }
+    None
+}
+
+/// By how many bytes the Branch misses where the Jump leads: 0 where it reaches, and at most some hundred.
+fn missing(graph: &Graph, way: Way) -> u64 {
+    if let Some(bytes) = bytes_ahead(graph, way) {
+        return bytes.saturating_sub(4094);
+    }
+    match bytes_back(graph, way) {
+        Some(bytes) => bytes.saturating_sub(4096),
+        None => FAR - 4096,
+    }
+}
+
+/// Whether another block goes on into this one.
+fn is_entered(graph: &Graph, block: u32) -> bool
+    requires { HasBlock graph.now.graph block }
+{
+    graph.learn();
+    match previous(graph, block) {
+        Some(before) => is_block(graph, before) && graph.term(before).goes_on(),
+        None => false,
+    }
+}
+
+/// The way by the lone Jump to another block to which a Branch leads, where no block goes on into that.
+fn detour(graph: &Graph, from: u32, over: u32) -> Option<Way> {
+    if !is_block(graph, over) {
+        return None;
+    }
+    let to = jump_from(graph, over)?;
+    if to == over || is_entered(graph, over) {
+        return None;
+    }
+    Some(Way {
+        from,
+        over,
+        to,
+        rest: 0,
+    })
+}
+
+/// The way by the lone Jump over which a Branch leads to a block.
+fn inversion(graph: &Graph, from: u32, behind: u32) -> Option<Way>
+    requires { HasBlock graph.now.graph from }
+{
+    graph.learn();
+    let over = graph.next(from)?;
+    if !is_block(graph, over) {
+        return None;
+    }
+    let to = jump_from(graph, over)?;
+    if graph.next(over) != Some(behind) {
+        return None;
+    }
+    Some(Way {
+        from,
+        over,
+        to,
+        rest: 0,
+    })
+}
+
+/// The ways by which row J2 and row J3 would lead the block's Branch elsewhere.
+fn ways_of(graph: &Graph, from: u32) -> (Option<Way>, Option<Way>)
+    requires { HasBlock graph.now.graph from }
+{
+    let Term::Branch { to, .. } = graph.term(from) else {
+        return (None, None);
+    };
+    (detour(graph, from, to), inversion(graph, from, to))
+}
+
+/// Branches that don't reach where rows J2 and J3 would lead them.
+#[derive(Drop)]
+pub(crate) struct FarWays {
+    ways: Vec<Way>,
+}
+
+impl FarWays {
+    /// Adds a way whose Branch doesn't reach.
+    fn push(&mut self, graph: &Graph, found: Option<Way>) -> Result<(), Memory> {
+        if let Some(way) = found {
+            let rest = missing(graph, way);
+            if rest > 0 {
+                self.ways.push(Way { rest, ..way })?;
+            }
+        }
+        Ok(())
+    }
+
+    /// Those of a graph. It looks at each block a few times, and from each such Branch along some thousand words.
+    pub(crate) fn look(alloc: Global, graph: &Graph, names: &[u32]) -> Result<FarWays, Memory> {
+        graph.learn();
+        let mut far = FarWays {
+            ways: Vec::new(alloc),
+        };
+        for name in names {
+            if is_block(graph, *name) {
+                let (by_target, by_slot) = ways_of(graph, *name);
+                far.push(graph, by_target)?;
+                far.push(graph, by_slot)?;
+            }
+        }
+        Ok(far)
+    }
+
+    /// Whether no Branch that is still too far leads by this lone Jump.
+    fn none_waits(&self, over: u32) -> bool {
+        !self
+            .ways
+            .iter()
+            .any(|way| way.over == over && way.rest < u64::MAX)
+    }
+
+    /// Whether a lone Jump can go, since so many bytes went in all. It looks again along the ways for which enough of them
+    /// did.
+    pub(crate) fn has_near(&mut self, graph: &Graph, gone: u64) -> bool {
+        let mut found = false;
+        for at in 0..self.ways.len() {
+            let way = self.ways[at];
+            if way.rest <= gone {
+                let missing = missing(graph, way);
+                let rest = if missing == 0 {
+                    u64::MAX
+                } else {
+                    gone.saturating_add(missing)
+                };
+                self.ways[at] = Way { rest, ..way };
+                found = found || missing == 0 && self.none_waits(way.over);
+            }
+        }
+        found
+    }
+}
+
+/// Where a place stands once the word that begins at the other one is gone.
+fn lifted(word: u64, at: u64) -> u64 {
+    if word < at { at.saturating_sub(4) } else { at }
+}
+
+/// Whether the Branch of a way reaches where the lone Jump leads once that is gone, by these addresses.
+fn is_near(graph: &Graph, addresses: &Table, way: Way) -> bool {
+    graph.learn();
+    if !is_block(graph, way.from) {
+        return false;
+    }
+    let word = address(addresses, way.over);
+    let start = lifted(word, address(addresses, way.from));
+    let at = start.saturating_add(4 * graph.items(way.from).len() as u64);
+    let to = lifted(word, address(addresses, way.to));
+    to.saturating_sub(at) <= 4094 && at.saturating_sub(to) <= 4096
+}
+
+/// Puts the lone Jump of a way with those whose Branches reach, or with those of which one doesn't.
+fn note(
+    graph: &Graph,
+    addresses: &Table,
+    found: Option<Way>,
+    near: &mut Vec<u32>,
+    far: &mut Names,
+) -> Result<(), Memory> {
+    if let Some(way) = found {
+        if is_near(graph, addresses, way) {
+            near.push(way.over)?;
+        } else {
+            far.insert(way.over)?;
+        }
+    }
+    Ok(())
+}
+
+/// The lone Jumps that could go as far as reach is asked: each Branch that leads by them reaches where they lead. It looks at
+/// each block a few times.
+pub(crate) fn near_jumps(alloc: Global, graph: &Graph) -> Result<Vec<u32>, Memory> {
+    graph.learn();
+    let names = block_names(alloc, graph)?;
+    let addresses = block_addresses(alloc, graph, &names)?;
+    let mut far = Names::new(alloc);
+    let mut near = Vec::new(alloc);
+    for name in &names {
+        if is_block(graph, *name) {
+            let (by_target, by_slot) = ways_of(graph, *name);
+            note(graph, &addresses, by_target, &mut near, &mut far)?;
+            note(graph, &addresses, by_slot, &mut near, &mut far)?;
+        }
+    }
+    near.retain(|over| !far.has(*over));
+    Ok(near)
+}
