@@ -1,5 +1,7 @@
 -- Moves beside the rows of the passes.
-use Rattle.std.proofs.Common.{◌≡◌, ◌≢◌, ℕ, zero, suc, ◌-◌, ◌≤◌, inl, inr, refl, sym, ap, ◌∙◌, subst, arith}
+use Rattle.std.specs.Prelude.{IfOk, IfSome}
+use Rattle.std.proofs.Common.{◌≡◌, ◌≢◌, ℕ, zero, suc, ◌-◌, ◌≤◌, Result, Ok, Err, Option, Some, None, inl, inr, refl, sym, ap, ◌∙◌, subst, arith}
+use Rattle.sq_num.specs.declared.memory.Memory.{Memory}
 use Rattle.sq_num.specs.declared.packed.Savings.{Savings}
 use Rattle.sq_graph.specs.Alike.{AreAlike}
 use Rattle.sq_graph.specs.Canonical.{canonical_of}
@@ -72,6 +74,12 @@ by_rows = stepped_wider (IsRewrite IsRowCandidate row_described) (IsRewrite IsCa
 
 pub by_moves : (before after : Savings) (old new : Graph) → IsRewritten IsMove move_described before after old new → IsRewritten IsCandidate described before after old new
 by_moves = stepped_wider (IsRewrite IsMove move_described) (IsRewrite IsCandidate described) move_rewrite
+
+-- so where a move is made of the same graph, if one is
+pub moved_some : (before : Savings) (old same new : Graph) (r : Result (Option Savings) Memory) → same ≡ old → IfOk r (λ done. IfSome done (λ after. IsRewritten IsMove move_described before after same new)) → IfOk r (λ done. IfSome done (λ after. IsRewritten IsCandidate described before after old new))
+moved_some before old same new (Ok (Some after)) e moved = by_moves before after old new (subst (λ (g : Graph). IsRewritten IsMove move_described before after g new) e moved)
+moved_some before old same new (Ok None) e moved = tt
+moved_some before old same new (Err error) e moved = tt
 
 -- WHERE NO CANDIDATE IS LEFT
 

@@ -1,6 +1,6 @@
 -- The candidates of each row are those of its pass. A pass to come gets its clause in each of the first three lemmas.
-use Rattle.std.proofs.Common.{◌≡◌, ℕ, Result, Ok, Err, Option, Some, None, inl, inr, refl, sym, ap, subst}
-use Rattle.std.specs.Prelude.{IfOk, IfSome}
+use Rattle.std.proofs.Common.{◌≡◌, ℕ, Result, Ok, Err, inl, inr, refl, sym, ap, subst}
+use Rattle.std.specs.Prelude.{IfOk}
 use Rattle.sq_num.specs.declared.memory.Memory.{Memory}
 use Rattle.sq_num.specs.declared.packed.Savings.{Savings}
 use Rattle.sq_graph.specs.Alike.{AreAlike}
@@ -17,7 +17,7 @@ use Rattle.sq_outline.specs.Candidates.{IsCutOf}
 use Rattle.sq_outline.specs.WindowsCandidates.{IsWindowsCutOf}
 use Rattle.sq_drive.specs.declared.rows.RowPass.{RowPass}
 use Rattle.sq_drive.specs.declared.rows.RowPass.TheVariants.{Jumps, Tails, Outlines, Windows}
-use Rattle.sq_drive.specs.Rows.{pass_of, IsCandidateOf, described_of, IsRowCandidate, row_described}
+use Rattle.sq_drive.specs.Rows.{pass_of, IsCandidateOf, described_of, IsEarlierCandidate, IsRowCandidate, row_described}
 
 -- WHAT EACH PASS SAYS
 
@@ -98,13 +98,9 @@ pub swept_last : (pass : RowPass) (before at : Savings) (old mid new : Graph) (r
 swept_last pass before at old mid new (Ok after) first second = swept_on pass before at after old mid new first second
 swept_last pass before at old mid new (Err e) first second = tt
 
--- so does the one of all rows
-pub rewritten_last : (before at : Savings) (old mid new : Graph) (r : Result Savings Memory) → IsRewritten IsRowCandidate row_described before at old mid → IfOk r (λ after. IsRewritten IsRowCandidate row_described at after mid new) → IfOk r (λ after. IsRewritten IsRowCandidate row_described before after old new)
-rewritten_last before at old mid new (Ok after) first second = rewritten_through IsRowCandidate row_described before at after old mid new first second
-rewritten_last before at old mid new (Err e) first second = tt
-
--- a rewrite by a candidate of a pass, where there is one
-pub its_some : (pass : RowPass) (old new : Graph) (r : Result (Option Rewrite) Memory) → IfOk r (λ done. IfSome done (λ rewrite. IsRewrite (IsCandidateOf pass) (described_of pass) rewrite old new)) → IfOk r (λ done. IfSome done (λ rewrite. IsRewrite IsRowCandidate row_described rewrite old new))
-its_some pass old new (Ok (Some done)) rewrite = its_rewrite pass done old new rewrite
-its_some pass old new (Ok None) rewrite = tt
-its_some pass old new (Err e) rewrite = tt
+-- no row has a candidate where none before windows has one, and windows have none
+pub none_of_rows : (g : Graph) → ((cut : Cut) → ¬ IsEarlierCandidate g cut) → ((cut : Cut) → ¬ IsCandidateOf Windows g cut) → (cut : Cut) → ¬ IsRowCandidate g cut
+none_of_rows g earlier windows cut (inl jumps) = earlier cut (inl jumps)
+none_of_rows g earlier windows cut (inr (inl tails)) = earlier cut (inr (inl tails))
+none_of_rows g earlier windows cut (inr (inr (inl outlines))) = earlier cut (inr (inr outlines))
+none_of_rows g earlier windows cut (inr (inr (inr late))) = windows cut late

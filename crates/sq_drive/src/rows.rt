@@ -1,6 +1,6 @@
 //! The pass of all rows that passes have.
 
-ghost use Rattle.std.specs.Prelude.{◌≡◌, ◌≤◌, ◌+◌, None, Ok, IfOk, IfSome, OnErr};
+ghost use Rattle.std.specs.Prelude.{◌≡◌, ◌≤◌, ◌+◌, None, Ok, IfOk, IfSome, OnOk, OnErr};
 ghost use Rattle.sq_num.specs.Saved.{words_saved};
 ghost use Rattle.sq_graph.specs.Leaders.{IsCanonical};
 ghost use Rattle.sq_graph.specs.Words.{words_of, most_words};
@@ -10,11 +10,11 @@ ghost use Rattle.sq_pass.specs.declared.cut.Cut.{Cut as Told};
 ghost use Rattle.sq_pass.specs.Rewrites.{IsRewrite, IsRewritten, IsLighter};
 ghost use Rattle.sq_drive.specs.Rows.{pass_of, IsEarlierCandidate, IsRowCandidate, row_described};
 
-use crate::once::rewrite_once;
+use crate::once::rewrite_by_cut;
 use sq_graph::{Graph, Room};
 use sq_jumps::Jumps;
 use sq_layout::words_of;
-use sq_live::Liveness;
+use sq_live::{Liveness, live};
 use sq_num::{Memory, Savings};
 use sq_outline::{Outlines, Windows};
 use sq_pass::{Cut, Pass, Rewrite, Row};
@@ -68,20 +68,7 @@ pub(crate) fn find_earlier(
     Outlines.find(alloc, graph, live)
 }
 
-/// A sweep that saves more words than this is followed by another one before windows are asked.
-const FEW: u32 = 16;
-
-/// How often a sweep looks at all the passes before windows, one look after the other.
-const LOOKS: u32 = 8;
-
-/// What rewrites saved, and whether none of the passes before windows has a candidate left.
-#[derive(Clone, Copy, Debug)]
-pub(crate) struct Settled {
-    pub(crate) savings: Savings,
-    is_whole: bool,
-}
-
-/// The sweeps of the passes that come before windows.
+/// The sweeps of the passes that come before windows, one after another.
 fn sweep_earlier(alloc: Global, graph: &mut Graph, savings: Savings) -> Result<Savings, Memory>
     requires canonical { IsCanonical graph.old.graph }
     requires words { words_of graph.old.graph + words_saved savings ≤ most_words }
@@ -93,72 +80,91 @@ fn sweep_earlier(alloc: Global, graph: &mut Graph, savings: Savings) -> Result<S
     Outlines.sweep(alloc, graph, after_tails)
 }
 
+/// A sweep that saves more words than this is followed by another one before windows are asked.
+const FEW: u32 = 16;
+
+/// Sweeps by the passes that come before windows, until one saves few words.
+pub(crate) fn sweep_often(
+    alloc: Global,
+    graph: &mut Graph,
+    savings: Savings,
+) -> Result<Savings, Memory>
+    requires canonical { IsCanonical graph.old.graph }
+    requires words { words_of graph.old.graph + words_saved savings ≤ most_words }
+    ensures rewritten { IfOk result (λ after. IsRewritten IsRowCandidate row_described savings after graph.old.graph graph.new.graph) }
+    ensures follows { Follows graph.old.graph graph.new.graph }
+{
+    let mut saved = savings;
+    loop {
+        let before = words_of(graph);
+        saved = sweep_earlier(alloc, graph, saved)?;
+        if before - words_of(graph) <= FEW {
+            return Ok(saved);
+        }
+    }
+}
+
 /// Rewrites the graph by one candidate of the passes that come before windows, as `rewrite_once` does.
 fn rewrite_earlier(alloc: Global, graph: &mut Graph) -> Result<Option<Rewrite>, Memory>
     requires canonical { IsCanonical graph.old.graph }
     requires words { words_of graph.old.graph ≤ most_words }
     ensures some { IfOk result (λ done. IfSome done (λ rewrite. IsRewrite IsRowCandidate row_described rewrite graph.old.graph graph.new.graph)) }
     ensures lighter { IfOk result (λ done. IfSome done (λ rewrite. IsLighter rewrite.saving graph.old.graph graph.new.graph)) }
+    ensures saves { IfOk result (λ done. IfSome done (λ rewrite. 1 ≤ rewrite.saving)) }
     ensures none { result ≡ Ok None → graph.new.graph ≡ graph.old.graph }
+    ensures left { result ≡ Ok None → (cut : Told) → ¬ IsEarlierCandidate graph.old.graph cut }
     ensures kept { OnErr result (graph.new.graph ≡ graph.old.graph) }
 {
-    if let Some(done) = rewrite_once(alloc, graph, &Jumps)? {
-        return Ok(Some(done));
-    }
-    if let Some(done) = rewrite_once(alloc, graph, &Tails)? {
-        return Ok(Some(done));
-    }
-    rewrite_once(alloc, graph, &Outlines)
+    let live = live(alloc, graph)?;
+    let Some(cut) = find_earlier(alloc, graph, &live)? else {
+        return Ok(None);
+    };
+    Ok(Some(rewrite_by_cut(graph, &AllRows, &cut)?))
 }
 
-/// Rewrites the graph by a few candidates of the passes that come before windows, each by a look of its own.
-pub(crate) fn settle_earlier(
+/// Behind so many looks for one candidate each comes a sweep.
+const LOOKS: u32 = 8;
+
+/// The sweeps, where so many looks came since the last ones.
+fn sweep_at_times(
     alloc: Global,
     graph: &mut Graph,
+    looks: u32,
     savings: Savings,
-) -> Result<Settled, Memory>
-    requires canonical { IsCanonical graph.old.graph }
-    requires words { words_of graph.old.graph + words_saved savings ≤ most_words }
-    ensures rewritten { IfOk result (λ settled. IsRewritten IsRowCandidate row_described savings settled.savings graph.old.graph graph.new.graph) }
-    ensures follows { Follows graph.old.graph graph.new.graph }
-{
-    let mut after = savings;
-    for _look in 0..LOOKS {
-        let Some(done) = rewrite_earlier(alloc, graph)? else {
-            return Ok(Settled {
-                savings: after,
-                is_whole: true,
-            });
-        };
-        after = done.count(after);
-    }
-    Ok(Settled {
-        savings: after,
-        is_whole: false,
-    })
-}
-
-/// Sweeps windows, as long as no row before them has a candidate: where one may have, the sweep of windows ends, and that
-/// row is asked before it goes on.
-fn sweep_windows(alloc: Global, graph: &mut Graph, savings: Savings) -> Result<Savings, Memory>
+) -> Result<Savings, Memory>
     requires canonical { IsCanonical graph.old.graph }
     requires words { words_of graph.old.graph + words_saved savings ≤ most_words }
     ensures rewritten { IfOk result (λ after. IsRewritten IsRowCandidate row_described savings after graph.old.graph graph.new.graph) }
     ensures follows { Follows graph.old.graph graph.new.graph }
 {
-    let mut after = savings;
-    for _look in 0..LOOKS {
-        let settled = settle_earlier(alloc, graph, after)?;
-        if !settled.is_whole {
-            return Ok(settled.savings);
-        }
-        let before = words_of(graph);
-        after = Windows.sweep(alloc, graph, settled.savings)?;
-        if words_of(graph) == before {
-            return Ok(after);
-        }
+    if looks % LOOKS == 0 {
+        return sweep_earlier(alloc, graph, savings);
     }
-    Ok(after)
+    Ok(savings)
+}
+
+/// Rewrites the graph by candidates of the passes that come before windows until they have none: each by a look of its own,
+/// and at times many by a sweep. So few looks find what a sweep left.
+pub(crate) fn settle_earlier(
+    alloc: Global,
+    graph: &mut Graph,
+    savings: Savings,
+) -> Result<Savings, Memory>
+    requires canonical { IsCanonical graph.old.graph }
+    requires words { words_of graph.old.graph + words_saved savings ≤ most_words }
+    ensures rewritten { IfOk result (λ after. IsRewritten IsRowCandidate row_described savings after graph.old.graph graph.new.graph) }
+    ensures left { OnOk result ((cut : Told) → ¬ IsEarlierCandidate graph.new.graph cut) }
+    ensures follows { Follows graph.old.graph graph.new.graph }
+{
+    let mut saved = savings;
+    let mut looks: u32 = 0;
+    loop {
+        let Some(done) = rewrite_earlier(alloc, graph)? else {
+            return Ok(saved);
+        };
+        looks = looks.wrapping_add(1);
+        saved = sweep_at_times(alloc, graph, looks, done.count(saved))?;
+    }
 }
 
 /// All rows of the cost rule that passes have, as one pass: all but row L, which moves chains. It asks the passes in the
@@ -219,11 +225,11 @@ impl Pass for AllRows {
 
     /// Windows are swept only where no row before them has a candidate.
     fn sweep(&self, alloc: Global, graph: &mut Graph, savings: Savings) -> Result<Savings, Memory> {
-        let before = words_of(graph);
-        let after = sweep_earlier(alloc, graph, savings)?;
-        if before - words_of(graph) > FEW {
-            return Ok(after);
+        let swept = sweep_often(alloc, graph, savings)?;
+        let live = live(alloc, graph)?;
+        if find_earlier(alloc, graph, &live)?.is_some() {
+            return Ok(swept);
         }
-        sweep_windows(alloc, graph, after)
+        Windows.sweep(alloc, graph, swept)
     }
 }

@@ -9,30 +9,22 @@ ghost use Rattle.law_follow.specs.Follows.{Follows};
 ghost use Rattle.sq_pass.specs.declared.cut.Cut.{Cut as Told};
 ghost use Rattle.sq_pass.specs.Rewrites.{IsRewritten};
 ghost use Rattle.sq_chain.specs.Moves.{IsStill};
-ghost use Rattle.sq_drive.specs.Rows.{IsCandidate, described, IsLeftoverFree};
+ghost use Rattle.sq_chain.specs.Candidates.{IsCandidate as IsMove};
+ghost use Rattle.sq_drive.specs.declared.rows.RowPass.TheVariants.{Windows as WindowsPass};
+ghost use Rattle.sq_drive.specs.Rows.{IsCandidateOf, IsRowCandidate, row_described, IsCandidate, described, IsLeftoverFree};
 
 use crate::chains::move_some;
-use crate::once::rewrite_once;
-use crate::rows::{AllRows, settle_earlier};
+use crate::once::{find_one, rewrite_by_cut};
+use crate::rows::{settle_earlier, sweep_often};
 use sq_graph::Graph;
 use sq_layout::words_of;
-use sq_live::live;
 use sq_num::{Memory, Savings};
+use sq_outline::Windows;
 use sq_pass::Pass;
 use std::alloc::Global;
 
-/// Whether the pass has a candidate. It looks at the whole graph.
-fn has_candidate<P: Pass>(alloc: Global, graph: &Graph, pass: &P) -> Result<bool, Memory>
-    ensures { result ≡ Ok false → (cut : Told) → ¬ P.is_candidate pass.now graph.now.graph cut }
-{
-    let live = live(alloc, graph)?;
-    match pass.find(alloc, graph, &live)? {
-        Some(_) => Ok(true),
-        None => Ok(false),
-    }
-}
-
-/// Rewrites the graph by a sweep of the pass, or where that saves nothing by one candidate. None where there is none.
+/// Rewrites the graph by a sweep of the pass, or where that saves nothing by one candidate. None where there is none: before
+/// the sweep it looks at the whole graph.
 fn rewrite_some<P: Pass>(
     alloc: Global,
     graph: &mut Graph,
@@ -47,14 +39,15 @@ fn rewrite_some<P: Pass>(
     ensures left { result ≡ Ok None → (cut : Told) → ¬ P.is_candidate pass.now graph.old.graph cut }
     ensures follows { Follows graph.old.graph graph.new.graph }
 {
+    let Some(cut) = find_one(alloc, graph, pass)? else {
+        return Ok(None);
+    };
     let before = words_of(graph);
     let after = pass.sweep(alloc, graph, savings)?;
     if words_of(graph) < before {
         return Ok(Some(after));
     }
-    let Some(done) = rewrite_once(alloc, graph, pass)? else {
-        return Ok(None);
-    };
+    let done = rewrite_by_cut(graph, pass, &cut)?;
     Ok(Some(done.count(after)))
 }
 
@@ -75,9 +68,6 @@ pub fn settle_by<P: Pass>(
 {
     let mut saved = savings;
     loop {
-        if !has_candidate(alloc, graph, pass)? {
-            return Ok(saved);
-        }
         let Some(after) = rewrite_some(alloc, graph, pass, saved)? else {
             return Ok(saved);
         };
@@ -85,8 +75,44 @@ pub fn settle_by<P: Pass>(
     }
 }
 
-/// Rewrites the graph by all rows until none has a candidate, and answers the savings with what each row saved. Chains move
-/// only where no other row has a candidate, and behind each move that gives one of them a candidate the rows are asked again. Where it finds no memory, the graph is left as the rewrites made it so far.
+/// Rewrites the graph by windows, where no pass before them has a candidate, or where they have none either by moves of
+/// chains. None where neither saves a word.
+fn rewrite_late(
+    alloc: Global,
+    graph: &mut Graph,
+    savings: Savings,
+) -> Result<Option<Savings>, Memory>
+    requires canonical { IsCanonical graph.old.graph }
+    requires words { words_of graph.old.graph + words_saved savings ≤ most_words }
+    ensures rewritten { IfOk result (λ done. IfSome done (λ after. IsRewritten IsCandidate described savings after graph.old.graph graph.new.graph)) }
+    ensures fewer { IfOk result (λ done. IfSome done (λ after. words_of graph.new.graph < words_of graph.old.graph)) }
+    ensures none { result ≡ Ok None → graph.new.graph ≡ graph.old.graph }
+    ensures windows { result ≡ Ok None → (cut : Told) → ¬ IsCandidateOf WindowsPass graph.old.graph cut }
+    ensures moves { result ≡ Ok None → (cut : Told) → ¬ IsMove graph.old.graph cut }
+    ensures follows { Follows graph.old.graph graph.new.graph }
+{
+    if let Some(after) = rewrite_some(alloc, graph, &Windows, savings)? {
+        return Ok(Some(after));
+    }
+    move_some(alloc, graph, savings)
+}
+
+/// The sweeps that come first, where nothing was saved yet.
+fn sweep_first(alloc: Global, graph: &mut Graph, savings: Savings) -> Result<Savings, Memory>
+    requires canonical { IsCanonical graph.old.graph }
+    requires words { words_of graph.old.graph + words_saved savings ≤ most_words }
+    ensures rewritten { IfOk result (λ after. IsRewritten IsRowCandidate row_described savings after graph.old.graph graph.new.graph) }
+    ensures follows { Follows graph.old.graph graph.new.graph }
+{
+    if savings == Savings::NONE {
+        return sweep_often(alloc, graph, savings);
+    }
+    Ok(savings)
+}
+
+/// Rewrites the graph by all rows until none has a candidate, and answers the savings with what each row saved. Windows are
+/// asked only where no row before them has a candidate, and chains move only where no other row has one. Where it finds no
+/// memory, the graph is left as the rewrites made it so far.
 fn settle_from(alloc: Global, graph: &mut Graph, savings: Savings) -> Result<Savings, Memory>
     requires canonical { IsCanonical graph.old.graph }
     requires words { words_of graph.old.graph + words_saved savings ≤ most_words }
@@ -94,14 +120,13 @@ fn settle_from(alloc: Global, graph: &mut Graph, savings: Savings) -> Result<Sav
     ensures left { OnOk result (IsLeftoverFree graph.new.graph) }
     ensures follows { Follows graph.old.graph graph.new.graph }
 {
-    let mut saved = savings;
+    let mut saved = sweep_first(alloc, graph, savings)?;
     loop {
-        saved = settle_by(alloc, graph, &AllRows, saved)?;
-        let Some(after) = move_some(alloc, graph, saved)? else {
-            return Ok(saved);
+        let settled = settle_earlier(alloc, graph, saved)?;
+        let Some(after) = rewrite_late(alloc, graph, settled)? else {
+            return Ok(settled);
         };
-        let settled = settle_earlier(alloc, graph, after)?;
-        saved = settled.savings;
+        saved = after;
     }
 }
 
