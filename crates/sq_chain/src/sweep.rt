@@ -19,6 +19,9 @@ use std::alloc::Global;
 
 /// Who is asked behind each move of a sweep whether it is to end there.
 pub trait Watch {
+    /// Whether the sweep tries to move a chain behind this block. It may look at the graph as it is before that.
+    fn wants(&mut self, graph: &Graph, from: u32) -> Result<bool, Memory>;
+
     /// Whether the sweep ends at this graph, in which a chain has just moved.
     fn ends(&mut self, alloc: Global, graph: &Graph) -> Result<bool, Memory>;
 }
@@ -61,7 +64,8 @@ fn sweep_behind(
 
 /// Moves chains by one look over the blocks in layout order, each where the pair is movable and each Branch reaches then,
 /// and makes the graph canonical after each. It ends behind a move where `watch` says so. It makes no copy of the graph. It may
-/// leave moves: those that widen a Branch and save words still, and those of pairs that came to be movable behind the look.
+/// leave moves: those that widen a Branch and save words still, those that `watch` doesn't want, and those of pairs that came to
+/// be movable behind the look.
 #[tactic(auto, using(law_follow::proofs::Following::graph_follows_through))]
 pub fn sweep_moves<W: Watch>(
     alloc: Global,
@@ -79,6 +83,9 @@ pub fn sweep_moves<W: Watch>(
     let mut view = survey_of(alloc, graph)?;
     let mut after = savings;
     for name in &names {
+        if !watch.wants(graph, *name)? {
+            continue;
+        }
         let next = sweep_behind(alloc, graph, &mut view, *name, after)?;
         if next.moved != after.moved && watch.ends(alloc, graph)? {
             return Ok(next);

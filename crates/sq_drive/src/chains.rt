@@ -14,18 +14,31 @@ use sq_chain::{Watch, move_once};
 use sq_graph::Graph;
 use sq_layout::words_of;
 use sq_live::live;
+use sq_lookup::Names;
 use sq_num::{Memory, Savings};
 use sq_outline::Unmoved;
 use sq_pass::Pass;
 use std::alloc::Global;
+use std::mem::{replace, swap};
 
 /// What tells whether a pass has a candidate since the last move.
 #[derive(Drop)]
 struct RowWatch {
     unmoved: Unmoved,
+    // The blocks behind which a move was tried.
+    tried: Names,
+    ended: bool,
 }
 
 impl Watch for RowWatch {
+    fn wants(&mut self, graph: &Graph, from: u32) -> Result<bool, Memory> {
+        if self.tried.has(from) || !self.unmoved.begin(graph, from)? {
+            return Ok(false);
+        }
+        self.tried.insert(from)?;
+        Ok(true)
+    }
+
     /// It ends where a pass has a candidate, of which none had one before the move. Where one may have, it looks at the whole
     /// graph.
     fn ends(&mut self, alloc: Global, graph: &Graph) -> Result<bool, Memory> {
@@ -33,13 +46,19 @@ impl Watch for RowWatch {
             return Ok(false);
         }
         let live = live(alloc, graph)?;
-        Ok(AllRows.find(alloc, graph, &live)?.is_some())
+        self.ended = AllRows.find(alloc, graph, &live)?.is_some();
+        Ok(self.ended)
     }
 }
 
 /// Moves chains by one look over the blocks, as `sq_chain::sweep_moves` does, where no pass has a candidate when it begins. It
-/// ends where one has since a chain moved.
-pub fn sweep_moves(alloc: Global, graph: &mut Graph, savings: Savings) -> Result<Savings, Memory>
+/// ends where one has since a chain moved, and the next sweep then goes on behind the blocks that weren't tried.
+pub fn sweep_moves(
+    alloc: Global,
+    graph: &mut Graph,
+    tried: &mut Names,
+    savings: Savings,
+) -> Result<Savings, Memory>
     requires canonical { IsCanonical graph.old.graph }
     requires words { words_of graph.old.graph + words_saved savings ≤ most_words }
     ensures rewritten { IfOk result (λ after. IsRewritten IsCandidate described savings after graph.old.graph graph.new.graph) }
@@ -48,14 +67,21 @@ pub fn sweep_moves(alloc: Global, graph: &mut Graph, savings: Savings) -> Result
     graph.learn();
     let mut watch = RowWatch {
         unmoved: Unmoved::look(alloc, graph)?,
+        tried: replace(tried, Names::new(alloc)),
+        ended: false,
     };
-    sq_chain::sweep_moves(alloc, graph, &mut watch, savings)
+    let after = sq_chain::sweep_moves(alloc, graph, &mut watch, savings)?;
+    if watch.ended {
+        swap(tried, &mut watch.tried);
+    }
+    Ok(after)
 }
 
 /// Moves chains where no pass has a candidate: many by one look, or else one by an exact look. None where no move saves a word.
 pub(crate) fn move_some(
     alloc: Global,
     graph: &mut Graph,
+    tried: &mut Names,
     savings: Savings,
 ) -> Result<Option<Savings>, Memory>
     requires canonical { IsCanonical graph.old.graph }
@@ -67,7 +93,7 @@ pub(crate) fn move_some(
     ensures follows { Follows graph.old.graph graph.new.graph }
 {
     let before = words_of(graph);
-    let after = sweep_moves(alloc, graph, savings)?;
+    let after = sweep_moves(alloc, graph, tried, savings)?;
     if words_of(graph) < before {
         return Ok(Some(after));
     }

@@ -18,6 +18,7 @@ use crate::once::{find_one, rewrite_by_cut};
 use crate::rows::{settle_earlier, sweep_often};
 use sq_graph::Graph;
 use sq_layout::words_of;
+use sq_lookup::Names;
 use sq_num::{Memory, Savings};
 use sq_outline::Windows;
 use sq_pass::Pass;
@@ -76,10 +77,11 @@ pub fn settle_by<P: Pass>(
 }
 
 /// Rewrites the graph by windows, where no pass before them has a candidate, or where they have none either by moves of
-/// chains. None where neither saves a word.
+/// chains. None where neither saves a word. A sweep of moves leaves out the blocks that were tried.
 fn rewrite_late(
     alloc: Global,
     graph: &mut Graph,
+    tried: &mut Names,
     savings: Savings,
 ) -> Result<Option<Savings>, Memory>
     requires canonical { IsCanonical graph.old.graph }
@@ -94,7 +96,7 @@ fn rewrite_late(
     if let Some(after) = rewrite_some(alloc, graph, &Windows, savings)? {
         return Ok(Some(after));
     }
-    move_some(alloc, graph, savings)
+    move_some(alloc, graph, tried, savings)
 }
 
 /// The sweeps that come first, where nothing was saved yet.
@@ -121,9 +123,10 @@ fn settle_from(alloc: Global, graph: &mut Graph, savings: Savings) -> Result<Sav
     ensures follows { Follows graph.old.graph graph.new.graph }
 {
     let mut saved = sweep_first(alloc, graph, savings)?;
+    let mut tried = Names::new(alloc);
     loop {
         let settled = settle_earlier(alloc, graph, saved)?;
-        let Some(after) = rewrite_late(alloc, graph, settled)? else {
+        let Some(after) = rewrite_late(alloc, graph, &mut tried, settled)? else {
             return Ok(settled);
         };
         saved = after;

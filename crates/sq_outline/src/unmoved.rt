@@ -6,7 +6,7 @@ ghost use Rattle.sq_graph.specs.Blocks.{HasBlock};
 use crate::groups::{block_print, procedure_prints};
 use crate::inline::{any_would_save, find_inline};
 use crate::seams::may_pay_at;
-use crate::ways::near_jumps;
+use crate::ways::{near_jumps, previous};
 use crate::windows::may_end_alike;
 use sq_graph::{Graph, Term};
 use sq_live::block_names;
@@ -25,22 +25,23 @@ struct Was {
 /// What there was before a chain moved.
 #[derive(Drop)]
 pub struct Unmoved {
-    blocks: Vec<Was>,
+    // The blocks at the three seams that the move makes.
+    seams: Vec<Was>,
     // The lone Jumps that stay though each Branch that leads by them reaches where they lead.
     near: Names,
     // Whether a procedure waits for Branches to reach.
     inlines: bool,
 }
 
-/// Whether another block of as many items has the print of this one.
-fn has_likeness(graph: &Graph, blocks: &[Was], block: u32) -> bool
+/// Whether another of these blocks has as many items and the print of this one.
+fn has_likeness(graph: &Graph, names: &[u32], block: u32) -> bool
     requires { HasBlock graph.now.graph block }
 {
     graph.learn();
     let count = graph.items(block).len();
     let print = block_print(graph, block);
-    for was in blocks {
-        let other = was.block;
+    for name in names {
+        let other = *name;
         if other != block
             && is_block(graph, other)
             && graph.items(other).len() == count
@@ -64,6 +65,43 @@ fn was_of(graph: &Graph, block: u32) -> Was
     }
 }
 
+/// The last block of the chain that begins at this one.
+fn end_of_chain(graph: &Graph, start: u32) -> u32 {
+    graph.learn();
+    let mut at = start;
+    for _slot in 0..u32::MAX {
+        if !is_block(graph, at) || !graph.term(at).goes_on() {
+            return at;
+        }
+        let Some(next) = graph.next(at) else {
+            return at;
+        };
+        at = next;
+    }
+    at
+}
+
+/// Where the block jumps to, if there is this one and it does.
+fn jump_target(graph: &Graph, block: u32) -> Option<u32> {
+    graph.learn();
+    if !is_block(graph, block) {
+        return None;
+    }
+    match graph.term(block) {
+        Term::Jump { to } => Some(to),
+        _ => None,
+    }
+}
+
+/// The block before this one, if there are both.
+fn before(graph: &Graph, block: u32) -> Option<u32> {
+    if is_block(graph, block) {
+        previous(graph, block)
+    } else {
+        None
+    }
+}
+
 /// A set of these names.
 fn set_of(alloc: Global, names: &[u32]) -> Result<Names, Memory> {
     let mut set = Names::new(alloc);
@@ -76,23 +114,51 @@ fn set_of(alloc: Global, names: &[u32]) -> Result<Names, Memory> {
 impl Unmoved {
     /// One look at each block of a graph in which no row has a candidate.
     pub fn look(alloc: Global, graph: &Graph) -> Result<Unmoved, Memory> {
-        graph.learn();
-        let names = block_names(alloc, graph)?;
-        let mut blocks = Vec::new(alloc);
-        for name in &names {
-            if is_block(graph, *name) {
-                blocks.push(was_of(graph, *name))?;
-            }
-        }
         Ok(Unmoved {
-            blocks,
+            seams: Vec::new(alloc),
             near: set_of(alloc, &near_jumps(alloc, graph)?)?,
             inlines: any_would_save(alloc, graph)?,
         })
     }
 
+    /// Takes note of a block, if there is this one.
+    fn note(&mut self, graph: &Graph, block: u32) -> Result<(), Memory> {
+        if is_block(graph, block) {
+            self.seams.push(was_of(graph, block))?;
+        }
+        Ok(())
+    }
+
+    /// Takes note of a block and the one behind it.
+    fn note_seam(&mut self, graph: &Graph, first: u32) -> Result<(), Memory> {
+        graph.learn();
+        if !is_block(graph, first) {
+            return Ok(());
+        }
+        self.note(graph, first)?;
+        match graph.next(first) {
+            Some(second) => self.note(graph, second),
+            None => Ok(()),
+        }
+    }
+
+    /// Takes note of the blocks at the seams that a chain leaves and makes if it moves behind this block: whether that jumps to one.
+    /// It looks at the chain.
+    pub fn begin(&mut self, graph: &Graph, from: u32) -> Result<bool, Memory> {
+        self.seams.clear();
+        let Some(to) = jump_target(graph, from) else {
+            return Ok(false);
+        };
+        self.note_seam(graph, from)?;
+        self.note_seam(graph, end_of_chain(graph, to))?;
+        if let Some(block) = before(graph, to) {
+            self.note_seam(graph, block)?;
+        }
+        Ok(true)
+    }
+
     /// The places at which a block that had so many items may have become one with others.
-    fn seams(
+    fn places(
         &self,
         alloc: Global,
         graph: &Graph,
@@ -103,14 +169,14 @@ impl Unmoved {
     {
         graph.learn();
         let now = graph.items(block).len();
-        let mut seams = Vec::new(alloc);
-        seams.push(count)?;
-        for was in &self.blocks {
+        let mut places = Vec::new(alloc);
+        places.push(count)?;
+        for was in &self.seams {
             if !is_block(graph, was.block) && was.count < now {
-                seams.push(now - was.count)?;
+                places.push(now - was.count)?;
             }
         }
-        Ok(seams)
+        Ok(places)
     }
 
     /// Whether a block that had so many items became one with others, and a row may have a candidate in it since.
@@ -127,14 +193,12 @@ impl Unmoved {
         if matches!(graph.term(block), Term::PartJump { .. }) {
             return Ok(true);
         }
+        let names = block_names(alloc, graph)?;
         let prints = procedure_prints(alloc, graph)?;
-        if prints.contains_key(&block_print(graph, block))
-            || has_likeness(graph, &self.blocks, block)
-        {
+        if prints.contains_key(&block_print(graph, block)) || has_likeness(graph, &names, block) {
             return Ok(true);
         }
-        let names = block_names(alloc, graph)?;
-        for seam in &self.seams(alloc, graph, block, count)? {
+        for seam in &self.places(alloc, graph, block, count)? {
             if may_pay_at(graph, &names, block, *seam) {
                 return Ok(true);
             }
@@ -171,9 +235,9 @@ impl Unmoved {
         Ok(more)
     }
 
-    /// Whether a row may have a candidate in one of the blocks since the move.
+    /// Whether a row may have a candidate in one of the blocks at the seams since the move.
     fn has_more_in_one(&self, alloc: Global, graph: &Graph) -> Result<bool, Memory> {
-        for was in &self.blocks {
+        for was in &self.seams {
             if self.has_more_at(alloc, graph, *was)? {
                 return Ok(true);
             }
@@ -181,24 +245,11 @@ impl Unmoved {
         Ok(false)
     }
 
-    /// Takes the blocks as they are now.
-    fn renew(&mut self, graph: &Graph) {
-        self.blocks.retain(|was| is_block(graph, was.block));
-        for at in 0..self.blocks.len() {
-            let block = self.blocks[at].block;
-            if is_block(graph, block) {
-                self.blocks[at] = was_of(graph, block);
-            }
-        }
-    }
-
     /// Whether a row may have a candidate since the chain moved, where none had one before. From then on the graph counts as
-    /// unmoved. It looks at each block a few times, and where blocks became one, at each word a few times.
+    /// unmoved. It looks at each Branch, and where blocks became one, at each word a few times.
     pub fn may_have_more(&mut self, alloc: Global, graph: &Graph) -> Result<bool, Memory> {
-        let more = self.has_more_near(alloc, graph)?
+        Ok(self.has_more_near(alloc, graph)?
             || self.inlines && find_inline(alloc, graph)?.is_some()
-            || self.has_more_in_one(alloc, graph)?;
-        self.renew(graph);
-        Ok(more)
+            || self.has_more_in_one(alloc, graph)?)
     }
 }

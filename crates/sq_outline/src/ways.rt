@@ -25,7 +25,7 @@ struct Way {
 }
 
 /// The block before this one, if there is one.
-fn previous(graph: &Graph, block: u32) -> Option<u32>
+pub(crate) fn previous(graph: &Graph, block: u32) -> Option<u32>
     requires { HasBlock graph.now.graph block }
 {
     graph.links().previous(block)

@@ -10,6 +10,7 @@ use crate::texts::names_of;
 use sq_chain::{movable, move_once, try_move, widen};
 use sq_drive::sweep_moves;
 use sq_graph::Graph;
+use sq_lookup::Names;
 use sq_num::{Memory, Savings};
 use std::alloc::Global;
 
@@ -74,5 +75,6 @@ pub fn chain_text(alloc: Global, graph: &mut Graph, verb: &str) -> Result<String
     if verb == "moves" {
         return rewrite_text(alloc, move_once(alloc, graph)?);
     }
-    savings_text(alloc, &sweep_moves(alloc, graph, Savings::NONE)?)
+    let mut tried = Names::new(alloc);
+    savings_text(alloc, &sweep_moves(alloc, graph, &mut tried, Savings::NONE)?)
 }

@@ -16,6 +16,9 @@ loop-name-init g c = record {
   room = c.in_ok-view.ensures.room;
 }
 
+pub returns-in_err-wants-clause-follows : goal.returns-in_err-wants-clause-follows
+returns-in_err-wants-clause-follows g c = c.loop-name.invariant.rewritten.lighter.follows
+
 pub returns-in_err-next-clause-follows : goal.returns-in_err-next-clause-follows
 returns-in_err-next-clause-follows g c = graph_follows_through c.args.graph.now.graph c.loop-name.graph.graph c.sweep_behind.new.graph.graph c.loop-name.invariant.rewritten.lighter.follows c.sweep_behind.ensures.follows
 
