@@ -19,6 +19,8 @@ KIND is one of:
     tables     1,000 relocation sections over one table of COUNT entries
     nearby     COUNT branches to a lone jump of their own, whose target comes near only once others' words went
     nearinvert COUNT branches over a lone jump, whose target comes near only once others' words went
+    once       COUNT procedures that a note lists, each called once: row O4 puts their bodies in place
+    doubles    COUNT procedures that a note lists, with equal bodies, each called twice: row O3 leaves one of them
 
 The text has at most 262,144 words, or Squeeze refuses it. Each kind ends with an exit, which every way through it reaches.
 """
@@ -29,7 +31,8 @@ import sys
 
 BASE, DATA = 0x10000, 0x200000
 WORD, BRANCH, JAL, CALL = 1, 16, 17, 19  # types of relocations
-A0, A1, A2, A7, RA = 10, 11, 12, 17, 1
+A0, A1, A2, A7, RA, T0 = 10, 11, 12, 17, 1, 5
+NOTE, VERSION = 0x80515A31, 0x325A5153  # of a note: the type of its section, and its first word
 
 
 def addi(rd, rs, number):
@@ -51,6 +54,7 @@ class Program:
 
     def __init__(self):
         self.text, self.data, self.places, self.jumps, self.words = [], [], {}, [], []
+        self.procedures = []  # those that a note lists: a name, a link and how many items
 
     def mark(self, name):
         self.places[name] = len(self.text)
@@ -107,13 +111,22 @@ def relocations(entries):
     return b"".join(struct.pack("<3I", at, 1 << 8 | kind, place) for at, kind, place in entries)
 
 
+def note(program):
+    """The section that lists procedures, if there are any: its version, how many there are, and of each its address, its link
+    and how many items it has."""
+    if not program.procedures:
+        return b""
+    entries = [(BASE + 4 * program.places[name], link, items) for name, link, items in program.procedures]
+    return packed([VERSION, len(entries), *[word for entry in entries for word in entry]])
+
+
 def elf(program, copies):
     """The file, in which so many sections have the relocations of the text."""
     of_text, of_data = map(relocations, program.resolve())
     text, data = packed(program.text), packed(program.data)
     symbols = bytes(16) + struct.pack("<3I2BH", 0, BASE, 0, 3, 0, 1)
     names = b"\0"
-    bodies = [text, data, of_text, of_data, symbols, names]
+    bodies = [text, data, of_text, of_data, symbols, names, note(program)]
     starts, end = [], 52 + 2 * 32
     for body in bodies:
         starts.append(end)
@@ -128,8 +141,10 @@ def elf(program, copies):
         *[(0, 4, 0, 0, starts[2], len(of_text), 3, 1, 4, 12)] * copies,
         (0, 3, 0, 0, starts[5], len(names), 0, 0, 1, 0),
     ]
+    if program.procedures:
+        head.append((0, NOTE, 0, 0, starts[6], len(bodies[6]), 0, 0, 4, 0))
     ident = b"\x7fELF\1\1\1" + bytes(9)
-    header = ident + struct.pack("<2H5I6H", 2, 243, 1, BASE, 52, end, 0, 52, 32, 2, 40, len(head), len(head) - 1)
+    header = ident + struct.pack("<2H5I6H", 2, 243, 1, BASE, 52, end, 0, 52, 32, 2, 40, len(head), 5 + copies)
     segments = struct.pack("<8I", 1, starts[0], BASE, BASE, len(text), len(text), 5, 4)
     segments += struct.pack("<8I", 1, starts[1], DATA, DATA, len(data), len(data), 6, 4)
     padded = b"".join(body + bytes(-len(body) % 4) for body in bodies)
@@ -284,6 +299,27 @@ def tables(p, count):
         p.jump(number + 1 if number + 1 < count else "exit")
 
 
+def procedures(p, count, calls, body):
+    """So many calls of each, and behind the exit the procedures."""
+    for number in range(count):
+        for _ in range(calls):
+            p.jump(("procedure", number), T0)
+    p.jump("exit")
+    for number in range(count):
+        p.mark(("procedure", number))
+        items = body(number)
+        p.items(*items, T0 << 15 | 0x67)
+        p.procedures.append((("procedure", number), T0, len(items)))
+
+
+def once(p, count):
+    procedures(p, count, 1, lambda number: [addi(A2, A2, number % 2047 + 1), addi(A1, A1, number // 2047 + 1)])
+
+
+def doubles(p, count):
+    procedures(p, count, 2, lambda _: [addi(A2, A2, 1), addi(A1, A1, 1), addi(A2, A2, 3), addi(A1, A1, 5)])
+
+
 # what makes each kind, and how many words of text one of COUNT has
 KINDS = {
     "chain": (chain, 1),
@@ -301,6 +337,8 @@ KINDS = {
     "tables": (tables, 1),
     "nearby": (nearby, 7),
     "nearinvert": (nearinvert, 8),
+    "once": (once, 4),
+    "doubles": (doubles, 7),
 }
 
 
