@@ -1,13 +1,13 @@
 //! The pass of all rows that passes have.
 
-ghost use Rattle.std.specs.Prelude.{◌≡◌, ◌≤◌, ◌+◌, None, Ok, IfOk, IfSome, OnOk, OnErr};
+ghost use Rattle.std.specs.Prelude.{◌≡◌, ◌≤◌, ◌<◌, ◌+◌, None, Ok, IfOk, IfSome, OnOk};
 ghost use Rattle.sq_num.specs.Saved.{words_saved};
 ghost use Rattle.sq_graph.specs.Leaders.{IsCanonical};
 ghost use Rattle.sq_graph.specs.Words.{words_of, most_words};
 ghost use Rattle.law_follow.specs.Follows.{Follows};
 ghost use Rattle.sq_live.specs.Liveness.{IsLivenessOf};
 ghost use Rattle.sq_pass.specs.declared.cut.Cut.{Cut as Told};
-ghost use Rattle.sq_pass.specs.Rewrites.{IsRewrite, IsRewritten, IsLighter};
+ghost use Rattle.sq_pass.specs.Rewrites.{IsRewritten};
 ghost use Rattle.sq_drive.specs.Rows.{pass_of, IsEarlierCandidate, IsRowCandidate, row_described};
 
 use crate::once::rewrite_by_cut;
@@ -17,7 +17,7 @@ use sq_layout::words_of;
 use sq_live::{Liveness, live};
 use sq_num::{Memory, Savings};
 use sq_outline::{Outlines, Windows};
-use sq_pass::{Cut, Pass, Rewrite, Row};
+use sq_pass::{Cut, Pass, Row};
 use sq_tail::Tails;
 use std::alloc::Global;
 
@@ -68,6 +68,15 @@ pub(crate) fn find_earlier(
     Outlines.find(alloc, graph, live)
 }
 
+/// The same, by its own look for live registers.
+fn look_earlier(alloc: Global, graph: &Graph) -> Result<Option<Cut>, Memory>
+    ensures some { IfOk result (λ found. IfSome found (λ cut. IsRowCandidate graph.now.graph cut)) }
+    ensures none { result ≡ Ok None → (cut : Told) → ¬ IsEarlierCandidate graph.now.graph cut }
+{
+    let live = live(alloc, graph)?;
+    find_earlier(alloc, graph, &live)
+}
+
 /// The sweeps of the passes that come before windows, one after another.
 fn sweep_earlier(alloc: Global, graph: &mut Graph, savings: Savings) -> Result<Savings, Memory>
     requires canonical { IsCanonical graph.old.graph }
@@ -80,56 +89,17 @@ fn sweep_earlier(alloc: Global, graph: &mut Graph, savings: Savings) -> Result<S
     Outlines.sweep(alloc, graph, after_tails)
 }
 
-/// A sweep that saves more words than this is followed by another one before windows are asked.
+/// Behind a sweep that saves no more words than this, candidates are taken one by one.
 const FEW: u32 = 16;
 
-/// Sweeps by the passes that come before windows, until one saves few words.
-pub(crate) fn sweep_often(
-    alloc: Global,
-    graph: &mut Graph,
-    savings: Savings,
-) -> Result<Savings, Memory>
-    requires canonical { IsCanonical graph.old.graph }
-    requires words { words_of graph.old.graph + words_saved savings ≤ most_words }
-    ensures rewritten { IfOk result (λ after. IsRewritten IsRowCandidate row_described savings after graph.old.graph graph.new.graph) }
-    ensures follows { Follows graph.old.graph graph.new.graph }
-{
-    let mut saved = savings;
-    loop {
-        let before = words_of(graph);
-        saved = sweep_earlier(alloc, graph, saved)?;
-        if before - words_of(graph) <= FEW {
-            return Ok(saved);
-        }
-    }
-}
-
-/// Rewrites the graph by one candidate of the passes that come before windows, as `rewrite_once` does.
-fn rewrite_earlier(alloc: Global, graph: &mut Graph) -> Result<Option<Rewrite>, Memory>
-    requires canonical { IsCanonical graph.old.graph }
-    requires words { words_of graph.old.graph ≤ most_words }
-    ensures some { IfOk result (λ done. IfSome done (λ rewrite. IsRewrite IsRowCandidate row_described rewrite graph.old.graph graph.new.graph)) }
-    ensures lighter { IfOk result (λ done. IfSome done (λ rewrite. IsLighter rewrite.saving graph.old.graph graph.new.graph)) }
-    ensures saves { IfOk result (λ done. IfSome done (λ rewrite. 1 ≤ rewrite.saving)) }
-    ensures none { result ≡ Ok None → graph.new.graph ≡ graph.old.graph }
-    ensures left { result ≡ Ok None → (cut : Told) → ¬ IsEarlierCandidate graph.old.graph cut }
-    ensures kept { OnErr result (graph.new.graph ≡ graph.old.graph) }
-{
-    let live = live(alloc, graph)?;
-    let Some(cut) = find_earlier(alloc, graph, &live)? else {
-        return Ok(None);
-    };
-    Ok(Some(rewrite_by_cut(graph, &AllRows, &cut)?))
-}
-
-/// Behind so many looks for one candidate each comes a sweep.
+/// So many are taken before there is a sweep again.
 const LOOKS: u32 = 8;
 
-/// The sweeps, where so many looks came since the last ones.
-fn sweep_at_times(
+/// The sweeps, where no more candidates are to be taken one by one.
+fn sweep_in_turn(
     alloc: Global,
     graph: &mut Graph,
-    looks: u32,
+    looks: &mut u32,
     savings: Savings,
 ) -> Result<Savings, Memory>
     requires canonical { IsCanonical graph.old.graph }
@@ -137,17 +107,52 @@ fn sweep_at_times(
     ensures rewritten { IfOk result (λ after. IsRewritten IsRowCandidate row_described savings after graph.old.graph graph.new.graph) }
     ensures follows { Follows graph.old.graph graph.new.graph }
 {
-    if looks % LOOKS == 0 {
-        return sweep_earlier(alloc, graph, savings);
+    if *looks > 0 {
+        *looks -= 1;
+        return Ok(savings);
     }
-    Ok(savings)
+    let before = words_of(graph);
+    let after = sweep_earlier(alloc, graph, savings)?;
+    if before - words_of(graph) <= FEW {
+        *looks = LOOKS;
+    }
+    Ok(after)
 }
 
-/// Rewrites the graph by candidates of the passes that come before windows until they have none: each by a look of its own,
-/// and at times many by a sweep. So few looks find what a sweep left.
+/// Rewrites the graph by sweeps of the passes that come before windows, or by one candidate of theirs. None where they have
+/// none: it looks at the whole graph.
+fn rewrite_earlier(
+    alloc: Global,
+    graph: &mut Graph,
+    looks: &mut u32,
+    savings: Savings,
+) -> Result<Option<Savings>, Memory>
+    requires canonical { IsCanonical graph.old.graph }
+    requires words { words_of graph.old.graph + words_saved savings ≤ most_words }
+    ensures rewritten { IfOk result (λ done. IfSome done (λ after. IsRewritten IsRowCandidate row_described savings after graph.old.graph graph.new.graph)) }
+    ensures fewer { IfOk result (λ done. IfSome done (λ after. words_of graph.new.graph < words_of graph.old.graph)) }
+    ensures none { result ≡ Ok None → graph.new.graph ≡ graph.old.graph }
+    ensures left { result ≡ Ok None → (cut : Told) → ¬ IsEarlierCandidate graph.old.graph cut }
+    ensures follows { Follows graph.old.graph graph.new.graph }
+{
+    let Some(cut) = look_earlier(alloc, graph)? else {
+        return Ok(None);
+    };
+    let before = words_of(graph);
+    let after = sweep_in_turn(alloc, graph, looks, savings)?;
+    if words_of(graph) < before {
+        return Ok(Some(after));
+    }
+    let done = rewrite_by_cut(graph, &AllRows, &cut)?;
+    Ok(Some(done.count(after)))
+}
+
+/// Rewrites the graph by candidates of the passes that come before windows until they have none: many by a sweep, and where
+/// one saves few words the next ones by a look each.
 pub(crate) fn settle_earlier(
     alloc: Global,
     graph: &mut Graph,
+    looks: &mut u32,
     savings: Savings,
 ) -> Result<Savings, Memory>
     requires canonical { IsCanonical graph.old.graph }
@@ -157,13 +162,11 @@ pub(crate) fn settle_earlier(
     ensures follows { Follows graph.old.graph graph.new.graph }
 {
     let mut saved = savings;
-    let mut looks: u32 = 0;
     loop {
-        let Some(done) = rewrite_earlier(alloc, graph)? else {
+        let Some(after) = rewrite_earlier(alloc, graph, looks, saved)? else {
             return Ok(saved);
         };
-        looks = looks.wrapping_add(1);
-        saved = sweep_at_times(alloc, graph, looks, done.count(saved))?;
+        saved = after;
     }
 }
 
@@ -225,9 +228,8 @@ impl Pass for AllRows {
 
     /// Windows are swept only where no row before them has a candidate.
     fn sweep(&self, alloc: Global, graph: &mut Graph, savings: Savings) -> Result<Savings, Memory> {
-        let swept = sweep_often(alloc, graph, savings)?;
-        let live = live(alloc, graph)?;
-        if find_earlier(alloc, graph, &live)?.is_some() {
+        let swept = sweep_earlier(alloc, graph, savings)?;
+        if look_earlier(alloc, graph)?.is_some() {
             return Ok(swept);
         }
         Windows.sweep(alloc, graph, swept)

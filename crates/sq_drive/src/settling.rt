@@ -11,11 +11,11 @@ ghost use Rattle.sq_pass.specs.Rewrites.{IsRewritten};
 ghost use Rattle.sq_chain.specs.Moves.{IsStill};
 ghost use Rattle.sq_chain.specs.Candidates.{IsCandidate as IsMove};
 ghost use Rattle.sq_drive.specs.declared.rows.RowPass.TheVariants.{Windows as WindowsPass};
-ghost use Rattle.sq_drive.specs.Rows.{IsCandidateOf, IsRowCandidate, row_described, IsCandidate, described, IsLeftoverFree};
+ghost use Rattle.sq_drive.specs.Rows.{IsCandidateOf, IsCandidate, described, IsLeftoverFree};
 
 use crate::chains::move_some;
 use crate::once::{find_one, rewrite_by_cut};
-use crate::rows::{settle_earlier, sweep_often};
+use crate::rows::settle_earlier;
 use sq_graph::Graph;
 use sq_layout::words_of;
 use sq_lookup::Names;
@@ -99,19 +99,6 @@ fn rewrite_late(
     move_some(alloc, graph, tried, savings)
 }
 
-/// The sweeps that come first, where nothing was saved yet.
-fn sweep_first(alloc: Global, graph: &mut Graph, savings: Savings) -> Result<Savings, Memory>
-    requires canonical { IsCanonical graph.old.graph }
-    requires words { words_of graph.old.graph + words_saved savings ≤ most_words }
-    ensures rewritten { IfOk result (λ after. IsRewritten IsRowCandidate row_described savings after graph.old.graph graph.new.graph) }
-    ensures follows { Follows graph.old.graph graph.new.graph }
-{
-    if savings == Savings::NONE {
-        return sweep_often(alloc, graph, savings);
-    }
-    Ok(savings)
-}
-
 /// Rewrites the graph by all rows until none has a candidate, and answers the savings with what each row saved. Windows are
 /// asked only where no row before them has a candidate, and chains move only where no other row has one. Where it finds no
 /// memory, the graph is left as the rewrites made it so far.
@@ -122,10 +109,11 @@ fn settle_from(alloc: Global, graph: &mut Graph, savings: Savings) -> Result<Sav
     ensures left { OnOk result (IsLeftoverFree graph.new.graph) }
     ensures follows { Follows graph.old.graph graph.new.graph }
 {
-    let mut saved = sweep_first(alloc, graph, savings)?;
+    let mut saved = savings;
+    let mut looks = 0;
     let mut tried = Names::new(alloc);
     loop {
-        let settled = settle_earlier(alloc, graph, saved)?;
+        let settled = settle_earlier(alloc, graph, &mut looks, saved)?;
         let Some(after) = rewrite_late(alloc, graph, &mut tried, settled)? else {
             return Ok(settled);
         };

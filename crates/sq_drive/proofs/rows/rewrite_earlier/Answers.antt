@@ -1,5 +1,32 @@
-use Rattle.std.proofs.Common.{Ok, ap, ◌∙◌}
+use Rattle.std.proofs.Common.{Ok, ap, ◌∙◌, sym, subst, arith}
+use Rattle.sq_graph.specs.Graph.{Graph}
+use Rattle.law_follow.proofs.Following.{graph_follows_itself}
+use Rattle.sq_pass.proofs.Rewriting.{rewritten_on}
+use Rattle.sq_drive.specs.Rows.{IsRowCandidate, row_described, row_saves}
+use Rattle.sq_drive.proofs.Steps.{none_swept}
 use Rattle.sq_drive.proofs.rows.rewrite_earlier.Goals as goal
 
+pub returns-in_err-cut-clause-follows : goal.returns-in_err-cut-clause-follows
+returns-in_err-cut-clause-follows c = graph_follows_itself c.args.graph.now.graph
+
+pub returns-in_default-clause-follows : goal.returns-in_default-clause-follows
+returns-in_default-clause-follows c = graph_follows_itself c.args.graph.now.graph
+
 pub returns-in_default-clause-left : goal.returns-in_default-clause-left
-returns-in_default-clause-left c = λ _. c.find_earlier.ensures.none (c.in_ok-cut.was ∙ ap Ok c.in_default.is)
+returns-in_default-clause-left c = λ _. c.look_earlier.ensures.none (c.in_ok-cut.was ∙ ap Ok c.in_default.is)
+
+-- sweeps that saved nothing left the graph as it was
+pub rewrite_by_cut-requires-clause-candidate : goal.rewrite_by_cut-requires-clause-candidate
+rewrite_by_cut-requires-clause-candidate c =
+    subst (λ (h : Graph). IsRowCandidate h c.in-Some.cut)
+    (sym (none_swept IsRowCandidate row_described c.args.savings c.in_ok-after.after c.args.graph.now.graph c.sweep_in_turn.new.graph.graph
+    c.in_ok-after.ensures.rewritten row_saves (let few = c.if-words_of-before.false in omega (arith, few))))
+    (rw c.in-Some.is at c.in_ok-cut.ensures.some)
+
+pub returns-clause-rewritten : goal.returns-clause-rewritten
+returns-clause-rewritten c =
+    rewritten_on IsRowCandidate row_described c.args.savings c.in_ok-after.after c.count.result c.in_ok-done.done c.args.graph.now.graph c.sweep_in_turn.new.graph.graph c.rewrite_by_cut.new.graph.graph
+    c.in_ok-after.ensures.rewritten c.in_ok-done.ensures.made c.in_ok-done.ensures.lighter c.count.ensures.value
+
+pub returns-clause-follows : goal.returns-clause-follows
+returns-clause-follows c = (returns-clause-rewritten c).lighter.follows

@@ -3,14 +3,14 @@ use Rattle.sq_graph.specs.Graph.{Graph}
 use Rattle.law_follow.specs.Follows.{Follows}
 use Rattle.law_follow.proofs.Following.{graph_follows_through}
 use Rattle.sq_pass.specs.Rewrites.{IsRewritten}
-use Rattle.sq_pass.proofs.Rewriting.{rewritten_through}
+use Rattle.sq_pass.proofs.Rewriting.{rewritten_itself, rewritten_through}
 use Rattle.sq_drive.specs.Rows.{IsCandidate, described, IsLeftoverFree}
 use Rattle.sq_drive.proofs.Moves.{by_rows, none_left}
 use Rattle.sq_drive.proofs.RowPasses.{none_of_rows}
 use Rattle.sq_drive.proofs.settling.settle_from.Goals as goal
 
 pub loop-settled-init : goal.loop-settled-init
-loop-settled-init c = by_rows c.args.savings c.in_ok-saved.saved c.args.graph.now.graph c.sweep_first.new.graph.graph c.in_ok-saved.ensures.rewritten
+loop-settled-init c = rewritten_itself IsCandidate described c.args.savings c.args.graph.now.graph c.requires.canonical
 
 pub loop-settled-preserved : goal.loop-settled-preserved
 loop-settled-preserved c =

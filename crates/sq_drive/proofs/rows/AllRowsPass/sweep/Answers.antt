@@ -6,8 +6,8 @@ use Rattle.sq_drive.proofs.rows.AllRowsPass.sweep.Goals as goal
 
 pub returns-clause-follows : goal.returns-clause-follows
 returns-clause-follows c =
-    graph_follows_through c.args.graph.now.graph c.sweep_often.new.graph.graph _ c.in_ok-swept.ensures.follows c.sweep.ensures.follows
+    graph_follows_through c.args.graph.now.graph c.sweep_earlier.new.graph.graph _ c.in_ok-swept.ensures.follows c.sweep.ensures.follows
 
 pub returns-clause-rewritten : goal.returns-clause-rewritten
 returns-clause-rewritten c =
-    swept_last Windows c.args.savings c.in_ok-swept.swept c.args.graph.now.graph c.sweep_often.new.graph.graph _ c.sweep.result c.in_ok-swept.ensures.rewritten c.sweep.ensures.rewritten
+    swept_last Windows c.args.savings c.in_ok-swept.swept c.args.graph.now.graph c.sweep_earlier.new.graph.graph _ c.sweep.result c.in_ok-swept.ensures.rewritten c.sweep.ensures.rewritten
