@@ -30,7 +30,7 @@ pub fn written(alloc: Global, file: &[u8]) -> Result<Vec<u8>, Denied> {
     let relocs = read_relocs(alloc, &elf)?;
     let graph = lift(alloc, &elf, &relocs)?;
     let places = place(alloc, &graph, elf.text().lo)?;
-    Ok(write_elf(alloc, &elf, &relocs, &graph, &places)?)
+    Ok(write_elf(alloc, &elf, &graph, &places)?)
 }
 
 /// Whether the graph has a block of this name.
