@@ -19,7 +19,7 @@ use Rattle.sq_graph.proofs.Slotting.{positions_apart, slotted_alike}
 use Rattle.sq_graph.specs.Rules.{IsGraph}
 use Rattle.sq_graph.specs.Renames.{retargeted_item, retargeted_items, retargeted_procedure, renamed_block, renamed}
 use Rattle.sq_graph.specs.declared.parts.Room.{Room}
-use Rattle.sq_graph.specs.Room.{IsSmall, Covers, count_of, sum_of}
+use Rattle.sq_graph.specs.Room.{IsSmall, Covers, count_of}
 use Rattle.sq_graph.specs.Words.{block_words, procedure_words, words_of}
 use Rattle.law_program.specs.Programs.{Word, Text, Note, Program}
 use Rattle.law_program.specs.Notes.{used_notes}
@@ -34,13 +34,16 @@ use Rattle.sq_lift.specs.Cuts.{starts}
 use Rattle.sq_lift.proofs.Cutting.{names_are}
 use Rattle.law_lifting.specs.Lifting.{IsReadable}
 use Rattle.sq_lifted.specs.Files.{IsLinkedProgram}
-use Rattle.sq_lifted.specs.LiftedFiles.{room_for}
 use Rattle.sq_lifted.proofs.Graphs.{is_graph}
 use Rattle.sq_lifted.proofs.Counting.{words_fit}
 use Rattle.sq_lifted.proofs.Files.{files_linked}
 use Rattle.sq_lifted.proofs.FileWorlds.{early_readable}
 
 -- HOW MUCH IT HAS
+
+-- as many blocks, items and procedures as text has words
+abbrev room_for : Text → Room
+room_for t = record { blocks = length t.words; items = length t.words; procedures = length t.words }
 
 items_count : (bs : List Block) → length (items_of_blocks bs) ≤ sum_by block_words bs
 items_count [] = omega arith
@@ -103,13 +106,6 @@ small_count t count short few = record {
   procedures = let h = few.procedures in omega (arith, h, short);
 }
 
-small_sum : (t : Text) (count : Room) → 4 * length t.words ≤ 2 ^ 20 → Covers (room_for t) count → IsSmall (sum_of count (room_for t))
-small_sum t count short few = record {
-  blocks = let h = few.blocks in omega (arith, h, short);
-  items = let h = few.items in omega (arith, h, short);
-  procedures = let h = few.procedures in omega (arith, h, short);
-}
-
 -- ITS PARTS
 
 module _ (bytes : List ℕ) (is : ℕ → Bool) (p : Program) (fit : AllByRecursion (λ b. b < 256) bytes) (read : IsReadAs bytes is p) (early : early_refusal bytes is p ≡ None) where
@@ -135,11 +131,6 @@ module _ (bytes : List ℕ) (is : ℕ → Bool) (p : Program) (fit : AllByRecurs
 
   pub part_count : IsSmall (count_of (slotted g))
   part_count = small_count p.text (count_of (slotted g)) linked.short.short (few (position_in (names_of g)))
-
-  pub room_left : (made : Graph) → AreAlike g made → IsSmall (sum_of (count_of made) (room_for p.text))
-  room_left made alike =
-      subst (λ (g : Graph). IsSmall (sum_of (count_of g) (room_for p.text))) (sym alike.is)
-      (small_sum p.text (count_of (renamed alike.name g)) linked.short.short (few alike.name))
 
 -- THE PROGRAM AS THE CODE NAMES ITS PARTS
 

@@ -7,15 +7,13 @@ use Rattle.sq_num.specs.declared.refusal.Denied.TheVariants.{Refused, Memory}
 use Rattle.sq_elf.specs.Headers.{entry_of}
 use Rattle.sq_reloc.specs.declared.mark.CodeWord.{CodeWord}
 use Rattle.sq_graph.specs.Graph.{Graph}
-use Rattle.sq_graph.specs.declared.parts.Room.{Room}
-use Rattle.sq_graph.specs.Room.{IsSmall, Covers, count_of, sum_of}
 use Rattle.sq_graph.specs.Rules.{IsGraph}
 use Rattle.law_program.specs.Programs.{Text, Note, Program}
 use Rattle.law_program.specs.Reached.{Decides}
 use Rattle.law_program.specs.Notes.{used_notes}
 use Rattle.law_program.specs.Lifted.{lifted}
 use Rattle.sq_graph.specs.Alike.{AreAlike}
-use Rattle.law_program.specs.FilePrograms.{text_of, early_refusal, IsProgramOf, IsReadAs, IsFirstAlive, IsLiftRefusal}
+use Rattle.law_program.specs.FilePrograms.{early_refusal, IsProgramOf, IsReadAs, IsFirstAlive, IsLiftRefusal}
 use Rattle.law_program.specs.FilePrograms.IsLiftRefusal.{early, alive}
 use Rattle.sq_lift.specs.Flags.{Flags, is_flagged}
 use Rattle.sq_lift.specs.Refused.{IsEarlyRefusal}
@@ -23,9 +21,9 @@ use Rattle.sq_lift.proofs.FilePrograms.{one_program, same_test}
 use Rattle.sq_lift.proofs.NoteRefusals.{one_early}
 use Rattle.law_lifting.specs.Lifting.{IsReadable}
 use Rattle.sq_lifted.specs.LiveLinks.{IsFirstLive}
-use Rattle.sq_lifted.specs.LiftedFiles.{IsLiftedFile, IsRefusedFile, room_for}
+use Rattle.sq_lifted.specs.LiftedFiles.{IsLiftedFile, IsRefusedFile}
 use Rattle.sq_lifted.proofs.FileWorlds.{early_readable}
-use Rattle.sq_lifted.proofs.EarlyGraphs.{IsFoundNoted, seen, seen_read, seen_early, rules, room_left}
+use Rattle.sq_lifted.proofs.EarlyGraphs.{IsFoundNoted, seen, seen_read, seen_early, rules}
 use Rattle.sq_lifted.proofs.Alive.{in_range, procedures_count, no_first, a_first, one_first}
 
 -- a file has one program, and one test decides its reached words
@@ -80,12 +78,6 @@ module _ (bytes : List ℕ) (t : Text) (f : Flags) (notes : List Note) (words : 
 
   like : AreAlike (lifted (is_flagged f) p) made
   like = alike p read.program
-
-  pub room_fits : IsSmall (sum_of (count_of made) (room_for t))
-  room_fits = room_left bytes (is_flagged f) p here.fit read fine made like
-
-  pub room_covers : (spare : Room) → Covers spare (room_for t) → Covers spare (room_for (text_of bytes))
-  room_covers spare covers = subst (λ t. Covers spare (room_for t)) here.noted.text covers
 
   pub procedures_are : length made.procedures ≡ length (used_notes (is_flagged f) notes)
   procedures_are = procedures_count (is_flagged f) p readable good made like

@@ -1,11 +1,10 @@
 -- What `lift` gives for a file.
-use Rattle.std.specs.Prelude.{◌≡◌, ℕ, ◌+◌, ◌*◌, ◌<◌, ◌≤◌, Bool, List, length, IsSome}
+use Rattle.std.specs.Prelude.{◌≡◌, ℕ, ◌+◌, ◌*◌, ◌<◌, ◌≤◌, Bool, List, IsSome}
 use Rattle.std.specs.List.{All, AllByRecursion}
 use Rattle.law_runs.specs.Runs.{IsUnbroken}
 use Rattle.law_runs.specs.Follows.{LeadsTo}
 use Rattle.sq_num.specs.declared.refusal.Refusal.{Refusal}
 use Rattle.sq_system.specs.Starts.{Start}
-use Rattle.sq_graph.specs.declared.parts.Room.{Room}
 use Rattle.sq_elf.specs.Text.{text_of}
 use Rattle.sq_reloc.specs.Outside.{code_word_at}
 use Rattle.sq_graph.specs.Graph.{Graph}
@@ -14,7 +13,7 @@ use Rattle.sq_graph.specs.Soundness.{IsSound}
 use Rattle.sq_graph.specs.Words.{words_of}
 use Rattle.sq_graph.specs.Places.{IsInReach}
 use Rattle.sq_graph.specs.Slotted.{slotted}
-use Rattle.law_program.specs.Programs.{Text, Program}
+use Rattle.law_program.specs.Programs.{Program}
 use Rattle.law_follow.specs.Follows.{graph_run}
 use Rattle.law_program.specs.FilePrograms.{IsProgramOf, IsLiftRefusal, IsLiftedFrom, IsRefusalOf, IsAcceptedFile}
 use Rattle.law_program.specs.FileRuns.{world_of, IsUnbrokenRun}
@@ -59,10 +58,6 @@ abbrev pub ShowsFile : List ℕ → Graph → Type 0
 ShowsFile bytes g =
     (p : Program) → IsProgramOf bytes p → (start : Start) (n : ℕ) → IsUnbrokenRun bytes p start n
     → IsUnbroken (graph_run (world_of bytes p) g start n) × (graph_run (world_of bytes p) g start n ≡ file_trace bytes start n)
-
--- room for as many blocks, items and procedures as text has words
-abbrev pub room_for : Text → Room
-room_for t = record { blocks = length t.words; items = length t.words; procedures = length t.words }
 
 -- A file of which nothing is refused has no refusal.
 abbrev pub AcceptedIsNotRefused : Type 0

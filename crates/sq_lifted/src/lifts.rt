@@ -5,16 +5,15 @@ ghost use Rattle.std.specs.List.{AllByRecursion};
 ghost use Rattle.law_program.specs.Programs.{Program as FileProgram};
 ghost use Rattle.law_program.specs.Lifted.{lifted};
 ghost use Rattle.sq_graph.specs.Slotted.{slotted, IsSlotted};
-ghost use Rattle.sq_graph.specs.Room.{Covers};
-ghost use Rattle.law_program.specs.FilePrograms.{text_of, IsProgramOf};
+ghost use Rattle.law_program.specs.FilePrograms.{IsProgramOf};
 ghost use Rattle.sq_lift.specs.Flags.{is_flagged};
 ghost use Rattle.sq_lift.specs.Refused.{IsReadNoted};
-ghost use Rattle.sq_lifted.specs.LiftedFiles.{IsLiftedFile, IsRefusedFile, FitsFile, KeepsRunsOf, ShowsFile, room_for};
+ghost use Rattle.sq_lifted.specs.LiftedFiles.{IsLiftedFile, IsRefusedFile, FitsFile, KeepsRunsOf, ShowsFile};
 
 use crate::live_links::first_live;
 use sq_elf::Elf;
-use sq_graph::{Graph, Room};
-use sq_lift::{NotedProgram, Text, parts_of, read_noted};
+use sq_graph::Graph;
+use sq_lift::{NotedProgram, parts_of, read_noted};
 use sq_num::{Denied, Memory, Refusal, bytes_fit};
 use sq_reloc::Relocs;
 use std::alloc::Global;
@@ -42,19 +41,8 @@ fn early_graph(
     Ok(graph)
 }
 
-/// Room for as many blocks, items and procedures as text has words.
-fn text_room(text: &Text) -> Room
-    ensures { result ≡ room_for text.now }
-{
-    let count = text.words().len() as u32;
-    Room {
-        blocks: count,
-        items: count,
-        procedures: count,
-    }
-}
-
-/// The graph of the file, whose blocks are named by their positions, with room for as much again as its text has words, or its refusal: by its text, or by the first entry of its note that is not as it is to be.
+/// The graph of the file, whose blocks are named by their positions, or its refusal: by its text, or by the first entry of
+/// its note that is not as it is to be.
 pub fn lift(alloc: Global, elf: &Elf<'_>, relocs: &Relocs<'_>) -> Result<Graph, Denied>
     requires { relocs.now ≡ elf.now }
     ensures lifted { IfOk result (λ graph. IsLiftedFile elf.now graph.graph) }
@@ -62,7 +50,6 @@ pub fn lift(alloc: Global, elf: &Elf<'_>, relocs: &Relocs<'_>) -> Result<Graph, 
     ensures runs { IfOk result (λ graph. KeepsRunsOf elf.now graph.graph) }
     ensures shows { IfOk result (λ graph. ShowsFile elf.now graph.graph) }
     ensures fits { IfOk result (λ graph. FitsFile elf.now graph.graph) }
-    ensures spare { IfOk result (λ graph. Covers graph.spare (room_for (text_of elf.now))) }
     ensures refused { (refusal : Refusal) → result ≡ Err (Denied.Refused refusal) → IsRefusedFile elf.now refusal }
     ensures exact { (refusal : Refusal) → IsRefusedFile elf.now refusal → (result ≡ Err (Denied.Refused refusal)) ⊎ (result ≡ Err Denied.Memory) }
 {
@@ -70,12 +57,9 @@ pub fn lift(alloc: Global, elf: &Elf<'_>, relocs: &Relocs<'_>) -> Result<Graph, 
     bytes_fit(elf.bytes());
     let _code_words = relocs.code_words();
     let noted = read_noted(alloc, elf, relocs)?;
-    let mut graph = early_graph(alloc, elf, relocs, &noted)?;
+    let graph = early_graph(alloc, elf, relocs, &noted)?;
     match first_live(alloc, &graph, &noted.notes, &noted.program.reached)? {
         Some(number) => Err(Denied::Refused(Refusal::BadNote { entry: number + 1 })),
-        None => {
-            graph.reserve(text_room(&noted.program.text))?;
-            Ok(graph)
-        }
+        None => Ok(graph),
     }
 }

@@ -90,6 +90,10 @@ pub(crate) fn first_live(
     requires procedures { length g.now.graph.procedures ≡ length (used_notes (is_flagged reached.now) notes.now) }
     ensures { IfOk result (λ found. IsFirstLive g.now.graph (is_flagged reached.now) notes.now found) }
 {
+    // Without notes it needs no live registers, which take the most memory of lifting.
+    if notes.is_empty() {
+        return Ok(None);
+    }
     let live = live(alloc, g)?;
     let flags = live_links(alloc, g, &live)?;
     Ok(first_set(&flags, notes, reached))

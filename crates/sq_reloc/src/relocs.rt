@@ -89,14 +89,6 @@ impl<'a> Relocs<'a> {
         self.code_words.as_slice()
     }
 
-    /// It does nothing. No relocation refuses the file, and each code word is one of it.
-    pub fn learn(&self)
-        ensures each { (address target : ℕ) → code_word_at self.now address ≡ Some target → IsCodeWord self.now address target }
-        ensures accepted { reloc_refusal_of self.now ≡ None }
-    {
-        let _words = self.code_words();
-    }
-
     /// Whether the byte at the address is stale: it stands outside text and holds part of an address
     /// of text that is no code word.
     pub fn stale(&self, address: u32) -> bool

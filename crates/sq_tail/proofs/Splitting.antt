@@ -1,5 +1,5 @@
 -- The two blocks of a split, and the others.
-use Rattle.std.proofs.Common.{◌≡◌, ◌≢◌, ℕ, ◌==◌, true, false, List, [], ◌∷◌, drop, None, Some, IsSome, inl, inr, refl, sym, ◌∙◌}
+use Rattle.std.proofs.Common.{◌≡◌, ◌≢◌, ℕ, ◌==◌, false, List, [], ◌∷◌, drop, None, Some, IsSome, inl, inr, refl, sym, ◌∙◌}
 use Rattle.std.proofs.lemmas.Bool.{cases_Bool, eqb-true, eq-eqb, ne_eqb}
 use Rattle.sq_arena.specs.Entries.{value_of}
 use Rattle.sq_graph.specs.Graph.{Block, Graph}

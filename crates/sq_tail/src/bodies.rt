@@ -21,8 +21,8 @@ ghost use Rattle.sq_tail.specs.BodiesPrints.{print_of};
 
 use crate::ends::end_words;
 use crate::resolved::resolved_term;
-pub(crate) use earlier::earlier_places;
-pub(crate) use prints::prints;
+use earlier::earlier_places;
+use prints::prints;
 use sq_graph::Graph;
 use sq_isa::RegSet;
 use sq_live::{Liveness, block_names};
@@ -152,6 +152,19 @@ pub(crate) fn pair_at(
         Some(kept) => Some(BodyPair { dropped, kept }),
         None => None,
     }
+}
+
+/// For each of these blocks the last one ahead of it that has the same print. The prints go.
+pub(crate) fn equal_ahead(
+    alloc: Global,
+    graph: &Graph,
+    names: &[u32],
+) -> Result<Vec<Option<usize>>, Memory>
+    requires { All (HasBlock graph.now.graph) names.now }
+    ensures { IfOk result (λ earlier. AreEarlier (map (print_of graph.now.graph) names.now) earlier.items) }
+{
+    let prints = prints(alloc, graph, names)?;
+    earlier_places(alloc, &prints)
 }
 
 /// A block of the list with one ahead of it for which it may be dropped, or `None` where there is none. These are their

@@ -5,7 +5,7 @@ ghost use Rattle.std.specs.List.{All};
 ghost use Rattle.sq_live.specs.Liveness.{IsLivenessOf};
 ghost use Rattle.sq_tail.specs.Candidates.{IsCandidate};
 
-use crate::bodies::{earlier_places, pair_at, prints};
+use crate::bodies::{equal_ahead, pair_at};
 use crate::find::{body_cut, tail_cut};
 use crate::sweep::ends::{end_numbers, joinable};
 use sq_graph::Graph;
@@ -78,8 +78,7 @@ fn propose_bodies(alloc: Global, graph: &Graph, live: &Liveness) -> Result<Vec<C
 {
     graph.learn();
     let names = block_names(alloc, graph)?;
-    let prints = prints(alloc, graph, &names)?;
-    let earlier = earlier_places(alloc, &prints)?;
+    let earlier = equal_ahead(alloc, graph, &names)?;
     let mut cuts = Vec::new(alloc);
     for place in 0..names.len() {
         if let Some(pair) = pair_at(graph, live, &names, &earlier, place) {

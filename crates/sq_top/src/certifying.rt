@@ -27,15 +27,12 @@ pub fn prove_bytes(alloc: Global, bytes: &[u8]) -> Result<ProvedPacking, Denied>
     ensures exact { (refusal : Refusal) → IsRefusalOf bytes.now refusal → (result ≡ Err (Denied.Refused refusal)) ⊎ (result ≡ Err Denied.Memory) }
 {
     bytes_fit(bytes);
-    let FileGraph {
-        elf,
-        relocs,
-        mut graph,
-    } = read_graph(alloc, bytes)?;
+    // The relocations go here.
+    let FileGraph { elf, mut graph, .. } = read_graph(alloc, bytes)?;
     let reached = words_of(&graph);
     let noted = settle_noting(alloc, &mut graph)?;
     let text = noted.cert.text()?;
-    let file = write_graph(alloc, &elf, &relocs, &graph)?;
+    let file = write_graph(alloc, &elf, &graph)?;
     let packed = packed_of(&elf, &graph, reached, noted.savings, file);
     Ok(ProvedPacking { packed, text })
 }

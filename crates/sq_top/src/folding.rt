@@ -43,13 +43,10 @@ pub fn fold_bytes(alloc: Global, bytes: &[u8]) -> Result<FoldedFile, Denied>
     ensures exact { (refusal : Refusal) → IsRefusalOf bytes.now refusal → (result ≡ Err (Denied.Refused refusal)) ⊎ (result ≡ Err Denied.Memory) }
 {
     bytes_fit(bytes);
-    let FileGraph {
-        elf,
-        relocs,
-        mut graph,
-    } = read_graph(alloc, bytes)?;
+    // The relocations go here.
+    let FileGraph { elf, mut graph, .. } = read_graph(alloc, bytes)?;
     settle_and_fold(alloc, &mut graph)?;
-    let file = write_graph(alloc, &elf, &relocs, &graph)?;
+    let file = write_graph(alloc, &elf, &graph)?;
     Ok(folded_of(&elf, &graph, file))
 }
 

@@ -1,11 +1,12 @@
 //! From the bytes of a file to those of the packed file.
 
-ghost use Rattle.std.specs.Prelude.{◌≡◌, ◌⊎◌, ◌+◌, ◌*◌, ◌<◌, ◌≤◌, length, IfOk, OnOk};
+ghost use Rattle.std.specs.Prelude.{◌≡◌, ◌⊎◌, ◌+◌, ◌*◌, ◌<◌, ◌≤◌, length, None, IfOk, OnOk};
 ghost use Rattle.sq_num.specs.declared.refusal.Refusal.{Refusal};
 ghost use Rattle.sq_num.specs.Saved.{words_saved};
 ghost use Rattle.sq_elf.specs.Refusing.{text_size, largest_text};
 ghost use Rattle.sq_elf.specs.Sizes.{loaded_of};
 ghost use Rattle.sq_elf.specs.Text.{text_of};
+ghost use Rattle.sq_reloc.specs.Refusing.{reloc_refusal_of};
 ghost use Rattle.sq_graph.specs.Rules.{IsGraph};
 ghost use Rattle.sq_graph.specs.Words.{words_of};
 ghost use Rattle.law_program.specs.FilePrograms.{IsRefusalOf};
@@ -19,7 +20,6 @@ use sq_elf::Elf;
 use sq_graph::Graph;
 use sq_layout::{place, words_of};
 use sq_num::{Bytes, Denied, Memory, Packed, Savings, bytes_fit};
-use sq_reloc::Relocs;
 use sq_write::write_elf;
 use std::alloc::Global;
 
@@ -35,32 +35,24 @@ pub fn pack_bytes(alloc: Global, bytes: &[u8]) -> Result<Packed, Denied>
     ensures exact { (refusal : Refusal) → IsRefusalOf bytes.now refusal → (result ≡ Err (Denied.Refused refusal)) ⊎ (result ≡ Err Denied.Memory) }
 {
     bytes_fit(bytes);
-    let FileGraph {
-        elf,
-        relocs,
-        mut graph,
-    } = read_graph(alloc, bytes)?;
+    // The relocations go here.
+    let FileGraph { elf, mut graph, .. } = read_graph(alloc, bytes)?;
     let reached = words_of(&graph);
     let savings = settle_slotted(alloc, &mut graph)?;
-    let file = write_graph(alloc, &elf, &relocs, &graph)?;
+    let file = write_graph(alloc, &elf, &graph)?;
     Ok(packed_of(&elf, &graph, reached, savings, file))
 }
 
 /// Writes the graph of the file in the place of its text.
-pub(crate) fn write_graph(
-    alloc: Global,
-    elf: &Elf<'_>,
-    relocs: &Relocs<'_>,
-    graph: &Graph,
-) -> Result<Vec<u8>, Memory>
-    requires same { relocs.now ≡ elf.now }
+pub(crate) fn write_graph(alloc: Global, elf: &Elf<'_>, graph: &Graph) -> Result<Vec<u8>, Memory>
+    requires accepted { reloc_refusal_of elf.now ≡ None }
     requires fits { CanBeWritten elf.now graph.now.graph }
     ensures file { IfOk result (λ file. file.items ≡ written elf.now graph.now.graph) }
     ensures rules { OnOk result (IsGraph graph.now.graph) }
 {
     graph.learn();
     let places = place(alloc, graph, elf.text().lo)?;
-    write_elf(alloc, elf, relocs, graph, &places)
+    write_elf(alloc, elf, graph, &places)
 }
 
 /// The file of a graph, with the bytes of text and the bytes that are loaded before and after. `reached` is how many words

@@ -1,7 +1,8 @@
 //! Whether a certificate proves one file of another.
 
-ghost use Rattle.std.specs.Prelude.{◌≡◌, ◌≢◌, ℕ, ◌⊎◌, ◌≤◌, true, false, length, Ok, Err, OnOk};
+ghost use Rattle.std.specs.Prelude.{◌≡◌, ◌≢◌, ℕ, ◌⊎◌, ◌≤◌, true, false, length, None, Ok, Err, OnOk};
 ghost use Rattle.sq_num.specs.declared.refusal.Refusal.{Refusal};
+ghost use Rattle.sq_reloc.specs.Refusing.{reloc_refusal_of};
 ghost use Rattle.sq_graph.specs.Rules.{IsGraph};
 ghost use Rattle.law_program.specs.FilePrograms.{IsAcceptedFile};
 ghost use Rattle.sq_write.specs.Written.{written};
@@ -15,7 +16,6 @@ use sq_drive::check_graph;
 use sq_elf::Elf;
 use sq_graph::Graph;
 use sq_num::{Denied, Memory, bytes_fit};
-use sq_reloc::Relocs;
 use std::alloc::Global;
 
 /// Replays the steps of the certificate from the graph of the input, and compares what they lead to with the output: yes
@@ -37,37 +37,28 @@ pub fn check_files(
     ensures exact { (refusal : Refusal) → IsRefusalOfEither input.now output.now refusal → (result ≡ Err (Denied.Refused refusal)) ⊎ (result ≡ Err Denied.Memory) }
 {
     bytes_fit(input);
-    let FileGraph {
-        elf,
-        relocs,
-        mut graph,
-    } = read_graph(alloc, input)?;
+    // The relocations go here.
+    let FileGraph { elf, mut graph, .. } = read_graph(alloc, input)?;
     let _accepted = read_graph(alloc, output)?;
     let verdict = check_graph(alloc, &mut graph, cert)?;
     let steps = match verdict {
         Verdict::Yes { steps } => steps,
         Verdict::No { line } => return Ok(Verdict::No { line }),
     };
-    if !is_written(alloc, &elf, &relocs, &graph, output)? {
+    if !is_written(alloc, &elf, &graph, output)? {
         return Ok(Verdict::No { line: 0 });
     }
     Ok(Verdict::Yes { steps })
 }
 
 /// Whether the output is what is written of the graph in the place of the file's text.
-fn is_written(
-    alloc: Global,
-    elf: &Elf<'_>,
-    relocs: &Relocs<'_>,
-    graph: &Graph,
-    output: &[u8],
-) -> Result<bool, Memory>
-    requires same { relocs.now ≡ elf.now }
+fn is_written(alloc: Global, elf: &Elf<'_>, graph: &Graph, output: &[u8]) -> Result<bool, Memory>
+    requires accepted { reloc_refusal_of elf.now ≡ None }
     requires fits { CanBeWritten elf.now graph.now.graph }
     ensures yes { result ≡ Ok true → output.now ≡ written elf.now graph.now.graph }
     ensures no { result ≡ Ok false → output.now ≢ written elf.now graph.now.graph }
     ensures rules { OnOk result (IsGraph graph.now.graph) }
 {
-    let file = write_graph(alloc, elf, relocs, graph)?;
+    let file = write_graph(alloc, elf, graph)?;
     Ok(output == file.as_slice())
 }

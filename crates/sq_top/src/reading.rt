@@ -1,7 +1,8 @@
 //! Files with their graphs.
 
-ghost use Rattle.std.specs.Prelude.{◌≡◌, ◌⊎◌, IfOk, OnOk, Err};
+ghost use Rattle.std.specs.Prelude.{◌≡◌, ◌⊎◌, None, IfOk, OnOk, Err};
 ghost use Rattle.sq_num.specs.declared.refusal.Refusal.{Refusal};
+ghost use Rattle.sq_reloc.specs.Refusing.{reloc_refusal_of};
 ghost use Rattle.sq_graph.specs.Slotted.{IsSlotted};
 ghost use Rattle.law_program.specs.FilePrograms.{IsRefusalOf};
 ghost use Rattle.sq_lifted.specs.LiftedFiles.{IsLiftedFile, FitsFile};
@@ -25,6 +26,7 @@ pub(crate) struct FileGraph<'a> {
 pub(crate) fn read_graph<'a>(alloc: Global, bytes: &'a [u8]) -> Result<FileGraph<'a>, Denied>
     ensures read { IfOk result (λ file. file.elf ≡ bytes.now) }
     ensures relocs { IfOk result (λ file. file.relocs ≡ file.elf) }
+    ensures accepted { IfOk result (λ file. reloc_refusal_of file.elf ≡ None) }
     ensures lifted { IfOk result (λ file. IsLiftedFile bytes.now file.graph.graph) }
     ensures slotted { IfOk result (λ file. IsSlotted file.graph.graph) }
     ensures fits { IfOk result (λ file. FitsFile bytes.now file.graph.graph) }

@@ -140,7 +140,10 @@ fn read_whole<R: Read>(alloc: Global, file: &mut R, limit: u32) -> Result<Vec<u8
     while bytes.len() <= limit as usize {
         let most = (limit as usize + 1 - bytes.len()).min(CHUNK);
         match file.read(&mut chunk[..most]) {
-            Ok(0) => return Ok(bytes),
+            Ok(0) => {
+                bytes.shrink_to_fit();
+                return Ok(bytes);
+            }
             Ok(count) => bytes.extend_from_slice(&chunk[..count])?,
             Err(error) => return Err(load_fault(&error)),
         }

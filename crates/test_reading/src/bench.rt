@@ -1,7 +1,7 @@
 //! What the steps of a case work on.
 
 use crate::built::{append, crowd_file, set, set_text};
-use crate::graphs::{graph_text, spare_told, written};
+use crate::graphs::{graph_text, written};
 use crate::reading::words_in;
 use crate::running::{Tagged, machine_of, machine_told, memory_of, memory_told};
 use crate::system::{lines_of, push_event};
@@ -122,7 +122,6 @@ impl<'f> Bench<'f> {
             "length" => format!(in alloc; "{}", self.file.len())?,
             "words" => words_between(alloc, &self.file, words)?,
             "same" => self.is_file(alloc, words)?,
-            "spare" => spare_told(alloc, &self.file, words)?,
             _ => reading::told(alloc, &self.file, verb, words)?,
         })
     }

@@ -6,7 +6,6 @@ ghost use Rattle.sq_graph.specs.Blocks.{HasBlock};
 use crate::texts::{instruction, mnemonic, name};
 use crate::words::sure;
 use anyhow::Result;
-use sq_cases::decimal;
 use sq_elf::read_elf;
 use sq_graph::{Graph, Item, Term};
 use sq_layout::place;
@@ -30,7 +29,7 @@ pub fn written(alloc: Global, file: &[u8]) -> Result<Vec<u8>, Denied> {
     let relocs = read_relocs(alloc, &elf)?;
     let graph = lift(alloc, &elf, &relocs)?;
     let places = place(alloc, &graph, elf.text().lo)?;
-    Ok(write_elf(alloc, &elf, &relocs, &graph, &places)?)
+    Ok(write_elf(alloc, &elf, &graph, &places)?)
 }
 
 /// Whether the graph has a block of this name.
@@ -124,13 +123,4 @@ pub fn graph_text(alloc: Global, file: &[u8]) -> Result<String> {
         text.push_str(&format!(in alloc; "procedure {} ; {items}\n", name(graph.link(number)))?)?;
     }
     Ok(text)
-}
-
-/// Whether there is room for so many blocks, items and procedures more.
-pub fn spare_told(alloc: Global, file: &[u8], count: &str) -> Result<String> {
-    let count = decimal(count)?;
-    let graph = sure(graph_of(alloc, file))?;
-    let spare = graph.spare();
-    let fits = count <= spare.blocks && count <= spare.items && count <= spare.procedures;
-    Ok(format!(in alloc; "{fits}")?)
 }

@@ -12,7 +12,7 @@ pub(crate) fn earlier_places(alloc: Global, keys: &[u64]) -> Result<Vec<Option<u
     ensures { IfOk result (λ places. AreEarlier keys.now places.items) }
 {
     let mut last = HashMap::new(alloc);
-    let mut places = Vec::new(alloc);
+    let mut places = Vec::with_capacity(alloc, keys.len())?;
     for (i, key) in keys.iter().enumerate() {
         let earlier = last.insert(*key, i)?;
         places.push(earlier)?;

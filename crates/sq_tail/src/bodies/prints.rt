@@ -79,7 +79,7 @@ pub(crate) fn prints(alloc: Global, graph: &Graph, names: &[u32]) -> Result<Vec<
     requires { All (HasBlock graph.now.graph) names.now }
     ensures { IfOk result (λ prints. prints.items ≡ map (print_of graph.now.graph) names.now) }
 {
-    let mut prints = Vec::new(alloc);
+    let mut prints = Vec::with_capacity(alloc, names.len())?;
     for name in names {
         prints.push(print(graph, *name))?;
     }

@@ -15,7 +15,7 @@ ghost use Rattle.sq_tail.specs.Candidates.{IsCandidate, described};
 ghost use Rattle.sq_tail.specs.StillDead.{AreDead, AreStillDead, IsStillDead, KeepsDeadElsewhere};
 
 use super::rewriting::rewrite_pair;
-use crate::bodies::{earlier_places, go_on_alike, may_drop, prints};
+use crate::bodies::{equal_ahead, go_on_alike, may_drop};
 use sq_graph::Graph;
 use sq_isa::RegSet;
 use sq_live::{Liveness, block_names, live};
@@ -207,8 +207,7 @@ pub(crate) fn sweep_bodies(
 {
     graph.learn();
     let names = block_names(alloc, graph)?;
-    let prints = prints(alloc, graph, &names)?;
-    let earlier = earlier_places(alloc, &prints)?;
+    let earlier = equal_ahead(alloc, graph, &names)?;
     let told = look_behind(alloc, graph, &names, &earlier)?;
     drop_each(graph, &names, &earlier, &told, savings)
 }

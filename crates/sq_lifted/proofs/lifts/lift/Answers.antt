@@ -1,15 +1,13 @@
-use Rattle.std.proofs.Common.{◌≡◌, inl, inr, ◌+◌, ◌<◌, length, Err, refl, sym, ap, ◌∙◌, subst, arith}
+use Rattle.std.proofs.Common.{◌≡◌, inl, inr, ◌+◌, ◌<◌, length, Err, refl, ap, ◌∙◌, subst, arith}
 use Rattle.std.specs.List.{AllByRecursion}
 use Rattle.std.proofs.lemmas.Result.{err_from_is_err_and}
 use Rattle.sq_num.specs.declared.refusal.Refusal.TheVariants.{BadNote}
 use Rattle.sq_num.specs.declared.refusal.Denied.TheVariants.{Refused}
 use Rattle.sq_elf.specs.Headers.{entry_of}
-use Rattle.sq_graph.specs.Room.{IsSmall, Covers, count_of, sum_of}
-use Rattle.sq_lifted.specs.LiftedFiles.{IsLiftedFile, IsRefusedFile}
+use Rattle.sq_lifted.specs.LiftedFiles.{IsRefusedFile}
 use Rattle.sq_lifted.proofs.EarlyGraphs.{found_noted, early_alike}
 use Rattle.sq_lift.specs.Flags.{is_flagged}
-use Rattle.sq_graph.specs.Slotted.{IsSlotted}
-use Rattle.sq_lifted.proofs.LiftedFiles.{refused_early, room_fits, room_covers, early_answer, procedures_are, is_lifted, in_notes, is_refused, one_refusal, no_refusal}
+use Rattle.sq_lifted.proofs.LiftedFiles.{refused_early, early_answer, procedures_are, is_lifted, in_notes, is_refused, one_refusal, no_refusal}
 use Rattle.sq_lifted.proofs.GoodGraphs.{lifted_fits}
 use Rattle.sq_lifted.proofs.SameFiles.{lifted_runs, lifted_shows}
 use Rattle.sq_lifted.proofs.lifts.lift.Goals as goal
@@ -50,32 +48,19 @@ returns-in-Some-clause-exact c = λ refusal refused.
     let found = found_noted c.args.elf.now c.bytes.result.now c.args.relocs.now c.in_ok-noted.noted.program.text c.in_ok-noted.noted.program.reached c.deref.result.now c.in_ok-noted.noted.notes.items c.code_words-code_words.result.now (entry_of c.args.elf.now) c.bytes.ensures.value c.bytes_fit.ensures c.requires c.code_words-code_words.ensures.accepted c.code_words-code_words.ensures.value c.deref.ensures.value c.in_ok-noted.ensures.read c.bytes.ensures.accepted refl in
     inl (ap (λ r. Err (Refused r)) (one_refusal c.args.elf.now c.in_ok-noted.noted.program.text c.in_ok-noted.noted.program.reached c.deref.result.now c.code_words-code_words.result.now found c.in_ok-graph.graph.graph (early_alike c.args.elf.now (is_flagged c.in_ok-noted.noted.program.reached) c.in_ok-graph.graph.graph c.in_ok-graph.ensures.graph) c.in_ok-number.field-0 c.in_ok-number.ensures c.in-Some.number c.in-Some.is refusal refused))
 
-pub reserve-requires : goal.reserve-requires
-reserve-requires c =
-    let found = found_noted c.args.elf.now c.bytes.result.now c.args.relocs.now c.in_ok-noted.noted.program.text c.in_ok-noted.noted.program.reached c.deref.result.now c.in_ok-noted.noted.notes.items c.code_words-code_words.result.now (entry_of c.args.elf.now) c.bytes.ensures.value c.bytes_fit.ensures c.requires c.code_words-code_words.ensures.accepted c.code_words-code_words.ensures.value c.deref.ensures.value c.in_ok-noted.ensures.read c.bytes.ensures.accepted refl in
-    subst (λ room. IsSmall (sum_of (count_of c.in_ok-graph.graph.graph) room)) (sym c.text_room.ensures) (room_fits c.args.elf.now c.in_ok-noted.noted.program.text c.in_ok-noted.noted.program.reached c.deref.result.now c.code_words-code_words.result.now found c.in_ok-graph.graph.graph (early_alike c.args.elf.now (is_flagged c.in_ok-noted.noted.program.reached) c.in_ok-graph.graph.graph c.in_ok-graph.ensures.graph))
-
 pub returns-clause-lifted : goal.returns-clause-lifted
 returns-clause-lifted c =
     let found = found_noted c.args.elf.now c.bytes.result.now c.args.relocs.now c.in_ok-noted.noted.program.text c.in_ok-noted.noted.program.reached c.deref.result.now c.in_ok-noted.noted.notes.items c.code_words-code_words.result.now (entry_of c.args.elf.now) c.bytes.ensures.value c.bytes_fit.ensures c.requires c.code_words-code_words.ensures.accepted c.code_words-code_words.ensures.value c.deref.ensures.value c.in_ok-noted.ensures.read c.bytes.ensures.accepted refl in
-    subst (IsLiftedFile c.args.elf.now) (sym c.reserve.ensures.graph) (is_lifted c.args.elf.now c.in_ok-noted.noted.program.text c.in_ok-noted.noted.program.reached c.deref.result.now c.code_words-code_words.result.now found c.in_ok-graph.graph.graph (early_alike c.args.elf.now (is_flagged c.in_ok-noted.noted.program.reached) c.in_ok-graph.graph.graph c.in_ok-graph.ensures.graph) c.in_ok-number.field-0 c.in_ok-number.ensures c.in-None.is)
-
-pub returns-clause-slotted : goal.returns-clause-slotted
-returns-clause-slotted c = subst IsSlotted (sym c.reserve.ensures.graph) c.in_ok-graph.ensures.slotted
+    is_lifted c.args.elf.now c.in_ok-noted.noted.program.text c.in_ok-noted.noted.program.reached c.deref.result.now c.code_words-code_words.result.now found c.in_ok-graph.graph.graph (early_alike c.args.elf.now (is_flagged c.in_ok-noted.noted.program.reached) c.in_ok-graph.graph.graph c.in_ok-graph.ensures.graph) c.in_ok-number.field-0 c.in_ok-number.ensures c.in-None.is
 
 pub returns-clause-runs : goal.returns-clause-runs
-returns-clause-runs c = lifted_runs c.args.elf.now c.reserve.new.self.graph (subst (AllByRecursion (λ b. b < 256)) c.bytes.ensures.value c.bytes_fit.ensures) (returns-clause-lifted c)
+returns-clause-runs c = lifted_runs c.args.elf.now c.in_ok-graph.graph.graph (subst (AllByRecursion (λ b. b < 256)) c.bytes.ensures.value c.bytes_fit.ensures) (returns-clause-lifted c)
 
 pub returns-clause-shows : goal.returns-clause-shows
-returns-clause-shows c = lifted_shows c.args.elf.now c.reserve.new.self.graph (subst (AllByRecursion (λ b. b < 256)) c.bytes.ensures.value c.bytes_fit.ensures) (returns-clause-lifted c)
+returns-clause-shows c = lifted_shows c.args.elf.now c.in_ok-graph.graph.graph (subst (AllByRecursion (λ b. b < 256)) c.bytes.ensures.value c.bytes_fit.ensures) (returns-clause-lifted c)
 
 pub returns-clause-fits : goal.returns-clause-fits
-returns-clause-fits c = lifted_fits c.args.elf.now c.reserve.new.self.graph (subst (AllByRecursion (λ b. b < 256)) c.bytes.ensures.value c.bytes_fit.ensures) (returns-clause-lifted c)
-
-pub returns-clause-spare : goal.returns-clause-spare
-returns-clause-spare c =
-    let found = found_noted c.args.elf.now c.bytes.result.now c.args.relocs.now c.in_ok-noted.noted.program.text c.in_ok-noted.noted.program.reached c.deref.result.now c.in_ok-noted.noted.notes.items c.code_words-code_words.result.now (entry_of c.args.elf.now) c.bytes.ensures.value c.bytes_fit.ensures c.requires c.code_words-code_words.ensures.accepted c.code_words-code_words.ensures.value c.deref.ensures.value c.in_ok-noted.ensures.read c.bytes.ensures.accepted refl in
-    room_covers c.args.elf.now c.in_ok-noted.noted.program.text c.in_ok-noted.noted.program.reached c.deref.result.now c.code_words-code_words.result.now found c.in_ok-graph.graph.graph (early_alike c.args.elf.now (is_flagged c.in_ok-noted.noted.program.reached) c.in_ok-graph.graph.graph c.in_ok-graph.ensures.graph) c.reserve.new.self.spare (subst (λ room. Covers c.reserve.new.self.spare room) c.text_room.ensures c.in_ok-reserve-in-None.ensures.ok)
+returns-clause-fits c = lifted_fits c.args.elf.now c.in_ok-graph.graph.graph (subst (AllByRecursion (λ b. b < 256)) c.bytes.ensures.value c.bytes_fit.ensures) (returns-clause-lifted c)
 
 pub returns-clause-exact : goal.returns-clause-exact
 returns-clause-exact c = λ refusal refused.

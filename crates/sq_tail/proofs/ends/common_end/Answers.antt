@@ -1,4 +1,4 @@
-use Rattle.std.proofs.Common.{false, [], ◌≡◌, ◌-◌, ◌+◌, ◌<◌, length, sym, ap, ◌∙◌, subst, add-one, true≢false, arith}
+use Rattle.std.proofs.Common.{false, [], ◌≡◌, ◌-◌, ◌<◌, length, sym, ap, ◌∙◌, subst, add-one, true≢false, arith}
 use Rattle.std.proofs.lemmas.List.Elements.{All-cons, All-nil, All-head}
 use Rattle.sq_rename.specs.Reservations.{is_reservation}
 use Rattle.sq_tail.specs.Ends.{IsCommonEnd}

@@ -1,4 +1,4 @@
-use Rattle.std.proofs.Common.{true, false, true≢false, [], ◌≡◌, ◌-◌, ◌<◌, None, Some, length, inl, inr, sym, ap, ◌∙◌, subst, arith}
+use Rattle.std.proofs.Common.{false, true≢false, [], ◌≡◌, ◌-◌, ◌<◌, None, Some, length, inl, inr, sym, ap, ◌∙◌, subst, arith}
 use Rattle.std.specs.List.{All}
 use Rattle.std.specs.Option.{option_map}
 use Rattle.std.proofs.lemmas.Bool.{cases_Bool}

@@ -1,4 +1,4 @@
-use Rattle.std.proofs.Common.{ℕ, None, Some, length, sym, subst, arith}
+use Rattle.std.proofs.Common.{ℕ, length, sym, subst, arith}
 use Rattle.std.specs.Prelude.{IfSome, MatchOption}
 use Rattle.sq_finger.specs.Numbers.{NoDouble, IsFirstDouble}
 use Rattle.sq_live.proofs.Layouts.{length-names}

@@ -1,5 +1,6 @@
 use Rattle.std.proofs.Common.{◌≤◌, ◌∙◌, ap, sym, subst, length, nat_eq, arith}
 use Rattle.std.specs.HashMap.{get}
+use Rattle.sq_reloc.proofs.CodeWordFacts.{is_code_word}
 use Rattle.sq_graph.specs.Words.{words_of}
 use Rattle.sq_write.specs.Points.{new_address}
 use Rattle.sq_write.specs.Laid.{IsFew, IsFile}
@@ -28,7 +29,7 @@ output_file-requires c =
     (ap (λ t. t.lo) c.text-lo.ensures.value) (c.address-entry.ensures ∙ ap (new_address c.args.g.now.graph c.text-lo.result.lo) c.entry.ensures.value) c.in_ok-set.ensures c.in_ok-pieces_before.ensures c.in_ok-pieces_behind.ensures c.in_ok-text.ensures.text c.text.ensures c.in_ok-text.ensures.entries c.in_ok-note_of.ensures in
     subst IsFew (sym same)
     (few_parts c.args.elf.now c.args.g.now.graph (omega (arith, c.requires.words)) (few_ordered_bytes c.args.elf.now c.facts.ensures.accepted) (few_ordered c.args.elf.now c.facts.ensures.accepted) (omega (arith, c.facts.ensures.text, c.requires.words))
-    (few_code_words c.args.elf.now c.facts.ensures.accepted c.facts.ensures.code_words c.args.g.now.graph.code_words c.requires.code_words c.entry.ensures.rules.code_words))
+    (few_code_words c.args.elf.now c.facts.ensures.accepted (is_code_word c.args.elf.now c.requires.accepted) c.args.g.now.graph.code_words c.requires.code_words c.entry.ensures.rules.code_words))
 
 pub returns : goal.returns
 unfolding written
