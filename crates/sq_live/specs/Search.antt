@@ -1,12 +1,9 @@
 -- The nodes from which a read is led to, and the search for them. No public clause cites this module.
-use Rattle.std.specs.Prelude.{◌≡◌, ℕ, ◌+◌, ◌-◌, ◌^◌, ◌<◌, true, false, List, [], ◌⊎◌, map, length, slice_get, slice_index_or, sum_by, Vec}
+use Rattle.std.specs.Prelude.{◌≡◌, ℕ, ◌+◌, ◌-◌, ◌^◌, ◌<◌, true, false, List, [], ◌⊎◌, length, slice_get, slice_index_or, sum_by}
 use Rattle.std.specs.List.{Contains}
 use Rattle.sq_isa.specs.Registers.{is_member}
 use Rattle.sq_live.specs.declared.effect.Effect.{Effect}
 use Rattle.sq_live.specs.Effects.{effect_reads, effect_writes}
-
-abbrev pub lists : {Z : Type 0} → List (Vec ℕ Z) → List (List ℕ)
-lists vectors = map (λ v. v.items) vectors
 
 abbrev pub list_at : List (List ℕ) → ℕ → List ℕ
 list_at nodes k = slice_index_or nodes k []
