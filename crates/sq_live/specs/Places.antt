@@ -30,10 +30,11 @@ pub record AreInBlock (calls : List Effect) (nodes list : List ℕ) (block : Blo
   pub count : length places ≡ length block.items + 1
   pub live : (k r : ℕ) → k ≤ length block.items → r < 32 → is_member (slice_index places k) r ≡ before_items calls (drop k block.items) (before_term block nodes list r) r
 
--- the sets of a block, which lie in those of all blocks
+-- where the sets of no block lie
 abbrev pub no_span : Span
 no_span = record { start = 0; count = 0 }
 
+-- the sets that lie there, of those of all blocks
 abbrev pub sets_in : List ℕ → Span → List ℕ
 sets_in sets span = take span.count (drop span.start sets)
 

@@ -34,6 +34,7 @@ pub(crate) struct Places {
 }
 
 impl Places {
+    /// The set before a place of the block of a name.
     pub(crate) fn at(&self, name: u32, place: u32) -> RegSet
         requires { place < length (places_in self.now name) }
         ensures { result ≡ slice_index (places_in self.now name) place }

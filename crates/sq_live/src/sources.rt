@@ -30,7 +30,7 @@ pub(crate) struct Sources {
 }
 
 impl Sources {
-    // So many nodes to which none leads. Most have an edge or two.
+    // So many nodes to which none leads. Most blocks will have an edge or two.
     fn new(alloc: Global, count: usize) -> Result<Sources, Memory>
         ensures chained { IfOk result IsChained }
         ensures count { IfOk result (λ made. length (sources_of made) ≡ count) }
@@ -40,11 +40,11 @@ impl Sources {
         first.resize(count, None)?;
         Ok(Sources {
             first,
-            edges: Vec::with_capacity(alloc, count)?,
+            edges: Vec::with_capacity(alloc, count.saturating_add(count / 2))?,
         })
     }
 
-    // Makes an edge. No file leads to as many as have no number.
+    // Makes an edge. It gives up at 2^32 of them, which take more memory than a file's graph may.
     fn add(&mut self, from: u32, to: u32) -> Result<(), Memory>
         requires chained { IsChained self.old }
         requires to { to < length (sources_of self.old) }
