@@ -287,6 +287,15 @@ read_suc (e ∷ effects) (suc k) effect within here = ap (λ rs. e.reads ∷ rs)
 pub read_more : (effects : List Effect) (k : ℕ) (effect : Effect) → k < length effects → effect ≡ get_or effects k effect → map (λ (e : Effect). e.reads) (take k effects) ++ effect.reads ∷ [] ≡ map (λ (e : Effect). e.reads) (take (k + 1) effects)
 read_more effects k effect within here = rw add-one (read_suc effects k effect within here)
 
+-- the nodes before one, which none has visited yet
+abbrev pub up_to : ℕ → List ℕ
+up_to zero = []
+up_to (suc k) = up_to k ++ k ∷ []
+
+pub up_to-last : (k : ℕ) → 0 < k → up_to k ≡ up_to (k - 1) ++ (k - 1) ∷ []
+up_to-last zero h = absurd (omega (arith, h))
+up_to-last (suc k) h = let e : suc k - 1 ≡ k = omega arith in rw e refl
+
 pub below_more : (nodes : List ℕ) (bound : ℕ) → ((k : ℕ) → Contains nodes k ↔ (k < bound)) → (k : ℕ) → Contains (nodes ++ bound ∷ []) k ↔ (k < bound + 1)
 below_more nodes bound all k = (
   λ c. ⊎_elim (λ (a : Contains nodes k). let h = (all k).0 a in omega arith) (λ (a : bound ≡ k). omega arith) (Contains-push_cases nodes bound k c),
@@ -294,3 +303,9 @@ below_more nodes bound all k = (
       ⊎_elim (λ (a : k ≡ bound). subst (Contains (nodes ++ bound ∷ [])) (sym a) (Contains-push nodes bound))
       (λ (a : k ≢ bound). Contains-append_left nodes (bound ∷ []) k ((all k).1 (omega (arith, h, a)))) (cases_eq k bound),
 )
+
+pub up_to-below : (bound k : ℕ) → Contains (up_to bound) k ↔ (k < bound)
+up_to-below zero k = (λ c. absurd (contains_none k c), λ h. absurd (omega (arith, h)))
+up_to-below (suc bound) k =
+    let all = below_more (up_to bound) bound (up_to-below bound) k in
+    (λ c. let h = all.0 c in omega (arith, h), λ h. all.1 (omega (arith, h)))

@@ -1,6 +1,6 @@
 //! The registers that are live at each node.
 
-ghost use Rattle.std.specs.Prelude.{◌≡◌, ℕ, ◌+◌, ◌<◌, ◌≤◌, ◌↔◌, ◌^◌, true, [], IfOk, OnOk, length, map, slice_index};
+ghost use Rattle.std.specs.Prelude.{◌≡◌, ℕ, ◌+◌, ◌<◌, ◌≤◌, ◌↔◌, ◌++◌, ◌∷◌, true, [], List, IfOk, OnOk, length, map, slice_index};
 ghost use Rattle.std.specs.List.{Contains};
 ghost use Rattle.sq_graph.specs.Parts.{names_of};
 ghost use Rattle.sq_graph.specs.Rules.{IsGraph};
@@ -34,26 +34,47 @@ pub(crate) fn live_sets(
 {
     g.learn();
     let sources = find_sources(alloc, g, names, positions)?;
-    let (mut sets, mut waiting) = read_sets(alloc, effects)?;
-    while let Some(node) = waiting.pop() {
-        visit(effects, &sources, node, &mut sets, &mut waiting)?;
+    let mut sets = read_sets(alloc, effects)?;
+    let mut waiting = Vec::new(alloc);
+    for node in (0..effects.len()).rev() {
+        spread(effects, &sources, node as u32, &mut sets, &mut waiting)?;
     }
     Ok(sets)
 }
 
-// The registers that each node reads, and all nodes.
-fn read_sets(alloc: Global, effects: &[Effect]) -> Result<(Vec<RegSet>, Vec<u32>), Memory>
-    requires few { length effects.now < 2 ^ 32 }
-    ensures sets { IfOk result (λ found. found.0.items ≡ map (λ effect. effect.reads) effects.now) }
-    ensures nodes { IfOk result (λ found. (k : ℕ) → Contains found.1.items k ↔ (k < length effects.now)) }
+// The registers that each node reads.
+fn read_sets(alloc: Global, effects: &[Effect]) -> Result<Vec<RegSet>, Memory>
+    ensures { IfOk result (λ sets. sets.items ≡ map (λ effect. effect.reads) effects.now) }
 {
     let mut sets = Vec::with_capacity(alloc, effects.len())?;
-    let mut nodes = Vec::with_capacity(alloc, effects.len())?;
-    for (k, effect) in effects.iter().enumerate() {
+    for effect in effects {
         sets.push(effect.reads)?;
-        nodes.push(k as u32)?;
     }
-    Ok((sets, nodes))
+    Ok(sets)
+}
+
+// Visits this node, and those that wait then, while the rest wait that none has visited yet.
+fn spread(
+    effects: &[Effect],
+    sources: &Sources,
+    node: u32,
+    sets: &mut Vec<RegSet>,
+    waiting: &mut Vec<u32>,
+) -> Result<(), Memory>
+    ghost rest: { List ℕ }
+    requires chained { IsChained sources.now }
+    requires count { length (sources_of sources.now) ≡ length effects.now }
+    requires there { (from to : ℕ) → Contains (list_at (sources_of sources.now) to) from → from < length effects.now }
+    requires none { waiting.old.items ≡ [] }
+    requires search { IsVisiting effects.now (sources_of sources.now) 0 [] sets.old.items (rest ++ node ∷ []) }
+    ensures none { OnOk result (waiting.new.items ≡ []) }
+    ensures search { OnOk result (IsVisiting effects.now (sources_of sources.now) 0 [] sets.new.items rest) }
+{
+    waiting.push(node)?;
+    while let Some(next) = waiting.pop() {
+        visit(effects, sources, next, sets, waiting)?;
+    }
+    Ok(())
 }
 
 // Adds what is live at this node to the nodes that lead to it, but for what they write. Those that gain a register wait.
@@ -64,12 +85,13 @@ fn visit(
     sets: &mut Vec<RegSet>,
     waiting: &mut Vec<u32>,
 ) -> Result<(), Memory>
+    ghost rest: { List ℕ }
     requires chained { IsChained sources.now }
     requires count { length (sources_of sources.now) ≡ length effects.now }
     requires there { (from to : ℕ) → Contains (list_at (sources_of sources.now) to) from → from < length effects.now }
     requires node { node < length effects.now }
-    requires search { IsVisiting effects.now (sources_of sources.now) node (list_at (sources_of sources.now) node) sets.old.items waiting.old.items }
-    ensures search { OnOk result (IsVisiting effects.now (sources_of sources.now) node [] sets.new.items waiting.new.items) }
+    requires search { IsVisiting effects.now (sources_of sources.now) node (list_at (sources_of sources.now) node) sets.old.items (rest ++ waiting.old.items) }
+    ensures search { OnOk result (IsVisiting effects.now (sources_of sources.now) node [] sets.new.items (rest ++ waiting.new.items)) }
     ensures work { OnOk result (work_of sets.new.items waiting.new.items ≤ work_of sets.old.items waiting.old.items) }
 {
     let mut at = sources.first[node as usize];

@@ -30,7 +30,7 @@ pub(crate) struct Sources {
 }
 
 impl Sources {
-    // So many nodes to which none leads. Most blocks will have an edge or two.
+    // So many nodes to which none leads. A block makes two edges at most.
     fn new(alloc: Global, count: usize) -> Result<Sources, Memory>
         ensures chained { IfOk result IsChained }
         ensures count { IfOk result (λ made. length (sources_of made) ≡ count) }
@@ -40,7 +40,7 @@ impl Sources {
         first.resize(count, None)?;
         Ok(Sources {
             first,
-            edges: Vec::with_capacity(alloc, count.saturating_add(count / 2))?,
+            edges: Vec::with_capacity(alloc, count.saturating_mul(2))?,
         })
     }
 
