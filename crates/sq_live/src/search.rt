@@ -53,7 +53,7 @@ fn read_sets(alloc: Global, effects: &[Effect]) -> Result<Vec<RegSet>, Memory>
     Ok(sets)
 }
 
-// Visits this node, and those that wait then, while the rest wait that none has visited yet.
+// Visits this node, and then each that waits. The rest are the nodes whose turn comes later.
 fn spread(
     effects: &[Effect],
     sources: &Sources,
