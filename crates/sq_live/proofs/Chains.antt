@@ -4,7 +4,7 @@ use Rattle.std.proofs.Math.ListN.{set}
 use Rattle.std.specs.List.{Contains}
 use Rattle.std.proofs.lemmas.Bool.{cases_eq, cases_lt}
 use Rattle.std.proofs.lemmas.List.{length-map, get_or_append_left, get_or_push, get_or_past, get_or_read}
-use Rattle.std.proofs.lemmas.List.Elements.{Contains-append_left, Contains-append_cases}
+use Rattle.std.proofs.lemmas.List.Elements.{Contains-append_left, Contains-append_cases, Contains-push, Contains-push_cases}
 use Rattle.sq_live.specs.declared.sources.Edge.{Edge}
 use Rattle.sq_live.specs.Search.{list_at}
 use Rattle.sq_live.specs.Sources.{no_edge, edge_at, chain, sources_in, IsWithin, AreChained, AddsTo, AreSources}
@@ -122,6 +122,16 @@ next_edge edges back at number edge within is here =
       ap (chain edges (length edges)) is ∙ step edges back number below ∙ ap (λ (e : Edge). e.from ∷ chain edges (length edges) e.next) same,
       within_more number (length edges) edge.next (omega (arith, below)) (subst (λ (e : Edge). IsWithin number e.next) same (back number)),
     )
+
+within_ahead : (n : ℕ) (at : Option ℕ) → IsWithin n at → ahead at ≤ n
+within_ahead n None h = omega arith
+within_ahead n (Some k) h = let lt = h k refl in omega (arith, lt)
+
+pub goes_down : (edges : List Edge) → ((k : ℕ) → IsWithin k (edge_at edges k).next) → (at : Option ℕ) (number : ℕ) (edge : Edge) → number < length edges → at ≡ Some number → edge ≡ get_or edges number edge → ahead edge.next < ahead at
+goes_down edges back at number edge below is here =
+    let same : edge_at edges number ≡ edge = sym (get_or_read edges number edge below here no_edge) in
+    let lower = within_ahead number edge.next (subst (λ (e : Edge). IsWithin number e.next) same (back number)) in
+    subst (λ o. ahead edge.next < ahead o) (sym is) (omega (arith, lower))
 
 pub list_is : (first : List (Option ℕ)) (edges : List Edge) (to : ℕ) → list_at (sources_in first edges) to ≡ chain edges (length edges) (get_or first to None)
 list_is [] edges to = sym (no_chain edges (length edges))
@@ -258,3 +268,22 @@ pub exits_within : (at : ℕ → Option ℕ) (g : Graph) (names : List ℕ) → 
 exits_within at g names are from to h =
     let within = holds_within (exits_of at (length names) g) from to h in
     omega (arith, within, exits_count at (length names) g.blocks 0 (nodes_of at (code_targets g)), length-names g names are)
+
+-- the last of some moves behind others
+pub moved_last : (xs ys : List ℕ) (x k : ℕ) → Contains ((xs ++ x ∷ []) ++ ys) k ↔ Contains ((xs ++ ys) ++ x ∷ []) k
+moved_last xs ys x k = (
+  λ c.
+      ⊎_elim
+      (λ (d : Contains (xs ++ x ∷ []) k).
+      ⊎_elim (λ (e : Contains xs k). Contains-append_left (xs ++ ys) (x ∷ []) k (Contains-append_left xs ys k e))
+      (λ (e : x ≡ k). subst (Contains ((xs ++ ys) ++ x ∷ [])) e (Contains-push (xs ++ ys) x)) (Contains-push_cases xs x k d))
+      (λ (d : Contains ys k). Contains-append_left (xs ++ ys) (x ∷ []) k (contains_right xs ys k d))
+      (Contains-append_cases (xs ++ x ∷ []) ys k c),
+  λ c.
+      ⊎_elim
+      (λ (d : Contains (xs ++ ys) k).
+      ⊎_elim (λ (e : Contains xs k). Contains-append_left (xs ++ x ∷ []) ys k (Contains-append_left xs (x ∷ []) k e))
+      (λ (e : Contains ys k). contains_right (xs ++ x ∷ []) ys k e) (Contains-append_cases xs ys k d))
+      (λ (d : x ≡ k). Contains-append_left (xs ++ x ∷ []) ys k (subst (Contains (xs ++ x ∷ [])) d (Contains-push xs x)))
+      (Contains-push_cases (xs ++ ys) x k c),
+)

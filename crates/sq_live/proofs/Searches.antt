@@ -11,7 +11,7 @@ use Rattle.sq_live.specs.declared.effect.Effect.{Effect}
 use Rattle.sq_live.specs.Effects.{effect_reads, effect_writes}
 use Rattle.sq_isa.specs.Registers.{is_member}
 use Rattle.sq_live.proofs.Layouts.{item_at}
-use Rattle.sq_live.specs.Search.{list_at, Leads, read_in, leads_on, IsReached, begins, comes, IsSearching, IsVisiting, Has, work_of}
+use Rattle.sq_live.specs.Search.{list_at, Leads, read_in, leads_on, IsReached, begins, comes, IsSearching, IsVisiting, Has, up_to, work_of}
 
 pub contains_head : {X : Type 0} (x : X) (xs : List X) → Contains (x ∷ xs) x
 contains_head x xs = (0, omega arith, refl)
@@ -101,6 +101,30 @@ module _ (effects : List Effect) (sources : List (List ℕ)) where
           sound = s.sound;
         };
   }
+
+  -- those that wait may stand in another order
+  pub same_waiting : {node : ℕ} {left sets : List ℕ} (old new : List ℕ) → ((k : ℕ) → Contains old k ↔ Contains new k) → IsVisiting effects sources node left sets old → IsVisiting effects sources node left sets new
+  same_waiting {node} {left} {sets} old new same v = record {
+    count = v.count;
+    there = λ k c. v.there k ((same k).1 c);
+    each = λ r above below.
+        let s = v.each r above below in
+        record {
+          begun = s.begun;
+          visited = λ from to c w e.
+              ⊎_elim (λ (a : Has sets r from). inl a)
+              (λ (a : Contains old to ⊎ ((to ≡ node) × Contains left from)).
+              inr (⊎_elim (λ (b : Contains old to). inl ((same to).0 b)) (λ (b : (to ≡ node) × Contains left from). inr b) a))
+              (s.visited from to c w e);
+          sound = s.sound;
+        };
+  }
+
+  -- one that waits already need not wait twice
+  pub waits_already : {node : ℕ} {left sets waiting : List ℕ} (source : ℕ) → Contains waiting source → IsVisiting effects sources node left sets (waiting ++ source ∷ []) → IsVisiting effects sources node left sets waiting
+  waits_already {node} {left} {sets} {waiting} source has v =
+      same_waiting (waiting ++ source ∷ []) waiting
+      (λ k. (λ c. ⊎_elim (λ (d : Contains waiting k). d) (λ (d : source ≡ k). subst (Contains waiting) d has) (Contains-push_cases waiting source k c), λ c. Contains-append_left waiting (source ∷ []) k c)) v
 
   -- a source that has all already
   pub skips : {node : ℕ} {left sets waiting : List ℕ} (source live : ℕ) → Adds effects sets source node live → ((q : ℕ) → is_member live q ≡ true → Has sets q source) → IsVisiting effects sources node (source ∷ left) sets waiting → IsVisiting effects sources node left sets waiting
@@ -286,11 +310,6 @@ read_suc (e ∷ effects) (suc k) effect within here = ap (λ rs. e.reads ∷ rs)
 
 pub read_more : (effects : List Effect) (k : ℕ) (effect : Effect) → k < length effects → effect ≡ get_or effects k effect → map (λ (e : Effect). e.reads) (take k effects) ++ effect.reads ∷ [] ≡ map (λ (e : Effect). e.reads) (take (k + 1) effects)
 read_more effects k effect within here = rw add-one (read_suc effects k effect within here)
-
--- the nodes before one, which none has visited yet
-abbrev pub up_to : ℕ → List ℕ
-up_to zero = []
-up_to (suc k) = up_to k ++ k ∷ []
 
 pub up_to-last : (k : ℕ) → 0 < k → up_to k ≡ up_to (k - 1) ++ (k - 1) ∷ []
 up_to-last zero h = absurd (omega (arith, h))

@@ -1,12 +1,12 @@
 //! The registers that are live at each node.
 
-ghost use Rattle.std.specs.Prelude.{◌≡◌, ℕ, ◌+◌, ◌<◌, ◌≤◌, ◌↔◌, ◌++◌, ◌∷◌, true, [], List, IfOk, OnOk, length, map, slice_index};
+ghost use Rattle.std.specs.Prelude.{◌≡◌, ℕ, ◌+◌, ◌<◌, ◌≤◌, ◌↔◌, ◌++◌, ◌^◌, true, [], IfOk, OnOk, length, map, slice_index};
 ghost use Rattle.std.specs.List.{Contains};
 ghost use Rattle.sq_graph.specs.Parts.{names_of};
 ghost use Rattle.sq_graph.specs.Rules.{IsGraph};
 ghost use Rattle.sq_isa.specs.Registers.{is_member};
 ghost use Rattle.sq_live.specs.Exits.{position_at, exits_of};
-ghost use Rattle.sq_live.specs.Search.{list_at, Leads, IsVisiting, work_of};
+ghost use Rattle.sq_live.specs.Search.{list_at, Leads, IsVisiting, up_to, work_of};
 ghost use Rattle.sq_live.specs.Sources.{sources_of, IsChained};
 
 use crate::effect::Effect;
@@ -36,8 +36,9 @@ pub(crate) fn live_sets(
     let sources = find_sources(alloc, g, names, positions)?;
     let mut sets = read_sets(alloc, effects)?;
     let mut waiting = Vec::new(alloc);
-    for node in (0..effects.len()).rev() {
-        spread(effects, &sources, node as u32, &mut sets, &mut waiting)?;
+    visit_all(effects, &sources, &mut sets, &mut waiting)?;
+    while let Some(node) = waiting.pop() {
+        visit(effects, &sources, node, 0, &mut sets, &mut waiting)?;
     }
     Ok(sets)
 }
@@ -53,45 +54,43 @@ fn read_sets(alloc: Global, effects: &[Effect]) -> Result<Vec<RegSet>, Memory>
     Ok(sets)
 }
 
-// Visits this node, and then each that waits. The rest are the nodes whose turn comes later.
-fn spread(
+// Visits each node once, from the last to the first.
+fn visit_all(
     effects: &[Effect],
     sources: &Sources,
-    node: u32,
     sets: &mut Vec<RegSet>,
     waiting: &mut Vec<u32>,
 ) -> Result<(), Memory>
-    ghost rest: { List ℕ }
+    requires few { length effects.now < 2 ^ 32 }
     requires chained { IsChained sources.now }
     requires count { length (sources_of sources.now) ≡ length effects.now }
     requires there { (from to : ℕ) → Contains (list_at (sources_of sources.now) to) from → from < length effects.now }
     requires none { waiting.old.items ≡ [] }
-    requires search { IsVisiting effects.now (sources_of sources.now) 0 [] sets.old.items (rest ++ node ∷ []) }
-    ensures none { OnOk result (waiting.new.items ≡ []) }
-    ensures search { OnOk result (IsVisiting effects.now (sources_of sources.now) 0 [] sets.new.items rest) }
+    requires search { IsVisiting effects.now (sources_of sources.now) 0 [] sets.old.items (up_to (length effects.now)) }
+    ensures { OnOk result (IsVisiting effects.now (sources_of sources.now) 0 [] sets.new.items waiting.new.items) }
 {
-    waiting.push(node)?;
-    while let Some(next) = waiting.pop() {
-        visit(effects, sources, next, sets, waiting)?;
+    for node in (0..effects.len()).rev() {
+        visit(effects, sources, node as u32, node as u32, sets, waiting)?;
     }
     Ok(())
 }
 
-// Adds what is live at this node to the nodes that lead to it, but for what they write. Those that gain a register wait.
+// Adds what is live at this node to the nodes that lead to it, but for what they write. Those that gain a register wait,
+// but for the nodes before `later`, whose turn comes anyhow.
 fn visit(
     effects: &[Effect],
     sources: &Sources,
     node: u32,
+    later: u32,
     sets: &mut Vec<RegSet>,
     waiting: &mut Vec<u32>,
 ) -> Result<(), Memory>
-    ghost rest: { List ℕ }
     requires chained { IsChained sources.now }
     requires count { length (sources_of sources.now) ≡ length effects.now }
     requires there { (from to : ℕ) → Contains (list_at (sources_of sources.now) to) from → from < length effects.now }
     requires node { node < length effects.now }
-    requires search { IsVisiting effects.now (sources_of sources.now) node (list_at (sources_of sources.now) node) sets.old.items (rest ++ waiting.old.items) }
-    ensures search { OnOk result (IsVisiting effects.now (sources_of sources.now) node [] sets.new.items (rest ++ waiting.new.items)) }
+    requires search { IsVisiting effects.now (sources_of sources.now) node (list_at (sources_of sources.now) node) sets.old.items (up_to later ++ waiting.old.items) }
+    ensures search { OnOk result (IsVisiting effects.now (sources_of sources.now) node [] sets.new.items (up_to later ++ waiting.new.items)) }
     ensures work { OnOk result (work_of sets.new.items waiting.new.items ≤ work_of sets.old.items waiting.old.items) }
 {
     let mut at = sources.first[node as usize];
@@ -101,7 +100,9 @@ fn visit(
         let live = effects[from].before(sets[node as usize]);
         if let Some(grown) = sets[from].grown_by(live) {
             sets[from] = grown;
-            waiting.push(edge.from)?;
+            if edge.from >= later {
+                waiting.push(edge.from)?;
+            }
         }
         at = edge.next;
     }
