@@ -1,11 +1,11 @@
 -- Live registers as a fixed point: whether r is live before lines, given whether it is live at each block and at some
 -- code target. What meets the inequalities of a fixed point has each register that some walk reads; and where a
 -- register is live at the places behind items, it is live before them as `before_items` says.
-use Rattle.std.proofs.Common.{◌≡◌, ℕ, zero, suc, ◌<◌, Bool, true, false, not, ◌||◌, ◌&&◌, ◌⊎◌, inl, inr, ⊎_elim, List, [], ◌∷◌, ◌++◌, map, Some, slice_get, refl, sym, ap, ◌∙◌, subst, arith}
+use Rattle.std.proofs.Common.{◌≡◌, ℕ, zero, suc, ◌<◌, Bool, true, false, not, ◌||◌, ◌&&◌, inl, inr, ⊎_elim, List, [], ◌∷◌, ◌++◌, map, Some, slice_get, refl, sym, ap, ◌∙◌, subst, arith}
 use Rattle.std.specs.List.{Contains, All}
 use Rattle.std.proofs.lemmas.Bool.Decides.{nat_tests}
 use Rattle.std.proofs.lemmas.Option.{slice_get_within, get_or_from_slice_get}
-use Rattle.std.proofs.lemmas.Bool.{or_cases, or_right, and_parts, not-true, or_parts}
+use Rattle.std.proofs.lemmas.Bool.{or_cases, or_right, and_parts, not-true}
 use Rattle.sq_isa.specs.Registers.{is_among_but_x0}
 use Rattle.sq_isa.specs.Uses.{is_read, is_written}
 use Rattle.sq_graph.specs.declared.item.Item.{Item}

@@ -1,5 +1,5 @@
 -- The computed sets are exact: a register is in the set before a place exactly where it is live there.
-use Rattle.std.proofs.Common.{◌≡◌, ℕ, zero, suc, ◌+◌, ◌<◌, ◌≤◌, ◌↔◌, inl, inr, ⊎_elim, Bool, true, false, not, ◌||◌, ◌&&◌, List, [], ◌∷◌, ◌++◌, map, drop, length, get_or, Option, Some, None, is_some, nat_eq, slice_get, refl, sym, ap, ◌∙◌, subst, arith}
+use Rattle.std.proofs.Common.{◌≡◌, ℕ, zero, suc, ◌+◌, ◌<◌, ◌≤◌, ◌↔◌, inl, inr, ⊎_elim, Bool, true, false, not, ◌||◌, ◌&&◌, List, [], ◌∷◌, ◌++◌, map, drop, length, get_or, Option, Some, None, is_some, slice_get, refl, sym, ap, ◌∙◌, subst, arith}
 use Rattle.std.specs.List.{Contains, All}
 use Rattle.std.proofs.lemmas.Option.{slice_get_within, slice_get_past}
 use Rattle.std.proofs.lemmas.List.Elements.{All-drop}
@@ -16,16 +16,14 @@ use Rattle.sq_graph.specs.Lines.{Line, line_of, term_lines, body_lines, lines_of
 use Rattle.sq_graph.specs.Walks.{IsLive, read_here, live_behind, code_targets, is_register, term_sources, term_link}
 use Rattle.sq_live.specs.declared.effect.Effect.{Effect}
 use Rattle.sq_live.specs.Effects.{effect_reads, effect_writes, item_reads, item_writes, before_items, items_write, block_reads, block_writes, AreCalls, AreBlocks}
-use Rattle.sq_live.specs.Exits.{position_in, nodes_of, listed, term_exits, next_node, blocks_exits}
+use Rattle.sq_live.specs.Exits.{position_in, listed, term_exits, next_node, exits_of}
 use Rattle.sq_live.specs.Search.{list_at, Leads, read_in, leads_on}
 use Rattle.sq_live.specs.Places.{any_member, before_term, AreInBlock, AreBlockPlaces}
 use Rattle.sq_live.specs.Liveness.{IsLivenessOf, places_of}
-use Rattle.std.specs.Map.{lookup}
 use Rattle.sq_live.proofs.Sequences.{before_items-split}
 use Rattle.sq_live.proofs.Searches.{contains_head}
 use Rattle.sq_live.proofs.Ahead.{grows, no_sources, leads, ahead, items_ahead, term_ahead, covers, items_sound, IsThere}
 use Rattle.sq_live.proofs.Nodes.{none_or_some, listed_cases, contains_right, nodes_contains, nodes_come, drop_suc, get_drop, names_in, IsFound, IsLaidOut, IsSolved, names_count, at_block, at_nothing, block_rest, exits_at, exits_of_targets, position_below, exits_there, there}
-use Rattle.sq_live.proofs.Tables.{table_of, table_places}
 
 -- facts on one register
 module _ (g : Graph) (names : List ℕ) (at : ℕ → Option ℕ) (calls effects : List Effect) (exits : List (List ℕ)) (nodes : List ℕ) (s : IsSolved g names at calls effects exits nodes) (r : ℕ) (above : 0 < r) (small : r < 32) where
@@ -298,45 +296,47 @@ module _ (g : Graph) (names : List ℕ) (at : ℕ → Option ℕ) (calls effects
             split,
       )
 
-pub exact_liveness : (g : Graph) (names : List ℕ) (entries : List (ℕ × ℕ)) (calls effects : List Effect) (exits : List (List ℕ)) (nodes : List ℕ) (places : List (List ℕ)) → IsSolved g names (λ m. lookup (nat_eq m) entries) calls effects exits nodes → AreBlockPlaces calls exits nodes g.blocks places → IsLivenessOf g (table_of places entries)
-exact_liveness g names entries calls effects exits nodes places s p = record {
-  count = λ m h.
-      let k = position m h in
-      let f = at_block g names (λ m. lookup (nat_eq m) entries) calls effects exits s.laid m k.0 k.1 in
-      let b = in_block m k.0 f in
-      ap length (table_places places entries m k.0 k.1) ∙ b.count ∙ ap (λ o. length (block_items o) + 1) (sym f.value);
-  exact = λ m place r h within above small.
-      let k = position m h in
-      let f = at_block g names (λ m. lookup (nat_eq m) entries) calls effects exits s.laid m k.0 k.1 in
-      let b = in_block m k.0 f in
-      let fits : place ≤ length f.block.items = subst (λ o. place ≤ length (block_items o)) f.value within in
-      let set : is_member (get_or (places_of (table_of places entries) m) place 0) r ≡ before_items calls (drop place f.block.items) (before_term f.block nodes (list_at exits k.0) r) r =
-      ap (λ xs. is_member (get_or xs place 0) r) (table_places places entries m k.0 k.1) ∙ b.live place r fits small in
-      place_exact g names (λ m. lookup (nat_eq m) entries) calls effects exits nodes s r above small m k.0 place (get_or (places_of (table_of places entries) m) place 0) f fits set;
-}
-  where
-    position : (m : ℕ) → HasBlock g m → (k : ℕ) × (lookup (nat_eq m) entries ≡ Some k)
-    position m h =
-        ⊎_elim
-        (λ (e : lookup (nat_eq m) entries ≡ None). absurd (let z = sym (ap is_some (at_nothing g names (λ m. lookup (nat_eq m) entries) calls effects exits s.laid m e).0) ∙ h in cc))
-        (λ (e : (k : ℕ) × (lookup (nat_eq m) entries ≡ Some k)). e)
-        (none_or_some (lookup (nat_eq m) entries))
+module _ (g : Graph) (names : List ℕ) (at : ℕ → Option ℕ) (calls effects : List Effect) (exits : List (List ℕ)) (nodes : List ℕ) (s : IsSolved g names at calls effects exits nodes) (places : ℕ → List ℕ) (p : AreBlockPlaces calls exits nodes g.blocks places) where
+  position : (m : ℕ) → HasBlock g m → (k : ℕ) × (at m ≡ Some k)
+  position m h =
+      ⊎_elim
+      (λ (e : at m ≡ None). absurd (let z = sym (ap is_some (at_nothing g names at calls effects exits s.laid m e).0) ∙ h in cc))
+      (λ (e : (k : ℕ) × (at m ≡ Some k)). e)
+      (none_or_some (at m))
 
-    in_block : (m k : ℕ) (f : IsFound g.blocks 0 m k) → AreInBlock calls nodes (list_at exits k) f.block (list_at places k)
-    in_block m k f = p k f.block (get_drop g.blocks k f.block f.back (ap (λ i. drop i g.blocks) (let q = f.position in omega arith) ∙ f.rest))
+  in_block : (m k : ℕ) (f : IsFound g.blocks 0 m k) → AreInBlock calls nodes (list_at exits k) f.block (places m)
+  in_block m k f =
+      subst (λ n. AreInBlock calls nodes (list_at exits k) f.block (places n)) f.name
+      (p k f.block (get_drop g.blocks k f.block f.back (ap (λ i. drop i g.blocks) (let q = f.position in omega arith) ∙ f.rest)))
+
+  pub exact_liveness : (live : List (ℕ × List ℕ)) → ((m : ℕ) → places_of live m ≡ places m) → IsLivenessOf g live
+  exact_liveness live is = record {
+    count = λ m h.
+        let k = position m h in
+        let f = at_block g names at calls effects exits s.laid m k.0 k.1 in
+        let b = in_block m k.0 f in
+        ap length (is m) ∙ b.count ∙ ap (λ o. length (block_items o) + 1) (sym f.value);
+    exact = λ m place r h within above small.
+        let k = position m h in
+        let f = at_block g names at calls effects exits s.laid m k.0 k.1 in
+        let b = in_block m k.0 f in
+        let fits : place ≤ length f.block.items = subst (λ o. place ≤ length (block_items o)) f.value within in
+        let set : is_member (get_or (places_of live m) place 0) r ≡ before_items calls (drop place f.block.items) (before_term f.block nodes (list_at exits k.0) r) r =
+        ap (λ xs. is_member (get_or xs place 0) r) (is m) ∙ b.live place r fits small in
+        place_exact g names at calls effects exits nodes s r above small m k.0 place (get_or (places_of live m) place 0) f fits set;
+  }
 
 -- what the parts of the analysis say, put together
-pub lay_out : (g : Graph) (names n1 n2 n4 : List ℕ) (entries : List (ℕ × ℕ)) (calls c3 effects : List Effect) (exits : List (List ℕ)) → IsGraph g → names ≡ names_in g.blocks
-    → n1 ≡ names → n2 ≡ names → n4 ≡ names → c3 ≡ calls
-    → ((m : ℕ) → lookup (nat_eq m) entries ≡ position_in n1 0 m) → AreCalls g.procedures calls → AreBlocks c3 g.blocks effects → length effects ≡ length n2 + 1
-    → exits ≡ blocks_exits (λ m. lookup (nat_eq m) entries) (length n4) 0 g.blocks ++ nodes_of (λ m. lookup (nat_eq m) entries) (code_targets g) ∷ []
-    → IsLaidOut g names (λ m. lookup (nat_eq m) entries) calls effects exits
-lay_out g names n1 n2 n4 entries calls c3 effects exits rules are e1 e2 e4 f3 positions called blocks size leads_to = record {
+pub lay_out : (g : Graph) (names n1 n2 : List ℕ) (at : ℕ → Option ℕ) (calls c3 effects : List Effect) → IsGraph g → names ≡ names_in g.blocks
+    → n1 ≡ names → n2 ≡ names → c3 ≡ calls
+    → ((m : ℕ) → at m ≡ position_in n1 0 m) → AreCalls g.procedures calls → AreBlocks c3 g.blocks effects → length effects ≡ length n2 + 1
+    → IsLaidOut g names at calls effects (exits_of at (length names) g)
+lay_out g names n1 n2 at calls c3 effects rules are e1 e2 f3 positions called blocks size = record {
   rules = rules;
   names_are = are;
   at_is = λ m. positions m ∙ ap (λ ns. position_in ns 0 m) e1;
   calls_are = called;
   effects_are = subst (λ cs. AreBlocks cs g.blocks effects) f3 blocks;
   effects_count = size ∙ ap (λ ns. length ns + 1) e2;
-  exits_are = leads_to ∙ ap (λ ns. blocks_exits (λ m. lookup (nat_eq m) entries) (length ns) 0 g.blocks ++ nodes_of (λ m. lookup (nat_eq m) entries) (code_targets g) ∷ []) e4;
+  exits_are = refl;
 }

@@ -4,5 +4,6 @@ pub mod Layouts
 pub mod Searches
 pub mod PlaceSets
 pub mod Nodes
+pub mod Chains
 pub mod Tables
 pub mod Exactness

@@ -1,7 +1,7 @@
 -- Blocks by their positions, where they lead by nodes, and what was computed of them.
 use Rattle.std.proofs.Common.{◌≡◌, ℕ, zero, suc, ◌+◌, ◌<◌, ◌≤◌, ◌↔◌, ◌==◌, ◌⊎◌, inl, inr, ⊎_elim, true, List, [], ◌∷◌, ◌++◌, map, drop, length, get_or, Option, Some, None, option_to_list, slice_get, refl, sym, ap, ◌∙◌, subst, arith}
 use Rattle.std.specs.List.{Contains, All, flat_map}
-use Rattle.std.proofs.lemmas.Bool.{cases_Bool, cases_eq, cases_lt}
+use Rattle.std.proofs.lemmas.Bool.{cases_Bool, cases_eq, cases_lt, eqb-true}
 use Rattle.std.proofs.lemmas.Option.{slice_get_within}
 use Rattle.std.proofs.lemmas.List.{get_or_default}
 use Rattle.std.proofs.lemmas.List.Elements.{All-contains, Contains-append_left, Contains-append_cases}
@@ -118,6 +118,7 @@ pub record IsFound (blocks : List Block) (j m k : ℕ) : Type 0 where
   pub block : Block
   pub back : List Block
   pub position : k ≡ j + index
+  pub name : block.name ≡ m
   pub value : value_of (named blocks) m ≡ Some block
   pub rest : drop index blocks ≡ block ∷ back
   pub lines : behind_name m (lines_of blocks) ≡ body_lines block (lines_of back)
@@ -128,7 +129,7 @@ found (b ∷ blocks) j m k e =
     elim (cases_Bool (b.name == m)) [
       | inl here ↦
           let same : j ≡ k = let f : Some j ≡ Some k = rw here at e in cc in
-          record { index = 0; block = b; back = blocks; position = omega arith; value = rw here refl; rest = refl; lines = rw here refl }
+          record { index = 0; block = b; back = blocks; position = omega arith; name = eqb-true b.name m here; value = rw here refl; rest = refl; lines = rw here refl }
       | inr apart ↦
           let r = found blocks (j + 1) m k (rw apart at e) in
           record {
@@ -136,6 +137,7 @@ found (b ∷ blocks) j m k e =
             block = r.block;
             back = r.back;
             position = let p = r.position in omega arith;
+            name = r.name;
             value = rw apart r.value;
             rest = r.rest;
             lines = rw apart (skip_block m b (lines_of blocks) ∙ r.lines);

@@ -1,17 +1,17 @@
 -- The steps of a search backwards, and of the lists that it goes by.
-use Rattle.std.proofs.Common.{◌≡◌, ◌≢◌, ℕ, zero, suc, ◌+◌, ◌-◌, ◌^◌, ◌<◌, ◌≤◌, ◌↔◌, ◌||◌, ◌&&◌, not, Bool, true, false, List, [], ◌∷◌, ◌++◌, ◌⊎◌, inl, inr, ⊎_elim, Vec, map, take, length, get_or, refl, sym, ap, ◌∙◌, subst, arith, length-append, get_or-set_same, get_or-set_other, slice_get, drop, add-one, drop-cons}
+use Rattle.std.proofs.Common.{◌≡◌, ◌≢◌, ℕ, zero, suc, ◌+◌, ◌-◌, ◌^◌, ◌<◌, ◌≤◌, ◌↔◌, ◌||◌, ◌&&◌, not, Bool, true, false, List, [], ◌∷◌, ◌++◌, ◌⊎◌, inl, inr, ⊎_elim, map, take, length, get_or, refl, sym, ap, ◌∙◌, subst, arith, length-append, get_or-set_same, get_or-set_other, slice_get, add-one}
 use Rattle.std.proofs.Math.ListN.{set}
 use Rattle.std.specs.List.{Contains}
 use Rattle.std.proofs.lemmas.Bool.{cases_eq}
-use Rattle.std.proofs.lemmas.List.{get_or-map, get_or_default, length-set, length-map}
+use Rattle.std.proofs.lemmas.List.{get_or_default, length-set, length-map}
 use Rattle.std.proofs.lemmas.Nat.Bits.{bit_at-zero}
 use Rattle.std.proofs.lemmas.List.Sums.{sum_by-set}
-use Rattle.std.proofs.lemmas.List.Elements.{Contains-append_left, Contains-push, Contains-push_cases, Contains-get_or}
+use Rattle.std.proofs.lemmas.List.Elements.{Contains-append_left, Contains-push, Contains-push_cases}
 use Rattle.sq_live.specs.declared.effect.Effect.{Effect}
 use Rattle.sq_live.specs.Effects.{effect_reads, effect_writes}
 use Rattle.sq_isa.specs.Registers.{is_member}
 use Rattle.sq_live.proofs.Layouts.{item_at}
-use Rattle.sq_live.specs.Search.{list_at, lists, Leads, read_in, leads_on, IsReached, begins, comes, IsSearching, IsVisiting, Has, work_of}
+use Rattle.sq_live.specs.Search.{list_at, Leads, read_in, leads_on, IsReached, begins, comes, IsSearching, IsVisiting, Has, up_to, work_of}
 
 pub contains_head : {X : Type 0} (x : X) (xs : List X) → Contains (x ∷ xs) x
 contains_head x xs = (0, omega arith, refl)
@@ -22,64 +22,6 @@ contains_cases y xs x (suc k, h, e) = inr (k, omega arith, e)
 
 pub contains_none : {X : Type 0} (x : X) → Contains [] x → ⊥
 contains_none x (k, h, e) = omega arith
-
--- Lists of lists
-
-pub lists-set : {Z : Type 0} (vs : List (Vec ℕ Z)) (i : ℕ) (v : Vec ℕ Z) → lists (set vs i v) ≡ set (lists vs) i v.items
-lists-set [] i v = refl
-lists-set (w ∷ vs) zero v = refl
-lists-set (w ∷ vs) (suc i) v = ap (λ xs. w.items ∷ xs) (lists-set vs i v)
-
-pub length-lists : {Z : Type 0} (vs : List (Vec ℕ Z)) → length (lists vs) ≡ length vs
-length-lists [] = refl
-length-lists (v ∷ vs) = ap suc (length-lists vs)
-
--- the list that was read at an index
-pub read_list : {Z : Type 0} (vs : List (Vec ℕ Z)) (i : ℕ) (v : Vec ℕ Z) → i < length vs → v ≡ get_or vs i v → list_at (lists vs) i ≡ v.items
-read_list vs i v within here = get_or-map (λ w. w.items) vs i v [] within ∙ ap (λ w. w.items) (sym here)
-
--- the lists where `from` stands in those of some nodes too
-
-abbrev pub AddsTo : List (List ℕ) → List (List ℕ) → ℕ → List ℕ → Type 0
-AddsTo old new from nodes = (p to : ℕ) → Contains (list_at new to) p ↔ (Contains (list_at old to) p ⊎ ((p ≡ from) × Contains nodes to))
-
-module _ (old new : List (List ℕ)) (from : ℕ) (nodes : List ℕ) (i : ℕ) (within : i < length new) where
-  pub added : ((p to : ℕ) → Contains (list_at new to) p ↔ (Contains (list_at old to) p ⊎ ((p ≡ from) × Contains nodes to)))
-      → (p to : ℕ) → Contains (list_at (set new i (list_at new i ++ from ∷ [])) to) p ↔ (Contains (list_at old to) p ⊎ ((p ≡ from) × Contains (nodes ++ i ∷ []) to))
-  added h p to =
-      ⊎_elim
-      (λ (e : to ≡ i).
-      let same : list_at (set new i (list_at new i ++ from ∷ [])) to ≡ list_at new i ++ from ∷ [] = ap (λ k. list_at (set new i (list_at new i ++ from ∷ [])) k) e ∙ get_or-set_same new i (list_at new i ++ from ∷ []) [] within in (
-        λ (c : Contains (list_at (set new i (list_at new i ++ from ∷ [])) to) p).
-            ⊎_elim
-            (λ (a : Contains (list_at new i) p).
-            ⊎_elim (λ (b : Contains (list_at old to) p). inl b)
-            (λ (b : (p ≡ from) × Contains nodes to). inr (b.0, Contains-append_left nodes (i ∷ []) to b.1))
-            ((h p to).0 (subst (λ k. Contains (list_at new k) p) (sym e) a)))
-            (λ (a : from ≡ p). inr (sym a, subst (Contains (nodes ++ i ∷ [])) (sym e) (Contains-push nodes i)))
-            (Contains-push_cases (list_at new i) from p (subst (λ xs. Contains xs p) same c)),
-        λ (c : Contains (list_at old to) p ⊎ ((p ≡ from) × Contains (nodes ++ i ∷ []) to)).
-            subst (λ xs. Contains xs p) (sym same)
-            (⊎_elim
-            (λ (a : Contains (list_at old to) p). Contains-append_left (list_at new i) (from ∷ []) p (subst (λ k. Contains (list_at new k) p) e ((h p to).1 (inl a))))
-            (λ (a : (p ≡ from) × Contains (nodes ++ i ∷ []) to). subst (Contains (list_at new i ++ from ∷ [])) (sym a.0) (Contains-push (list_at new i) from))
-            c),
-      ))
-      (λ (e : to ≢ i).
-      let same : list_at (set new i (list_at new i ++ from ∷ [])) to ≡ list_at new to = get_or-set_other new i to (list_at new i ++ from ∷ []) [] e in (
-        λ (c : Contains (list_at (set new i (list_at new i ++ from ∷ [])) to) p).
-            ⊎_elim (λ (b : Contains (list_at old to) p). inl b)
-            (λ (b : (p ≡ from) × Contains nodes to). inr (b.0, Contains-append_left nodes (i ∷ []) to b.1))
-            ((h p to).0 (subst (λ xs. Contains xs p) same c)),
-        λ (c : Contains (list_at old to) p ⊎ ((p ≡ from) × Contains (nodes ++ i ∷ []) to)).
-            subst (λ xs. Contains xs p) (sym same)
-            ((h p to).1
-            (⊎_elim (λ (a : Contains (list_at old to) p). inl a)
-            (λ (a : (p ≡ from) × Contains (nodes ++ i ∷ []) to).
-            ⊎_elim (λ (b : Contains nodes to). inr (a.0, b)) (λ (b : i ≡ to). absurd (e (sym b))) (Contains-push_cases nodes i to a.1))
-            c)),
-      ))
-      (cases_eq to i)
 
 -- The sets
 
@@ -159,6 +101,30 @@ module _ (effects : List Effect) (sources : List (List ℕ)) where
           sound = s.sound;
         };
   }
+
+  -- those that wait may stand in another order
+  pub same_waiting : {node : ℕ} {left sets : List ℕ} (old new : List ℕ) → ((k : ℕ) → Contains old k ↔ Contains new k) → IsVisiting effects sources node left sets old → IsVisiting effects sources node left sets new
+  same_waiting {node} {left} {sets} old new same v = record {
+    count = v.count;
+    there = λ k c. v.there k ((same k).1 c);
+    each = λ r above below.
+        let s = v.each r above below in
+        record {
+          begun = s.begun;
+          visited = λ from to c w e.
+              ⊎_elim (λ (a : Has sets r from). inl a)
+              (λ (a : Contains old to ⊎ ((to ≡ node) × Contains left from)).
+              inr (⊎_elim (λ (b : Contains old to). inl ((same to).0 b)) (λ (b : (to ≡ node) × Contains left from). inr b) a))
+              (s.visited from to c w e);
+          sound = s.sound;
+        };
+  }
+
+  -- one that waits already need not wait twice
+  pub waits_already : {node : ℕ} {left sets waiting : List ℕ} (source : ℕ) → Contains waiting source → IsVisiting effects sources node left sets (waiting ++ source ∷ []) → IsVisiting effects sources node left sets waiting
+  waits_already {node} {left} {sets} {waiting} source has v =
+      same_waiting (waiting ++ source ∷ []) waiting
+      (λ k. (λ c. ⊎_elim (λ (d : Contains waiting k). d) (λ (d : source ≡ k). subst (Contains waiting) d has) (Contains-push_cases waiting source k c), λ c. Contains-append_left waiting (source ∷ []) k c)) v
 
   -- a source that has all already
   pub skips : {node : ℕ} {left sets waiting : List ℕ} (source live : ℕ) → Adds effects sets source node live → ((q : ℕ) → is_member live q ≡ true → Has sets q source) → IsVisiting effects sources node (source ∷ left) sets waiting → IsVisiting effects sources node left sets waiting
@@ -278,53 +244,6 @@ module _ (effects : List Effect) (sources : List (List ℕ)) where
         let h = sum_by-set (λ s. 2 ^ 32 - s) sets source grown 0 within in
         omega (arith, h, length-append waiting (source ∷ []))
 
--- The lists of sources
-
-pub empty_pushed : {Z : Type 0} (vs : List (Vec ℕ Z)) (v : Vec ℕ Z) → v.items ≡ [] → ((to : ℕ) → list_at (lists vs) to ≡ []) → (to : ℕ) → list_at (lists (vs ++ v ∷ [])) to ≡ []
-empty_pushed [] v e h zero = e
-empty_pushed [] v e h (suc to) = refl
-empty_pushed (w ∷ vs) v e h zero = h zero
-empty_pushed (w ∷ vs) v e h (suc to) = empty_pushed vs v e (λ k. h (suc k)) to
-
--- the nodes before `bound` stand in the lists of those to which they lead
-abbrev pub AreSources : List (List ℕ) → List (List ℕ) → ℕ → Type 0
-AreSources exits sources bound = (p to : ℕ) → Contains (list_at sources to) p ↔ ((p < bound) × Contains (list_at exits p) to)
-
-pub sources_start : (exits sources : List (List ℕ)) → ((to : ℕ) → list_at sources to ≡ []) → AreSources exits sources 0
-sources_start exits sources empty p to =
-    (λ c. absurd (contains_none p (subst (λ xs. Contains xs p) (empty to) c)), λ c. absurd (omega (arith, c.0)))
-
-pub sources_more : (exits old new : List (List ℕ)) (from : ℕ) (nodes : List ℕ) → list_at exits from ≡ nodes → AddsTo old new from nodes → AreSources exits old from → AreSources exits new (from + 1)
-sources_more exits old new from nodes e adds h p to = (
-  λ c.
-      ⊎_elim (λ (a : Contains (list_at old to) p). let b = (h p to).0 a in (let lt = b.0 in omega arith, b.1))
-      (λ (a : (p ≡ from) × Contains nodes to). (let same = a.0 in omega arith, subst (λ k. Contains (list_at exits k) to) (sym a.0) (subst (λ xs. Contains xs to) (sym e) a.1)))
-      ((adds p to).0 c),
-  λ (c : (p < from + 1) × Contains (list_at exits p) to).
-      (adds p to).1
-      (⊎_elim
-      (λ (a : p ≡ from). inr (a, subst (λ xs. Contains xs to) (ap (list_at exits) a ∙ e) c.1))
-      (λ (a : p ≢ from). inl ((h p to).1 (let lt = c.0 in omega arith, c.1)))
-      (cases_eq p from)),
-)
-
-pub holds_within : (xss : List (List ℕ)) (k x : ℕ) → Contains (list_at xss k) x → k < length xss
-holds_within [] k x c = absurd (contains_none x c)
-holds_within (xs ∷ xss) zero x c = omega arith
-holds_within (xs ∷ xss) (suc k) x c = let lt = holds_within xss k x c in omega arith
-
-pub sources_all : (exits sources : List (List ℕ)) (bound : ℕ) → length exits ≤ bound → AreSources exits sources bound → (p to : ℕ) → Contains (list_at sources to) p ↔ Contains (list_at exits p) to
-sources_all exits sources bound past h p to =
-    (λ c. ((h p to).0 c).1, λ c. (h p to).1 (let lt = holds_within exits p to c in omega arith, c))
-
--- a node's sources as they are read in order
-pub source_at : (list nodes : List ℕ) (i : ℕ) → nodes ≡ list → i < length nodes → Contains list (get_or nodes i 0)
-source_at list nodes i e h = subst (λ xs. Contains xs (get_or nodes i 0)) e (Contains-get_or nodes i 0 h)
-
-pub sources_left : (list nodes : List ℕ) (i : ℕ) → nodes ≡ list → i < length nodes → drop i list ≡ get_or nodes i 0 ∷ drop (i + 1) list
-sources_left list nodes i e h =
-    subst (λ xs. drop i xs ≡ get_or nodes i 0 ∷ drop (i + 1) xs) e (rw add-one (drop-cons nodes i 0 h))
-
 -- what was read at an index
 pub read_writes : (effects : List Effect) (k : ℕ) (d : Effect) (r : ℕ) → k < length effects → effect_writes (slice_get effects k) r ≡ is_member (get_or effects k d).writes r
 read_writes effects k d r within =
@@ -392,6 +311,10 @@ read_suc (e ∷ effects) (suc k) effect within here = ap (λ rs. e.reads ∷ rs)
 pub read_more : (effects : List Effect) (k : ℕ) (effect : Effect) → k < length effects → effect ≡ get_or effects k effect → map (λ (e : Effect). e.reads) (take k effects) ++ effect.reads ∷ [] ≡ map (λ (e : Effect). e.reads) (take (k + 1) effects)
 read_more effects k effect within here = rw add-one (read_suc effects k effect within here)
 
+pub up_to-last : (k : ℕ) → 0 < k → up_to k ≡ up_to (k - 1) ++ (k - 1) ∷ []
+up_to-last zero h = absurd (omega (arith, h))
+up_to-last (suc k) h = let e : suc k - 1 ≡ k = omega arith in rw e refl
+
 pub below_more : (nodes : List ℕ) (bound : ℕ) → ((k : ℕ) → Contains nodes k ↔ (k < bound)) → (k : ℕ) → Contains (nodes ++ bound ∷ []) k ↔ (k < bound + 1)
 below_more nodes bound all k = (
   λ c. ⊎_elim (λ (a : Contains nodes k). let h = (all k).0 a in omega arith) (λ (a : bound ≡ k). omega arith) (Contains-push_cases nodes bound k c),
@@ -399,3 +322,9 @@ below_more nodes bound all k = (
       ⊎_elim (λ (a : k ≡ bound). subst (Contains (nodes ++ bound ∷ [])) (sym a) (Contains-push nodes bound))
       (λ (a : k ≢ bound). Contains-append_left nodes (bound ∷ []) k ((all k).1 (omega (arith, h, a)))) (cases_eq k bound),
 )
+
+pub up_to-below : (bound k : ℕ) → Contains (up_to bound) k ↔ (k < bound)
+up_to-below zero k = (λ c. absurd (contains_none k c), λ h. absurd (omega (arith, h)))
+up_to-below (suc bound) k =
+    let all = below_more (up_to bound) bound (up_to-below bound) k in
+    (λ c. let h = all.0 c in omega (arith, h), λ h. all.1 (omega (arith, h)))

@@ -1,63 +1,51 @@
 -- The table of sets by names: what its look-ups give.
-use Rattle.std.proofs.Common.{◌≡◌, ℕ, zero, suc, ◌<◌, ◌↔◌, ◌==◌, inl, inr, ⊎_elim, Bool, true, false, not, List, [], ◌∷◌, map, length, Some, None, IsTrue, nat_eq, refl, sym, ap, ◌∙◌, subst, arith}
-use Rattle.std.proofs.lemmas.Bool.{cases_Bool, cases_eq, eqb-true, eq-eqb}
+use Rattle.std.proofs.Common.{◌≡◌, ℕ, zero, suc, ◌+◌, ◌<◌, ◌↔◌, ◌==◌, Bool, true, false, not, List, [], ◌∷◌, take, drop, length, get_or, IsTrue, refl, sym, ◌∙◌, arith, length-drop, length-take, get_or-take, get_or-drop}
+use Rattle.std.proofs.lemmas.Bool.{eq-eqb, ne_eqb}
 use Rattle.std.proofs.lemmas.Bool.Decides.{nat_tests}
 use Rattle.sq_graph.specs.Graph.{Graph}
 use Rattle.sq_graph.specs.Lines.{Line, Name, Do, Enter, Return, End}
 use Rattle.sq_graph.specs.Walks.{IsLive, read_here, live_behind, line_reads}
-use Rattle.sq_live.specs.Search.{list_at}
+use Rattle.sq_live.specs.declared.places.Span.{Span}
+use Rattle.sq_live.specs.Places.{sets_in, no_span}
+use Rattle.sq_live.specs.Shown.{named_sets}
 use Rattle.sq_live.specs.Liveness.{places_of}
-use Rattle.std.specs.Map.{lookup}
 
-pub same_test : (a b : ℕ) → (a == b) ≡ (b == a)
-same_test a b =
-    ⊎_elim (λ (e : a ≡ b). eq-eqb a b e ∙ sym (eq-eqb b a (sym e)))
-    (λ (apart : a ≡ b → ⊥).
-    elim (cases_Bool (a == b)) [
-      | inl h ↦ absurd (apart (eqb-true a b h))
-      | inr h ↦
-          elim (cases_Bool (b == a)) [
-            | inl i ↦ absurd (apart (sym (eqb-true b a i)))
-            | inr i ↦ h ∙ sym i
-          ]
-    ])
-    (cases_eq a b)
+-- what stands under a name, where names go on from j
+named_at : (sets : List ℕ) (spans : List Span) (j i m : ℕ) → m ≡ j + i → places_of (named_sets j sets spans) m ≡ sets_in sets (get_or spans i no_span)
+named_at sets [] j i m e = refl
+named_at sets (span ∷ spans) j zero m e =
+    let here : (j == m) ≡ true = eq-eqb j m (omega (arith, e)) in
+    rw here refl
+named_at sets (span ∷ spans) j (suc i) m e =
+    let apart : (j == m) ≡ false = ne_eqb j m (λ same. omega (arith, same, e)) in
+    rw apart (named_at sets spans (j + 1) i m (omega (arith, e)))
 
-abbrev pub table_of : List (List ℕ) → List (ℕ × ℕ) → List (ℕ × List ℕ)
-table_of places entries = map (λ e. (e.0, list_at places e.1)) entries
+pub shown_at : (sets : List ℕ) (spans : List Span) (m : ℕ) → places_of (named_sets 0 sets spans) m ≡ sets_in sets (get_or spans m no_span)
+shown_at sets spans m = named_at sets spans 0 m m (omega arith)
 
-pub table_places : (places : List (List ℕ)) (entries : List (ℕ × ℕ)) (m k : ℕ) → lookup (nat_eq m) entries ≡ Some k → places_of (table_of places entries) m ≡ list_at places k
-table_places places [] m k e = absurd (cc)
-table_places places (entry ∷ entries) m k e =
-    elim (cases_Bool (entry.0 == m)) [
-      | inl here ↦
-          let there : (m == entry.0) ≡ true = same_test m entry.0 ∙ here in
-          let same : entry.1 ≡ k = let f : Some entry.1 ≡ Some k = rw there at e in cc in
-          rw here (ap (list_at places) same)
-      | inr apart ↦
-          let there : (m == entry.0) ≡ false = same_test m entry.0 ∙ apart in
-          rw apart (table_places places entries m k (rw there at e))
-    ]
+-- where a set of a block lies
 
--- Reads of the table
+pub record IsSetAt (sets : List ℕ) (spans : List Span) (m p : ℕ) : Type 0 where
+  pub there : m < length spans
+  pub within : (get_or spans m no_span).start + p < length sets
+  pub set : get_or (sets_in sets (get_or spans m no_span)) p 0 ≡ get_or sets ((get_or spans m no_span).start + p) 0
 
-list_within : (xss : List (List ℕ)) (k p : ℕ) → p < length (list_at xss k) → k < length xss
-list_within [] k p h = absurd (omega arith)
-list_within (xs ∷ xss) zero p h = omega arith
-list_within (xs ∷ xss) (suc k) p h = let lt = list_within xss k p h in omega arith
+in_piece : (sets : List ℕ) (start count p : ℕ) → p < length (take count (drop start sets)) → (start + p < length sets) × (get_or (take count (drop start sets)) p 0 ≡ get_or sets (start + p) 0)
+in_piece sets start count p h =
+    let size = length-take count (drop start sets) in
+    let below : p < count = omega (arith, h, size) in
+    (omega (arith, h, size, length-drop start sets), get_or-take count (drop start sets) p 0 below ∙ get_or-drop start sets p 0)
 
-pub table_within : (places : List (List ℕ)) (entries : List (ℕ × ℕ)) (m k p : ℕ) → lookup (nat_eq m) entries ≡ Some k → p < length (places_of (table_of places entries) m) → k < length places
-table_within places entries m k p e h = list_within places k p (subst (λ xs. p < length xs) (table_places places entries m k e) h)
+span_there : (sets : List ℕ) (spans : List Span) (m p : ℕ) → p < length (sets_in sets (get_or spans m no_span)) → m < length spans
+span_there sets [] m p h = absurd (omega (arith, h))
+span_there sets (span ∷ spans) zero p h = omega arith
+span_there sets (span ∷ spans) (suc m) p h = let lt = span_there sets spans m p h in omega (arith, lt)
 
-pub table_misses : (places : List (List ℕ)) (entries : List (ℕ × ℕ)) (m : ℕ) → lookup (nat_eq m) entries ≡ None → places_of (table_of places entries) m ≡ []
-table_misses places [] m e = refl
-table_misses places (entry ∷ entries) m e =
-    elim (cases_Bool (entry.0 == m)) [
-      | inl here ↦ absurd (let there : (m == entry.0) ≡ true = same_test m entry.0 ∙ here in let f : Some entry.1 ≡ None = rw there at e in cc)
-      | inr apart ↦
-          let there : (m == entry.0) ≡ false = same_test m entry.0 ∙ apart in
-          rw apart (table_misses places entries m (rw there at e))
-    ]
+pub set_at : (sets : List ℕ) (spans : List Span) (m p : ℕ) → p < length (sets_in sets (get_or spans m no_span)) → IsSetAt sets spans m p
+set_at sets spans m p h =
+    let span = get_or spans m no_span in
+    let piece = in_piece sets span.start span.count p h in
+    record { there = span_there sets spans m p h; within = piece.0; set = piece.1 }
 
 -- x0 is live nowhere
 zero_unread : (line : Line) → line_reads line 0 ≡ true → ⊥

@@ -1,12 +1,9 @@
 -- The nodes from which a read is led to, and the search for them. No public clause cites this module.
-use Rattle.std.specs.Prelude.{◌≡◌, ℕ, ◌+◌, ◌-◌, ◌^◌, ◌<◌, true, false, List, [], ◌⊎◌, map, length, slice_get, slice_index_or, sum_by, Vec}
+use Rattle.std.specs.Prelude.{◌≡◌, ℕ, zero, suc, ◌++◌, ◌∷◌, ◌+◌, ◌-◌, ◌^◌, ◌<◌, true, false, List, [], ◌⊎◌, length, slice_get, slice_index_or, sum_by}
 use Rattle.std.specs.List.{Contains}
 use Rattle.sq_isa.specs.Registers.{is_member}
 use Rattle.sq_live.specs.declared.effect.Effect.{Effect}
 use Rattle.sq_live.specs.Effects.{effect_reads, effect_writes}
-
-abbrev pub lists : {Z : Type 0} → List (Vec ℕ Z) → List (List ℕ)
-lists vectors = map (λ v. v.items) vectors
 
 abbrev pub list_at : List (List ℕ) → ℕ → List ℕ
 list_at nodes k = slice_index_or nodes k []
@@ -37,6 +34,11 @@ pub record IsVisiting (effects : List Effect) (sources : List (List ℕ)) (node 
   pub count : length sets ≡ length effects
   pub there : (k : ℕ) → Contains waiting k → k < length effects
   pub each : (r : ℕ) → 0 < r → r < 32 → IsSearching effects sources r node left sets waiting
+
+-- the nodes before one, whose turn comes later
+abbrev pub up_to : ℕ → List ℕ
+up_to zero = []
+up_to (suc k) = up_to k ++ k ∷ []
 
 -- how much the sets may grow, and how many nodes wait
 abbrev pub work_of : List ℕ → List ℕ → ℕ

@@ -1,75 +1,69 @@
 //! Where blocks lead. A node is a block's position in layout order, or behind these the one that leads to each
 //! code target.
 
-ghost use Rattle.std.specs.Prelude.{◌≡◌, ℕ, ◌++◌, ◌∷◌, [], ◌+◌, IfOk, OnOk, map, length, nat_eq, option_to_list};
+ghost use Rattle.std.specs.Prelude.{◌≡◌, ◌++◌, ◌<◌, IfOk, OnOk, map, length, option_to_list};
 ghost use Rattle.std.specs.List.{flat_map};
-ghost use Rattle.std.specs.HashMap.{get};
 ghost use Rattle.sq_graph.specs.Parts.{names_of};
 ghost use Rattle.sq_graph.specs.Rules.{IsGraph};
 ghost use Rattle.sq_graph.specs.Terms.{links};
 ghost use Rattle.sq_graph.specs.Walks.{word_name, lower_names, link_names, code_targets};
-ghost use Rattle.sq_live.specs.Exits.{nodes_of, term_exits, blocks_exits};
+ghost use Rattle.sq_live.specs.Exits.{position_at, listed, term_exits, exits_of};
+ghost use Rattle.sq_live.specs.Search.{list_at};
 
+use crate::layout::position;
 use sq_graph::{Graph, Item, Term};
 use sq_num::Memory;
 use std::alloc::Global;
-use std::collections::HashMap;
 
-/// Where each block leads, and behind these where the node of code targets leads.
-pub(crate) fn exits(
-    alloc: Global,
-    g: &Graph,
-    names: &[u32],
-    positions: &HashMap<u32, usize>,
-) -> Result<Vec<Vec<usize>>, Memory>
+/// The nodes that a block leads to, two at most.
+#[derive(Clone, Copy, Debug)]
+pub(crate) struct Exits {
+    pub first: Option<u32>,
+    pub second: Option<u32>,
+}
+
+/// Where the block at a position leads.
+pub(crate) fn block_exits(g: &Graph, names: &[u32], positions: &[Option<u32>], k: usize) -> Exits
     requires rules { IsGraph g.now.graph }
     requires names { names.now ≡ names_of g.now.graph }
-    ensures { IfOk result (λ exits. map (λ v. v.items) exits.items ≡ blocks_exits (get nat_eq positions.now) (length names.now) 0 g.now.graph.blocks ++ nodes_of (get nat_eq positions.now) (code_targets g.now.graph) ∷ []) }
+    requires within { k < length names.now }
+    ensures { listed result.first result.second ≡ list_at (exits_of (position_at positions.now) (length names.now) g.now.graph) k }
 {
-    let mut exits = Vec::new(alloc);
-    for (k, name) in names.iter().enumerate() {
-        let next = if k + 1 < names.len() {
-            Some(k + 1)
-        } else {
-            None
-        };
-        exits.push(term_exits(alloc, g.term(*name), next, names.len(), positions)?)?;
-    }
-    let targets = code_targets(alloc, g, names)?;
-    exits.push(nodes(alloc, &targets, positions)?)?;
-    Ok(exits)
+    g.learn();
+    let next = if k + 1 < names.len() {
+        Some(k as u32 + 1)
+    } else {
+        None
+    };
+    term_exits(g.term(names[k]), next, names.len() as u32, positions)
 }
 
 // Where a term leads that has this node in the next slot.
-fn term_exits(
-    alloc: Global,
-    term: Term,
-    next: Option<usize>,
-    targets: usize,
-    positions: &HashMap<u32, usize>,
-) -> Result<Vec<usize>, Memory>
-    ensures { IfOk result (λ exits. exits.items ≡ term_exits (get nat_eq positions.now) targets next term) }
+fn term_exits(term: Term, next: Option<u32>, targets: u32, positions: &[Option<u32>]) -> Exits
+    ensures { listed result.first result.second ≡ term_exits (position_at positions.now) targets next term }
 {
     match term {
-        Term::Fall => listed(alloc, next, None),
-        Term::Jump { to } | Term::Call { to, .. } | Term::PartJump { to, .. } => listed(
-            alloc,
-            positions.get(&to).copied(),
-            None,
-        ),
-        Term::Branch { to, .. } => listed(alloc, positions.get(&to).copied(), next),
-        Term::Indirect { .. } => listed(alloc, Some(targets), None),
-        Term::Stop { .. } => listed(alloc, None, None),
+        Term::Fall => Exits {
+            first: next,
+            second: None,
+        },
+        Term::Jump { to } | Term::Call { to, .. } | Term::PartJump { to, .. } => Exits {
+            first: position(positions, to),
+            second: None,
+        },
+        Term::Branch { to, .. } => Exits {
+            first: position(positions, to),
+            second: next,
+        },
+        Term::Indirect { .. } => Exits {
+            first: Some(targets),
+            second: None,
+        },
+        Term::Stop { .. } => Exits {
+            first: None,
+            second: None,
+        },
     }
-}
-
-fn listed(alloc: Global, first: Option<usize>, second: Option<usize>) -> Result<Vec<usize>, Memory>
-    ensures { IfOk result (λ nodes. nodes.items ≡ option_to_list first ++ option_to_list second) }
-{
-    let mut nodes = Vec::new(alloc);
-    push_some(&mut nodes, first)?;
-    push_some(&mut nodes, second)?;
-    Ok(nodes)
 }
 
 // Appends what there is.
@@ -82,24 +76,9 @@ fn push_some<T: Drop>(items: &mut Vec<T>, item: Option<T>) -> Result<(), Memory>
     Ok(())
 }
 
-// The nodes of the names that are blocks'.
-fn nodes(
-    alloc: Global,
-    names: &[u32],
-    positions: &HashMap<u32, usize>,
-) -> Result<Vec<usize>, Memory>
-    ensures { IfOk result (λ nodes. nodes.items ≡ nodes_of (get nat_eq positions.now) names.now) }
-{
-    let mut nodes = Vec::new(alloc);
-    for name in names {
-        push_some(&mut nodes, positions.get(name).copied())?;
-    }
-    Ok(nodes)
-}
-
-// The names of the code targets: of code words, of Lo items in blocks and procedures, and of the slots behind
-// links.
-fn code_targets(alloc: Global, g: &Graph, names: &[u32]) -> Result<Vec<u32>, Memory>
+/// The names of the code targets: of code words, of Lo items in blocks and procedures, and of the slots behind
+/// links.
+pub(crate) fn code_targets(alloc: Global, g: &Graph, names: &[u32]) -> Result<Vec<u32>, Memory>
     requires rules { IsGraph g.now.graph }
     requires names { names.now ≡ names_of g.now.graph }
     ensures { IfOk result (λ targets. targets.items ≡ code_targets g.now.graph) }

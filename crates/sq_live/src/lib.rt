@@ -7,6 +7,7 @@ mod layout;
 mod liveness;
 mod places;
 mod search;
+mod sources;
 
 pub use layout::block_names;
 pub use liveness::{Liveness, live};

@@ -8,23 +8,19 @@ ghost use Rattle.sq_graph.specs.Lines.{place_lines};
 ghost use Rattle.sq_graph.specs.Walks.{IsLive};
 ghost use Rattle.sq_live.specs.Liveness.{IsLivenessOf, places_of};
 
-use crate::exits::exits;
 use crate::layout::{block_effects, block_names, call_effects, positions};
-use crate::places::block_places;
+use crate::places::{Places, block_places};
 use crate::search::live_sets;
 use sq_graph::Graph;
 use sq_isa::{Reg, RegSet};
 use sq_num::Memory;
 use std::alloc::Global;
-use std::collections::HashMap;
 use std::marker::Model;
 
 /// The live registers of a graph, which contracts see as each block's name with the sets before its places.
 #[derive(Drop)]
 pub struct Liveness {
-    positions: HashMap<u32, usize>,
-    // For each block in layout order the sets before its items, and last that before its term.
-    places: Vec<Vec<RegSet>>,
+    places: Places,
 }
 
 impl Model for Liveness {
@@ -53,10 +49,7 @@ impl Liveness {
         requires { place < length (places_of self.now block) }
         ensures { result ≡ slice_index (places_of self.now block) place }
     {
-        match self.positions.get(&block) {
-            Some(position) => self.places[*position][place as usize],
-            None => unreachable!(),
-        }
+        self.places.at(block, place)
     }
 }
 
@@ -69,8 +62,7 @@ pub fn live(alloc: Global, g: &Graph) -> Result<Liveness, Memory>
     let positions = positions(alloc, &names)?;
     let calls = call_effects(alloc, g)?;
     let effects = block_effects(alloc, g, &names, &calls)?;
-    let exits = exits(alloc, g, &names, &positions)?;
-    let nodes = live_sets(alloc, &effects, &exits)?;
-    let places = block_places(alloc, g, &names, &calls, &exits, &nodes)?;
-    Ok(Liveness { positions, places })
+    let nodes = live_sets(alloc, g, &names, &positions, &effects)?;
+    let places = block_places(alloc, g, &names, &positions, &calls, &nodes)?;
+    Ok(Liveness { places })
 }

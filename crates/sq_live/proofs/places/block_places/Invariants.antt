@@ -1,11 +1,12 @@
-use Rattle.std.proofs.Common.{◌≡◌, ℕ, ◌<◌, Some, length, slice_get}
-use Rattle.sq_graph.specs.Graph.{Block}
-use Rattle.sq_live.specs.Search.{list_at, lists}
-use Rattle.sq_live.specs.Places.{AreInBlock}
+use Rattle.std.proofs.Common.{◌≡◌, ◌+◌, length, take}
+use Rattle.sq_graph.specs.Blocks.{items_of_blocks}
+use Rattle.sq_live.specs.Exits.{position_at, exits_of}
+use Rattle.sq_live.proofs.PlaceSets.{ArePlacedBefore}
 use Rattle.sq_live.proofs.places.block_places.Given as goal
 
 abbrev pub invariant-loop-k : goal.invariant-loop-k
 invariant-loop-k l = record {
-  count : length l.places.items ≡ l.k;
-  places : (j : ℕ) (block : Block) → j < l.k → slice_get l.g.graph.blocks j ≡ Some block → AreInBlock l.calls l.nodes (list_at (lists l.exits) j) block (list_at (lists l.places.items) j);
+  size : length l.sets.items ≡ length (items_of_blocks (take l.k l.g.graph.blocks)) + l.k;
+  room : length l.spans.items ≡ length l.positions;
+  places : ArePlacedBefore l.calls (exits_of (position_at l.positions) (length l.names) l.g.graph) l.nodes l.g.graph.blocks l.sets.items l.spans.items l.k;
 }

@@ -1,9 +1,5 @@
-use Rattle.std.proofs.Common.{◌≡◌, ℕ, ◌<◌, ◌↔◌, take, map}
-use Rattle.std.specs.List.{Contains}
+use Rattle.std.proofs.Common.{◌≡◌, take, map}
 use Rattle.sq_live.proofs.search.read_sets.Given as goal
 
-abbrev pub invariant-loop-k : goal.invariant-loop-k
-invariant-loop-k l = record {
-  sets : l.sets.items ≡ map (λ effect. effect.reads) (take l.k l.effects);
-  nodes : (k : ℕ) → Contains l.nodes.items k ↔ (k < l.k);
-}
+abbrev pub invariant-loop-effect : goal.invariant-loop-effect
+invariant-loop-effect l = l.sets.items ≡ map (λ effect. effect.reads) (take l.effect-index l.effects)

@@ -1,92 +1,164 @@
-use Rattle.std.proofs.Common.{◌≡◌, ◌∙◌, ◌+◌, ◌<◌, ◌≤◌, ◌++◌, ◌∷◌, ◌||◌, [], ℕ, true, refl, ap, sym, subst, drop, length, get_or, arith}
+use Rattle.std.proofs.Common.{◌≡◌, ◌∙◌, ◌<◌, ◌≤◌, ◌++◌, ◌∷◌, ◌||◌, [], ℕ, None, true, refl, ap, sym, subst, length, get_or, arith, append_assoc, length-append}
+use Rattle.std.specs.List.{Contains}
 use Rattle.std.proofs.Math.ListN.{set}
-use Rattle.std.proofs.lemmas.List.{drop_all}
+use Rattle.std.proofs.lemmas.List.{get_or_default}
+use Rattle.std.proofs.lemmas.List.Elements.{Contains-append_left}
 use Rattle.sq_isa.specs.Registers.{is_member}
-use Rattle.sq_live.specs.Search.{list_at, lists, IsVisiting, work_of}
-use Rattle.sq_live.proofs.Searches.{read_list, source_at, sources_left, adds_before, read_set, skips, grows, work_falls}
+use Rattle.sq_live.specs.Search.{list_at, IsVisiting, up_to, work_of}
+use Rattle.sq_live.specs.Sources.{sources_of, chain}
+use Rattle.sq_live.proofs.Searches.{contains_head, adds_before, read_set, skips, grows, work_falls, waits_already, up_to-below}
+use Rattle.sq_live.proofs.Nodes.{contains_right}
+use Rattle.sq_live.proofs.Chains.{next_edge, goes_down, list_is, length-sources, no_chain}
 use Rattle.sq_live.proofs.search.visit.Goals as goal
-use Rattle.sq_live.proofs.search.visit.Goals.{in-Some+in_ok-push, in_default}
+
+pub loop-at-init : goal.loop-at-init
+loop-at-init c =
+    let first = c.args.sources.now.first.items in
+    let edges = c.args.sources.now.edges.items in
+    let node = c.args.node in
+    let within : node < length first = omega (arith, c.requires.count, c.requires.node, length-sources first edges) in
+    let at : c.index-at.result.now ≡ get_or first node None = c.index-at.ensures ∙ get_or_default first node c.index-at.result.now None within in
+    let list : list_at (sources_of c.args.sources.now) node ≡ chain edges (length edges) c.index-at.result.now = list_is first edges node ∙ ap (chain edges (length edges)) (sym at) in
+    record {
+      within = λ k e. c.requires.chained.begun node k (sym at ∙ e);
+      left = λ from h. subst (λ xs. Contains xs from) (sym list) h;
+      search = subst (λ xs. IsVisiting c.args.effects.now (sources_of c.args.sources.now) node xs c.args.sets.now.items (up_to c.args.later ++ c.args.waiting.now.items)) list c.requires.search;
+      work = omega arith;
+    }
 
 pub bounds-effects-from : goal.bounds-effects-from
 bounds-effects-from c =
-    let within : c.args.node < length c.args.sources.now = omega (arith, c.requires.count, c.requires.node) in
-    let list = c.deref-from-items.ensures.value ∙ sym (read_list c.args.sources.now c.args.node c.index-sources-node.result within c.index-sources-node.is) in
-    c.requires.there (get_or c.deref-from-items.result.now c.loop-from.from-index 0) c.args.node (source_at (list_at (lists c.args.sources.now) c.args.node) c.deref-from-items.result.now c.loop-from.from-index list c.loop-from-test.true)
+    let edges = c.args.sources.now.edges.items in
+    let edge = c.index-edge.result.now in
+    let next = next_edge edges c.requires.chained.back c.loop-at.at c.in-Some.number edge c.loop-at.invariant.within c.in-Some.is c.index-edge.ensures in
+    let leads = c.loop-at.invariant.left edge.from (subst (λ xs. Contains xs edge.from) (sym next.0) (contains_head edge.from (chain edges (length edges) edge.next))) in
+    let there = c.requires.there edge.from c.args.node leads in
+    there
 
-pub offset_bounds-effects-from : goal.offset_bounds-effects-from
-offset_bounds-effects-from c =
-    let within : c.args.node < length c.args.sources.now = omega (arith, c.requires.count, c.requires.node) in
-    let list = c.deref-from-items.ensures.value ∙ sym (read_list c.args.sources.now c.args.node c.index-sources-node.result within c.index-sources-node.is) in
-    let there = c.requires.there (get_or c.deref-from-items.result.now c.loop-from.from-index 0) c.args.node (source_at (list_at (lists c.args.sources.now) c.args.node) c.deref-from-items.result.now c.loop-from.from-index list c.loop-from-test.true) in
-    omega arith
-
-pub index-requires-in-loop-from : goal.index-requires-in-loop-from
-index-requires-in-loop-from c =
-    let within : c.args.node < length c.args.sources.now = omega (arith, c.requires.count, c.requires.node) in
-    let list = c.deref-from-items.ensures.value ∙ sym (read_list c.args.sources.now c.args.node c.index-sources-node.result within c.index-sources-node.is) in
-    let there = c.requires.there (get_or c.deref-from-items.result.now c.loop-from.from-index 0) c.args.node (source_at (list_at (lists c.args.sources.now) c.args.node) c.deref-from-items.result.now c.loop-from.from-index list c.loop-from-test.true) in
-    omega (arith, c.loop-from.invariant.search.count, c.loop-from.sets.ok.0)
+pub index-requires-in-Some : goal.index-requires-in-Some
+index-requires-in-Some c =
+    let edges = c.args.sources.now.edges.items in
+    let edge = c.index-edge.result.now in
+    let next = next_edge edges c.requires.chained.back c.loop-at.at c.in-Some.number edge c.loop-at.invariant.within c.in-Some.is c.index-edge.ensures in
+    let leads = c.loop-at.invariant.left edge.from (subst (λ xs. Contains xs edge.from) (sym next.0) (contains_head edge.from (chain edges (length edges) edge.next))) in
+    let there = c.requires.there edge.from c.args.node leads in
+    omega (arith, there, c.loop-at.invariant.search.count, c.loop-at.sets.ok.0)
 
 pub index_mut-requires : goal.index_mut-requires
 index_mut-requires c =
-    let within : c.args.node < length c.args.sources.now = omega (arith, c.requires.count, c.requires.node) in
-    let list = c.deref-from-items.ensures.value ∙ sym (read_list c.args.sources.now c.args.node c.index-sources-node.result within c.index-sources-node.is) in
-    let there = c.requires.there (get_or c.deref-from-items.result.now c.loop-from.from-index 0) c.args.node (source_at (list_at (lists c.args.sources.now) c.args.node) c.deref-from-items.result.now c.loop-from.from-index list c.loop-from-test.true) in
-    omega (arith, c.loop-from.invariant.search.count, c.loop-from.sets.ok.0)
+    let edges = c.args.sources.now.edges.items in
+    let edge = c.index-edge.result.now in
+    let next = next_edge edges c.requires.chained.back c.loop-at.at c.in-Some.number edge c.loop-at.invariant.within c.in-Some.is c.index-edge.ensures in
+    let leads = c.loop-at.invariant.left edge.from (subst (λ xs. Contains xs edge.from) (sym next.0) (contains_head edge.from (chain edges (length edges) edge.next))) in
+    let there = c.requires.there edge.from c.args.node leads in
+    omega (arith, there, c.loop-at.invariant.search.count, c.loop-at.sets.ok.0)
 
-pub loop-from-preserved : goal.loop-from-preserved
-loop-from-preserved c =
+pub loop-at-preserved-in_ok-push : goal.loop-at-preserved-in_ok-push
+loop-at-preserved-in_ok-push c =
     let effects = c.args.effects.now in
-    let sources = lists c.args.sources.now in
+    let edges = c.args.sources.now.edges.items in
+    let sources = sources_of c.args.sources.now in
     let node = c.args.node in
-    let all = list_at sources node in
-    let i = c.loop-from.from-index in
-    let from = get_or c.deref-from-items.result.now i 0 in
-    let sets = c.loop-from.sets.items in
-    let waiting = c.loop-from.waiting.items in
-    let within : c.args.node < length c.args.sources.now = omega (arith, c.requires.count, c.requires.node) in
-    let list = c.deref-from-items.ensures.value ∙ sym (read_list c.args.sources.now c.args.node c.index-sources-node.result within c.index-sources-node.is) in
-    let edge = source_at all c.deref-from-items.result.now i list c.loop-from-test.true in
-    let there = c.requires.there from node edge in
-    let left = sources_left all c.deref-from-items.result.now i list c.loop-from-test.true in
-    let search = subst (λ xs. IsVisiting effects sources node xs sets waiting) left c.loop-from.invariant.search in
-    let in_sets : from < length c.loop-from.sets.items = omega (arith, c.loop-from.invariant.search.count) in
-    let at_node : node < length c.loop-from.sets.items = omega (arith, c.loop-from.invariant.search.count, c.requires.node) in
+    let edge = c.index-edge.result.now in
+    let from = edge.from in
+    let behind = chain edges (length edges) edge.next in
+    let next = next_edge edges c.requires.chained.back c.loop-at.at c.in-Some.number edge c.loop-at.invariant.within c.in-Some.is c.index-edge.ensures in
+    let leads = c.loop-at.invariant.left from (subst (λ xs. Contains xs from) (sym next.0) (contains_head from behind)) in
+    let there = c.requires.there from node leads in
+    let sets = c.loop-at.sets.items in
+    let waiting = c.loop-at.waiting.items in
+    let search = subst (λ xs. IsVisiting effects sources node xs sets (up_to c.args.later ++ waiting)) next.0 c.loop-at.invariant.search in
+    let in_sets : from < length sets = omega (arith, there, c.loop-at.invariant.search.count) in
+    let at_node : node < length sets = omega (arith, c.loop-at.invariant.search.count, c.requires.node) in
     let live = c.before-live.result in
     let adds = adds_before effects sets from node live c.index.result.now c.index-effects-from.result there c.index-effects-from.is (read_set sets node c.index.result.now at_node c.index.ensures) c.before-live.ensures in
-    let old = read_set sets from c.index-in-loop-from.result.now in_sets c.index-in-loop-from.ensures in
-    elim c.match-grown_by.branch [
-      | in-Some+in_ok-push w ↦
-          let grown = w.in-Some.grown in
-          let members = subst (λ set. (q : ℕ) → is_member grown q ≡ (is_member set q || is_member live q)) old w.in-Some.ensures.some in
-          let more : get_or sets from 0 < grown = subst (λ set. set < grown) old w.in-Some.ensures.more in
-          let new_sets : c.match-grown_by.sets.items ≡ set sets from grown = ap (λ v. v.items) w.sets-is in
-          let new_waiting : c.match-grown_by.waiting.items ≡ waiting ++ from ∷ [] = ap (λ v. v.items) w.waiting-is ∙ w.in_ok-push.ensures.items in
-          record {
-            search =
-                subst (λ ss. IsVisiting effects sources node (drop (i + 1) all) ss c.match-grown_by.waiting.items) (sym new_sets)
-                (subst (λ ws. IsVisiting effects sources node (drop (i + 1) all) (set sets from grown) ws) (sym new_waiting)
-                (grows effects sources sets waiting from node live grown in_sets adds members edge search));
-            work =
-                let falls = work_falls effects sources sets waiting from node live grown in_sets adds members more w.in-Some.ensures.small in
-                let is = ap (λ ss. work_of ss c.match-grown_by.waiting.items) new_sets ∙ ap (λ ws. work_of (set sets from grown) ws) new_waiting in
-                let before = c.loop-from.invariant.work in
-                omega (arith, falls, is, before);
-          }
-      | in_default w ↦
-          record {
-            search =
-                subst (λ v. IsVisiting effects sources node (drop (i + 1) all) v.items c.match-grown_by.waiting.items) (sym w.sets-is)
-                (subst (λ v. IsVisiting effects sources node (drop (i + 1) all) sets v.items) (sym w.waiting-is)
-                (skips effects sources from live adds (λ q member. subst (λ set. is_member set q ≡ true) old (w.in_default.ensures.none refl q member)) search));
-            work = subst (λ n. n ≤ work_of c.args.sets.now.items c.args.waiting.now.items) (sym (ap (λ v. work_of v.items c.match-grown_by.waiting.items) w.sets-is ∙ ap (λ v. work_of sets v.items) w.waiting-is)) c.loop-from.invariant.work;
-          }
-    ]
+    let old = read_set sets from c.index-in-Some.result.now in_sets c.index-in-Some.ensures in
+    let grown = c.in-Some-grown_by.grown in
+    let members = subst (λ set. (q : ℕ) → is_member grown q ≡ (is_member set q || is_member live q)) old c.in-Some-grown_by.ensures.some in
+    let more : get_or sets from 0 < grown = subst (λ set. set < grown) old c.in-Some-grown_by.ensures.more in
+    let pushed = c.in_ok-push.ensures.items in
+    record {
+      within = next.1;
+      left = λ f h. c.loop-at.invariant.left f (subst (λ xs. Contains xs f) (sym next.0) (contains_right (from ∷ []) behind f h));
+      search =
+          subst (λ ws. IsVisiting effects sources node behind (set sets from grown) ws) (append_assoc (up_to c.args.later) waiting (from ∷ []) ∙ ap (λ ws. up_to c.args.later ++ ws) (sym pushed))
+          (grows effects sources sets (up_to c.args.later ++ waiting) from node live grown in_sets adds members leads search);
+      work =
+          let falls = work_falls effects sources sets waiting from node live grown in_sets adds members more c.in-Some-grown_by.ensures.small in
+          let is = ap (λ ws. work_of (set sets from grown) ws) pushed in
+          let before = c.loop-at.invariant.work in
+          omega (arith, falls, is, before);
+    }
+
+pub loop-at-preserved-else-edge-later : goal.loop-at-preserved-else-edge-later
+loop-at-preserved-else-edge-later c =
+    let effects = c.args.effects.now in
+    let edges = c.args.sources.now.edges.items in
+    let sources = sources_of c.args.sources.now in
+    let node = c.args.node in
+    let edge = c.index-edge.result.now in
+    let from = edge.from in
+    let behind = chain edges (length edges) edge.next in
+    let next = next_edge edges c.requires.chained.back c.loop-at.at c.in-Some.number edge c.loop-at.invariant.within c.in-Some.is c.index-edge.ensures in
+    let leads = c.loop-at.invariant.left from (subst (λ xs. Contains xs from) (sym next.0) (contains_head from behind)) in
+    let there = c.requires.there from node leads in
+    let sets = c.loop-at.sets.items in
+    let waiting = c.loop-at.waiting.items in
+    let search = subst (λ xs. IsVisiting effects sources node xs sets (up_to c.args.later ++ waiting)) next.0 c.loop-at.invariant.search in
+    let in_sets : from < length sets = omega (arith, there, c.loop-at.invariant.search.count) in
+    let at_node : node < length sets = omega (arith, c.loop-at.invariant.search.count, c.requires.node) in
+    let live = c.before-live.result in
+    let adds = adds_before effects sets from node live c.index.result.now c.index-effects-from.result there c.index-effects-from.is (read_set sets node c.index.result.now at_node c.index.ensures) c.before-live.ensures in
+    let old = read_set sets from c.index-in-Some.result.now in_sets c.index-in-Some.ensures in
+    let grown = c.in-Some-grown_by.grown in
+    let members = subst (λ set. (q : ℕ) → is_member grown q ≡ (is_member set q || is_member live q)) old c.in-Some-grown_by.ensures.some in
+    let more : get_or sets from 0 < grown = subst (λ set. set < grown) old c.in-Some-grown_by.ensures.more in
+    let wait = up_to c.args.later ++ waiting in
+    let waits = Contains-append_left (up_to c.args.later) waiting from ((up_to-below c.args.later from).1 (omega (arith, c.if-edge-later.false))) in
+    record {
+      within = next.1;
+      left = λ f h. c.loop-at.invariant.left f (subst (λ xs. Contains xs f) (sym next.0) (contains_right (from ∷ []) behind f h));
+      search = waits_already effects sources from waits (grows effects sources sets wait from node live grown in_sets adds members leads search);
+      work =
+          let falls = work_falls effects sources sets waiting from node live grown in_sets adds members more c.in-Some-grown_by.ensures.small in
+          let shorter : work_of (set sets from grown) waiting ≤ work_of (set sets from grown) (waiting ++ from ∷ []) = omega (arith, length-append waiting (from ∷ [])) in
+          let before = c.loop-at.invariant.work in
+          omega (arith, falls, shorter, before);
+    }
+
+pub loop-at-smaller-in_ok-push : goal.loop-at-smaller-in_ok-push
+loop-at-smaller-in_ok-push c =
+    goes_down c.args.sources.now.edges.items c.requires.chained.back c.loop-at.at c.in-Some.number c.index-edge.result.now (c.loop-at.invariant.within c.in-Some.number c.in-Some.is) c.in-Some.is c.index-edge.ensures
+
+pub loop-at-preserved : goal.loop-at-preserved
+loop-at-preserved c =
+    let effects = c.args.effects.now in
+    let edges = c.args.sources.now.edges.items in
+    let sources = sources_of c.args.sources.now in
+    let node = c.args.node in
+    let edge = c.index-edge.result.now in
+    let from = edge.from in
+    let behind = chain edges (length edges) edge.next in
+    let next = next_edge edges c.requires.chained.back c.loop-at.at c.in-Some.number edge c.loop-at.invariant.within c.in-Some.is c.index-edge.ensures in
+    let leads = c.loop-at.invariant.left from (subst (λ xs. Contains xs from) (sym next.0) (contains_head from behind)) in
+    let there = c.requires.there from node leads in
+    let sets = c.loop-at.sets.items in
+    let waiting = c.loop-at.waiting.items in
+    let search = subst (λ xs. IsVisiting effects sources node xs sets (up_to c.args.later ++ waiting)) next.0 c.loop-at.invariant.search in
+    let in_sets : from < length sets = omega (arith, there, c.loop-at.invariant.search.count) in
+    let at_node : node < length sets = omega (arith, c.loop-at.invariant.search.count, c.requires.node) in
+    let live = c.before-live.result in
+    let adds = adds_before effects sets from node live c.index.result.now c.index-effects-from.result there c.index-effects-from.is (read_set sets node c.index.result.now at_node c.index.ensures) c.before-live.ensures in
+    let old = read_set sets from c.index-in-Some.result.now in_sets c.index-in-Some.ensures in
+    record {
+      within = next.1;
+      left = λ f h. c.loop-at.invariant.left f (subst (λ xs. Contains xs f) (sym next.0) (contains_right (from ∷ []) behind f h));
+      search = skips effects sources from live adds (λ q member. subst (λ set. is_member set q ≡ true) old (c.in_default-grown_by.ensures.none refl q member)) search;
+      work = c.loop-at.invariant.work;
+    }
 
 pub returns-clause-search : goal.returns-clause-search
 returns-clause-search c =
-    let within : c.args.node < length c.args.sources.now = omega (arith, c.requires.count, c.requires.node) in
-    let list = c.deref-from-items.ensures.value ∙ sym (read_list c.args.sources.now c.args.node c.index-sources-node.result within c.index-sources-node.is) in
-    subst (λ xs. IsVisiting c.args.effects.now (lists c.args.sources.now) c.args.node xs c.loop-from.sets.items c.loop-from.waiting.items)
-    (drop_all c.loop-from.from-index (list_at (lists c.args.sources.now) c.args.node) (omega (arith, ap length list)))
-    c.loop-from.invariant.search
+    let edges = c.args.sources.now.edges.items in
+    subst (λ xs. IsVisiting c.args.effects.now (sources_of c.args.sources.now) c.args.node xs c.loop-at.sets.items (up_to c.args.later ++ c.loop-at.waiting.items))
+    (ap (chain edges (length edges)) c.in_default.is ∙ no_chain edges (length edges)) c.loop-at.invariant.search
