@@ -1,14 +1,14 @@
 //! Sets of names.
 
-use crate::table::Table;
+use crate::table::{put, value};
 use sq_num::Memory;
 use std::alloc::Global;
 use std::marker::Model;
 
-/// A set of names of blocks, or of procedures.
+/// A set of names of blocks, or of procedures: a byte for each name up to the greatest one.
 #[derive(Drop)]
 pub struct Names {
-    table: Table,
+    marks: Vec<Option<()>>,
 }
 
 impl Model for Names {
@@ -18,7 +18,7 @@ impl Model for Names {
 
     ghost use Rattle.sq_lookup.specs.Tables.{names_from};
 
-    ghost view = { λ s. names_from 0 s.table };
+    ghost view = { λ s. names_from 0 s.marks.items };
 }
 
 impl Names {
@@ -29,14 +29,14 @@ impl Names {
         ensures { result ≡ [] }
     {
         Names {
-            table: Table::new(alloc),
+            marks: Vec::new(alloc),
         }
     }
 
     pub fn insert(&mut self, name: u32) -> Result<(), Memory>
         ensures { OnOk result (Adds (name ∷ []) self.old self.new) }
     {
-        self.table.insert(name, 0)?;
+        put(&mut self.marks, name, ())?;
         Ok(())
     }
 
@@ -53,6 +53,6 @@ impl Names {
     pub fn has(&self, name: u32) -> bool
         ensures { result ≡ is_listed self.now name }
     {
-        self.table.get(name).is_some()
+        value(&self.marks, name).is_some()
     }
 }

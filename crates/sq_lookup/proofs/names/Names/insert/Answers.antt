@@ -6,4 +6,4 @@ use Rattle.sq_lookup.proofs.names.Names.insert.Goals as goal
 
 pub returns : goal.returns
 returns c =
-    subst (λ (ns : List ℕ). Adds (c.args.name ∷ []) ns (names_from 0 c.insert.new.self)) c.self.view_is (one_added c.self.inside.table c.insert.new.self c.args.name 0 c.in_ok-insert.ensures)
+    subst (λ (ns : List ℕ). Adds (c.args.name ∷ []) ns (names_from 0 c.put.new.values.items)) c.self.view_is (one_added c.self.inside.marks.items c.put.new.values.items c.args.name _ c.in_ok-put.ensures)
