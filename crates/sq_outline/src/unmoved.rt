@@ -248,8 +248,10 @@ impl Unmoved {
     /// Whether a row may have a candidate since the chain moved, where none had one before. From then on the graph counts as
     /// unmoved. It looks at each Branch, and where blocks became one, at each word a few times.
     pub fn may_have_more(&mut self, alloc: Global, graph: &Graph) -> Result<bool, Memory> {
-        Ok(self.has_more_near(alloc, graph)?
-            || self.inlines && find_inline(alloc, graph)?.is_some()
-            || self.has_more_in_one(alloc, graph)?)
+        Ok(
+            self.has_more_near(alloc, graph)?
+                || self.inlines && find_inline(alloc, graph)?.is_some()
+                || self.has_more_in_one(alloc, graph)?,
+        )
     }
 }

@@ -76,5 +76,8 @@ pub fn chain_text(alloc: Global, graph: &mut Graph, verb: &str) -> Result<String
         return rewrite_text(alloc, move_once(alloc, graph)?);
     }
     let mut tried = Names::new(alloc);
-    savings_text(alloc, &sweep_moves(alloc, graph, &mut tried, Savings::NONE)?)
+    savings_text(
+        alloc,
+        &sweep_moves(alloc, graph, &mut tried, Savings::NONE)?,
+    )
 }
