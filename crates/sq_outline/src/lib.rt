@@ -12,6 +12,7 @@ mod groups;
 mod inline;
 mod link;
 mod make;
+mod nearby;
 mod outlines;
 mod plain;
 mod proposals;

@@ -5,6 +5,7 @@ ghost use Rattle.sq_graph.specs.Blocks.{HasBlock};
 
 use crate::groups::{block_print, procedure_prints};
 use crate::inline::{any_would_save, find_inline};
+use crate::nearby::Nearby;
 use crate::seams::may_pay_at;
 use crate::ways::{near_jumps, previous};
 use crate::windows::may_end_alike;
@@ -31,6 +32,7 @@ pub struct Unmoved {
     near: Names,
     // Whether a procedure waits for Branches to reach.
     inlines: bool,
+    nearby: Nearby,
 }
 
 /// Whether another of these blocks has as many items and the print of this one.
@@ -102,6 +104,15 @@ fn before(graph: &Graph, block: u32) -> Option<u32> {
     }
 }
 
+/// Whether a block goes on into this one.
+fn is_entered_at(graph: &Graph, block: u32) -> bool {
+    graph.learn();
+    match before(graph, block) {
+        Some(at) => is_block(graph, at) && graph.term(at).goes_on(),
+        None => false,
+    }
+}
+
 /// A set of these names.
 fn set_of(alloc: Global, names: &[u32]) -> Result<Names, Memory> {
     let mut set = Names::new(alloc);
@@ -118,6 +129,7 @@ impl Unmoved {
             seams: Vec::new(alloc),
             near: set_of(alloc, &near_jumps(alloc, graph)?)?,
             inlines: any_would_save(alloc, graph)?,
+            nearby: Nearby::new(alloc),
         })
     }
 
@@ -142,19 +154,23 @@ impl Unmoved {
         }
     }
 
-    /// Takes note of the blocks at the seams that a chain leaves and makes if it moves behind this block: whether that jumps to one.
-    /// It looks at the chain.
+    /// Takes note of the blocks at the seams that a chain leaves and makes if it moves behind this block: whether that jumps to one,
+    /// and each Branch may reach then. It looks at the chain, and around it and the block.
     pub fn begin(&mut self, graph: &Graph, from: u32) -> Result<bool, Memory> {
         self.seams.clear();
         let Some(to) = jump_target(graph, from) else {
             return Ok(false);
         };
+        if is_entered_at(graph, to) {
+            return Ok(false);
+        }
+        let end = end_of_chain(graph, to);
         self.note_seam(graph, from)?;
-        self.note_seam(graph, end_of_chain(graph, to))?;
+        self.note_seam(graph, end)?;
         if let Some(block) = before(graph, to) {
             self.note_seam(graph, block)?;
         }
-        Ok(true)
+        self.nearby.may_reach(graph, from, to, end)
     }
 
     /// The places at which a block that had so many items may have become one with others.
