@@ -18,6 +18,7 @@ mod replaying;
 mod rows;
 mod settling;
 mod tracking;
+mod windows;
 
 pub use chains::sweep_moves;
 pub use checking::check_graph;

@@ -16,11 +16,12 @@ ghost use Rattle.sq_drive.specs.Rows.{IsCandidateOf, IsCandidate, described, IsL
 use crate::chains::move_some;
 use crate::once::{find_one, rewrite_by_cut};
 use crate::rows::settle_earlier;
+use crate::windows::window_some;
 use sq_graph::Graph;
 use sq_layout::words_of;
 use sq_lookup::Names;
 use sq_num::{Memory, Savings};
-use sq_outline::Windows;
+use sq_outline::FoundWindows;
 use sq_pass::Pass;
 use std::alloc::Global;
 
@@ -76,12 +77,20 @@ pub fn settle_by<P: Pass>(
     }
 }
 
+/// With what sweeps that ended go on.
+#[derive(Drop)]
+struct Left {
+    windows: FoundWindows,
+    // The blocks behind which a move was tried.
+    tried: Names,
+}
+
 /// Rewrites the graph by windows, where no pass before them has a candidate, or where they have none either by moves of
-/// chains. None where neither saves a word. A sweep of moves leaves out the blocks that were tried.
+/// chains. None where neither saves a word. Sweeps go on with what is left.
 fn rewrite_late(
     alloc: Global,
     graph: &mut Graph,
-    tried: &mut Names,
+    left: &mut Left,
     savings: Savings,
 ) -> Result<Option<Savings>, Memory>
     requires canonical { IsCanonical graph.old.graph }
@@ -93,10 +102,10 @@ fn rewrite_late(
     ensures moves { result ≡ Ok None → (cut : Told) → ¬ IsMove graph.old.graph cut }
     ensures follows { Follows graph.old.graph graph.new.graph }
 {
-    if let Some(after) = rewrite_some(alloc, graph, &Windows, savings)? {
+    if let Some(after) = window_some(alloc, graph, &mut left.windows, savings)? {
         return Ok(Some(after));
     }
-    move_some(alloc, graph, tried, savings)
+    move_some(alloc, graph, &mut left.tried, savings)
 }
 
 /// Rewrites the graph by all rows until none has a candidate, and answers the savings with what each row saved. Windows are
@@ -111,10 +120,13 @@ fn settle_from(alloc: Global, graph: &mut Graph, savings: Savings) -> Result<Sav
 {
     let mut saved = savings;
     let mut looks = 0;
-    let mut tried = Names::new(alloc);
+    let mut left = Left {
+        windows: FoundWindows::new(alloc),
+        tried: Names::new(alloc),
+    };
     loop {
         let settled = settle_earlier(alloc, graph, &mut looks, saved)?;
-        let Some(after) = rewrite_late(alloc, graph, &mut tried, settled)? else {
+        let Some(after) = rewrite_late(alloc, graph, &mut left, settled)? else {
             return Ok(settled);
         };
         saved = after;

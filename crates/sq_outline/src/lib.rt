@@ -28,4 +28,4 @@ mod windows;
 pub use outlines::Outlines;
 pub use proposals::propose;
 pub use unmoved::Unmoved;
-pub use windows::{Windows, propose_windows};
+pub use windows::{FoundWindows, Windows, propose_windows, sweep_windows};

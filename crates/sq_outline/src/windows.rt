@@ -6,6 +6,7 @@ mod found;
 mod heads;
 mod inside;
 mod joins;
+mod left;
 mod occurrences;
 mod pass;
 mod past;
@@ -16,6 +17,8 @@ mod sweep;
 mod window;
 
 pub(crate) use joins::may_end_alike;
+pub use left::FoundWindows;
 pub use pass::Windows;
 pub use proposals::propose_windows;
 pub(crate) use stands::begins;
+pub use sweep::sweep_windows;

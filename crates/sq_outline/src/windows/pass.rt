@@ -2,8 +2,9 @@
 
 use crate::call::call;
 use crate::windows::inside::{admit_inside, find_inside};
+use crate::windows::left::FoundWindows;
 use crate::windows::search::{admit_window, find_window};
-use crate::windows::sweep::sweep;
+use crate::windows::sweep::sweep_windows;
 use crate::windows::window::make_window;
 use sq_graph::{Graph, Room};
 use sq_live::Liveness;
@@ -80,6 +81,6 @@ impl Pass for Windows {
 
     /// It looks for candidates of V once and for those of W a few times, and tests each on the graph as it is then.
     fn sweep(&self, alloc: Global, graph: &mut Graph, savings: Savings) -> Result<Savings, Memory> {
-        sweep(alloc, graph, savings)
+        sweep_windows(alloc, graph, &mut FoundWindows::new(alloc), savings)
     }
 }

@@ -11,7 +11,6 @@ use crate::windows::found::{Found, found_at};
 use crate::windows::heads::heads;
 use crate::windows::inside::{inside_cut, procedure_inside};
 use crate::windows::search::{classes_in_line, window_cut};
-use crate::windows::sweep::sixteenths;
 use sq_finger::{Groups, WindowAt, all_places, number_items, number_longer_runs, window_laws};
 use sq_graph::Graph;
 use sq_live::Liveness;
@@ -19,11 +18,21 @@ use sq_num::Memory;
 use sq_pass::Cut;
 use std::alloc::Global;
 
-/// A window of n items that may become a procedure.
+/// A window of n items that may become a procedure, and which part of the words of its occurrences it saves, in sixteenths.
 #[derive(Clone, Copy, Debug)]
-struct FoundWindow {
-    n: u32,
-    found: Found,
+pub(crate) struct FoundWindow {
+    pub(crate) n: u32,
+    pub(crate) found: Found,
+    pub(crate) sixteenths: u64,
+}
+
+/// Which part of the words of its occurrences a window of n items saves, in sixteenths.
+pub(crate) fn sixteenths(n: u32, saving: u32) -> u64
+    requires { 3 ≤ n }
+{
+    let gone = u64::from(saving) + u64::from(n) + 1;
+    let words = gone + gone / u64::from(n - 1);
+    16 * u64::from(saving) / words
 }
 
 /// Puts the windows of n items that may become procedures behind the others.
@@ -44,14 +53,23 @@ fn push_windows(
 {
     for number in 0..classes.len() {
         if let Some(found) = found_at(alloc, graph, live, n, classes.members(number))? {
-            windows.push(FoundWindow { n, found })?;
+            windows.push(FoundWindow {
+                n,
+                found,
+                sixteenths: sixteenths(n, found.saving),
+            })?;
         }
     }
     Ok(())
 }
 
-/// All windows that may become procedures, the shortest first. It numbers the windows of each length.
-fn found_windows(alloc: Global, graph: &Graph, live: &Liveness) -> Result<Vec<FoundWindow>, Memory>
+/// All windows that may become procedures, those that save the greatest part of their words last, of these the longest last. It
+/// numbers the windows of each length.
+pub(crate) fn found_windows(
+    alloc: Global,
+    graph: &Graph,
+    live: &Liveness,
+) -> Result<Vec<FoundWindow>, Memory>
     requires live { IsLivenessOf graph.now.graph live.now }
     ensures { IfOk result (λ windows. All (IsFoundWindow graph.now.graph) windows.items) }
 {
@@ -66,15 +84,15 @@ fn found_windows(alloc: Global, graph: &Graph, live: &Liveness) -> Result<Vec<Fo
         let classes = classes_in_line(alloc, graph, n, &line, &numbers)?;
         push_windows(alloc, graph, live, n, &classes, &mut windows)?;
     }
+    windows.sort_by_key(|window| window.sixteenths)?;
     Ok(windows)
 }
 
-/// Puts behind the others a candidate of W for each of these windows that saves so many sixteenths of its words.
+/// Puts behind the others a candidate of W for each of these windows.
 fn push_made(
     alloc: Global,
     graph: &Graph,
     windows: &[FoundWindow],
-    part: u64,
     cuts: &mut Vec<Cut>,
 ) -> Result<(), Memory>
     requires windows { All (IsFoundWindow graph.now.graph) windows.now }
@@ -82,10 +100,8 @@ fn push_made(
     ensures { OnOk result (All (IsWindowsCandidate graph.now.graph) cuts.new.items) }
 {
     for window in windows {
-        let FoundWindow { n, found } = *window;
-        if sixteenths(n, found.saving) == part {
-            cuts.push(window_cut(alloc, graph, n, found)?)?;
-        }
+        let FoundWindow { n, found, .. } = *window;
+        cuts.push(window_cut(alloc, graph, n, found)?)?;
     }
     Ok(())
 }
@@ -120,9 +136,7 @@ pub fn propose_windows(alloc: Global, graph: &Graph, live: &Liveness) -> Result<
 {
     let windows = found_windows(alloc, graph, live)?;
     let mut cuts = Vec::new(alloc);
-    for part in 0..16 {
-        push_made(alloc, graph, &windows, part, &mut cuts)?;
-    }
+    push_made(alloc, graph, &windows, &mut cuts)?;
     push_calls(alloc, graph, live, &mut cuts)?;
     Ok(cuts)
 }

@@ -13,7 +13,7 @@ ghost use Rattle.sq_outline.specs.WindowsInside.{MayCallInside};
 ghost use Rattle.sq_outline.specs.WindowsMade.{items_at, IsWindowMade};
 ghost use Rattle.sq_outline.specs.WindowsPast.{IsPast, KeepsPast};
 ghost use Rattle.sq_outline.specs.WindowsPlaces.{occurrences};
-ghost use Rattle.sq_outline.specs.WindowsSearch.{AreStanding, AreWindowClasses};
+ghost use Rattle.sq_outline.specs.WindowsSearch.{AreStanding};
 
 use crate::call::call;
 use crate::plain::are_plain;
@@ -22,10 +22,12 @@ use crate::windows::earlier::Earlier;
 use crate::windows::found::{Found, found_at, found_still, items_at};
 use crate::windows::heads::heads;
 use crate::windows::inside::{may_call_still, procedure_inside};
+use crate::windows::left::FoundWindows;
 use crate::windows::past::{Shift, note_calls, now_at};
-use crate::windows::search::{classes_in_line, standing};
+use crate::windows::proposals::{FoundWindow, sixteenths};
+use crate::windows::search::standing;
 use crate::windows::window::make_window_at;
-use sq_finger::{Groups, WindowAt, all_places, number_items, number_longer_runs, window_laws};
+use sq_finger::{WindowAt, all_places};
 use sq_graph::{Graph, Room};
 use sq_live::{Liveness, live};
 use sq_lookup::is_block;
@@ -163,83 +165,22 @@ fn sweep_calls(
     call_each(alloc, graph, earlier, &before, &mut shifts, &calls, savings)
 }
 
-/// A window that a look found: where it occurred first, and which part of the words that it takes it saves, in sixteenths.
-#[derive(Clone, Copy, Debug)]
-struct Hint {
-    first: Site,
-    n: u32,
-    sixteenths: u64,
-}
-
-/// Which part of the words of its occurrences a window of n items saves, in sixteenths.
-pub(crate) fn sixteenths(n: u32, saving: u32) -> u64
-    requires { 3 ≤ n }
-{
-    let gone = u64::from(saving) + u64::from(n) + 1;
-    let words = gone + gone / u64::from(n - 1);
-    16 * u64::from(saving) / words
-}
-
-/// Puts the windows of n items that may become procedures behind the others.
-fn push_hints(
-    alloc: Global,
-    graph: &Graph,
-    live: &Liveness,
-    n: u32,
-    classes: &Groups<WindowAt>,
-    hints: &mut Vec<Hint>,
-) -> Result<(), Memory>
-    requires live { IsLivenessOf graph.now.graph live.now }
-    requires least { 3 ≤ n }
-    requires most { n ≤ 16 }
-    requires classes { AreWindowClasses graph.now.graph n classes.now }
-{
-    for number in 0..classes.len() {
-        if let Some(found) = found_at(alloc, graph, live, n, classes.members(number))? {
-            hints.push(Hint {
-                first: found.first,
-                n,
-                sixteenths: sixteenths(n, found.saving),
-            })?;
-        }
-    }
-    Ok(())
-}
-
-/// The windows that may become procedures, by one look, which numbers the windows of each length.
-fn windows_to_try(alloc: Global, graph: &Graph, live: &Liveness) -> Result<Vec<Hint>, Memory>
-    requires { IsLivenessOf graph.now.graph live.now }
-{
-    graph.learn();
-    window_laws();
-    let line = all_places(alloc, graph)?;
-    let items = number_items(alloc, graph, &line)?;
-    let mut numbers = number_longer_runs(alloc, &items, &items)?;
-    let mut hints = Vec::new(alloc);
-    for n in 3..17 {
-        numbers = number_longer_runs(alloc, &items, &numbers)?;
-        let classes = classes_in_line(alloc, graph, n, &line, &numbers)?;
-        push_hints(alloc, graph, live, n, &classes, &mut hints)?;
-    }
-    Ok(hints)
-}
-
-/// The places where the window of a hint stands, where its items stand still and the window may pay.
+/// The places where a window stands that a look found, where its items stand still and the window may pay.
 fn places_of(
     alloc: Global,
     graph: &Graph,
     shifts: &[Shift],
-    hint: Hint,
+    window: FoundWindow,
 ) -> Result<Option<Vec<WindowAt>>, Memory>
-    ensures least { IfOk result (λ found. IfSome found (λ places. 3 ≤ hint.n)) }
-    ensures most { IfOk result (λ found. IfSome found (λ places. hint.n ≤ 16)) }
-    ensures places { IfOk result (λ found. IfSome found (λ places. AreStanding graph.now.graph hint.n places.items)) }
+    ensures least { IfOk result (λ found. IfSome found (λ places. 3 ≤ window.n)) }
+    ensures most { IfOk result (λ found. IfSome found (λ places. window.n ≤ 16)) }
+    ensures places { IfOk result (λ found. IfSome found (λ places. AreStanding graph.now.graph window.n places.items)) }
 {
     graph.learn();
-    let Some(Site { block, at }) = now_at(shifts, hint.first) else {
+    let Some(Site { block, at }) = now_at(shifts, window.found.first) else {
         return Ok(None);
     };
-    let n = hint.n;
+    let n = window.n;
     if n < 3 || n > 16 || !is_block(graph, block) {
         return Ok(None);
     }
@@ -289,8 +230,8 @@ fn rewrite_window(
     Ok(done.count(savings))
 }
 
-/// The same where the window of a hint saves so many sixteenths and may become one still, by registers that were dead before
-/// these calls came. It looks at each place.
+/// The same where a window that a look found may become one still, by registers that were dead before these calls came. It
+/// looks at each place. Where it saves a lesser part of its words by now it is put back.
 #[tactic(auto, using(sq_pass::proofs::Rewriting::rewritten_itself, law_follow::proofs::Following::graph_follows_itself))]
 fn make_if_may(
     alloc: Global,
@@ -298,8 +239,8 @@ fn make_if_may(
     earlier: &mut Earlier,
     before: &Liveness,
     shifts: &mut Vec<Shift>,
-    hint: Hint,
-    sixteenths: u64,
+    windows: &mut FoundWindows,
+    window: &FoundWindow,
     savings: Savings,
 ) -> Result<Savings, Memory>
     requires canonical { IsCanonical graph.old.graph }
@@ -309,80 +250,63 @@ fn make_if_may(
     ensures follows { Follows graph.old.graph graph.new.graph }
     ensures past { OnOk result (KeepsPast graph.old.graph shifts.old.items graph.new.graph shifts.new.items) }
 {
-    if earlier.asks() || hint.sixteenths != sixteenths {
+    let tried = *window;
+    let (n, most) = (tried.n, tried.sixteenths);
+    let Some(places) = places_of(alloc, graph, shifts, tried)? else {
+        return Ok(savings);
+    };
+    let Some((found, sites)) = found_still(alloc, graph, before, shifts, n, &places)? else {
+        return Ok(savings);
+    };
+    let part = sixteenths(n, found.saving);
+    if part < most {
+        windows.put_back(window, part)?;
         return Ok(savings);
     }
-    let Some(places) = places_of(alloc, graph, shifts, hint)? else {
-        return Ok(savings);
-    };
-    let Some((found, sites)) = found_still(alloc, graph, before, shifts, hint.n, &places)? else {
-        return Ok(savings);
-    };
     // The procedure's own words went from blocks, too.
-    let words = u64::from(found.saving) + u64::from(hint.n) + 1;
-    let after = rewrite_window(graph, shifts, hint.n, found, &sites, savings)?;
+    let words = u64::from(found.saving) + u64::from(n) + 1;
+    let after = rewrite_window(graph, shifts, n, found, &sites, savings)?;
     earlier.look_at_procedure(alloc, graph, before, shifts, words)?;
     Ok(after)
 }
 
-/// The same for each of these that saves so many sixteenths, the longest first.
+/// The same for these windows, the last first, until an earlier row is to be asked. Those that are left are moved along with their
+/// items.
 #[tactic(auto, using(law_follow::proofs::Following::graph_follows_through))]
 fn make_each(
     alloc: Global,
     graph: &mut Graph,
     earlier: &mut Earlier,
     before: &Liveness,
-    shifts: &mut Vec<Shift>,
-    hints: &[Hint],
-    sixteenths: u64,
+    windows: &mut FoundWindows,
     savings: Savings,
 ) -> Result<Savings, Memory>
     requires canonical { IsCanonical graph.old.graph }
     requires words { words_of graph.old.graph + words_saved savings ≤ most_words }
-    requires past { IsPast graph.old.graph before.now shifts.old.items }
+    requires live { IsLivenessOf graph.old.graph before.now }
     ensures rewritten { IfOk result (λ after. IsRewritten IsWindowsCandidate windows_described savings after graph.old.graph graph.new.graph) }
     ensures follows { Follows graph.old.graph graph.new.graph }
-    ensures past { OnOk result (KeepsPast graph.old.graph shifts.old.items graph.new.graph shifts.new.items) }
 {
+    let mut shifts = Vec::new(alloc);
     let mut after = savings;
-    for at in 0..hints.len() {
-        let hint = hints[hints.len() - 1 - at];
+    for _window in 0..u32::MAX {
+        let Some(window) = windows.pop() else {
+            return Ok(after);
+        };
         after = make_if_may(
-            alloc, graph, earlier, before, shifts, hint, sixteenths, after,
-        )?;
-    }
-    Ok(after)
-}
-
-/// The same for all of these, those that save the most first.
-#[tactic(auto, using(law_follow::proofs::Following::graph_follows_through))]
-fn make_all(
-    alloc: Global,
-    graph: &mut Graph,
-    earlier: &mut Earlier,
-    before: &Liveness,
-    shifts: &mut Vec<Shift>,
-    hints: &[Hint],
-    savings: Savings,
-) -> Result<Savings, Memory>
-    requires canonical { IsCanonical graph.old.graph }
-    requires words { words_of graph.old.graph + words_saved savings ≤ most_words }
-    requires past { IsPast graph.old.graph before.now shifts.old.items }
-    ensures rewritten { IfOk result (λ after. IsRewritten IsWindowsCandidate windows_described savings after graph.old.graph graph.new.graph) }
-    ensures follows { Follows graph.old.graph graph.new.graph }
-{
-    let mut after = savings;
-    for step in 0..16 {
-        after = make_each(
             alloc,
             graph,
             earlier,
             before,
-            shifts,
-            hints,
-            15 - step,
+            &mut shifts,
+            windows,
+            &window,
             after,
         )?;
+        if earlier.asks() {
+            windows.shift(alloc, &shifts)?;
+            return Ok(after);
+        }
     }
     Ok(after)
 }
@@ -390,13 +314,14 @@ fn make_all(
 /// So many looks for windows leave none, or few.
 const LOOKS: u32 = 8;
 
-/// Rewrites the graph by row W, in rounds. Each tries the windows that one look finds, with live registers that are looked
-/// for once, and again where a procedure's link isn't sure without them. It ends where an earlier row is to be asked, and may
-/// leave candidates.
-fn sweep_windows(
+/// Rewrites the graph by row W, in rounds, first by these windows. Each round tries the windows that one look finds, with live
+/// registers that are looked for once, and again where a procedure's link isn't sure without them. It ends where an earlier row
+/// is to be asked, and may leave candidates.
+fn sweep_made(
     alloc: Global,
     graph: &mut Graph,
     earlier: &mut Earlier,
+    windows: &mut FoundWindows,
     savings: Savings,
 ) -> Result<Savings, Memory>
     requires canonical { IsCanonical graph.old.graph }
@@ -410,25 +335,35 @@ fn sweep_windows(
             return Ok(after);
         }
         let before = live(alloc, graph)?;
-        let hints = windows_to_try(alloc, graph, &before)?;
-        if hints.is_empty() {
+        if windows.is_empty() {
+            *windows = FoundWindows::look(alloc, graph, &before)?;
+        }
+        if windows.is_empty() {
             return Ok(after);
         }
-        let mut shifts = Vec::new(alloc);
-        after = make_all(alloc, graph, earlier, &before, &mut shifts, &hints, after)?;
+        after = make_each(alloc, graph, earlier, &before, windows, after)?;
     }
     Ok(after)
 }
 
-/// Rewrites the graph by rows V and W. It looks for candidates of V and live registers once, and so for W a few times. It may
-/// leave candidates.
-pub(crate) fn sweep(alloc: Global, graph: &mut Graph, savings: Savings) -> Result<Savings, Memory>
+/// Rewrites the graph by rows V and W, where no earlier row has a candidate. It looks for candidates of V and live registers
+/// once, and so for W a few times. It ends where an earlier row may have a candidate, and leaves the windows that it didn't try:
+/// given them, the next sweep goes on with them. It may leave candidates.
+pub fn sweep_windows(
+    alloc: Global,
+    graph: &mut Graph,
+    windows: &mut FoundWindows,
+    savings: Savings,
+) -> Result<Savings, Memory>
     requires canonical { IsCanonical graph.old.graph }
     requires words { words_of graph.old.graph + words_saved savings ≤ most_words }
     ensures rewritten { IfOk result (λ after. IsRewritten IsWindowsCandidate windows_described savings after graph.old.graph graph.new.graph) }
     ensures follows { Follows graph.old.graph graph.new.graph }
 {
     let mut earlier = Earlier::look(alloc, graph)?;
+    if !windows.is_empty() {
+        return sweep_made(alloc, graph, &mut earlier, windows, savings);
+    }
     let called = sweep_calls(alloc, graph, &mut earlier, savings)?;
-    sweep_windows(alloc, graph, &mut earlier, called)
+    sweep_made(alloc, graph, &mut earlier, windows, called)
 }

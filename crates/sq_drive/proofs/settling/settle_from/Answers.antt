@@ -9,23 +9,23 @@ use Rattle.sq_drive.proofs.Moves.{by_rows, none_left}
 use Rattle.sq_drive.proofs.RowPasses.{none_of_rows}
 use Rattle.sq_drive.proofs.settling.settle_from.Goals as goal
 
-pub loop-tried-init : goal.loop-tried-init
-loop-tried-init c = rewritten_itself IsCandidate described c.args.savings c.args.graph.now.graph c.requires.canonical
+pub loop-left-init : goal.loop-left-init
+loop-left-init c = rewritten_itself IsCandidate described c.args.savings c.args.graph.now.graph c.requires.canonical
 
-pub loop-tried-preserved : goal.loop-tried-preserved
-loop-tried-preserved c =
+pub loop-left-preserved : goal.loop-left-preserved
+loop-left-preserved c =
     let old = c.args.graph.now.graph in
     let mid = c.settle_earlier.new.graph.graph in
-    let rows = by_rows c.loop-tried.saved c.in_ok-settled.settled c.loop-tried.graph.graph mid c.in_ok-settled.ensures.rewritten in
-    let settled = rewritten_through IsCandidate described c.args.savings c.loop-tried.saved c.in_ok-settled.settled old c.loop-tried.graph.graph mid c.loop-tried.invariant rows in
+    let rows = by_rows c.loop-left.saved c.in_ok-settled.settled c.loop-left.graph.graph mid c.in_ok-settled.ensures.rewritten in
+    let settled = rewritten_through IsCandidate described c.args.savings c.loop-left.saved c.in_ok-settled.settled old c.loop-left.graph.graph mid c.loop-left.invariant rows in
     rewritten_through IsCandidate described c.args.savings c.in_ok-settled.settled c.in-Some.after old mid c.rewrite_late.new.graph.graph settled (rw c.in-Some.is at c.in_ok-after.ensures.rewritten)
 
 pub returns-in_default-clause-rewritten : goal.returns-in_default-clause-rewritten
 returns-in_default-clause-rewritten c =
     let old = c.args.graph.now.graph in
     let mid = c.settle_earlier.new.graph.graph in
-    let rows = by_rows c.loop-tried.saved c.in_ok-settled.settled c.loop-tried.graph.graph mid c.in_ok-settled.ensures.rewritten in
-    let settled = rewritten_through IsCandidate described c.args.savings c.loop-tried.saved c.in_ok-settled.settled old c.loop-tried.graph.graph mid c.loop-tried.invariant rows in
+    let rows = by_rows c.loop-left.saved c.in_ok-settled.settled c.loop-left.graph.graph mid c.in_ok-settled.ensures.rewritten in
+    let settled = rewritten_through IsCandidate described c.args.savings c.loop-left.saved c.in_ok-settled.settled old c.loop-left.graph.graph mid c.loop-left.invariant rows in
     subst (IsRewritten IsCandidate described c.args.savings c.in_ok-settled.settled old) (sym (c.rewrite_late.ensures.none (c.in_ok-after.was ∙ ap Ok c.in_default.is))) settled
 
 pub returns-in_default-clause-left : goal.returns-in_default-clause-left
@@ -38,16 +38,16 @@ returns-in_default-clause-left c =
 pub returns-in_default-clause-follows : goal.returns-in_default-clause-follows
 returns-in_default-clause-follows c =
     let old = c.args.graph.now.graph in
-    let follows = graph_follows_through old c.loop-tried.graph.graph c.settle_earlier.new.graph.graph c.loop-tried.invariant.lighter.follows c.settle_earlier.ensures.follows in
+    let follows = graph_follows_through old c.loop-left.graph.graph c.settle_earlier.new.graph.graph c.loop-left.invariant.lighter.follows c.settle_earlier.ensures.follows in
     subst (Follows old) (sym (c.rewrite_late.ensures.none (c.in_ok-after.was ∙ ap Ok c.in_default.is))) follows
 
 pub returns-in_err-settled-clause-follows : goal.returns-in_err-settled-clause-follows
 returns-in_err-settled-clause-follows c =
-    graph_follows_through c.args.graph.now.graph c.loop-tried.graph.graph c.settle_earlier.new.graph.graph c.loop-tried.invariant.lighter.follows c.settle_earlier.ensures.follows
+    graph_follows_through c.args.graph.now.graph c.loop-left.graph.graph c.settle_earlier.new.graph.graph c.loop-left.invariant.lighter.follows c.settle_earlier.ensures.follows
 
 pub returns-in_err-after-clause-follows : goal.returns-in_err-after-clause-follows
 returns-in_err-after-clause-follows c =
     let old = c.args.graph.now.graph in
     let mid = c.settle_earlier.new.graph.graph in
     graph_follows_through old mid c.rewrite_late.new.graph.graph
-    (graph_follows_through old c.loop-tried.graph.graph mid c.loop-tried.invariant.lighter.follows c.settle_earlier.ensures.follows) c.rewrite_late.ensures.follows
+    (graph_follows_through old c.loop-left.graph.graph mid c.loop-left.invariant.lighter.follows c.settle_earlier.ensures.follows) c.rewrite_late.ensures.follows

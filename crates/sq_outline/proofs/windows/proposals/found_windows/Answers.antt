@@ -1,5 +1,6 @@
 use Rattle.std.proofs.Common.{◌≡◌, ◌≤◌, ◌+◌, ◌-◌, ℕ, List, Option, map, length, sym, ap, ◌∙◌, subst, arith}
 use Rattle.std.proofs.lemmas.List.Elements.{All-nil}
+use Rattle.std.proofs.lemmas.List.Sorted.{All-permutation}
 use Rattle.std.specs.List.{All}
 use Rattle.sq_outline.specs.WindowsProposed.{IsFoundWindow}
 use Rattle.sq_finger.specs.declared.places.WindowAt.{WindowAt}
@@ -52,3 +53,6 @@ loop-n-preserved c =
       runs = subst (λ k. AreRunNumbers k c.in_ok-items.items.items c.in_ok-numbers-2.numbers.items) same longer;
       found = c.in_ok-push_windows.ensures;
     }
+
+pub returns : goal.returns
+returns c = All-permutation (IsFoundWindow c.args.graph.now.graph) _ _ c.in_ok-sort_by_key.ensures.permutation c.loop-n.invariant.found

@@ -1,19 +1,21 @@
 use Rattle.sq_pass.proofs.Rewriting.{rewritten_itself, rewritten_through}
 use Rattle.sq_outline.specs.WindowsCandidates.{IsWindowsCandidate, windows_described}
+use Rattle.sq_outline.proofs.WindowsPast.{past_itself}
 use Rattle.sq_outline.proofs.windows.sweep.make_each.Goals as goal
 
-pub loop-at-init : goal.loop-at-init
-loop-at-init c = record {
+pub loop-window-init : goal.loop-window-init
+loop-window-init c = record {
   rewritten = rewritten_itself IsWindowsCandidate windows_described c.args.savings c.args.graph.now.graph c.requires.canonical;
-  past = λ live past. past;
+  past = rw c.new-shifts.ensures.items (past_itself c.args.graph.now.graph _ c.requires.live);
 }
 
-pub make_if_may-requires-clause-past : goal.make_if_may-requires-clause-past
-make_if_may-requires-clause-past c = c.loop-at.invariant.past c.args.before.now c.requires.past
-
-pub loop-at-preserved : goal.loop-at-preserved
-loop-at-preserved c = record {
+pub loop-window-preserved : goal.loop-window-preserved
+loop-window-preserved c = record {
   rewritten =
-      rewritten_through IsWindowsCandidate windows_described c.args.savings c.loop-at.after c.in_ok-after.after c.args.graph.now.graph c.loop-at.graph.graph c.make_if_may.new.graph.graph c.loop-at.invariant.rewritten c.in_ok-after.ensures.rewritten;
-  past = λ live past. c.in_ok-after.ensures.past live (c.loop-at.invariant.past live past);
+      rewritten_through IsWindowsCandidate windows_described c.args.savings c.loop-window.after c.in_ok-after.after c.args.graph.now.graph c.loop-window.graph.graph c.make_if_may.new.graph.graph c.loop-window.invariant.rewritten c.in_ok-after.ensures.rewritten;
+  past = c.in_ok-after.ensures.past c.args.before.now c.loop-window.invariant.past;
 }
+
+pub returns-then-asks-clause-rewritten : goal.returns-then-asks-clause-rewritten
+returns-then-asks-clause-rewritten c =
+    rewritten_through IsWindowsCandidate windows_described c.args.savings c.loop-window.after c.in_ok-after.after c.args.graph.now.graph c.loop-window.graph.graph c.make_if_may.new.graph.graph c.loop-window.invariant.rewritten c.in_ok-after.ensures.rewritten

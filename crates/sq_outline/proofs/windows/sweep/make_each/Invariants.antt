@@ -1,10 +1,10 @@
 use Rattle.sq_pass.specs.Rewrites.{IsRewritten}
 use Rattle.sq_outline.specs.WindowsCandidates.{IsWindowsCandidate, windows_described}
-use Rattle.sq_outline.specs.WindowsPast.{KeepsPast}
+use Rattle.sq_outline.specs.WindowsPast.{IsPast}
 use Rattle.sq_outline.proofs.windows.sweep.make_each.Given as goal
 
-abbrev pub invariant-loop-at : goal.invariant-loop-at
-invariant-loop-at l = record {
+abbrev pub invariant-loop-window : goal.invariant-loop-window
+invariant-loop-window l = record {
   rewritten : IsRewritten IsWindowsCandidate windows_described l.fn.savings l.after l.fn.graph.graph l.graph.graph;
-  past : KeepsPast l.fn.graph.graph l.fn.shifts.items l.graph.graph l.shifts.items;
+  past : IsPast l.graph.graph l.before l.shifts.items;
 }

@@ -9,5 +9,5 @@ pub returns-clause-places : goal.returns-clause-places
 returns-clause-places c =
     let g = c.args.graph.now.graph in
     let site = c.in-Some.field-0 in
-    let within : c.in-Some.field-0.at + c.args.hint.n ≤ length (items_of c.args.graph.now.graph c.in-Some.field-0.block) = omega (arith, c.if-count-at.false, ap length c.items-count.ensures) in
-    are_standing g (items_at g site.block site.at c.args.hint.n) c.args.hint.n c.in_ok-places.places.items (sym (long_at g site.block site.at c.args.hint.n within)) c.in_ok-places.ensures
+    let within : c.in-Some.field-0.at + c.args.window.n ≤ length (items_of c.args.graph.now.graph c.in-Some.field-0.block) = omega (arith, c.if-count-at.false, ap length c.items-count.ensures) in
+    are_standing g (items_at g site.block site.at c.args.window.n) c.args.window.n c.in_ok-places.places.items (sym (long_at g site.block site.at c.args.window.n within)) c.in_ok-places.ensures
