@@ -62,17 +62,9 @@ starts_passed n (b ∷ rest) distinct ends name =
           ∙ sym (passed-other b rest name apart))
     ]
 
-pub keys-aimed : (es : List (ℕ × Slot)) → keys (aimed es) ≡ keys es
-keys-aimed [] = refl
-keys-aimed (e ∷ es) = ap (λ ks. e.0 ∷ ks) (keys-aimed es)
-
 pub keys-retargeted : (h : ℕ → ℕ) (es : List (ℕ × Slot)) → keys (retargeted_slots h es) ≡ keys es
 keys-retargeted h [] = refl
 keys-retargeted h (e ∷ es) = ap (λ ks. e.0 ∷ ks) (keys-retargeted h es)
-
-pub slot_uses-aimed : (n : ℕ) (bs : List Block) → slot_uses (aimed (slots_from n bs)) ≡ terms_uses bs
-slot_uses-aimed n [] = refl
-slot_uses-aimed n (b ∷ bs) = ap (λ us. term_uses b.term ++ us) (slot_uses-aimed (n + length b.items) bs)
 
 -- Blocks as slots that have marks
 

@@ -171,14 +171,14 @@ bypassed_from g f front (b ∷ next ∷ rest) distinct ends =
           ∙ ap (λ bs. retargeted (λ n. passed (next ∷ rest) (f n)) (record g { blocks = bs })) (append_assoc front (b ∷ []) (kept (next ∷ rest))))
     ]
 
-items_same : (is : List Item) → retargeted_items (λ n. n) is ≡ is
+pub items_same : (is : List Item) → retargeted_items (λ n. n) is ≡ is
 items_same [] = refl
 items_same (Op insn ∷ is) = ap (λ js. Op insn ∷ js) (items_same is)
 items_same (Hi rd to ∷ is) = ap (λ js. Hi rd to ∷ js) (items_same is)
 items_same (Lo rd rs to ∷ is) = ap (λ js. Lo rd rs to ∷ js) (items_same is)
 items_same (Out p ∷ is) = ap (λ js. Out p ∷ js) (items_same is)
 
-term_same : (t : Term) → retargeted_term (λ n. n) t ≡ t
+pub term_same : (t : Term) → retargeted_term (λ n. n) t ≡ t
 term_same Fall = refl
 term_same (Jump to) = refl
 term_same (Branch c a b to) = refl
@@ -194,7 +194,7 @@ blocks_same (b ∷ bs) =
     ∙ ap (λ t. record b { term = t } ∷ map (retargeted_block (λ n. n)) bs) (term_same b.term)
     ∙ ap (λ cs. b ∷ cs) (blocks_same bs)
 
-words_same : (ws : List CodeRef) → retargeted_words (λ n. n) ws ≡ ws
+pub words_same : (ws : List CodeRef) → retargeted_words (λ n. n) ws ≡ ws
 words_same [] = refl
 words_same (w ∷ ws) = ap (λ us. w ∷ us) (words_same ws)
 

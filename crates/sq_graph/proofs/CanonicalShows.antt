@@ -1,104 +1,70 @@
 -- What the fields show after the passes of `canonical`.
-use Rattle.std.proofs.Common.{◌≡◌, ℕ, suc, ◌+◌, ◌-◌, ◌<◌, ◌^◌, ◌==◌, inl, inr, List, [], ◌∷◌, ◌++◌, length, vec_capacity, Vec, Global, Option, is_some, refl, sym, ap, ◌∙◌, subst, arith, append_assoc, length-append}
+use Rattle.std.proofs.Common.{◌≡◌, ℕ, suc, ◌+◌, ◌-◌, ◌<◌, ◌^◌, List, [], ◌∷◌, ◌++◌, length, vec_capacity, Vec, Global, Option, refl, sym, ap, ◌∙◌, subst, arith, append_assoc, length-append}
 use mathlib.Core.Path.{fun_ext}
 use Rattle.std.specs.List.{All}
 use Rattle.std.proofs.lemmas.List.{length-map}
-use Rattle.std.proofs.lemmas.Bool.{cases_Bool}
 use Rattle.sq_arena.specs.Arena.{Arena as Listed}
-use Rattle.sq_arena.specs.Entries.{HasDistinctKeys, value_of, ContainsKey, first_key}
+use Rattle.sq_arena.specs.Entries.{HasDistinctKeys, ContainsKey, first_key}
 use Rattle.sq_graph.specs.declared.item.Item.{Item}
 use Rattle.sq_graph.specs.declared.parts.CodeRef.{CodeRef}
 use Rattle.sq_graph.specs.declared.slot.Slot.{Slot}
 use Rattle.sq_graph.specs.declared.graph.Graph.TheInside.{Inside}
 use Rattle.sq_graph.specs.Graph.{Block, Graph}
-use Rattle.sq_graph.specs.Blocks.{HasBlock, items_of_blocks, items_of_bodies, all_items}
+use Rattle.sq_graph.specs.Blocks.{items_of_blocks, items_of_bodies, all_items}
 use Rattle.sq_graph.specs.Uses.{code_word_uses, terms_uses, items_uses, uses}
 use Rattle.sq_graph.specs.Rules.{IsGraph}
 use Rattle.sq_graph.specs.Room.{Covers}
-use Rattle.sq_graph.specs.Renames.{retargeted_term, retargeted_item, retargeted_items, retargeted_words}
+use Rattle.sq_graph.specs.Renames.{retargeted_item, retargeted_items, retargeted_words}
 use Rattle.sq_graph.specs.Canonical.{joined, canonical_of}
 use Rattle.sq_graph.specs.Bypasses.{passed, all_bypassed}
 use Rattle.sq_graph.specs.Cursor.{ahead_of, rest_from, retargeted_slots, slot_uses, renumbered, length_of_slots}
-use Rattle.sq_graph.specs.CanonicalSlots.{aimed, start_of, full_slots, marked, joined_slots}
+use Rattle.sq_graph.specs.CanonicalSlots.{aimed, start_of, passed_slots, full_slots, marked, joined_slots}
 use Rattle.sq_graph.specs.Layout.{graph_of, spare_of}
 use Rattle.sq_graph.proofs.Sizes.{sizes, same_room}
 use Rattle.sq_graph.proofs.CursorLaws.{from_first}
 use Rattle.sq_graph.proofs.SlotReads.{has_slot}
 use Rattle.sq_graph.proofs.Held.{Shows, shows}
 use Rattle.sq_graph.proofs.Tight.{IsTight, limited}
-use Rattle.sq_graph.proofs.Changes.{distinct_slots}
 use Rattle.sq_graph.proofs.MapWrites.{bodies_from-mapped, items_of_bodies-mapped}
 use Rattle.sq_graph.proofs.Laid.{length-renumbered}
 use Rattle.sq_graph.proofs.Numbering.{renumbered_from_first}
 use Rattle.sq_graph.proofs.Marks.{marked_more}
-use Rattle.sq_graph.proofs.SlotPasses.{start_of-retargeted}
-use Rattle.sq_graph.proofs.Aiming as aiming
-use Rattle.sq_graph.proofs.BlockPasses.{starts_passed, keys-aimed, keys-retargeted, slot_uses-aimed, marked_blocks, full_slots-blocks, keys-marked_blocks, marked-blocks, slot_uses-marked, slot_uses-blocks, length_of_slots-blocks, renumbered-blocks, joined_slots-blocks, used_joins}
+use Rattle.sq_graph.proofs.Aiming.{all_used}
+use Rattle.sq_graph.proofs.Restarting.{slot_uses-slots}
+use Rattle.sq_graph.proofs.BlockPasses.{starts_passed, marked_blocks, full_slots-blocks, keys-marked_blocks, marked-blocks, slot_uses-marked, slot_uses-blocks, length_of_slots-blocks, renumbered-blocks, joined_slots-blocks, used_joins}
 use Rattle.sq_graph.proofs.CanonicalLaws.{all_bypassed_is_graph, all_bypassed_items, all_items-joined, joined_is_graph, canonical_is_joined, canonical_length}
 
--- a name that has a slot still has one that says where its uses go
-contains-aimed : (es : List (ℕ × Slot)) (name : ℕ) → is_some (value_of (aimed es) name) ≡ is_some (value_of es name)
-contains-aimed [] name = refl
-contains-aimed (e ∷ es) name =
-    elim (cases_Bool (e.0 == name)) [ inl here ↦ rw here refl | inr apart ↦ rw apart (contains-aimed es name) ]
-
 module _ (old : Inside) (tight : IsTight old) where
-  -- the slots after each name has been given where its uses go
-  pub there : (name : ℕ) → HasBlock (graph_of old) name → ContainsKey (aimed old.slots.entries) name
-  there name has = contains-aimed old.slots.entries name ∙ has_slot old name tight.sound has
+  -- every name that is used has a slot
+  pub known : All (ContainsKey old.slots.entries) (old.entry ∷ (code_word_uses old.code_words.items ++ (slot_uses old.slots.entries ++ items_uses old.items.items)))
+  known =
+      all_used old tight old.slots.entries (λ name has. has_slot old name tight.sound has)
+      (ap slot_uses tight.holds.slots ∙ slot_uses-slots 0 (graph_of old).blocks)
 
-  pub distinct_aimed : HasDistinctKeys (aimed old.slots.entries)
-  distinct_aimed = rw (keys-aimed old.slots.entries) (distinct_slots old tight)
-
-  same_uses : slot_uses (aimed old.slots.entries) ≡ terms_uses (graph_of old).blocks
-  same_uses = ap (λ es. slot_uses (aimed es)) tight.holds.slots ∙ slot_uses-aimed 0 (graph_of old).blocks
-
-  pub terms_known : All (ContainsKey (aimed old.slots.entries)) (slot_uses (aimed old.slots.entries))
-  terms_known = aiming.terms_known old tight (aimed old.slots.entries) there same_uses
-
-  -- and after the terms go there
-  abbrev pub passed_slots : List (ℕ × Slot)
-  passed_slots = retargeted_slots (start_of (aimed old.slots.entries)) (aimed old.slots.entries)
-
-  pub items_known : All (ContainsKey passed_slots) (items_uses old.items.items)
-  items_known = aiming.items_known old tight (aimed old.slots.entries) there same_uses
-
-  pub words_known : All (ContainsKey passed_slots) (code_word_uses old.code_words.items)
-  words_known = aiming.words_known old tight (aimed old.slots.entries) there same_uses
-
-  pub entry_known : ContainsKey passed_slots old.entry
-  entry_known = aiming.entry_known old tight (aimed old.slots.entries) there same_uses
-
-  pub distinct_passed : HasDistinctKeys passed_slots
-  distinct_passed = rw (keys-retargeted (start_of (aimed old.slots.entries)) (aimed old.slots.entries)) distinct_aimed
-
-  starts_aimed : start_of (aimed old.slots.entries) ≡ passed (graph_of old).blocks
-  starts_aimed =
+  starts_are : start_of (aimed old.slots.entries) ≡ passed (graph_of old).blocks
+  starts_are =
       ap (λ es. start_of (aimed es)) tight.holds.slots
       ∙ fun_ext (starts_passed 0 (graph_of old).blocks tight.rules.distinct tight.rules.ends)
 
-  pub starts_are : start_of passed_slots ≡ passed (graph_of old).blocks
-  starts_are = fun_ext (start_of-retargeted (start_of (aimed old.slots.entries)) [] (aimed old.slots.entries)) ∙ starts_aimed
-
   -- the blocks that are left, without a mark
-  pub full_are : full_slots passed_slots ≡ marked_blocks [] (all_bypassed (graph_of old)).blocks
+  pub full_are : full_slots (passed_slots old.slots.entries) ≡ marked_blocks [] (all_bypassed (graph_of old)).blocks
   full_are =
-      ap (λ h. full_slots (retargeted_slots h (aimed old.slots.entries))) starts_aimed
+      ap (λ h. full_slots (retargeted_slots h (aimed old.slots.entries))) starts_are
       ∙ ap (λ es. full_slots (retargeted_slots (passed (graph_of old).blocks) (aimed es))) tight.holds.slots
       ∙ full_slots-blocks (passed (graph_of old).blocks) 0 (graph_of old).blocks
 
-  pub distinct_full : HasDistinctKeys (full_slots passed_slots)
+  pub distinct_full : HasDistinctKeys (full_slots (passed_slots old.slots.entries))
   distinct_full =
       let g = all_bypassed (graph_of old) in
       rw (full_are, keys-marked_blocks [] g.blocks) (all_bypassed_is_graph (graph_of old) tight.rules).distinct
 
-  pub entry_is : start_of passed_slots old.entry ≡ (all_bypassed (graph_of old)).entry
+  pub entry_is : start_of (aimed old.slots.entries) old.entry ≡ (all_bypassed (graph_of old)).entry
   entry_is = ap (λ f. f old.entry) starts_are
 
-  pub words_are : retargeted_words (start_of passed_slots) old.code_words.items ≡ (all_bypassed (graph_of old)).code_words
+  pub words_are : retargeted_words (start_of (aimed old.slots.entries)) old.code_words.items ≡ (all_bypassed (graph_of old)).code_words
   words_are = ap (λ f. retargeted_words f old.code_words.items) starts_are
 
-  pub items_are : retargeted_items (start_of passed_slots) old.items.items ≡ all_items (all_bypassed (graph_of old))
+  pub items_are : retargeted_items (start_of (aimed old.slots.entries)) old.items.items ≡ all_items (all_bypassed (graph_of old))
   items_are =
       ap (λ f. retargeted_items f old.items.items) starts_are
       ∙ ap (retargeted_items (passed (graph_of old).blocks)) tight.holds.items
@@ -144,10 +110,6 @@ length-marked_blocks : (us : List ℕ) (bs : List Block) → length (marked_bloc
 length-marked_blocks us [] = refl
 length-marked_blocks us (b ∷ bs) = ap suc (length-marked_blocks us bs)
 
-length-aimed : (es : List (ℕ × Slot)) → length (aimed es) ≡ length es
-length-aimed [] = refl
-length-aimed (e ∷ es) = ap suc (length-aimed es)
-
 module _ (old : Inside) (tight : IsTight old) where
   -- the items of blocks fit, and those of slots as many
   pub blocks_fit : (us : List ℕ) (es : List (ℕ × Slot)) → es ≡ marked_blocks us (all_bypassed (graph_of old)).blocks → length_of_slots es < 2 ^ 29
@@ -159,9 +121,9 @@ module _ (old : Inside) (tight : IsTight old) where
       omega (arith, ap length_of_slots is, length_of_slots-blocks us g.blocks, length-append (items_of_blocks g.blocks) (items_of_bodies g.procedures), same, size.item_count, size.items, size.item_room)
 
   pub canonical_shows : (entry : ℕ) (items : Vec Item Global) (words : Vec CodeRef Global) (slots : Listed Slot) (us : List ℕ) (five : List (ℕ × Slot)) (head : Option ℕ)
-      → entry ≡ start_of (passed_slots old tight) old.entry
-      → items.items ≡ retargeted_items (start_of (passed_slots old tight)) old.items.items → vec_capacity items ≡ vec_capacity old.items
-      → words.items ≡ retargeted_words (start_of (passed_slots old tight)) old.code_words.items
+      → entry ≡ start_of (aimed old.slots.entries) old.entry
+      → items.items ≡ retargeted_items (start_of (aimed old.slots.entries)) old.items.items → vec_capacity items ≡ vec_capacity old.items
+      → words.items ≡ retargeted_words (start_of (aimed old.slots.entries)) old.code_words.items
       → five ≡ marked_blocks us (joined (all_bypassed (graph_of old))).blocks → head ≡ first_key five
       → slots.entries ≡ ahead_of five head ++ renumbered 0 (rest_from five head)
       → length slots.entries + slots.spare ≡ length old.slots.entries + old.slots.spare
@@ -174,7 +136,7 @@ module _ (old : Inside) (tight : IsTight old) where
       let rules : IsGraph h = joined_is_graph (all_bypassed g) (all_bypassed_is_graph g tight.rules) in
       let limits = limited old tight in
       let all : items.items ≡ all_items h = items_is ∙ items_are old tight ∙ sym (all_items-joined (all_bypassed g)) in
-      let counted : length items.items ≡ length old.items.items = ap (λ is. length is) items_is ∙ length-map old.items.items (retargeted_item (start_of (passed_slots old tight))) in
+      let counted : length items.items ≡ length old.items.items = ap (λ is. length is) items_is ∙ length-map old.items.items (retargeted_item (start_of (aimed old.slots.entries))) in
       let bodies : length (items_of_bodies h.procedures) ≡ length (items_of_bodies g.procedures) =
       ap (λ is. length is) (items_of_bodies-mapped (retargeted_item f) (λ t. t) g.procedures) ∙ length-map (items_of_bodies g.procedures) (retargeted_item f) in
       subst (λ (k : Graph). Shows new k) (sym (canonical_is_joined g tight.rules))
@@ -201,23 +163,17 @@ module _ (old : Inside) (tight : IsTight old) where
         body_room = limits.body_room;
       }))
 
-  pub passed_is : (aims terms : List (ℕ × Slot)) → aims ≡ aimed old.slots.entries → terms ≡ retargeted_slots (start_of aims) aims → terms ≡ passed_slots old tight
-  passed_is aims terms aims_is terms_is = terms_is ∙ ap (λ es. retargeted_slots (start_of es) es) aims_is
-
   -- a slot that goes is to spare
-  pub slots_total : (terms full marks joins slots : Listed Slot) (head : Option ℕ) (us : List ℕ)
-      → terms.entries ≡ passed_slots old tight → full.entries ≡ marked_blocks [] (all_bypassed (graph_of old)).blocks → marks.entries ≡ marked_blocks us (all_bypassed (graph_of old)).blocks
-      → terms.spare ≡ old.slots.spare → length full.entries + full.spare ≡ length terms.entries + terms.spare → marks.spare ≡ full.spare → length joins.entries + joins.spare ≡ length marks.entries + marks.spare
+  pub slots_total : (full marks joins slots : Listed Slot) (head : Option ℕ) (us : List ℕ)
+      → full.entries ≡ marked_blocks [] (all_bypassed (graph_of old)).blocks → marks.entries ≡ marked_blocks us (all_bypassed (graph_of old)).blocks
+      → length full.entries + full.spare ≡ length old.slots.entries + old.slots.spare → marks.spare ≡ full.spare → length joins.entries + joins.spare ≡ length marks.entries + marks.spare
       → head ≡ first_key joins.entries → slots.entries ≡ ahead_of joins.entries head ++ renumbered 0 (rest_from joins.entries head) → slots.spare ≡ joins.spare
       → length slots.entries + slots.spare ≡ length old.slots.entries + old.slots.spare
-  slots_total terms full marks joins slots head us terms_is full_is marks_is terms_spare full_total marks_spare joins_total head_is slots_is slots_spare =
+  slots_total full marks joins slots head us full_is marks_is full_total marks_spare joins_total head_is slots_is slots_spare =
       let g = all_bypassed (graph_of old) in
-      let f = start_of (aimed old.slots.entries) in
-      let passed : length terms.entries ≡ length old.slots.entries =
-      ap (λ es. length es) terms_is ∙ length-map {B = ℕ × Slot} (aimed old.slots.entries) (λ e. (e.0, record e.1 { term = retargeted_term f e.1.term })) ∙ length-aimed old.slots.entries in
       let numbered : length slots.entries ≡ length joins.entries =
       ap (λ es. length es) (slots_is ∙ renumbered_from_first joins.entries head head_is) ∙ length-renumbered 0 joins.entries in
-      omega (arith, passed, numbered, terms_spare, full_total, marks_spare, joins_total, slots_spare, ap (λ es. length es) full_is, ap (λ es. length es) marks_is, length-marked_blocks [] g.blocks, length-marked_blocks us g.blocks)
+      omega (arith, numbered, full_total, marks_spare, joins_total, slots_spare, ap (λ es. length es) full_is, ap (λ es. length es) marks_is, length-marked_blocks [] g.blocks, length-marked_blocks us g.blocks)
 
   -- what is spare afterwards
   pub canonical_spare : (new : Inside) → Shows new (canonical_of (graph_of old)) → length new.slots.entries + new.slots.spare ≡ length old.slots.entries + old.slots.spare

@@ -15,6 +15,7 @@ pub mod Marks
 pub mod SlotPasses
 pub mod Aiming
 pub mod BlockPasses
+pub mod BareSlots
 pub mod CanonicalShows
 pub mod RulesByBlock
 pub mod Fitting

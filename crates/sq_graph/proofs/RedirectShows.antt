@@ -1,5 +1,5 @@
 -- What the fields show once blocks have given their uses to those that their terms name.
-use Rattle.std.proofs.Common.{◌≡◌, ℕ, ◌+◌, ◌<◌, ◌^◌, List, [], ◌++◌, vec_capacity, Vec, Global, Option, refl, ap, ◌∙◌, arith}
+use Rattle.std.proofs.Common.{◌≡◌, ℕ, ◌+◌, ◌<◌, ◌^◌, List, [], ◌∷◌, ◌++◌, vec_capacity, Vec, Global, Option, refl, ap, ◌∙◌, arith}
 use mathlib.Core.Path.{fun_ext}
 use Rattle.std.specs.List.{All}
 use Rattle.sq_arena.specs.Arena.{Arena as Listed}
@@ -63,17 +63,20 @@ module _ (old : Inside) (blocks : List ℕ) (tight : IsTight old) where
   pub distinct_went : HasDistinctKeys went
   distinct_went = rw (keys-retargeted (start_of aims) aims) distinct_aims
 
+  all_used : All (ContainsKey aims) (old.entry ∷ (code_word_uses old.code_words.items ++ (slot_uses aims ++ items_uses old.items.items)))
+  all_used = aiming.all_used old tight aims there same_uses
+
   pub terms_known : All (ContainsKey aims) (slot_uses aims)
-  terms_known = aiming.terms_known old tight aims there same_uses
+  terms_known = aiming.terms_known aims old.entry old.code_words.items old.items.items all_used
 
   pub items_known : All (ContainsKey went) (items_uses old.items.items)
-  items_known = aiming.items_known old tight aims there same_uses
+  items_known = aiming.items_known aims old.entry old.code_words.items old.items.items all_used
 
   pub words_known : All (ContainsKey went) (code_word_uses old.code_words.items)
-  words_known = aiming.words_known old tight aims there same_uses
+  words_known = aiming.words_known aims old.entry old.code_words.items old.items.items all_used
 
   pub entry_known : ContainsKey went old.entry
-  entry_known = aiming.entry_known old tight aims there same_uses
+  entry_known = aiming.entry_known aims old.entry old.code_words.items old.items.items all_used
 
   starts_go : start_of aims ≡ goes
   starts_go =

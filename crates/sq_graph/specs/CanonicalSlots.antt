@@ -1,13 +1,23 @@
 -- What each pass of `canonical` makes of the slots in the arena. No public clause cites this module.
-use Rattle.std.specs.Prelude.{ℕ, Bool, ◌+◌, ◌==◌, ◌&&◌, if◌then◌else◌, List, [], ◌∷◌, map, Option, None, Some}
+use Rattle.std.specs.Prelude.{ℕ, Bool, false, ◌+◌, ◌==◌, ◌&&◌, ◌||◌, if◌then◌else◌, List, [], ◌∷◌, map, Option, None, Some}
 use Rattle.sq_arena.specs.Entries.{value_of}
 use Rattle.sq_isa.specs.Registers.{is_among}
 use Rattle.sq_graph.specs.declared.slot.Slot.{Slot}
 use Rattle.sq_graph.specs.Leaders.{is_fall}
+use Rattle.sq_graph.specs.Cursor.{retargeted_slots}
+use Rattle.sq_graph.specs.Aims.{restarted}
 
 -- whether a slot is empty with Fall
 abbrev pub is_bare_slot : Slot → Bool
 is_bare_slot slot = slot.length == 0 && is_fall slot.term
+
+abbrev pub has_bare : List (ℕ × Slot) → Bool
+has_bare [] = false
+has_bare (e ∷ rest) = has_bare rest || is_bare_slot e.1
+
+-- each slot without a mark: its start is 0
+abbrev pub cleared : List (ℕ × Slot) → List (ℕ × Slot)
+cleared entries = restarted (λ name slot. 0) entries
 
 -- where the uses of the first name go: past bare slots to the first other one
 abbrev pub aim : List (ℕ × Slot) → ℕ
@@ -27,7 +37,11 @@ start_or name (Some slot) = slot.start
 abbrev pub start_of : List (ℕ × Slot) → ℕ → ℕ
 start_of entries name = start_or name (value_of entries name)
 
--- the slots that aren't bare, each without a mark: its start is 0
+-- the same slots once the uses of names by their terms go there
+abbrev pub passed_slots : List (ℕ × Slot) → List (ℕ × Slot)
+passed_slots entries = retargeted_slots (start_of (aimed entries)) (aimed entries)
+
+-- the slots that aren't bare, each without a mark
 abbrev pub full_slots : List (ℕ × Slot) → List (ℕ × Slot)
 full_slots [] = []
 full_slots (e ∷ rest) = if is_bare_slot e.1 then full_slots rest else (e.0, record e.1 { start = 0 }) ∷ full_slots rest

@@ -1,7 +1,7 @@
 //! The canonical form of a graph, made in passes over the slots. While they run, the starts of slots hold
 //! what a pass has found out, since items stay where they are and starts are sums of lengths.
 
-ghost use Rattle.std.specs.Prelude.{◌≡◌, ◌+◌, ◌-◌, ◌<◌, ◌^◌, ◌∷◌, ◌++◌, [], length, Some};
+ghost use Rattle.std.specs.Prelude.{◌≡◌, ◌+◌, ◌-◌, ◌<◌, ◌^◌, ◌∷◌, ◌++◌, [], length, vec_capacity, Some};
 ghost use Rattle.std.specs.List.{All};
 ghost use Rattle.sq_arena.specs.Entries.{HasDistinctKeys, ContainsKey, value_of, before, behind};
 ghost use Rattle.sq_graph.specs.Uses.{term_uses, item_uses, items_uses, code_word_uses};
@@ -11,7 +11,8 @@ ghost use Rattle.sq_graph.specs.Room.{Covers};
 ghost use Rattle.sq_graph.specs.Leaders.{is_fall, IsCanonical};
 ghost use Rattle.sq_graph.specs.Canonical.{canonical_of};
 ghost use Rattle.sq_graph.specs.Words.{words_of};
-ghost use Rattle.sq_graph.specs.CanonicalSlots.{is_bare_slot, aimed, start_of, full_slots, marked, joined_slot_onto, joined_slots};
+ghost use Rattle.sq_graph.specs.Renames.{retargeted_items, retargeted_words};
+ghost use Rattle.sq_graph.specs.CanonicalSlots.{is_bare_slot, has_bare, cleared, aimed, start_of, passed_slots, full_slots, marked, joined_slot_onto, joined_slots};
 
 use crate::gaps::close_gaps;
 use crate::graph::Graph;
@@ -39,13 +40,12 @@ impl Graph {
             &mut self.blocks_end,
             &mut self.gaps,
         );
-        aim(&mut self.slots);
-        retarget_terms(&mut self.slots);
-        let aims = Aims { slots: &self.slots };
-        rename::retarget_items(&mut self.items, &aims);
-        rename::retarget_words(&mut self.code_words, &aims);
-        self.entry = aims.name(self.entry);
-        unlink_bare(&mut self.slots);
+        bypass_bare(
+            &mut self.slots,
+            &mut self.items,
+            &mut self.code_words,
+            &mut self.entry,
+        );
         // A block that is fallen into stands behind no other term: it is a leader where its name is used.
         mark(&mut self.slots, self.entry);
         mark_words(&mut self.slots, &self.code_words);
@@ -83,6 +83,53 @@ fn is_bare(slot: &Slot) -> bool
     ensures { result ≡ is_bare_slot slot.now }
 {
     slot.length == 0 && is_fall(slot.term)
+}
+
+// Gives the uses of each bare slot's name to the next slot that isn't bare and takes it out, and leaves no mark at the
+// others. Where none is bare, which is nearly always so, it is one pass over the slots.
+fn bypass_bare(
+    slots: &mut Arena<Slot>,
+    items: &mut Vec<Item>,
+    words: &mut Vec<CodeRef>,
+    entry: &mut u32,
+)
+    requires distinct { HasDistinctKeys slots.old.entries }
+    requires known { All (ContainsKey slots.old.entries) (entry.old ∷ (code_word_uses words.old.items ++ (slot_uses slots.old.entries ++ items_uses items.old.items))) }
+    ensures entries { slots.new.entries ≡ full_slots (passed_slots slots.old.entries) }
+    ensures total { length slots.new.entries + slots.new.spare ≡ length slots.old.entries + slots.old.spare }
+    ensures items { items.new.items ≡ retargeted_items (start_of (aimed slots.old.entries)) items.old.items }
+    ensures capacity { vec_capacity items.new ≡ vec_capacity items.old }
+    ensures words { words.new.items ≡ retargeted_words (start_of (aimed slots.old.entries)) words.old.items }
+    ensures entry { entry.new ≡ start_of (aimed slots.old.entries) entry.old }
+{
+    if !clear(slots) {
+        return;
+    }
+    aim(slots);
+    retarget_terms(slots);
+    let aims = Aims { slots };
+    rename::retarget_items(items, &aims);
+    rename::retarget_words(words, &aims);
+    *entry = aims.name(*entry);
+    unlink_bare(slots);
+}
+
+// Leaves no mark at the slots. Whether one of them is bare.
+fn clear(slots: &mut Arena<Slot>) -> bool
+    requires { HasDistinctKeys slots.old.entries }
+    ensures bare { result ≡ has_bare slots.old.entries }
+    ensures entries { slots.new.entries ≡ cleared slots.old.entries }
+    ensures spare { slots.new.spare ≡ slots.old.spare }
+{
+    let mut bare = false;
+    let mut place = slots.last();
+    while let Some(name) = place {
+        place = slots.previous(name);
+        let found = slots::slot(slots, name);
+        bare |= is_bare(&found);
+        slots::set(slots, name, Slot { start: 0, ..found });
+    }
+    bare
 }
 
 // Gives each slot, in place of its start, the name that the uses of its own name go to.

@@ -2,11 +2,11 @@ use Rattle.std.proofs.Common.{◌≡◌, ◌∷◌, [], length, refl, ap, ◌∙
 use Rattle.std.proofs.lemmas.List.{length-map}
 use Rattle.sq_arena.specs.Entries.{HasDistinctKeys}
 use Rattle.sq_graph.specs.Uses.{code_word_uses, items_uses, uses}
-use Rattle.sq_graph.specs.Renames.{retargeted_item, retargeted_items, retargeted_words}
+use Rattle.sq_graph.specs.Renames.{retargeted_item}
 use Rattle.sq_graph.specs.Canonical.{joined}
 use Rattle.sq_graph.specs.Bypasses.{all_bypassed}
 use Rattle.sq_graph.specs.Cursor.{slot_uses, length_of_slots}
-use Rattle.sq_graph.specs.CanonicalSlots.{start_of, full_slots}
+use Rattle.sq_graph.specs.CanonicalSlots.{aimed, start_of}
 use Rattle.sq_graph.specs.Layout.{graph_of}
 use Rattle.sq_graph.specs.Words.{words_of}
 use Rattle.sq_graph.specs.declared.graph.Graph.TheInside.{Inside}
@@ -15,76 +15,51 @@ use Rattle.sq_graph.proofs.SlotPasses.{length_of_slots-joined}
 use Rattle.sq_graph.proofs.BlockPasses.{marked_blocks}
 use Rattle.sq_graph.proofs.CanonicalLaws.{all_bypassed_is_graph, canonical_is_graph, canonical_is_canonical, canonical_keeps_words}
 use Rattle.sq_graph.proofs.Changes.{distinct_slots}
-use Rattle.sq_graph.proofs.CanonicalShows.{distinct_aimed, terms_known, items_known, words_known, entry_known, distinct_passed, distinct_full, passed_slots, entry_is, words_are, items_are, full_are, marks_are, joins_are, distinct_joined, blocks_fit, passed_is, length_from_first, slots_total, canonical_shows, canonical_spare, canonical_kept}
+use Rattle.sq_graph.proofs.CanonicalShows.{known, distinct_full, entry_is, words_are, items_are, full_are, marks_are, joins_are, distinct_joined, blocks_fit, length_from_first, slots_total, canonical_shows, canonical_spare, canonical_kept}
 use Rattle.sq_graph.proofs.Tight.{closed}
 use Rattle.sq_graph.proofs.graph.Graph.canonical.Goals as goal
 
-pub aim-requires : goal.aim-requires
-aim-requires c =
+pub bypass_bare-requires-clause-distinct : goal.bypass_bare-requires-clause-distinct
+bypass_bare-requires-clause-distinct c =
     let t = closed c.self.view_is c.self.invariant c.close_gaps.ensures.kept c.close_gaps.ensures.gaps in
     distinct_slots _ t.tight
 
-pub retarget_terms-requires-clause-distinct : goal.retarget_terms-requires-clause-distinct
-retarget_terms-requires-clause-distinct c =
+pub bypass_bare-requires-clause-known : goal.bypass_bare-requires-clause-known
+bypass_bare-requires-clause-known c =
     let t = closed c.self.view_is c.self.invariant c.close_gaps.ensures.kept c.close_gaps.ensures.gaps in
-    rw c.aim.ensures.entries (distinct_aimed _ t.tight)
-
-pub retarget_terms-requires-clause-known : goal.retarget_terms-requires-clause-known
-retarget_terms-requires-clause-known c =
-    let t = closed c.self.view_is c.self.invariant c.close_gaps.ensures.kept c.close_gaps.ensures.gaps in
-    rw c.aim.ensures.entries (terms_known _ t.tight)
-
-pub retarget_items-requires : goal.retarget_items-requires
-retarget_items-requires c =
-    let t = closed c.self.view_is c.self.invariant c.close_gaps.ensures.kept c.close_gaps.ensures.gaps in
-    rw (c.retarget_terms.ensures.entries, c.aim.ensures.entries) (items_known _ t.tight)
-
-pub retarget_words-requires : goal.retarget_words-requires
-retarget_words-requires c =
-    let t = closed c.self.view_is c.self.invariant c.close_gaps.ensures.kept c.close_gaps.ensures.gaps in
-    rw (c.retarget_terms.ensures.entries, c.aim.ensures.entries) (words_known _ t.tight)
-
-pub name-self-inside-requires : goal.name-self-inside-requires
-name-self-inside-requires c =
-    let t = closed c.self.view_is c.self.invariant c.close_gaps.ensures.kept c.close_gaps.ensures.gaps in
-    rw (c.retarget_terms.ensures.entries, c.aim.ensures.entries) (entry_known _ t.tight)
-
-pub unlink_bare-requires : goal.unlink_bare-requires
-unlink_bare-requires c =
-    let t = closed c.self.view_is c.self.invariant c.close_gaps.ensures.kept c.close_gaps.ensures.gaps in
-    rw (c.retarget_terms.ensures.entries, c.aim.ensures.entries) (distinct_passed _ t.tight)
+    known _ t.tight
 
 pub mark-requires : goal.mark-requires
 mark-requires c =
     let t = closed c.self.view_is c.self.invariant c.close_gaps.ensures.kept c.close_gaps.ensures.gaps in
-    rw (c.unlink_bare.ensures.entries, c.retarget_terms.ensures.entries, c.aim.ensures.entries) (distinct_full _ t.tight)
+    rw c.bypass_bare.ensures.entries (distinct_full _ t.tight)
 
 pub mark_words-requires : goal.mark_words-requires
 mark_words-requires c =
     let t = closed c.self.view_is c.self.invariant c.close_gaps.ensures.kept c.close_gaps.ensures.gaps in
-    let full : HasDistinctKeys c.unlink_bare.new.slots.entries = rw (c.unlink_bare.ensures.entries, c.retarget_terms.ensures.entries, c.aim.ensures.entries) (distinct_full _ t.tight) in
-    rw c.mark.ensures.entries (distinct-marked (c.name-self-inside.result ∷ []) c.unlink_bare.new.slots.entries full)
+    let full : HasDistinctKeys c.bypass_bare.new.slots.entries = rw c.bypass_bare.ensures.entries (distinct_full _ t.tight) in
+    rw c.mark.ensures.entries (distinct-marked (c.bypass_bare.new.entry ∷ []) c.bypass_bare.new.slots.entries full)
 
 pub mark_terms-requires : goal.mark_terms-requires
 mark_terms-requires c =
     let t = closed c.self.view_is c.self.invariant c.close_gaps.ensures.kept c.close_gaps.ensures.gaps in
-    let full : HasDistinctKeys c.unlink_bare.new.slots.entries = rw (c.unlink_bare.ensures.entries, c.retarget_terms.ensures.entries, c.aim.ensures.entries) (distinct_full _ t.tight) in
-    let one : HasDistinctKeys c.mark.new.slots.entries = rw c.mark.ensures.entries (distinct-marked (c.name-self-inside.result ∷ []) c.unlink_bare.new.slots.entries full) in
+    let full : HasDistinctKeys c.bypass_bare.new.slots.entries = rw c.bypass_bare.ensures.entries (distinct_full _ t.tight) in
+    let one : HasDistinctKeys c.mark.new.slots.entries = rw c.mark.ensures.entries (distinct-marked (c.bypass_bare.new.entry ∷ []) c.bypass_bare.new.slots.entries full) in
     rw c.mark_words.ensures.entries (distinct-marked (code_word_uses c.deref.result.now) c.mark.new.slots.entries one)
 
 pub mark_items-requires : goal.mark_items-requires
 mark_items-requires c =
     let t = closed c.self.view_is c.self.invariant c.close_gaps.ensures.kept c.close_gaps.ensures.gaps in
-    let full : HasDistinctKeys c.unlink_bare.new.slots.entries = rw (c.unlink_bare.ensures.entries, c.retarget_terms.ensures.entries, c.aim.ensures.entries) (distinct_full _ t.tight) in
-    let one : HasDistinctKeys c.mark.new.slots.entries = rw c.mark.ensures.entries (distinct-marked (c.name-self-inside.result ∷ []) c.unlink_bare.new.slots.entries full) in
+    let full : HasDistinctKeys c.bypass_bare.new.slots.entries = rw c.bypass_bare.ensures.entries (distinct_full _ t.tight) in
+    let one : HasDistinctKeys c.mark.new.slots.entries = rw c.mark.ensures.entries (distinct-marked (c.bypass_bare.new.entry ∷ []) c.bypass_bare.new.slots.entries full) in
     let two : HasDistinctKeys c.mark_words.new.slots.entries = rw c.mark_words.ensures.entries (distinct-marked (code_word_uses c.deref.result.now) c.mark.new.slots.entries one) in
     rw c.mark_terms.ensures.entries (distinct-marked (slot_uses c.mark_words.new.slots.entries) c.mark_words.new.slots.entries two)
 
 pub join-requires-clause-distinct : goal.join-requires-clause-distinct
 join-requires-clause-distinct c =
     let t = closed c.self.view_is c.self.invariant c.close_gaps.ensures.kept c.close_gaps.ensures.gaps in
-    let full : HasDistinctKeys c.unlink_bare.new.slots.entries = rw (c.unlink_bare.ensures.entries, c.retarget_terms.ensures.entries, c.aim.ensures.entries) (distinct_full _ t.tight) in
-    let one : HasDistinctKeys c.mark.new.slots.entries = rw c.mark.ensures.entries (distinct-marked (c.name-self-inside.result ∷ []) c.unlink_bare.new.slots.entries full) in
+    let full : HasDistinctKeys c.bypass_bare.new.slots.entries = rw c.bypass_bare.ensures.entries (distinct_full _ t.tight) in
+    let one : HasDistinctKeys c.mark.new.slots.entries = rw c.mark.ensures.entries (distinct-marked (c.bypass_bare.new.entry ∷ []) c.bypass_bare.new.slots.entries full) in
     let two : HasDistinctKeys c.mark_words.new.slots.entries = rw c.mark_words.ensures.entries (distinct-marked (code_word_uses c.deref.result.now) c.mark.new.slots.entries one) in
     let three : HasDistinctKeys c.mark_terms.new.slots.entries = rw c.mark_terms.ensures.entries (distinct-marked (slot_uses c.mark_words.new.slots.entries) c.mark_words.new.slots.entries two) in
     rw c.mark_items.ensures.entries (distinct-marked (items_uses c.deref-2.result.now) c.mark_terms.new.slots.entries three)
@@ -94,17 +69,13 @@ join-requires-clause-fits c =
     let now : Inside = record c.self.inside { slots = c.close_gaps.new.slots; items = c.close_gaps.new.items; blocks_end = c.close_gaps.new.blocks_end; gaps = c.close_gaps.new.gaps } in
     let t = closed c.self.view_is c.self.invariant c.close_gaps.ensures.kept c.close_gaps.ensures.gaps in
     let g = all_bypassed (graph_of now) in
-    let passes = passed_is _ t.tight c.aim.new.slots.entries c.retarget_terms.new.slots.entries c.aim.ensures.entries c.retarget_terms.ensures.entries in
-    let entry : c.name-self-inside.result ≡ start_of (passed_slots _ t.tight) c.self.inside.entry = c.name-self-inside.ensures ∙ ap (λ es. start_of es c.self.inside.entry) passes in
-    let words : c.retarget_words.new.words.items ≡ retargeted_words (start_of (passed_slots _ t.tight)) c.self.inside.code_words.items = c.retarget_words.ensures ∙ ap (λ es. retargeted_words (start_of es) c.self.inside.code_words.items) passes in
-    let items : c.retarget_items.new.items.items ≡ retargeted_items (start_of (passed_slots _ t.tight)) c.close_gaps.new.items.items = c.retarget_items.ensures.items ∙ ap (λ es. retargeted_items (start_of es) c.close_gaps.new.items.items) passes in
-    let full : c.unlink_bare.new.slots.entries ≡ marked_blocks [] g.blocks = c.unlink_bare.ensures.entries ∙ ap full_slots passes ∙ full_are _ t.tight in
+    let full : c.bypass_bare.new.slots.entries ≡ marked_blocks [] g.blocks = c.bypass_bare.ensures.entries ∙ full_are _ t.tight in
     let marks : c.mark_items.new.slots.entries ≡ marked_blocks (uses g) g.blocks =
-    marks_are g c.unlink_bare.new.slots.entries c.mark.new.slots.entries c.mark_words.new.slots.entries c.mark_terms.new.slots.entries c.mark_items.new.slots.entries c.name-self-inside.result c.deref.result.now c.deref-2.result.now
+    marks_are g c.bypass_bare.new.slots.entries c.mark.new.slots.entries c.mark_words.new.slots.entries c.mark_terms.new.slots.entries c.mark_items.new.slots.entries c.bypass_bare.new.entry c.deref.result.now c.deref-2.result.now
     full
-    (entry ∙ entry_is _ t.tight)
-    (c.deref.ensures.value ∙ words ∙ words_are _ t.tight)
-    (c.deref-2.ensures.value ∙ items ∙ items_are _ t.tight)
+    (c.bypass_bare.ensures.entry ∙ entry_is _ t.tight)
+    (c.deref.ensures.value ∙ c.bypass_bare.ensures.words ∙ words_are _ t.tight)
+    (c.deref-2.ensures.value ∙ c.bypass_bare.ensures.items ∙ items_are _ t.tight)
     c.mark.ensures.entries c.mark_words.ensures.entries c.mark_terms.ensures.entries c.mark_items.ensures.entries in
     omega (arith, blocks_fit _ t.tight (uses g) c.mark_items.new.slots.entries marks)
 
@@ -113,17 +84,13 @@ renumber-requires-clause-distinct c =
     let now : Inside = record c.self.inside { slots = c.close_gaps.new.slots; items = c.close_gaps.new.items; blocks_end = c.close_gaps.new.blocks_end; gaps = c.close_gaps.new.gaps } in
     let t = closed c.self.view_is c.self.invariant c.close_gaps.ensures.kept c.close_gaps.ensures.gaps in
     let g = all_bypassed (graph_of now) in
-    let passes = passed_is _ t.tight c.aim.new.slots.entries c.retarget_terms.new.slots.entries c.aim.ensures.entries c.retarget_terms.ensures.entries in
-    let entry : c.name-self-inside.result ≡ start_of (passed_slots _ t.tight) c.self.inside.entry = c.name-self-inside.ensures ∙ ap (λ es. start_of es c.self.inside.entry) passes in
-    let words : c.retarget_words.new.words.items ≡ retargeted_words (start_of (passed_slots _ t.tight)) c.self.inside.code_words.items = c.retarget_words.ensures ∙ ap (λ es. retargeted_words (start_of es) c.self.inside.code_words.items) passes in
-    let items : c.retarget_items.new.items.items ≡ retargeted_items (start_of (passed_slots _ t.tight)) c.close_gaps.new.items.items = c.retarget_items.ensures.items ∙ ap (λ es. retargeted_items (start_of es) c.close_gaps.new.items.items) passes in
-    let full : c.unlink_bare.new.slots.entries ≡ marked_blocks [] g.blocks = c.unlink_bare.ensures.entries ∙ ap full_slots passes ∙ full_are _ t.tight in
+    let full : c.bypass_bare.new.slots.entries ≡ marked_blocks [] g.blocks = c.bypass_bare.ensures.entries ∙ full_are _ t.tight in
     let marks : c.mark_items.new.slots.entries ≡ marked_blocks (uses g) g.blocks =
-    marks_are g c.unlink_bare.new.slots.entries c.mark.new.slots.entries c.mark_words.new.slots.entries c.mark_terms.new.slots.entries c.mark_items.new.slots.entries c.name-self-inside.result c.deref.result.now c.deref-2.result.now
+    marks_are g c.bypass_bare.new.slots.entries c.mark.new.slots.entries c.mark_words.new.slots.entries c.mark_terms.new.slots.entries c.mark_items.new.slots.entries c.bypass_bare.new.entry c.deref.result.now c.deref-2.result.now
     full
-    (entry ∙ entry_is _ t.tight)
-    (c.deref.ensures.value ∙ words ∙ words_are _ t.tight)
-    (c.deref-2.ensures.value ∙ items ∙ items_are _ t.tight)
+    (c.bypass_bare.ensures.entry ∙ entry_is _ t.tight)
+    (c.deref.ensures.value ∙ c.bypass_bare.ensures.words ∙ words_are _ t.tight)
+    (c.deref-2.ensures.value ∙ c.bypass_bare.ensures.items ∙ items_are _ t.tight)
     c.mark.ensures.entries c.mark_words.ensures.entries c.mark_terms.ensures.entries c.mark_items.ensures.entries in
     let joins : c.join.new.slots.entries ≡ marked_blocks (uses g) (joined g).blocks =
     joins_are g c.mark_items.new.slots.entries c.join.new.slots.entries (all_bypassed_is_graph (graph_of now) t.tight.rules) marks c.join.ensures.entries in
@@ -134,17 +101,13 @@ renumber-requires-clause-fits c =
     let now : Inside = record c.self.inside { slots = c.close_gaps.new.slots; items = c.close_gaps.new.items; blocks_end = c.close_gaps.new.blocks_end; gaps = c.close_gaps.new.gaps } in
     let t = closed c.self.view_is c.self.invariant c.close_gaps.ensures.kept c.close_gaps.ensures.gaps in
     let g = all_bypassed (graph_of now) in
-    let passes = passed_is _ t.tight c.aim.new.slots.entries c.retarget_terms.new.slots.entries c.aim.ensures.entries c.retarget_terms.ensures.entries in
-    let entry : c.name-self-inside.result ≡ start_of (passed_slots _ t.tight) c.self.inside.entry = c.name-self-inside.ensures ∙ ap (λ es. start_of es c.self.inside.entry) passes in
-    let words : c.retarget_words.new.words.items ≡ retargeted_words (start_of (passed_slots _ t.tight)) c.self.inside.code_words.items = c.retarget_words.ensures ∙ ap (λ es. retargeted_words (start_of es) c.self.inside.code_words.items) passes in
-    let items : c.retarget_items.new.items.items ≡ retargeted_items (start_of (passed_slots _ t.tight)) c.close_gaps.new.items.items = c.retarget_items.ensures.items ∙ ap (λ es. retargeted_items (start_of es) c.close_gaps.new.items.items) passes in
-    let full : c.unlink_bare.new.slots.entries ≡ marked_blocks [] g.blocks = c.unlink_bare.ensures.entries ∙ ap full_slots passes ∙ full_are _ t.tight in
+    let full : c.bypass_bare.new.slots.entries ≡ marked_blocks [] g.blocks = c.bypass_bare.ensures.entries ∙ full_are _ t.tight in
     let marks : c.mark_items.new.slots.entries ≡ marked_blocks (uses g) g.blocks =
-    marks_are g c.unlink_bare.new.slots.entries c.mark.new.slots.entries c.mark_words.new.slots.entries c.mark_terms.new.slots.entries c.mark_items.new.slots.entries c.name-self-inside.result c.deref.result.now c.deref-2.result.now
+    marks_are g c.bypass_bare.new.slots.entries c.mark.new.slots.entries c.mark_words.new.slots.entries c.mark_terms.new.slots.entries c.mark_items.new.slots.entries c.bypass_bare.new.entry c.deref.result.now c.deref-2.result.now
     full
-    (entry ∙ entry_is _ t.tight)
-    (c.deref.ensures.value ∙ words ∙ words_are _ t.tight)
-    (c.deref-2.ensures.value ∙ items ∙ items_are _ t.tight)
+    (c.bypass_bare.ensures.entry ∙ entry_is _ t.tight)
+    (c.deref.ensures.value ∙ c.bypass_bare.ensures.words ∙ words_are _ t.tight)
+    (c.deref-2.ensures.value ∙ c.bypass_bare.ensures.items ∙ items_are _ t.tight)
     c.mark.ensures.entries c.mark_words.ensures.entries c.mark_terms.ensures.entries c.mark_items.ensures.entries in
     omega (arith, blocks_fit _ t.tight (uses g) c.mark_items.new.slots.entries marks, length_from_first c.join.new.slots.entries c.first-head.result c.first-head.ensures, ap length_of_slots c.join.ensures.entries, length_of_slots-joined c.mark_items.new.slots.entries)
 
@@ -153,25 +116,21 @@ invariant_of-self c =
     let now : Inside = record c.self.inside { slots = c.close_gaps.new.slots; items = c.close_gaps.new.items; blocks_end = c.close_gaps.new.blocks_end; gaps = c.close_gaps.new.gaps } in
     let t = closed c.self.view_is c.self.invariant c.close_gaps.ensures.kept c.close_gaps.ensures.gaps in
     let g = all_bypassed (graph_of now) in
-    let passes = passed_is _ t.tight c.aim.new.slots.entries c.retarget_terms.new.slots.entries c.aim.ensures.entries c.retarget_terms.ensures.entries in
-    let entry : c.name-self-inside.result ≡ start_of (passed_slots _ t.tight) c.self.inside.entry = c.name-self-inside.ensures ∙ ap (λ es. start_of es c.self.inside.entry) passes in
-    let words : c.retarget_words.new.words.items ≡ retargeted_words (start_of (passed_slots _ t.tight)) c.self.inside.code_words.items = c.retarget_words.ensures ∙ ap (λ es. retargeted_words (start_of es) c.self.inside.code_words.items) passes in
-    let items : c.retarget_items.new.items.items ≡ retargeted_items (start_of (passed_slots _ t.tight)) c.close_gaps.new.items.items = c.retarget_items.ensures.items ∙ ap (λ es. retargeted_items (start_of es) c.close_gaps.new.items.items) passes in
-    let full : c.unlink_bare.new.slots.entries ≡ marked_blocks [] g.blocks = c.unlink_bare.ensures.entries ∙ ap full_slots passes ∙ full_are _ t.tight in
+    let full : c.bypass_bare.new.slots.entries ≡ marked_blocks [] g.blocks = c.bypass_bare.ensures.entries ∙ full_are _ t.tight in
     let marks : c.mark_items.new.slots.entries ≡ marked_blocks (uses g) g.blocks =
-    marks_are g c.unlink_bare.new.slots.entries c.mark.new.slots.entries c.mark_words.new.slots.entries c.mark_terms.new.slots.entries c.mark_items.new.slots.entries c.name-self-inside.result c.deref.result.now c.deref-2.result.now
+    marks_are g c.bypass_bare.new.slots.entries c.mark.new.slots.entries c.mark_words.new.slots.entries c.mark_terms.new.slots.entries c.mark_items.new.slots.entries c.bypass_bare.new.entry c.deref.result.now c.deref-2.result.now
     full
-    (entry ∙ entry_is _ t.tight)
-    (c.deref.ensures.value ∙ words ∙ words_are _ t.tight)
-    (c.deref-2.ensures.value ∙ items ∙ items_are _ t.tight)
+    (c.bypass_bare.ensures.entry ∙ entry_is _ t.tight)
+    (c.deref.ensures.value ∙ c.bypass_bare.ensures.words ∙ words_are _ t.tight)
+    (c.deref-2.ensures.value ∙ c.bypass_bare.ensures.items ∙ items_are _ t.tight)
     c.mark.ensures.entries c.mark_words.ensures.entries c.mark_terms.ensures.entries c.mark_items.ensures.entries in
     let joins : c.join.new.slots.entries ≡ marked_blocks (uses g) (joined g).blocks =
     joins_are g c.mark_items.new.slots.entries c.join.new.slots.entries (all_bypassed_is_graph (graph_of now) t.tight.rules) marks c.join.ensures.entries in
-    let total = slots_total _ t.tight c.retarget_terms.new.slots c.unlink_bare.new.slots c.mark_items.new.slots c.join.new.slots c.renumber.new.slots c.first-head.result (uses g) passes full marks
-    (c.retarget_terms.ensures.spare ∙ c.aim.ensures.spare) c.unlink_bare.ensures.total (c.mark_items.ensures.spare ∙ c.mark_terms.ensures.spare ∙ c.mark_words.ensures.spare ∙ c.mark.ensures.spare) c.join.ensures.total c.first-head.ensures c.renumber.ensures.entries c.renumber.ensures.spare in
+    let total = slots_total _ t.tight c.bypass_bare.new.slots c.mark_items.new.slots c.join.new.slots c.renumber.new.slots c.first-head.result (uses g) full marks
+    c.bypass_bare.ensures.total (c.mark_items.ensures.spare ∙ c.mark_terms.ensures.spare ∙ c.mark_words.ensures.spare ∙ c.mark.ensures.spare) c.join.ensures.total c.first-head.ensures c.renumber.ensures.entries c.renumber.ensures.spare in
     let shows =
-    canonical_shows _ t.tight c.name-self-inside.result c.retarget_items.new.items c.retarget_words.new.words c.renumber.new.slots (uses g) c.join.new.slots.entries c.first-head.result
-    entry items c.retarget_items.ensures.capacity words joins c.first-head.ensures c.renumber.ensures.entries total in
+    canonical_shows _ t.tight c.bypass_bare.new.entry c.bypass_bare.new.items c.bypass_bare.new.words c.renumber.new.slots (uses g) c.join.new.slots.entries c.first-head.result
+    c.bypass_bare.ensures.entry c.bypass_bare.ensures.items c.bypass_bare.ensures.capacity c.bypass_bare.ensures.words joins c.first-head.ensures c.renumber.ensures.entries total in
     shows.sound
 
 pub returns : goal.returns
@@ -179,33 +138,29 @@ returns c =
     let now : Inside = record c.self.inside { slots = c.close_gaps.new.slots; items = c.close_gaps.new.items; blocks_end = c.close_gaps.new.blocks_end; gaps = c.close_gaps.new.gaps } in
     let t = closed c.self.view_is c.self.invariant c.close_gaps.ensures.kept c.close_gaps.ensures.gaps in
     let g = all_bypassed (graph_of now) in
-    let passes = passed_is _ t.tight c.aim.new.slots.entries c.retarget_terms.new.slots.entries c.aim.ensures.entries c.retarget_terms.ensures.entries in
-    let entry : c.name-self-inside.result ≡ start_of (passed_slots _ t.tight) c.self.inside.entry = c.name-self-inside.ensures ∙ ap (λ es. start_of es c.self.inside.entry) passes in
-    let words : c.retarget_words.new.words.items ≡ retargeted_words (start_of (passed_slots _ t.tight)) c.self.inside.code_words.items = c.retarget_words.ensures ∙ ap (λ es. retargeted_words (start_of es) c.self.inside.code_words.items) passes in
-    let items : c.retarget_items.new.items.items ≡ retargeted_items (start_of (passed_slots _ t.tight)) c.close_gaps.new.items.items = c.retarget_items.ensures.items ∙ ap (λ es. retargeted_items (start_of es) c.close_gaps.new.items.items) passes in
-    let full : c.unlink_bare.new.slots.entries ≡ marked_blocks [] g.blocks = c.unlink_bare.ensures.entries ∙ ap full_slots passes ∙ full_are _ t.tight in
+    let full : c.bypass_bare.new.slots.entries ≡ marked_blocks [] g.blocks = c.bypass_bare.ensures.entries ∙ full_are _ t.tight in
     let marks : c.mark_items.new.slots.entries ≡ marked_blocks (uses g) g.blocks =
-    marks_are g c.unlink_bare.new.slots.entries c.mark.new.slots.entries c.mark_words.new.slots.entries c.mark_terms.new.slots.entries c.mark_items.new.slots.entries c.name-self-inside.result c.deref.result.now c.deref-2.result.now
+    marks_are g c.bypass_bare.new.slots.entries c.mark.new.slots.entries c.mark_words.new.slots.entries c.mark_terms.new.slots.entries c.mark_items.new.slots.entries c.bypass_bare.new.entry c.deref.result.now c.deref-2.result.now
     full
-    (entry ∙ entry_is _ t.tight)
-    (c.deref.ensures.value ∙ words ∙ words_are _ t.tight)
-    (c.deref-2.ensures.value ∙ items ∙ items_are _ t.tight)
+    (c.bypass_bare.ensures.entry ∙ entry_is _ t.tight)
+    (c.deref.ensures.value ∙ c.bypass_bare.ensures.words ∙ words_are _ t.tight)
+    (c.deref-2.ensures.value ∙ c.bypass_bare.ensures.items ∙ items_are _ t.tight)
     c.mark.ensures.entries c.mark_words.ensures.entries c.mark_terms.ensures.entries c.mark_items.ensures.entries in
     let joins : c.join.new.slots.entries ≡ marked_blocks (uses g) (joined g).blocks =
     joins_are g c.mark_items.new.slots.entries c.join.new.slots.entries (all_bypassed_is_graph (graph_of now) t.tight.rules) marks c.join.ensures.entries in
-    let total = slots_total _ t.tight c.retarget_terms.new.slots c.unlink_bare.new.slots c.mark_items.new.slots c.join.new.slots c.renumber.new.slots c.first-head.result (uses g) passes full marks
-    (c.retarget_terms.ensures.spare ∙ c.aim.ensures.spare) c.unlink_bare.ensures.total (c.mark_items.ensures.spare ∙ c.mark_terms.ensures.spare ∙ c.mark_words.ensures.spare ∙ c.mark.ensures.spare) c.join.ensures.total c.first-head.ensures c.renumber.ensures.entries c.renumber.ensures.spare in
+    let total = slots_total _ t.tight c.bypass_bare.new.slots c.mark_items.new.slots c.join.new.slots c.renumber.new.slots c.first-head.result (uses g) full marks
+    c.bypass_bare.ensures.total (c.mark_items.ensures.spare ∙ c.mark_terms.ensures.spare ∙ c.mark_words.ensures.spare ∙ c.mark.ensures.spare) c.join.ensures.total c.first-head.ensures c.renumber.ensures.entries c.renumber.ensures.spare in
     let shows =
-    canonical_shows _ t.tight c.name-self-inside.result c.retarget_items.new.items c.retarget_words.new.words c.renumber.new.slots (uses g) c.join.new.slots.entries c.first-head.result
-    entry items c.retarget_items.ensures.capacity words joins c.first-head.ensures c.renumber.ensures.entries total in
+    canonical_shows _ t.tight c.bypass_bare.new.entry c.bypass_bare.new.items c.bypass_bare.new.words c.renumber.new.slots (uses g) c.join.new.slots.entries c.first-head.result
+    c.bypass_bare.ensures.entry c.bypass_bare.ensures.items c.bypass_bare.ensures.capacity c.bypass_bare.ensures.words joins c.first-head.ensures c.renumber.ensures.entries total in
     let new : Inside = record now {
       slots = c.renumber.new.slots;
-      items = c.retarget_items.new.items;
-      entry = c.name-self-inside.result;
-      code_words = c.retarget_words.new.words;
+      items = c.bypass_bare.new.items;
+      entry = c.bypass_bare.new.entry;
+      code_words = c.bypass_bare.new.words;
     } in
-    let counted : length c.retarget_items.new.items.items ≡ length c.close_gaps.new.items.items =
-    ap (λ is. length is) items ∙ length-map c.close_gaps.new.items.items (retargeted_item (start_of (passed_slots _ t.tight))) in
+    let counted : length c.bypass_bare.new.items.items ≡ length c.close_gaps.new.items.items =
+    ap (λ is. length is) c.bypass_bare.ensures.items ∙ length-map c.close_gaps.new.items.items (retargeted_item (start_of (aimed c.close_gaps.new.slots.entries))) in
     rw (← t.view_is)
     (record {
       graph = shows.is;
