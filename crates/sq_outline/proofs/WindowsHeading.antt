@@ -41,13 +41,13 @@ module _ (g : Graph) (block at : ℕ) where
       let head = has_head w two in
       (head.0, (head_begins w (drop at (items_of g block)) two is ∙ head.1, head.1))
 
-  -- a procedure of which a call may stand there is in the span of the two items there
   pub not_short : length (items_of g block) < at → (procedure : ℕ) → ¬ MayCallInside g block at procedure
   not_short short procedure can = let within = can.callable.within in absurd (omega (arith, short, within))
 
   pub not_bare : head_of (drop at (items_of g block)) ≡ None → (procedure : ℕ) → ¬ MayCallInside g block at procedure
   not_bare none procedure can = let head = head_there procedure can in absurd (let both : None ≡ Some head.0 = sym none ∙ head.1.0 in cc)
 
+  -- a procedure of which a call may stand there is in the span of the two items there
   pub in_span : (heads : ℕ → Option Span) (head : ℕ) → HasHeads g heads → head_of (drop at (items_of g block)) ≡ Some head → (procedure : ℕ) → HasProcedure g procedure → MayCallInside g block at procedure → IsIn (heads head) procedure
   in_span heads head has is procedure there can =
       let own = head_there procedure can in
