@@ -1,5 +1,5 @@
 -- Blocks whose bodies match have one print.
-use Rattle.std.proofs.Common.{◌≡◌, ℕ, ◌==◌, zero, suc, List, [], ◌∷◌, slice_get, Option, true, false, true≢false, not, ◌&&◌, IsSome, is_some, map, inl, inr, refl, sym, ap, ◌∙◌, subst, arith}
+use Rattle.std.proofs.Common.{◌≡◌, ℕ, ◌==◌, zero, suc, List, [], ◌∷◌, slice_get, Option, true, false, true≢false, not, ◌&&◌, map, inl, inr, refl, sym, ap, ◌∙◌, subst, arith}
 use Rattle.std.specs.List.{All}
 use Rattle.std.proofs.lemmas.Bool.{cases_Bool, cases_eq, eqb-true, eq-eqb, or_left, or_right}
 use Rattle.std.proofs.lemmas.List.Elements.{All-nil}
@@ -20,6 +20,8 @@ use Rattle.sq_rename.specs.Shapes.{shape_of}
 use Rattle.sq_rename.proofs.Forms.{forms_shapes}
 use Rattle.sq_outline.specs.Prints.{mixed_all, sources_number, first_sources, print_of_items, print_of, HasPrints}
 use Rattle.sq_outline.specs.Called.{MayCall}
+use Rattle.sq_outline.specs.Spans.{IsIn}
+use Rattle.sq_outline.specs.declared.spans.Span.{Span}
 
 -- what the first item reads is the same in both
 
@@ -141,9 +143,8 @@ bodies_fit (q ∷ ps) (suc p) all = bodies_fit ps p (All-right ItemFits q.body (
 pub body_fits : (g : Graph) (p : ℕ) → IsGraph g → All ItemFits (body_of g p)
 body_fits g p rules = bodies_fit g.procedures p (All-right ItemFits (items_of_blocks g.blocks) (items_of_bodies g.procedures) rules.items)
 
--- where no procedure has the print of a block, none may be called there
-pub no_print : (g : Graph) (block : ℕ) (prints : ℕ → Option ℕ) → HasPrints g prints → is_some (prints (print_of g block)) ≡ false → (procedure : ℕ) → HasProcedure g procedure → ¬ MayCall g block procedure
-no_print g block prints has none procedure there may =
+-- a procedure that may be called for a block is in the span of its print
+pub in_span : (g : Graph) (block : ℕ) (prints : ℕ → Option Span) → HasPrints g prints → (procedure : ℕ) → HasProcedure g procedure → MayCall g block procedure → IsIn (prints (print_of g block)) procedure
+in_span g block prints has procedure there may =
     let same : print_of_items (body_of g procedure) ≡ print_of g block = same_print g.procedures (items_of g block) (body_of g procedure) may.body.match.match in
-    let some : IsSome (prints (print_of g block)) = subst (λ n. IsSome (prints n)) same (has procedure there) in
-    absurd (cc)
+    subst (λ n. IsIn (prints n) procedure) same (has procedure there)

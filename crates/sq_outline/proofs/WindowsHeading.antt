@@ -1,7 +1,5 @@
 -- Items that equal a procedure's body begin as that does.
-use Rattle.std.proofs.Common.{◌≡◌, ℕ, zero, suc, ◌≤◌, ◌<◌, false, nat_eq, true≢false, List, [], ◌∷◌, take, drop, length, get_or, None, Some, refl, sym, ap, ◌∙◌, arith}
-use Rattle.std.specs.HashSet as set
-use Rattle.std.specs.HashSet.{HashSet}
+use Rattle.std.proofs.Common.{◌≡◌, ℕ, zero, suc, ◌≤◌, ◌<◌, List, [], ◌∷◌, take, drop, length, get_or, Option, None, Some, refl, sym, ap, ◌∙◌, arith}
 use Rattle.std.specs.List.{All}
 use Rattle.std.specs.Prelude.{Contains}
 use Rattle.std.proofs.lemmas.List.Elements.{All-tail}
@@ -13,6 +11,8 @@ use Rattle.law_patch.proofs.Calls.{range_is}
 use Rattle.sq_finger.proofs.Layouts.{items_fit}
 use Rattle.sq_outline.specs.WindowsInside.{MayCallInside}
 use Rattle.sq_outline.specs.WindowsHeads.{head_of, HasHeads}
+use Rattle.sq_outline.specs.Spans.{IsIn}
+use Rattle.sq_outline.specs.declared.spans.Span.{Span}
 
 head_begins : (w xs : List Item) → 2 ≤ length w → take (length w) xs ≡ w → head_of xs ≡ head_of w
 head_begins [] xs two is = absurd (omega (arith, two))
@@ -41,17 +41,18 @@ module _ (g : Graph) (block at : ℕ) where
       let head = has_head w two in
       (head.0, (head_begins w (drop at (items_of g block)) two is ∙ head.1, head.1))
 
-  pub not_short : length (items_of g block) < at → (procedure : ℕ) → HasProcedure g procedure → ¬ MayCallInside g block at procedure
-  not_short short procedure there can = let within = can.callable.within in absurd (omega (arith, short, within))
+  pub not_short : length (items_of g block) < at → (procedure : ℕ) → ¬ MayCallInside g block at procedure
+  not_short short procedure can = let within = can.callable.within in absurd (omega (arith, short, within))
 
-  pub not_bare : head_of (drop at (items_of g block)) ≡ None → (procedure : ℕ) → HasProcedure g procedure → ¬ MayCallInside g block at procedure
-  not_bare none procedure there can = let head = head_there procedure can in absurd (let both : None ≡ Some head.0 = sym none ∙ head.1.0 in cc)
+  pub not_bare : head_of (drop at (items_of g block)) ≡ None → (procedure : ℕ) → ¬ MayCallInside g block at procedure
+  not_bare none procedure can = let head = head_there procedure can in absurd (let both : None ≡ Some head.0 = sym none ∙ head.1.0 in cc)
 
-  pub not_listed : {S : Type 0} (heads : HashSet ℕ S) (head : ℕ) → HasHeads g heads → head_of (drop at (items_of g block)) ≡ Some head → set.contains nat_eq heads head ≡ false → (procedure : ℕ) → HasProcedure g procedure → ¬ MayCallInside g block at procedure
-  not_listed heads head has is none procedure there can =
+  -- a procedure of which a call may stand there is in the span of the two items there
+  pub in_span : (heads : ℕ → Option Span) (head : ℕ) → HasHeads g heads → head_of (drop at (items_of g block)) ≡ Some head → (procedure : ℕ) → HasProcedure g procedure → MayCallInside g block at procedure → IsIn (heads head) procedure
+  in_span heads head has is procedure there can =
       let own = head_there procedure can in
       let same : own.0 ≡ head = let both : Some own.0 ≡ Some head = sym own.1.0 ∙ is in cc in
-      true≢false (sym (has procedure head there (own.1.1 ∙ ap Some same)) ∙ none)
+      has procedure head there (own.1.1 ∙ ap Some same)
 
 each_in : (P : Item → Type 0) (xs : List Item) → ((x : Item) → Contains xs x → P x) → All P xs
 each_in P xs h k d there = h (get_or xs k d) (k, there, in_place xs k d (get_or xs k d) there)

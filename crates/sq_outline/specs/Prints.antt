@@ -1,5 +1,5 @@
 -- Blocks in groups by the forms of their items.
-use Rattle.std.specs.Prelude.{ℕ, nat_eq, ◌+◌, ◌*◌, ◌%◌, ◌^◌, List, [], ◌∷◌, Option, Some, IsSome, map}
+use Rattle.std.specs.Prelude.{ℕ, nat_eq, ◌+◌, ◌*◌, ◌%◌, ◌^◌, List, [], ◌∷◌, Option, Some, map}
 use Rattle.sq_isa.specs.Encoding.{word_of}
 use Rattle.sq_isa.specs.Forms.{first_of, second_of}
 use Rattle.sq_graph.specs.declared.item.Item.{Item}
@@ -10,6 +10,8 @@ use Rattle.sq_graph.specs.Parts.{names_of}
 use Rattle.sq_rename.specs.Shapes.{shape_of}
 use Rattle.sq_finger.specs.Groups.{groups_of}
 use Rattle.sq_finger.specs.Numbers.{numbers_of}
+use Rattle.sq_outline.specs.declared.spans.Span.{Span}
+use Rattle.sq_outline.specs.Spans.{IsIn}
 
 -- the number of an item: of an instruction its word, and else the block or the procedure that it names
 abbrev pub item_number : Item → ℕ
@@ -45,9 +47,9 @@ print_of_items items = mixed_all (first_sources items) (map shape_of items)
 abbrev pub print_of : Graph → ℕ → ℕ
 print_of g block = print_of_items (items_of g block)
 
--- each print of a procedure's body has something
-abbrev pub HasPrints : Graph → (ℕ → Option ℕ) → Type 0
-HasPrints g prints = (p : ℕ) → HasProcedure g p → IsSome (prints (print_of_items (body_of g p)))
+-- each procedure is in the span of its body's print
+abbrev pub HasPrints : Graph → (ℕ → Option Span) → Type 0
+HasPrints g prints = (p : ℕ) → HasProcedure g p → IsIn (prints (print_of_items (body_of g p))) p
 
 -- the names of the blocks of one print are a group; the groups in the order in which they are first seen
 abbrev pub print_groups : Graph → List (List ℕ)

@@ -1,13 +1,13 @@
 -- How bodies of procedures begin. No public clause cites this module.
-use Rattle.std.specs.Prelude.{◌≡◌, ℕ, ◌+◌, ◌*◌, true, nat_eq, List, [], ◌∷◌, Option, None, Some}
-use Rattle.std.specs.HashSet as set
-use Rattle.std.specs.HashSet.{HashSet}
+use Rattle.std.specs.Prelude.{◌≡◌, ℕ, ◌+◌, ◌*◌, List, [], ◌∷◌, Option, None, Some}
 use Rattle.sq_graph.specs.declared.item.Item.{Item}
 use Rattle.sq_graph.specs.Graph.{Graph}
 use Rattle.sq_graph.specs.Blocks.{HasProcedure, body_of}
 use Rattle.sq_finger.specs.declared.keys.ItemKey.{ItemKey}
 use Rattle.sq_finger.specs.declared.keys.ItemKey.TheVariants.{Op, Hi, Lo, Out}
 use Rattle.sq_finger.specs.ItemKeys.{key_of}
+use Rattle.sq_outline.specs.declared.spans.Span.{Span}
+use Rattle.sq_outline.specs.Spans.{IsIn}
 
 abbrev pub print_of : ItemKey → ℕ
 print_of (Op word) = word
@@ -21,6 +21,6 @@ head_of [] = None
 head_of (first ∷ []) = None
 head_of (first ∷ second ∷ items) = Some (print_of (key_of first) * 4294967296 + print_of (key_of second))
 
--- the set has the numbers of all procedures
-abbrev pub HasHeads : {S : Type 0} → Graph → HashSet ℕ S → Type 0
-HasHeads g heads = (procedure head : ℕ) → HasProcedure g procedure → head_of (body_of g procedure) ≡ Some head → set.contains nat_eq heads head ≡ true
+-- each procedure whose first two items have a number is in that number's span
+abbrev pub HasHeads : Graph → (ℕ → Option Span) → Type 0
+HasHeads g heads = (procedure head : ℕ) → HasProcedure g procedure → head_of (body_of g procedure) ≡ Some head → IsIn (heads head) procedure

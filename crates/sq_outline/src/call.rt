@@ -4,7 +4,7 @@
 //!              p: ..                 p: ..
 //!                 jr l                  jr l
 
-ghost use Rattle.std.specs.Prelude.{◌≡◌, ◌≤◌, ◌↔◌, ℕ, nat_eq, None, Ok, IsTrue, IfOk, IfSome, MatchOption, length};
+ghost use Rattle.std.specs.Prelude.{◌≡◌, ◌≤◌, ◌↔◌, ℕ, nat_eq, None, Some, Ok, IsTrue, IfOk, IfSome, MatchOption, length};
 ghost use Rattle.std.specs.HashMap.{get};
 ghost use Rattle.std.specs.List.{All};
 ghost use Rattle.sq_graph.specs.Blocks.{HasBlock, HasProcedure, body_of};
@@ -17,9 +17,11 @@ ghost use Rattle.sq_pass.specs.declared.cut.Row.TheVariants.{O2 as Called};
 ghost use Rattle.sq_pass.specs.Cuts.{IsCompleted};
 ghost use Rattle.sq_outline.specs.Called.{MayCall, call_saving, IsCalledCut};
 ghost use Rattle.sq_outline.specs.Prints.{HasPrints};
+ghost use Rattle.sq_outline.specs.Spans.{IsIn};
 
-use crate::groups::{has_print, procedure_prints};
+use crate::groups::{procedure_prints, span_of};
 use crate::plain::are_plain;
+use crate::spans::Span;
 use sq_graph::{Graph, Item};
 use sq_isa::Reg;
 use sq_live::Liveness;
@@ -67,14 +69,14 @@ pub(crate) fn may_call(graph: &Graph, live: &Liveness, block: u32, procedure: u3
     matches_body(graph, live, block, procedure).is_some()
 }
 
-/// The first procedure of which a call may stand for the body of the block.
-fn procedure_for(graph: &Graph, live: &Liveness, block: u32) -> Option<u32>
+/// The first procedure of the span of which a call may stand for the body of the block.
+fn procedure_for(graph: &Graph, live: &Liveness, span: Span, block: u32) -> Option<u32>
     requires block { HasBlock graph.now.graph block }
     requires live { IsLivenessOf graph.now.graph live.now }
     ensures some { IfSome result (λ procedure. HasProcedure graph.now.graph procedure × MayCall graph.now.graph block procedure) }
-    ensures none { result ≡ None → (procedure : ℕ) → HasProcedure graph.now.graph procedure → ¬ MayCall graph.now.graph block procedure }
+    ensures none { result ≡ None → (procedure : ℕ) → IsIn (Some span) procedure → HasProcedure graph.now.graph procedure → ¬ MayCall graph.now.graph block procedure }
 {
-    for procedure in 0..graph.procedures() {
+    for procedure in span.first..span.end.min(graph.procedures()) {
         if may_call(graph, live, block, procedure) {
             return Some(procedure);
         }
@@ -82,11 +84,11 @@ fn procedure_for(graph: &Graph, live: &Liveness, block: u32) -> Option<u32>
     None
 }
 
-/// The same, where these are the prints of procedures. It looks at the procedures only where one has the print of the block.
+/// The same of all procedures, where these are their prints.
 pub(crate) fn procedure_by_print(
     graph: &Graph,
     live: &Liveness,
-    prints: &HashMap<u64, u32>,
+    prints: &HashMap<u64, Span>,
     block: u32,
 ) -> Option<u32>
     requires block { HasBlock graph.now.graph block }
@@ -95,17 +97,15 @@ pub(crate) fn procedure_by_print(
     ensures some { IfSome result (λ procedure. HasProcedure graph.now.graph procedure × MayCall graph.now.graph block procedure) }
     ensures none { result ≡ None → (procedure : ℕ) → HasProcedure graph.now.graph procedure → ¬ MayCall graph.now.graph block procedure }
 {
-    if !has_print(graph, prints, block) {
-        return None;
-    }
-    procedure_for(graph, live, block)
+    let span = span_of(graph, prints, block)?;
+    procedure_for(graph, live, span, block)
 }
 
 /// The first block for whose body a call may stand, and the procedure.
 fn find_call(
     graph: &Graph,
     live: &Liveness,
-    prints: &HashMap<u64, u32>,
+    prints: &HashMap<u64, Span>,
     names: &[u32],
 ) -> Option<(u32, u32)>
     requires live { IsLivenessOf graph.now.graph live.now }

@@ -11,6 +11,7 @@ use crate::link::{ORDER, is_unmentioned};
 use crate::make::{admit_make, are_distinct, completed, set_cut};
 use crate::plain::are_plain;
 use crate::sets::{fewest_calls, pays};
+use crate::spans::Span;
 use sq_graph::{Graph, Item};
 use sq_isa::{Reg, RegSet};
 use sq_live::{Liveness, live};
@@ -273,12 +274,12 @@ fn may_still_call(graph: &Graph, body: &Body, procedure: u32) -> bool
     has_items(graph, body, items)
 }
 
-/// The first procedure of which a call may stand for the body.
-pub(crate) fn callee_of(graph: &Graph, body: &Body) -> Option<u32>
+/// The first procedure of the span of which a call may stand for the body.
+pub(crate) fn callee_of(graph: &Graph, body: &Body, span: Span) -> Option<u32>
     requires { IsDying graph.now.graph body.now }
     ensures { IfSome result (λ procedure. HasProcedure graph.now.graph procedure × MayCall graph.now.graph body.now.block procedure) }
 {
-    for procedure in 0..graph.procedures() {
+    for procedure in span.first..span.end.min(graph.procedures()) {
         if may_still_call(graph, body, procedure) {
             return Some(procedure);
         }

@@ -1,6 +1,6 @@
 //! Blocks in groups, such that all blocks whose bodies match are in one.
 
-ghost use Rattle.std.specs.Prelude.{◌≡◌, ◌+◌, ◌*◌, ◌≤◌, ◌<◌, ◌^◌, nat_eq, is_some, Some, map, IfOk};
+ghost use Rattle.std.specs.Prelude.{◌≡◌, ◌+◌, ◌*◌, ◌≤◌, ◌<◌, ◌^◌, nat_eq, Some, map, IfOk};
 ghost use Rattle.std.specs.HashMap.{get};
 ghost use Rattle.std.specs.List.{All};
 ghost use Rattle.sq_isa.specs.Forms.{first_of, second_of};
@@ -11,6 +11,7 @@ ghost use Rattle.sq_rename.specs.Shapes.{shape_of};
 ghost use Rattle.sq_finger.specs.Groups.{AreClasses};
 ghost use Rattle.sq_outline.specs.Prints.{item_number, mixed, first_sources, print_of_items, print_of, print_groups, HasPrints};
 
+use crate::spans::{Span, note};
 use sq_encode::encode;
 use sq_finger::number_all;
 use sq_graph::{Graph, Item};
@@ -102,24 +103,24 @@ pub(crate) fn block_print(graph: &Graph, block: u32) -> u64
     print(graph.items(block))
 }
 
-/// A procedure for each print that a procedure's body has.
-pub(crate) fn procedure_prints(alloc: Global, graph: &Graph) -> Result<HashMap<u64, u32>, Memory>
+/// The spans of the prints that procedures' bodies have.
+pub(crate) fn procedure_prints(alloc: Global, graph: &Graph) -> Result<HashMap<u64, Span>, Memory>
     ensures { IfOk result (λ prints. HasPrints graph.now.graph (get nat_eq prints)) }
 {
     graph.learn();
     let mut prints = HashMap::new(alloc);
     for procedure in 0..graph.procedures() {
-        prints.insert(print(graph.body(procedure)), procedure)?;
+        note(&mut prints, print(graph.body(procedure)), procedure)?;
     }
     Ok(prints)
 }
 
-/// Whether there is a procedure for the print of the block.
-pub(crate) fn has_print(graph: &Graph, prints: &HashMap<u64, u32>, block: u32) -> bool
+/// The span of the block's print, where procedures have it.
+pub(crate) fn span_of(graph: &Graph, prints: &HashMap<u64, Span>, block: u32) -> Option<Span>
     requires { HasBlock graph.now.graph block }
-    ensures { result ≡ is_some (get nat_eq prints.now (print_of graph.now.graph block)) }
+    ensures { result ≡ get nat_eq prints.now (print_of graph.now.graph block) }
 {
-    prints.contains_key(&block_print(graph, block))
+    prints.get(&block_print(graph, block)).copied()
 }
 
 /// The prints of these blocks.

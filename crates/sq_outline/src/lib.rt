@@ -20,6 +20,7 @@ mod recall;
 mod seams;
 mod sets;
 mod sites;
+mod spans;
 mod sweep;
 mod unmoved;
 mod ways;

@@ -15,8 +15,9 @@ ghost use Rattle.sq_outline.specs.Still.{IsStill, IsStillDead, IsDying};
 
 use crate::call::{call, call_saving};
 use crate::callers::{Body, bodies_of, body_of, callee_of, proposal};
-use crate::groups::{Groups, body_groups, has_print, procedure_prints};
+use crate::groups::{Groups, body_groups, procedure_prints, span_of};
 use crate::make::make;
+use crate::spans::Span;
 use sq_graph::{Graph, Room};
 use sq_live::{Liveness, block_names, live};
 use sq_lookup::is_block;
@@ -146,7 +147,7 @@ fn rewrite_called(graph: &mut Graph, block: u32, procedure: u32, savings: Saving
 fn call_for(
     graph: &mut Graph,
     live: &Liveness,
-    prints: &HashMap<u64, u32>,
+    prints: &HashMap<u64, Span>,
     block: u32,
     savings: Savings,
 ) -> Savings
@@ -156,13 +157,16 @@ fn call_for(
     ensures rewritten { IsRewritten IsCandidate described savings result graph.old.graph graph.new.graph }
     ensures still { IsStill graph.old.graph graph.new.graph }
 {
-    if !is_block(graph, block) || !has_print(graph, prints, block) {
+    if !is_block(graph, block) {
         return savings;
     }
+    let Some(span) = span_of(graph, prints, block) else {
+        return savings;
+    };
     let Some(body) = body_of(graph, live, block) else {
         return savings;
     };
-    let Some(procedure) = callee_of(graph, &body) else {
+    let Some(procedure) = callee_of(graph, &body, span) else {
         return savings;
     };
     rewrite_called(graph, body.block, procedure, savings)
@@ -172,7 +176,7 @@ fn call_for(
 fn call_each(
     graph: &mut Graph,
     live: &Liveness,
-    prints: &HashMap<u64, u32>,
+    prints: &HashMap<u64, Span>,
     names: &[u32],
     savings: Savings,
 ) -> Savings

@@ -4,7 +4,8 @@
 //!              p: ..                            p: ..
 //!                 jr l                             jr l
 
-ghost use Rattle.std.specs.Prelude.{◌≡◌, ◌≤◌, ◌<◌, ◌^◌, ◌+◌, ◌↔◌, ℕ, None, Ok, IsTrue, IfOk, IfSome, length};
+ghost use Rattle.std.specs.Prelude.{◌≡◌, ◌≤◌, ◌<◌, ◌^◌, ◌+◌, ◌↔◌, ℕ, nat_eq, None, Ok, IsTrue, IfOk, IfSome, length};
+ghost use Rattle.std.specs.HashMap.{get};
 ghost use Rattle.sq_graph.specs.Blocks.{HasBlock, HasProcedure, items_of, body_of};
 ghost use Rattle.sq_finger.specs.Lines.{line_of};
 ghost use Rattle.sq_live.specs.Liveness.{IsLivenessOf};
@@ -17,7 +18,8 @@ ghost use Rattle.sq_outline.specs.WindowsInside.{StandsInside, MayCallInside, Is
 ghost use Rattle.sq_outline.specs.WindowsPast.{IsPast};
 
 use crate::sites::Site;
-use crate::windows::heads::{heads, may_begin};
+use crate::spans::Span;
+use crate::windows::heads::{heads, span_at};
 use crate::windows::past::{Shift, is_dead_still};
 use crate::windows::stands::stand_at;
 use sq_finger::{WindowAt, all_places};
@@ -29,7 +31,7 @@ use sq_num::Memory;
 use sq_pass::{Blocks, Cut, Row};
 use sq_rename::has_no_reservations;
 use std::alloc::Global;
-use std::collections::HashSet;
+use std::collections::HashMap;
 
 /// Whether the items of a procedure's body stand inside a block, and a call of it saves a word. It looks at no registers.
 fn stands_inside(graph: &Graph, block: u32, at: u32, procedure: u32) -> bool
@@ -103,19 +105,17 @@ pub(crate) fn may_call_still(
 pub(crate) fn procedure_inside(
     graph: &Graph,
     live: &Liveness,
-    heads: &HashSet<u64>,
+    heads: &HashMap<u64, Span>,
     place: WindowAt,
 ) -> Option<u32>
-    requires heads { HasHeads graph.now.graph heads.now }
+    requires heads { HasHeads graph.now.graph (get nat_eq heads.now) }
     requires block { HasBlock graph.now.graph place.block }
     requires live { IsLivenessOf graph.now.graph live.now }
     ensures some { IfSome result (λ procedure. HasProcedure graph.now.graph procedure × MayCallInside graph.now.graph place.block place.at procedure) }
     ensures none { result ≡ None → (procedure : ℕ) → HasProcedure graph.now.graph procedure → ¬ MayCallInside graph.now.graph place.block place.at procedure }
 {
-    if !may_begin(graph, heads, place) {
-        return None;
-    }
-    for procedure in 0..graph.procedures() {
+    let span = span_at(graph, heads, place)?;
+    for procedure in span.first..span.end.min(graph.procedures()) {
         if may_call_inside(graph, live, place.block, place.at, procedure) {
             return Some(procedure);
         }
@@ -127,10 +127,10 @@ pub(crate) fn procedure_inside(
 fn find_place(
     graph: &Graph,
     live: &Liveness,
-    heads: &HashSet<u64>,
+    heads: &HashMap<u64, Span>,
     line: &[WindowAt],
 ) -> Option<(WindowAt, u32)>
-    requires heads { HasHeads graph.now.graph heads.now }
+    requires heads { HasHeads graph.now.graph (get nat_eq heads.now) }
     requires live { IsLivenessOf graph.now.graph live.now }
     requires line { line.now ≡ line_of graph.now.graph }
     ensures some { IfSome result (λ found. HasProcedure graph.now.graph found.1 × MayCallInside graph.now.graph found.0.block found.0.at found.1) }

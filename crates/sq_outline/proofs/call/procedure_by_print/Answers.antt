@@ -1,8 +1,13 @@
-use Rattle.std.proofs.Common.{nat_eq}
+use Rattle.std.proofs.Common.{nat_eq, sym, subst, ◌∙◌}
 use Rattle.std.specs.HashMap.{get}
-use Rattle.sq_outline.proofs.Printing.{no_print}
+use Rattle.sq_outline.specs.Spans.{IsIn}
+use Rattle.sq_outline.proofs.Printing.{in_span}
 use Rattle.sq_outline.proofs.call.procedure_by_print.Goals as goal
 
-pub returns-then-not-has_print-clause-none : goal.returns-then-not-has_print-clause-none
-returns-then-not-has_print-clause-none c = λ e.
-    no_print c.args.graph.now.graph c.args.block (get nat_eq c.args.prints.now) c.requires.prints (let known = c.has_print.ensures in let no = c.if-not-has_print.true in cc)
+pub returns-in_err-span-clause-none : goal.returns-in_err-span-clause-none
+returns-in_err-span-clause-none c = λ none procedure there may.
+    subst (λ span. IsIn span procedure) (sym c.span_of.ensures ∙ c.in_err-span.was) (in_span c.args.graph.now.graph c.args.block (get nat_eq c.args.prints.now) c.requires.prints procedure there may)
+
+pub returns-clause-none : goal.returns-clause-none
+returns-clause-none c = λ none procedure there may.
+    c.procedure_for.ensures.none none procedure (subst (λ span. IsIn span procedure) (sym c.span_of.ensures ∙ c.in_ok-span.was) (in_span c.args.graph.now.graph c.args.block (get nat_eq c.args.prints.now) c.requires.prints procedure there may)) there may
