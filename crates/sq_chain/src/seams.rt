@@ -23,7 +23,7 @@ const SLOTS: u32 = 1200;
 const REACH: u64 = 4200;
 
 /// The addresses at which the first of the pieces starts, and the second one, and at which this one ends.
-#[derive(Clone, Copy, Debug, PartialEq, Eq)]
+#[derive(Clone, Copy)]
 struct Seams {
     first: u64,
     second: u64,
@@ -36,7 +36,9 @@ impl Seams {
         requires first { self.first ≤ self.second }
         requires second { self.second ≤ self.end }
         requires few { self.end < 2 ^ 34 }
-        ensures { IsShifted self at result }
+        requires small { at < 2 ^ 34 }
+        ensures shifted { IsShifted self at result }
+        ensures few { result ≤ at + self.end }
     {
         if at < self.first || self.end <= at {
             at
