@@ -1,23 +1,26 @@
 -- A Branch that doesn't reach once two pieces of the blocks are exchanged, though one block falls.
-use Rattle.std.proofs.Common.{◌≡◌, ◌⊎◌, ℕ, zero, suc, ◌+◌, ◌*◌, ◌≤◌, ◌<◌, ◌==◌, Bool, true, false, not, nat_le, List, [], ◌∷◌, length, sum_by, Option, Some, None, IsSome, is_some, inl, inr, refl, sym, ap, ◌∙◌, subst, arith}
+use Rattle.std.proofs.Common.{◌≡◌, ◌⊎◌, ℕ, zero, suc, ◌+◌, ◌*◌, ◌≤◌, ◌<◌, ◌==◌, Bool, true, not, nat_le, List, [], ◌∷◌, length, sum_by, Option, Some, is_some, inl, inr, refl, ap, ◌∙◌, arith}
 use Rattle.std.specs.Prelude.{unwrap_or}
 use Rattle.std.proofs.lemmas.Bool.{cases_Bool, and_parts, leb-true, both_ways}
 use Rattle.std.proofs.lemmas.List.Sums.{sum_by-cons}
-use Rattle.sq_arena.specs.Entries.{value_of}
 use Rattle.sq_isa.specs.declared.instructions.Cond.{Cond}
-use Rattle.sq_graph.specs.declared.item.Item.{Item}
 use Rattle.sq_graph.specs.declared.item.Term.{Term}
 use Rattle.sq_graph.specs.declared.item.Term.TheVariants.{Fall, Jump, Branch, Call, PartJump, Indirect, Stop}
 use Rattle.sq_graph.specs.Graph.{Block, Graph}
-use Rattle.sq_graph.specs.Blocks.{named, HasBlock, block_of, block_items, items_of, block_term, term_of}
+use Rattle.sq_graph.specs.Blocks.{HasBlock, block_items, items_of, block_term, term_of}
 use Rattle.sq_graph.specs.Rules.{IsGraph}
 use Rattle.sq_graph.specs.Words.{term_words, block_words, words_of}
 use Rattle.sq_layout.specs.Weights.{address_by}
 use Rattle.sq_layout.proofs.Shrinking.{some_is}
 use Rattle.sq_lookup.proofs.Targets.{has_term, branch_there}
 use Rattle.sq_chain.specs.Least.{is_near, stands_at, is_short, least_widened}
-use Rattle.sq_chain.specs.Moves.{fallen_term, fallen_blocks, fallen}
-use Rattle.sq_chain.specs.Seams.{IsShifted, IsExchanged, FallsOnce}
+use Rattle.sq_chain.specs.Moves.{IsMovable, fallen_term, fallen_blocks, fallen, carried, moved}
+use Rattle.sq_chain.specs.Seams.{IsShifted, IsExchanged, FallsOnce, IsSurelyShort}
+use Rattle.sq_chain.specs.Surveys.{IsSurvey}
+use Rattle.sq_chain.specs.declared.survey.Survey.{Survey}
+use Rattle.sq_chain.proofs.Carried.{carried_words}
+use Rattle.sq_chain.proofs.Reordered.{chain_moved_rules}
+use Rattle.sq_lookup.specs.Tables.{number_at}
 use Rattle.sq_chain.specs.Widening.{size_of}
 use Rattle.sq_chain.specs.declared.seams.Seams.{Seams}
 use Rattle.sq_chain.proofs.Lighter.{fallen_light, fallen_most, count_none, short_widened}
@@ -92,10 +95,10 @@ module _ (g h : Graph) (seams : Seams) (rules : IsGraph g) (x : IsExchanged g h 
             let back = leb-true from_at (aim_at + 4096) both.0 in
             let ahead = leb-true aim_at (from_at + 4094) both.1 in
             absurd (
-              elim far [
-                | inl long ↦ omega (arith, long, ahead, from, aim, items)
-                | inr long ↦ omega (arith, long, back, from, aim, items)
-              ]
+            elim far [
+              | inl long ↦ omega (arith, long, ahead, from, aim, items)
+              | inr long ↦ omega (arith, long, back, from, aim, items)
+            ]
             )
         | inr off ↦ ap not off
       ]
@@ -113,3 +116,14 @@ saves_none h n rules once has short =
     some_or_zero : (k : ℕ) → (1 ≤ k) ⊎ (k ≡ 0)
     some_or_zero zero = inr refl
     some_or_zero (suc k) = inl (omega arith)
+
+-- by the survey of a graph in which none falls
+pub addresses_stay : (g : Graph) (survey : Survey) → IsSurvey g survey → survey.falls ≡ 0 → (n : ℕ) → number_at survey.addresses.items n ≡ address_by block_words g.blocks 0 n
+addresses_stay g survey s none n = s.addresses n ∙ ap (λ (bs : List Block). address_by block_words bs 0 n) (stays g (omega (arith, s.falls, none)))
+
+-- so the move saves nothing
+pub still_there : (g : Graph) (from to : ℕ) (rules : IsGraph g) (movable : IsMovable g from to) (seams : Seams) → IsExchanged g (carried g from to) seams → FallsOnce (carried g from to) → (n : ℕ) → IsSurelyShort g seams n → words_of g ≤ words_of (moved g from to)
+still_there g from to rules movable seams x once n short =
+    let h : Graph = carried g from to in
+    let has : HasBlock h n = ap is_some (x.same n) ∙ short.has in
+    omega (arith, carried_words g from to rules movable, saves_none h n (chain_moved_rules g from to rules movable) once has (short.short h x once))

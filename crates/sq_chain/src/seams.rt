@@ -111,6 +111,17 @@ fn beside(graph: &Graph, block: u32, ahead: bool) -> Option<u32>
     }
 }
 
+/// Whether there is such a block around this one.
+fn finds_around(graph: &Graph, addresses: &[Option<u64>], seams: Seams, block: u32) -> bool
+    requires block { HasBlock graph.now.graph block }
+    requires addresses { (n : ℕ) → number_at addresses.now n ≡ address_by words_in graph.now.graph.blocks 0 n }
+    requires exchanged { (h : Parts) × IsExchanged graph.now.graph h seams }
+    ensures { IsTrue result → (n : ℕ) × IsSurelyShort graph.now.graph seams n }
+{
+    finds_short(graph, addresses, seams, block, true)
+        || finds_short(graph, addresses, seams, block, false)
+}
+
 /// The seams of the move of the chain from `to` to `end` behind `from`.
 fn seams_of(graph: &Graph, addresses: &[Option<u64>], from: u32, to: u32, end: u32) -> Seams
     requires movable { IsMovable graph.now.graph from to }
@@ -166,12 +177,9 @@ pub(crate) fn saves_nothing(graph: &Graph, survey: &Survey, from: u32, to: u32) 
     if survey.falls != 0 || !falls_once(graph, from, to, end) {
         return false;
     }
-    let addresses = &survey.addresses;
+    let addresses: &[Option<u64>] = &survey.addresses;
     let seams = seams_of(graph, addresses, from, to, end);
-    finds_short(graph, addresses, seams, to, true)
-        || finds_short(graph, addresses, seams, from, false)
-        || finds_short(graph, addresses, seams, from, true)
-        || finds_short(graph, addresses, seams, to, false)
-        || finds_short(graph, addresses, seams, end, true)
-        || finds_short(graph, addresses, seams, end, false)
+    finds_around(graph, addresses, seams, to)
+        || finds_around(graph, addresses, seams, from)
+        || finds_around(graph, addresses, seams, end)
 }
