@@ -1,17 +1,15 @@
 //! What a move comes to, as one look tells at the blocks in the order that they would have.
 
-ghost use Rattle.std.specs.Prelude.{◌≡◌, ◌↔◌, ℕ, ◌+◌, ◌≤◌, ◌<◌, ◌^◌, if◌then◌else◌, Ok, Some, IsTrue, length, option_map, slice_get, nat_eq, IfOk};
-ghost use Rattle.std.specs.Map.{update};
+ghost use Rattle.std.specs.Prelude.{◌≡◌, ℕ, ◌+◌, ◌≤◌, ◌<◌, ◌^◌, if◌then◌else◌, Ok, Some};
 ghost use Rattle.sq_graph.specs.Graph.{Block, Graph as Parts};
-ghost use Rattle.sq_graph.specs.Blocks.{block_of, next_of, term_of};
+ghost use Rattle.sq_graph.specs.Blocks.{block_of, term_of};
 ghost use Rattle.sq_graph.specs.Places.{IsInReach};
-ghost use Rattle.sq_graph.specs.Words.{block_words as words_in, words_of};
-ghost use Rattle.sq_layout.specs.Weights.{address_by};
+ghost use Rattle.sq_graph.specs.Words.{words_of};
 ghost use Rattle.sq_lookup.specs.Addresses.{address_at};
 ghost use Rattle.sq_lookup.specs.Tables.{number_at};
 ghost use Rattle.sq_chain.specs.Widening.{size_of};
 ghost use Rattle.sq_chain.specs.Least.{is_short, least_widened};
-ghost use Rattle.sq_chain.specs.Moves.{IsMovable, JumpsTo, fallen_blocks, fallen, carried, moved};
+ghost use Rattle.sq_chain.specs.Moves.{IsMovable, fallen, carried, moved};
 ghost use Rattle.sq_chain.specs.Surveys.{extent_of, IsRoom, IsLaidOut, IsSurvey};
 ghost use Rattle.sq_chain.specs.declared.outlook.Outlook.TheVariants.{Near, Still};
 

@@ -1,19 +1,15 @@
 //! Where the blocks stand once each Jump to the next slot is Fall.
 
-ghost use Rattle.std.specs.Prelude.{◌≡◌, ◌↔◌, ℕ, ◌+◌, ◌≤◌, ◌<◌, ◌^◌, if◌then◌else◌, Ok, Some, IsTrue, length, option_map, slice_get, nat_eq, IfOk};
+ghost use Rattle.std.specs.Prelude.{◌≡◌, ◌↔◌, ℕ, ◌+◌, ◌<◌, ◌^◌, Ok, Some, IsTrue, length, option_map, slice_get, nat_eq, IfOk};
 ghost use Rattle.std.specs.Map.{update};
 ghost use Rattle.sq_graph.specs.Graph.{Block, Graph as Parts};
-ghost use Rattle.sq_graph.specs.Blocks.{block_of, next_of, term_of};
-ghost use Rattle.sq_graph.specs.Places.{IsInReach};
+ghost use Rattle.sq_graph.specs.Blocks.{block_of, next_of};
 ghost use Rattle.sq_graph.specs.Words.{block_words as words_in, words_of};
 ghost use Rattle.sq_layout.specs.Weights.{address_by};
 ghost use Rattle.sq_lookup.specs.Addresses.{address_at};
 ghost use Rattle.sq_lookup.specs.Tables.{number_at};
-ghost use Rattle.sq_chain.specs.Widening.{size_of};
-ghost use Rattle.sq_chain.specs.Least.{is_short, least_widened};
-ghost use Rattle.sq_chain.specs.Moves.{IsMovable, JumpsTo, fallen_blocks, fallen, carried, moved};
-ghost use Rattle.sq_chain.specs.Surveys.{extent_of, extents_of, IsRoom, IsLaidOut};
-ghost use Rattle.sq_chain.specs.declared.outlook.Outlook.TheVariants.{Near, Still};
+ghost use Rattle.sq_chain.specs.Moves.{JumpsTo, fallen_blocks, fallen};
+ghost use Rattle.sq_chain.specs.Surveys.{extent_of, IsRoom, IsLaidOut};
 
 use crate::survey::Extent;
 use sq_graph::Term;

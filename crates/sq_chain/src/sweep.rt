@@ -1,6 +1,6 @@
 //! Moves many chains by one look over the blocks.
 
-ghost use Rattle.std.specs.Prelude.{◌≡◌, ◌≤◌, ◌+◌, IfOk, OnOk};
+ghost use Rattle.std.specs.Prelude.{◌≤◌, ◌+◌, IfOk, OnOk};
 ghost use Rattle.sq_num.specs.Saved.{words_saved};
 ghost use Rattle.sq_graph.specs.Leaders.{IsCanonical};
 ghost use Rattle.sq_graph.specs.Words.{words_of, most_words};
