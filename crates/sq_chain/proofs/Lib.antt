@@ -17,3 +17,7 @@ pub mod Carried
 pub mod Orders
 pub mod Surveyed
 pub mod Moved
+pub mod Standing
+pub mod Drops
+pub mod Exchanging
+pub mod Distant

@@ -28,7 +28,7 @@ use Rattle.sq_chain.proofs.Shortness.{grown_within}
 
 -- WORDS
 
-fallen_light : (n : ℕ) (t : Term) → term_words (fallen_term n t) ≤ term_words t
+pub fallen_light : (n : ℕ) (t : Term) → term_words (fallen_term n t) ≤ term_words t
 fallen_light n Fall = omega arith
 fallen_light n (Jump to) = elim (cases_Bool (to == n)) [ inl same ↦ rw same (omega arith) | inr apart ↦ rw apart (omega arith) ]
 fallen_light n (Branch cond x y to) = omega arith
@@ -37,7 +37,7 @@ fallen_light n (PartJump link part to) = omega arith
 fallen_light n (Indirect link x offset) = omega arith
 fallen_light n (Stop word) = omega arith
 
-fallen_most : (bs : List Block) → sum_by block_words (fallen_blocks bs) ≤ sum_by block_words bs
+pub fallen_most : (bs : List Block) → sum_by block_words (fallen_blocks bs) ≤ sum_by block_words bs
 fallen_most [] = omega arith
 fallen_most (b ∷ []) = omega arith
 fallen_most (b ∷ next ∷ rest) =
@@ -252,7 +252,7 @@ stays_narrow h rules reach =
 -- WHAT A MOVE COMES TO
 
 -- a set that counts none has none
-count_none : (S : ℕ → Bool) (bs : List Block) (n : ℕ) → count_of S bs ≡ 0 → IsSome (value_of (named bs) n) → S n ≡ false
+pub count_none : (S : ℕ → Bool) (bs : List Block) (n : ℕ) → count_of S bs ≡ 0 → IsSome (value_of (named bs) n) → S n ≡ false
 count_none S [] n none some = absurd (cc)
 count_none S (b ∷ bs) n none some =
     elim (cases_Bool (S b.name)) [

@@ -106,7 +106,7 @@ module _ (g : Graph) (from to : ℕ) (rules : IsGraph g) (movable : IsMovable g 
   split = all ∙ ap (λ (ps : List (ℕ × Block)). A ++ ps) (through-behind S last)
 
   -- its last block
-  none_ahead : value_of A last ≡ None
+  pub none_ahead : value_of A last ≡ None
   none_ahead =
       elim (some_or_none (value_of A last)) [
         | inl some ↦ absurd (let n = apart_from A S last (subst (λ (ps : List (ℕ × Block)). HasDistinctKeys ps) split rules.distinct) some in let y = (chain_run g from to rules movable).ends in cc (ap is_some n, y))
@@ -119,7 +119,7 @@ module _ (g : Graph) (from to : ℕ) (rules : IsGraph g) (movable : IsMovable g 
       ∙ (chain_run g from to rules movable).ends
 
   -- what is behind the chain
-  behind_chain : behind es last ≡ C
+  pub behind_chain : behind es last ≡ C
   behind_chain = ap (λ (ps : List (ℕ × Block)). behind ps last) split ∙ behind-out A S last none_ahead
 
   module _ (i j k : ℕ) (at_to : IsBlockAt g i to) (at_last : IsBlockAt g j (chain_end g to)) (at_from : IsBlockAt g k from) where

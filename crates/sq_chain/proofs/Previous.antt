@@ -75,7 +75,7 @@ first_there : (bs : List Block) (k : ℕ) → first_key (named bs) ≡ Some k �
 first_there [] k e = absurd (cc)
 first_there (b ∷ bs) k e = let same : b.name ≡ k = cc in rw (eq-eqb b.name k same) refl
 
-next_there : (bs : List Block) (m k : ℕ) → next_key (named bs) m ≡ Some k → IsSome (value_of (named bs) k)
+pub next_there : (bs : List Block) (m k : ℕ) → next_key (named bs) m ≡ Some k → IsSome (value_of (named bs) k)
 next_there [] m k e = absurd (cc)
 next_there (b ∷ bs) m k e =
     elim (cases_Bool (b.name == m)) [

@@ -262,10 +262,10 @@ module _ (g : Graph) (from to : ℕ) (rules : IsGraph g) (movable : IsMovable g 
   abbrev last : ℕ
   last = chain_end g to
 
-  to_has : HasBlock g to
+  pub to_has : HasBlock g to
   to_has = All-head (HasBlock g) to [] (targets_there g from (Jump to) rules movable.jump)
 
-  head : (b : Block) × (value_of es to ≡ Some b)
+  pub head : (b : Block) × (value_of es to ≡ Some b)
   head = some_value (value_of es to) to_has
 
   split : es ≡ before es to ++ (to, head.0) ∷ behind es to
@@ -311,7 +311,7 @@ module _ (g : Graph) (from to : ℕ) (rules : IsGraph g) (movable : IsMovable g 
   off : goes_on jumping.0.term ≡ false
   off = ap goes_on jumping.2
 
-  out_r : value_of R from ≡ None
+  pub out_r : value_of R from ≡ None
   out_r = elim (some_or_none (value_of R from)) [ inl some ↦ absurd (movable.outside some) | inr none ↦ none ]
 
   pub found : or_value (value_of A from) (or_value (value_of R from) (value_of C from)) ≡ Some jumping.0

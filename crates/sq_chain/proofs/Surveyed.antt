@@ -1,5 +1,5 @@
 -- The blocks of a graph by what decides where they stand.
-use Rattle.std.proofs.Common.{◌≡◌, ℕ, ◌+◌, ◌<◌, ◌^◌, List, [], ◌∷◌, map, drop, length, get_or, slice_get, Option, Some, IsSome, refl, sym, ap, ◌∙◌, subst, arith}
+use Rattle.std.proofs.Common.{◌≡◌, ℕ, ◌+◌, ◌<◌, ◌^◌, List, [], ◌∷◌, map, drop, length, get_or, slice_get, Option, None, Some, IsSome, refl, sym, ap, ◌∙◌, subst, arith}
 use Rattle.std.specs.Prelude.{option_map}
 use Rattle.std.proofs.lemmas.List.{length-map}
 use Rattle.std.proofs.lemmas.Option.{slice_get-map, slice_get-get_or}
@@ -8,6 +8,9 @@ use Rattle.sq_graph.specs.Blocks.{HasBlock, block_of, next_of}
 use Rattle.sq_graph.specs.Parts.{names_of}
 use Rattle.sq_graph.specs.Rules.{IsGraph}
 use Rattle.sq_graph.specs.Words.{words_of}
+use Rattle.std.specs.List.{All}
+use Rattle.std.proofs.lemmas.List.Elements.{All-get_or}
+use Rattle.sq_lookup.specs.Tables.{number_at}
 use Rattle.sq_lookup.proofs.Targets.{name_listed}
 use Rattle.sq_live.proofs.Layouts.{IsBlockAt, block_at, length-names}
 use Rattle.sq_chain.specs.declared.survey.Extent.{Extent}
@@ -67,6 +70,15 @@ name_at g order n e has =
 pub found_among : (g : Graph) (order : List Extent) (k n : ℕ) → IsGraph g → order ≡ extents_of g → k < length order → get_or (map (λ (e : Extent). e.name) order) k 0 ≡ n → IsBlockAt g k n
 found_among g order k n rules e within there =
     found_at g (map (λ (x : Extent). x.name) order) k n rules (extent_names g order e) (subst (λ (len : ℕ). k < len) (sym (length-map order (λ (x : Extent). x.name))) within) there
+
+-- there is room for each where there is for all names
+pub room_is : (g : Graph) (room : List (Option ℕ)) → All (λ (n : ℕ). n < length room) (names_of g) → ((n : ℕ) → number_at room n ≡ None) → IsRoom g room
+room_is g room all none = record {
+  within = λ n has.
+      let w = name_listed g.blocks n has in
+      subst (λ (m : ℕ). m < length room) w.2 (All-get_or (λ (m : ℕ). m < length room) (names_of g) w.0 0 w.1 all);
+  none = none;
+}
 
 -- and what it is once each Jump to the next slot is Fall
 pub record IsFallingAt (g : Graph) (order : List Extent) (k : ℕ) (e : Extent) : Type 0 where

@@ -3,4 +3,5 @@ pub mod Least
 pub mod Laws
 pub mod Surveys
 pub mod Moves
+pub mod Seams
 pub mod Candidates

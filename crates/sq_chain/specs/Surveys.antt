@@ -1,11 +1,14 @@
 -- What decides where the blocks of a graph stand.
-use Rattle.std.specs.Prelude.{◌≡◌, ℕ, ◌<◌, ◌^◌, List, map, length, Option, None}
+use Rattle.std.specs.Prelude.{◌≡◌, ℕ, ◌+◌, ◌<◌, ◌^◌, List, map, length, Option, None}
 use Rattle.sq_graph.specs.Graph.{Block, Graph}
 use Rattle.sq_graph.specs.Blocks.{HasBlock}
 use Rattle.sq_graph.specs.Rules.{IsGraph}
 use Rattle.sq_graph.specs.Words.{block_words, words_of}
+use Rattle.sq_layout.specs.Weights.{address_by}
 use Rattle.sq_lookup.specs.Tables.{number_at}
+use Rattle.sq_chain.specs.Moves.{fallen_blocks, fallen}
 use Rattle.sq_chain.specs.declared.survey.Extent.{Extent}
+use Rattle.sq_chain.specs.declared.survey.Survey.{Survey}
 
 abbrev pub extent_of : Block → Extent
 extent_of b = record { name = b.name; words = block_words b; term = b.term }
@@ -23,3 +26,10 @@ pub record IsLaidOut (g : Graph) (order : List Extent) : Type 0 where
   pub rules : IsGraph g
   pub few : words_of g < 2 ^ 31
   pub listed : order ≡ extents_of g
+
+-- what the look over a graph's blocks found
+pub record IsSurvey (g : Graph) (survey : Survey) : Type 0 where
+  pub extents : survey.extents.items ≡ extents_of g
+  pub room : IsRoom g survey.room.items
+  pub addresses : (n : ℕ) → number_at survey.addresses.items n ≡ address_by block_words (fallen_blocks g.blocks) 0 n
+  pub falls : words_of (fallen g) + survey.falls ≡ words_of g

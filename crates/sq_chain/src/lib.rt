@@ -13,6 +13,8 @@ mod least;
 mod moving;
 mod order;
 mod outlook;
+mod placing;
+mod seams;
 mod short;
 mod survey;
 mod sweep;

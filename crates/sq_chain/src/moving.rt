@@ -9,7 +9,7 @@ ghost use Rattle.sq_pass.specs.declared.cut.Cut.{Cut as Told};
 ghost use Rattle.sq_pass.specs.Rewrites.{IsRewrite, IsLighter};
 ghost use Rattle.sq_chain.specs.Moves.{IsMovable, moved, IsStill};
 ghost use Rattle.sq_chain.specs.Candidates.{IsCandidate, described, IsMoved, HasMoved, IsStillAt};
-ghost use Rattle.sq_chain.specs.Surveys.{extents_of, IsRoom};
+ghost use Rattle.sq_chain.specs.Surveys.{IsSurvey};
 
 use crate::carry::carry;
 use crate::chain::movable;
@@ -34,8 +34,7 @@ pub(crate) fn move_near(
     to: u32,
 ) -> Result<Option<u32>, Memory>
     requires movable { IsMovable graph.old.graph from to }
-    requires extents { survey.now.extents.items ≡ extents_of graph.old.graph }
-    requires room { IsRoom graph.old.graph survey.now.room.items }
+    requires survey { IsSurvey graph.old.graph survey.now }
     ensures some { IfOk result (λ done. IfSome done (λ saved. 1 ≤ saved)) }
     ensures applied { IfOk result (λ done. IfSome done (λ saved. IsApplied saved (moved graph.old.graph from to) graph.old.graph graph.new.graph)) }
     ensures same { result ≡ Ok None → graph.new ≡ graph.old }
@@ -96,8 +95,7 @@ fn move_surveyed(
 ) -> Result<bool, Memory>
     requires movable { IsMovable graph.old.graph from to }
     requires blocks { length graph.old.graph.blocks ≤ 16777216 }
-    requires extents { survey.now.extents.items ≡ extents_of graph.old.graph }
-    requires room { IsRoom graph.old.graph survey.now.room.items }
+    requires survey { IsSurvey graph.old.graph survey.now }
     ensures moved { result ≡ Ok true → IsMoved from to graph.old.graph graph.new.graph }
     ensures still { result ≡ Ok false → words_of graph.old.graph ≤ words_of (moved graph.old.graph from to) }
     ensures same { result ≡ Ok false → graph.new ≡ graph.old }
@@ -136,8 +134,7 @@ pub(crate) fn movable_target(graph: &Graph, from: u32) -> Option<u32>
 /// The same for the block to which this one jumps, where the pair is movable.
 fn move_behind(alloc: Global, graph: &mut Graph, survey: &Survey, from: u32) -> Result<bool, Memory>
     requires blocks { length graph.old.graph.blocks ≤ 16777216 }
-    requires extents { survey.now.extents.items ≡ extents_of graph.old.graph }
-    requires room { IsRoom graph.old.graph survey.now.room.items }
+    requires survey { IsSurvey graph.old.graph survey.now }
     ensures moved { result ≡ Ok true → HasMoved graph.old.graph graph.new.graph }
     ensures still { result ≡ Ok false → IsStillAt graph.old.graph from }
     ensures same { result ≡ Ok false → graph.new ≡ graph.old }

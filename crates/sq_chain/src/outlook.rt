@@ -1,21 +1,21 @@
 //! What a move comes to, as one look tells at the blocks in the order that they would have.
 
-ghost use Rattle.std.specs.Prelude.{◌≡◌, ◌↔◌, ℕ, ◌+◌, ◌≤◌, ◌<◌, ◌^◌, if◌then◌else◌, Ok, Some, IsTrue, length, option_map, slice_get, nat_eq, IfOk};
-ghost use Rattle.std.specs.Map.{update};
+ghost use Rattle.std.specs.Prelude.{◌≡◌, ℕ, ◌+◌, ◌≤◌, ◌<◌, ◌^◌, if◌then◌else◌, Ok, Some};
 ghost use Rattle.sq_graph.specs.Graph.{Block, Graph as Parts};
-ghost use Rattle.sq_graph.specs.Blocks.{block_of, next_of, term_of};
+ghost use Rattle.sq_graph.specs.Blocks.{block_of, term_of};
 ghost use Rattle.sq_graph.specs.Places.{IsInReach};
-ghost use Rattle.sq_graph.specs.Words.{block_words as words_in, words_of};
-ghost use Rattle.sq_layout.specs.Weights.{address_by};
+ghost use Rattle.sq_graph.specs.Words.{words_of};
 ghost use Rattle.sq_lookup.specs.Addresses.{address_at};
 ghost use Rattle.sq_lookup.specs.Tables.{number_at};
 ghost use Rattle.sq_chain.specs.Widening.{size_of};
 ghost use Rattle.sq_chain.specs.Least.{is_short, least_widened};
-ghost use Rattle.sq_chain.specs.Moves.{IsMovable, JumpsTo, fallen_blocks, fallen, carried, moved};
-ghost use Rattle.sq_chain.specs.Surveys.{extent_of, extents_of, IsRoom, IsLaidOut};
+ghost use Rattle.sq_chain.specs.Moves.{IsMovable, fallen, carried, moved};
+ghost use Rattle.sq_chain.specs.Surveys.{extent_of, IsRoom, IsLaidOut, IsSurvey};
 ghost use Rattle.sq_chain.specs.declared.outlook.Outlook.TheVariants.{Near, Still};
 
 use crate::order::carried_extents;
+use crate::placing::{address, fallen_addresses};
+use crate::seams::saves_nothing;
 use crate::survey::{Extent, Survey};
 use sq_graph::{Graph, Term};
 use sq_layout::{distance, reaches};
@@ -31,92 +31,6 @@ pub(crate) enum Outlook {
     Still,
     /// There are Branches to be widened, but maybe fewer than words are saved.
     Unsure,
-}
-
-/// Where blocks stand once each Jump to the next slot is Fall, and how many words that saves.
-#[derive(Drop)]
-struct Fallen {
-    addresses: Vec<Option<u64>>,
-    falls: u32,
-}
-
-/// The name of the block at this place, if there is one.
-fn name_at(order: &[Extent], place: usize) -> Option<u32>
-    ensures { result ≡ option_map (λ extent. extent.name) (slice_get order.now place) }
-{
-    if place < order.len() {
-        Some(order[place].name)
-    } else {
-        None
-    }
-}
-
-/// Whether the term is a Jump to this next slot.
-fn jumps_to(term: Term, next: Option<u32>) -> bool
-    ensures { IsTrue result ↔ JumpsTo term next }
-{
-    match term {
-        Term::Jump { to } => next == Some(to),
-        _ => false,
-    }
-}
-
-/// How many words the block loses once each Jump to the next slot is Fall, where this is its next slot.
-fn fall_of(extent: Extent, next: Option<u32>) -> u32
-    ensures { (h : Parts) (b c : Block) → extent_of b ≡ extent → next_of h b.name ≡ next → block_of h b.name ≡ Some b → block_of (fallen h) b.name ≡ Some c → words_in c + result ≡ words_in b }
-{
-    if jumps_to(extent.term, next) { 1 } else { 0 }
-}
-
-fn copy_of(alloc: Global, room: &[Option<u64>]) -> Result<Vec<Option<u64>>, Memory>
-    ensures { IfOk result (λ copy. copy.items ≡ room.now) }
-{
-    let mut copy = Vec::with_capacity(alloc, room.len())?;
-    copy.extend_from_slice(room)?;
-    Ok(copy)
-}
-
-/// Puts an address under a name for which there is room.
-fn put(addresses: &mut Vec<Option<u64>>, name: u32, at: u64)
-    requires { name < length addresses.old.items }
-    ensures length { length addresses.new.items ≡ length addresses.old.items }
-    ensures value { (n : ℕ) → number_at addresses.new.items n ≡ update nat_eq (number_at addresses.old.items) name (Some at) n }
-{
-    addresses[name as usize] = Some(at);
-}
-
-/// Where the blocks stand in this order once each Jump to the next slot is Fall.
-fn fallen_addresses(alloc: Global, room: &[Option<u64>], order: &[Extent]) -> Result<Fallen, Memory>
-    requires { (h : Parts) × IsLaidOut h order.now × IsRoom h room.now }
-    ensures addresses { IfOk result (λ they. (h : Parts) → IsLaidOut h order.now → IsRoom h room.now → (n : ℕ) → number_at they.addresses.items n ≡ address_by words_in (fallen_blocks h.blocks) 0 n) }
-    ensures small { IfOk result (λ they. (n : ℕ) → address_at (number_at they.addresses.items) n < 2 ^ 34) }
-    ensures falls { IfOk result (λ they. (h : Parts) → IsLaidOut h order.now → IsRoom h room.now → words_of (fallen h) + they.falls ≡ words_of h) }
-{
-    let mut addresses = copy_of(alloc, room)?;
-    let mut falls = 0;
-    let mut at = 0;
-    for i in 0..order.len() {
-        let extent = order[i];
-        let (name, words) = (extent.name, extent.words);
-        put(&mut addresses, name, at);
-        let next = name_at(order, i + 1);
-        let fall = fall_of(extent, next);
-        falls += fall;
-        at += 4 * u64::from(words - fall);
-    }
-    Ok(Fallen { addresses, falls })
-}
-
-/// The address under this name.
-fn address(addresses: &[Option<u64>], name: u32) -> u64
-    ensures { result ≡ address_at (number_at addresses.now) name }
-{
-    let name = name as usize;
-    if name < addresses.len() {
-        addresses[name].unwrap_or(0)
-    } else {
-        0
-    }
 }
 
 /// Whether the block ends in a Branch that doesn't reach by these addresses.
@@ -188,12 +102,14 @@ pub(crate) fn outlook_of(
     to: u32,
 ) -> Result<Outlook, Memory>
     requires movable { IsMovable graph.now.graph from to }
-    requires extents { survey.now.extents.items ≡ extents_of graph.now.graph }
-    requires room { IsRoom graph.now.graph survey.now.room.items }
+    requires survey { IsSurvey graph.now.graph survey.now }
     ensures near { result ≡ Ok Near → IsInReach (fallen (carried graph.now.graph from to)) }
     ensures still { result ≡ Ok Still → words_of graph.now.graph ≤ words_of (moved graph.now.graph from to) }
 {
     graph.learn();
+    if saves_nothing(graph, survey, from, to) {
+        return Ok(Outlook::Still);
+    }
     let order = carried_extents(alloc, graph, &survey.extents, from, to)?;
     ordered_outlook(alloc, &survey.room, &order)
 }

@@ -6,8 +6,9 @@ ghost use Rattle.sq_graph.specs.Blocks.{HasBlock, block_of};
 ghost use Rattle.sq_graph.specs.Parts.{names_of};
 ghost use Rattle.sq_graph.specs.Rules.{IsGraph};
 ghost use Rattle.sq_lookup.specs.Tables.{number_at};
-ghost use Rattle.sq_chain.specs.Surveys.{extent_of, extents_of, IsRoom};
+ghost use Rattle.sq_chain.specs.Surveys.{extent_of, extents_of, IsSurvey};
 
+use crate::placing::fallen_addresses;
 use sq_graph::{Graph, Term};
 use sq_layout::block_words;
 use sq_live::block_names;
@@ -22,11 +23,14 @@ pub(crate) struct Extent {
     pub term: Term,
 }
 
-/// The blocks of a graph in layout order, and room for an address under each of their names.
+/// The blocks of a graph in layout order, room for an address under each of their names, their addresses once each Jump to
+/// the next slot is Fall, and how many these are.
 #[derive(Drop)]
 pub(crate) struct Survey {
     pub extents: Vec<Extent>,
     pub room: Vec<Option<u64>>,
+    pub addresses: Vec<Option<u64>>,
+    pub falls: u32,
 }
 
 fn extent_of(graph: &Graph, block: u32) -> Extent
@@ -81,14 +85,19 @@ fn room_for(alloc: Global, names: &[u32]) -> Result<Vec<Option<u64>>, Memory>
     Ok(room)
 }
 
-/// One look over the blocks.
+/// Two looks over the blocks.
 pub(crate) fn survey_of(alloc: Global, graph: &Graph) -> Result<Survey, Memory>
-    ensures extents { IfOk result (λ survey. survey.extents.items ≡ extents_of graph.now.graph) }
-    ensures room { IfOk result (λ survey. IsRoom graph.now.graph survey.room.items) }
+    ensures { IfOk result (λ survey. IsSurvey graph.now.graph survey) }
 {
     graph.learn();
     let names = block_names(alloc, graph)?;
     let extents = extents_of(alloc, graph, &names)?;
     let room = room_for(alloc, &names)?;
-    Ok(Survey { extents, room })
+    let fallen = fallen_addresses(alloc, &room, &extents)?;
+    Ok(Survey {
+        extents,
+        room,
+        addresses: fallen.addresses,
+        falls: fallen.falls,
+    })
 }

@@ -1,13 +1,13 @@
 //! Moves many chains by one look over the blocks.
 
-ghost use Rattle.std.specs.Prelude.{◌≡◌, ◌≤◌, ◌+◌, IfOk, OnOk};
+ghost use Rattle.std.specs.Prelude.{◌≤◌, ◌+◌, IfOk, OnOk};
 ghost use Rattle.sq_num.specs.Saved.{words_saved};
 ghost use Rattle.sq_graph.specs.Leaders.{IsCanonical};
 ghost use Rattle.sq_graph.specs.Words.{words_of, most_words};
 ghost use Rattle.law_follow.specs.Follows.{Follows};
 ghost use Rattle.sq_pass.specs.Rewrites.{IsRewritten};
 ghost use Rattle.sq_chain.specs.Candidates.{IsCandidate, described};
-ghost use Rattle.sq_chain.specs.Surveys.{extents_of, IsRoom};
+ghost use Rattle.sq_chain.specs.Surveys.{IsSurvey};
 
 use crate::moving::{movable_target, move_near};
 use crate::survey::{Survey, survey_of};
@@ -37,12 +37,10 @@ fn sweep_behind(
 ) -> Result<Savings, Memory>
     requires canonical { IsCanonical graph.old.graph }
     requires words { words_of graph.old.graph + words_saved savings ≤ most_words }
-    requires extents { view.old.extents.items ≡ extents_of graph.old.graph }
-    requires room { IsRoom graph.old.graph view.old.room.items }
+    requires survey { IsSurvey graph.old.graph view.old }
     ensures rewritten { IfOk result (λ after. IsRewritten IsCandidate described savings after graph.old.graph graph.new.graph) }
     ensures follows { Follows graph.old.graph graph.new.graph }
-    ensures extents { OnOk result (view.new.extents.items ≡ extents_of graph.new.graph) }
-    ensures room { OnOk result (IsRoom graph.new.graph view.new.room.items) }
+    ensures survey { OnOk result (IsSurvey graph.new.graph view.new) }
 {
     graph.learn();
     let Some(to) = movable_target(graph, from) else {

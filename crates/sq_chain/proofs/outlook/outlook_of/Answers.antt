@@ -9,20 +9,20 @@ pub ordered_outlook-requires : goal.ordered_outlook-requires
 ordered_outlook-requires c =
     let g = c.args.graph.now.graph in
     let laid = carried_laid g c.args.from c.args.to c.learn.ensures.rules c.requires.movable c.deref-3.result.now c.learn.ensures.few (c.deref-3.ensures.value ∙ c.in_ok-order.ensures) in
-    let room = carried_room g c.args.from c.args.to c.learn.ensures.rules c.requires.movable c.deref-2.result.now (subst (λ (r : List (Option ℕ)). IsRoom g r) (sym c.deref-2.ensures.value) c.requires.room) in
+    let room = carried_room g c.args.from c.args.to c.learn.ensures.rules c.requires.movable c.deref-2.result.now (subst (λ (r : List (Option ℕ)). IsRoom g r) (sym c.deref-2.ensures.value) c.requires.survey.room) in
     (carried g c.args.from c.args.to, laid, room)
 
 pub returns-clause-near : goal.returns-clause-near
 returns-clause-near c = λ e.
     let g = c.args.graph.now.graph in
     let laid = carried_laid g c.args.from c.args.to c.learn.ensures.rules c.requires.movable c.deref-3.result.now c.learn.ensures.few (c.deref-3.ensures.value ∙ c.in_ok-order.ensures) in
-    let room = carried_room g c.args.from c.args.to c.learn.ensures.rules c.requires.movable c.deref-2.result.now (subst (λ (r : List (Option ℕ)). IsRoom g r) (sym c.deref-2.ensures.value) c.requires.room) in
+    let room = carried_room g c.args.from c.args.to c.learn.ensures.rules c.requires.movable c.deref-2.result.now (subst (λ (r : List (Option ℕ)). IsRoom g r) (sym c.deref-2.ensures.value) c.requires.survey.room) in
     c.ordered_outlook.ensures.near e (carried g c.args.from c.args.to) laid room
 
 pub returns-clause-still : goal.returns-clause-still
 returns-clause-still c = λ e.
     let g = c.args.graph.now.graph in
     let laid = carried_laid g c.args.from c.args.to c.learn.ensures.rules c.requires.movable c.deref-3.result.now c.learn.ensures.few (c.deref-3.ensures.value ∙ c.in_ok-order.ensures) in
-    let room = carried_room g c.args.from c.args.to c.learn.ensures.rules c.requires.movable c.deref-2.result.now (subst (λ (r : List (Option ℕ)). IsRoom g r) (sym c.deref-2.ensures.value) c.requires.room) in
+    let room = carried_room g c.args.from c.args.to c.learn.ensures.rules c.requires.movable c.deref-2.result.now (subst (λ (r : List (Option ℕ)). IsRoom g r) (sym c.deref-2.ensures.value) c.requires.survey.room) in
     let few = c.ordered_outlook.ensures.still e (carried g c.args.from c.args.to) laid room in
     omega (arith, few, carried_words g c.args.from c.args.to c.learn.ensures.rules c.requires.movable)

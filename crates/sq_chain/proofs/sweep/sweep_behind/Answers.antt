@@ -1,11 +1,11 @@
-use Rattle.std.proofs.Common.{◌≡◌, sym, subst}
+use Rattle.std.proofs.Common.{sym, subst}
 use Rattle.sq_graph.specs.Room.{GraphAndRoom}
 use Rattle.law_follow.specs.Follows.{Follows}
 use Rattle.law_follow.proofs.Following.{graph_follows_itself}
 use Rattle.sq_pass.specs.Rewrites.{IsRewritten}
 use Rattle.sq_pass.proofs.Rewriting.{rewritten_itself}
 use Rattle.sq_chain.specs.Candidates.{IsCandidate, described}
-use Rattle.sq_chain.specs.Surveys.{extents_of, IsRoom}
+use Rattle.sq_chain.specs.Surveys.{IsSurvey}
 use Rattle.sq_chain.proofs.Moved.{near_rewritten}
 use Rattle.sq_chain.proofs.sweep.sweep_behind.Goals as goal
 
@@ -30,15 +30,10 @@ returns-in_default-2-clause-follows c =
     let none = c.in_default-2.is in
     subst (λ (v : GraphAndRoom). Follows c.args.graph.now.graph v.graph) (sym (c.in_ok-saving.ensures.same (cc))) (graph_follows_itself c.args.graph.now.graph)
 
-pub returns-in_default-2-clause-extents : goal.returns-in_default-2-clause-extents
-returns-in_default-2-clause-extents c =
+pub returns-in_default-2-clause-survey : goal.returns-in_default-2-clause-survey
+returns-in_default-2-clause-survey c =
     let none = c.in_default-2.is in
-    subst (λ (v : GraphAndRoom). c.args.view.now.extents.items ≡ extents_of v.graph) (sym (c.in_ok-saving.ensures.same (cc))) c.requires.extents
-
-pub returns-in_default-2-clause-room : goal.returns-in_default-2-clause-room
-returns-in_default-2-clause-room c =
-    let none = c.in_default-2.is in
-    subst (λ (v : GraphAndRoom). IsRoom v.graph c.args.view.now.room.items) (sym (c.in_ok-saving.ensures.same (cc))) c.requires.room
+    subst (λ (v : GraphAndRoom). IsSurvey v.graph c.args.view.now) (sym (c.in_ok-saving.ensures.same (cc))) c.requires.survey
 
 pub returns-in_err-next-clause-follows : goal.returns-in_err-next-clause-follows
 returns-in_err-next-clause-follows c =

@@ -12,8 +12,7 @@ returns-in_err-view-clause-follows g c = graph_follows_itself c.args.graph.now.g
 pub loop-name-init : goal.loop-name-init
 loop-name-init g c = record {
   rewritten = rewritten_itself IsCandidate described c.args.savings c.args.graph.now.graph c.requires.canonical;
-  extents = c.in_ok-view.ensures.extents;
-  room = c.in_ok-view.ensures.room;
+  survey = c.in_ok-view.ensures;
 }
 
 pub returns-in_err-wants-clause-follows : goal.returns-in_err-wants-clause-follows
@@ -25,8 +24,7 @@ returns-in_err-next-clause-follows g c = graph_follows_through c.args.graph.now.
 pub loop-name-preserved : goal.loop-name-preserved
 loop-name-preserved g c = record {
   rewritten = rewritten_through IsCandidate described c.args.savings c.loop-name.after c.in_ok-next.next c.args.graph.now.graph c.loop-name.graph.graph c.sweep_behind.new.graph.graph c.loop-name.invariant.rewritten c.in_ok-next.ensures.rewritten;
-  extents = c.in_ok-next.ensures.extents;
-  room = c.in_ok-next.ensures.room;
+  survey = c.in_ok-next.ensures.survey;
 }
 
 pub returns-then-branch-clause-rewritten : goal.returns-then-branch-clause-rewritten

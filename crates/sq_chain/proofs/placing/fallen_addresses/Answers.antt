@@ -11,7 +11,7 @@ use Rattle.sq_chain.specs.Moves.{fallen_blocks, fallen}
 use Rattle.sq_chain.proofs.Fallen.{fallen_keeps}
 use Rattle.sq_chain.proofs.Placed.{IsPlacedBy, none_placed_by, all_placed_by, one_placed_by}
 use Rattle.sq_chain.proofs.Surveyed.{falling_at, extents_length}
-use Rattle.sq_chain.proofs.outlook.fallen_addresses.Goals as goal
+use Rattle.sq_chain.proofs.placing.fallen_addresses.Goals as goal
 
 pub put-requires : goal.put-requires
 put-requires c =

@@ -4,7 +4,7 @@ use Rattle.sq_graph.specs.Blocks.{block_term}
 use Rattle.sq_chain.specs.declared.survey.Extent.{Extent}
 use Rattle.sq_chain.specs.Moves.{JumpsToNext}
 use Rattle.sq_chain.proofs.Lighter.{falls_one, falls_none}
-use Rattle.sq_chain.proofs.outlook.fall_of.Goals as goal
+use Rattle.sq_chain.proofs.placing.fall_of.Goals as goal
 
 pub returns-then-jumps_to : goal.returns-then-jumps_to
 returns-then-jumps_to c = λ h b d same next was is.

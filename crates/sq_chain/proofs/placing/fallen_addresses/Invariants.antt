@@ -5,7 +5,7 @@ use Rattle.sq_lookup.specs.Tables.{number_at}
 use Rattle.sq_chain.specs.Moves.{fallen_blocks}
 use Rattle.sq_chain.specs.Surveys.{IsLaidOut, IsRoom}
 use Rattle.sq_chain.proofs.Placed.{IsPlacedBy}
-use Rattle.sq_chain.proofs.outlook.fallen_addresses.Given as goal
+use Rattle.sq_chain.proofs.placing.fallen_addresses.Given as goal
 
 abbrev pub invariant-loop-i : goal.invariant-loop-i
 invariant-loop-i l = record {
