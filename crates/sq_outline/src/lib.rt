@@ -12,7 +12,6 @@ mod groups;
 mod inline;
 mod link;
 mod make;
-mod nearby;
 mod outlines;
 mod plain;
 mod proposals;

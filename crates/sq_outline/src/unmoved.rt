@@ -5,7 +5,6 @@ ghost use Rattle.sq_graph.specs.Blocks.{HasBlock};
 
 use crate::groups::{block_print, procedure_prints};
 use crate::inline::{any_would_save, find_inline};
-use crate::nearby::Nearby;
 use crate::seams::may_pay_at;
 use crate::ways::{near_jumps, previous};
 use crate::windows::may_end_alike;
@@ -32,7 +31,6 @@ pub struct Unmoved {
     near: Names,
     // Whether a procedure waits for Branches to reach.
     inlines: bool,
-    nearby: Nearby,
 }
 
 /// Whether another of these blocks has as many items and the print of this one.
@@ -129,7 +127,6 @@ impl Unmoved {
             seams: Vec::new(alloc),
             near: set_of(alloc, &near_jumps(alloc, graph)?)?,
             inlines: any_would_save(alloc, graph)?,
-            nearby: Nearby::new(alloc),
         })
     }
 
@@ -154,8 +151,8 @@ impl Unmoved {
         }
     }
 
-    /// Takes note of the blocks at the seams that a chain leaves and makes if it moves behind this block: whether that jumps to one,
-    /// and each Branch may reach then. It looks at the chain, and around it and the block.
+    /// Takes note of the blocks at the seams that a chain leaves and makes if it moves behind this block: whether that jumps to one.
+    /// It looks at the chain.
     pub fn begin(&mut self, graph: &Graph, from: u32) -> Result<bool, Memory> {
         self.seams.clear();
         let Some(to) = jump_target(graph, from) else {
@@ -170,7 +167,7 @@ impl Unmoved {
         if let Some(block) = before(graph, to) {
             self.note_seam(graph, block)?;
         }
-        self.nearby.may_reach(graph, from, to, end)
+        Ok(true)
     }
 
     /// The places at which a block that had so many items may have become one with others.
