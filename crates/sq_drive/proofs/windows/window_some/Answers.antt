@@ -1,10 +1,17 @@
 use Rattle.std.proofs.Common.{Ok, ap, ◌∙◌, subst, arith}
 use Rattle.sq_graph.specs.Graph.{Graph}
+use Rattle.law_follow.proofs.Following.{graph_follows_itself}
 use Rattle.sq_pass.specs.declared.cut.Cut.{Cut}
 use Rattle.sq_pass.proofs.Rewriting.{rewritten_on}
 use Rattle.sq_outline.specs.WindowsCandidates.{IsWindowsCandidate, windows_described, windows_save}
 use Rattle.sq_drive.proofs.Steps.{none_swept}
 use Rattle.sq_drive.proofs.windows.window_some.Goals as goal
+
+pub returns-in_err-find_one-clause-follows : goal.returns-in_err-find_one-clause-follows
+returns-in_err-find_one-clause-follows c = graph_follows_itself c.args.graph.now.graph
+
+pub returns-then-is_none-clause-follows : goal.returns-then-is_none-clause-follows
+returns-then-is_none-clause-follows c = graph_follows_itself c.args.graph.now.graph
 
 pub returns-in_default-clause-none : goal.returns-in_default-clause-none
 returns-in_default-clause-none c = λ e.
