@@ -13,6 +13,7 @@ KIND is one of:
     calls      COUNT calls by an upper half
     unreached  COUNT blocks that nothing reaches
     repeat     one item COUNT times
+    windows    COUNT different windows of four items in one block, each in three places: row W makes procedures of them
     equal      COUNT equal blocks of one item and a call
     renamed    COUNT blocks of three items and a call that match one another by renaming
     near       COUNT branches that just reach, with nothing to spare
@@ -266,6 +267,15 @@ def repeat(p, count):
     p.items(*[addi(A2, A2, 1)] * count)
 
 
+def windows(p, count):
+    """Windows of four items, each in three places, with another item before each of these."""
+    for place in range(3):
+        for number in range(count):
+            p.items(addi(14 + place, 15, (3 * number + place) % 2039))
+            p.items(addi(A0, A0, number % 2000), addi(11, 11, number // 2000 + 1))
+            p.items(addi(A2, A2, number % 1999), addi(13, 13, 5))
+
+
 def equal(p, count):
     for _ in range(count):
         p.items(addi(A2, A2, 1))
@@ -331,6 +341,7 @@ KINDS = {
     "calls": (calls, 2),
     "unreached": (unreached, 2),
     "repeat": (repeat, 1),
+    "windows": (windows, 15),
     "equal": (equal, 2),
     "renamed": (renamed, 4),
     "near": (near, 1),
