@@ -36,7 +36,7 @@ use Rattle.sq_pass.specs.Rewrites.{IsRewrite, IsLighter, IsRewritten}
 use Rattle.sq_pass.proofs.Rewriting.{rewrite_made, lighter_made, rewritten_once}
 use Rattle.sq_chain.specs.Least.{least_widened}
 use Rattle.sq_chain.specs.Moves.{carried, fallen_blocks, fallen, IsMovable, moved, IsStill}
-use Rattle.sq_chain.specs.Candidates.{cut_of, IsCandidate, described, IsMoved, IsStillAt}
+use Rattle.sq_chain.specs.Candidates.{cut_of, IsCandidate, described, IsMoved, HasMoved, IsStillAt}
 use Rattle.sq_chain.proofs.Carried.{carried_words, carried_jumps}
 use Rattle.sq_chain.proofs.Fallen.{Keeps, keeps_through, fallen_keeps}
 use Rattle.sq_chain.proofs.Lighter.{falls_fewer, stays_narrow}
@@ -203,13 +203,10 @@ module _ (old mid new : Graph) (from to : ℕ) (m : IsMoved from to old mid) (ma
   move_saves = subst (λ n. 1 ≤ n) saving_is m.some
 
 -- one rewrite, counted
-pub near_rewritten : (old mid new : Graph) (from to saved : ℕ) (before after : Savings) → IsMovable old from to → 1 ≤ saved → IsApplied saved (moved old from to) old mid → new ≡ canonical_of mid → IsCanonical new → words_of new ≡ words_of mid → after ≡ counted before L saved → IsRewritten IsCandidate described before after old new
-near_rewritten old mid new from to saved before after movable some applied made canonical words counts =
-    let m : IsMoved from to old mid = record { movable = movable; saving = saved; some = some; applied = applied } in
-    let was = applied.words in
-    let is : saved ≡ words_of old - words_of new = omega (arith, was, words) in
+pub move_rewritten : (old mid new : Graph) (saving : ℕ) (before after : Savings) → HasMoved old mid → new ≡ canonical_of mid → IsCanonical new → words_of new ≡ words_of mid → saving ≡ words_of old - words_of new → after ≡ counted before L saving → IsRewritten IsCandidate described before after old new
+move_rewritten old mid new saving before after has made canonical words is counts =
     subst (λ (s : Savings). IsRewritten IsCandidate described before s old new) (sym counts)
-    (rewritten_once IsCandidate described before (record { row = L; saving = saved }) old new (move_rewrite old mid new from to m made canonical words saved is) (move_lighter old mid new from to m made canonical words saved is))
+    (rewritten_once IsCandidate described before (record { row = L; saving = saving }) old new (move_rewrite old mid new has.from has.to has.moved made canonical words saving is) (move_lighter old mid new has.from has.to has.moved made canonical words saving is))
 
 -- WHERE NO MOVE SAVES A WORD
 

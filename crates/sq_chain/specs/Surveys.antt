@@ -33,3 +33,4 @@ pub record IsSurvey (g : Graph) (survey : Survey) : Type 0 where
   pub room : IsRoom g survey.room.items
   pub addresses : (n : ℕ) → number_at survey.addresses.items n ≡ address_by block_words (fallen_blocks g.blocks) 0 n
   pub falls : words_of (fallen g) + survey.falls ≡ words_of g
+  pub words : survey.words ≡ words_of g

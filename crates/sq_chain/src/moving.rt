@@ -24,30 +24,6 @@ use sq_num::Memory;
 use sq_pass::{Rewrite, Row};
 use std::alloc::Global;
 
-/// Moves the chain of `to` behind `from` and makes each Jump to the next slot Fall, where each Branch reaches then: how many
-/// words that saves. It makes no copy.
-pub(crate) fn move_near(
-    alloc: Global,
-    graph: &mut Graph,
-    survey: &Survey,
-    from: u32,
-    to: u32,
-) -> Result<Option<u32>, Memory>
-    requires movable { IsMovable graph.old.graph from to }
-    requires survey { IsSurvey graph.old.graph survey.now }
-    ensures some { IfOk result (λ done. IfSome done (λ saved. 1 ≤ saved)) }
-    ensures applied { IfOk result (λ done. IfSome done (λ saved. IsApplied saved (moved graph.old.graph from to) graph.old.graph graph.new.graph)) }
-    ensures same { result ≡ Ok None → graph.new ≡ graph.old }
-    ensures kept { OnErr result (graph.new ≡ graph.old) }
-{
-    graph.learn();
-    match outlook_of(alloc, graph, survey, from, to)? {
-        Outlook::Near => Ok(Some(carry(graph, from, to))),
-        Outlook::Still => Ok(None),
-        Outlook::Unsure => Ok(None),
-    }
-}
-
 /// Moves the chain of `to` behind `from` on a copy of the graph, makes each Jump to the next slot Fall, and widens the
 /// Branches of the least set. Where the words are fewer then, the graph becomes that copy; else it stays as it was.
 fn move_wide(alloc: Global, graph: &mut Graph, from: u32, to: u32) -> Result<bool, Memory>
@@ -113,7 +89,7 @@ fn move_surveyed(
 }
 
 /// The block to which this one jumps, where there is this one and the pair is movable.
-pub(crate) fn movable_target(graph: &Graph, from: u32) -> Option<u32>
+fn movable_target(graph: &Graph, from: u32) -> Option<u32>
     ensures some { IfSome result (λ to. IsMovable graph.now.graph from to) }
     ensures none { result ≡ None → (to : ℕ) → ¬ IsMovable graph.now.graph from to }
 {
@@ -132,7 +108,12 @@ pub(crate) fn movable_target(graph: &Graph, from: u32) -> Option<u32>
 }
 
 /// The same for the block to which this one jumps, where the pair is movable.
-fn move_behind(alloc: Global, graph: &mut Graph, survey: &Survey, from: u32) -> Result<bool, Memory>
+pub(crate) fn move_behind(
+    alloc: Global,
+    graph: &mut Graph,
+    survey: &Survey,
+    from: u32,
+) -> Result<bool, Memory>
     requires blocks { length graph.old.graph.blocks ≤ 16777216 }
     requires survey { IsSurvey graph.old.graph survey.now }
     ensures moved { result ≡ Ok true → HasMoved graph.old.graph graph.new.graph }

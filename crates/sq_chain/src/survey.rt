@@ -10,7 +10,7 @@ ghost use Rattle.sq_chain.specs.Surveys.{extent_of, extents_of, IsSurvey};
 
 use crate::placing::fallen_addresses;
 use sq_graph::{Graph, Term};
-use sq_layout::block_words;
+use sq_layout::{block_words, words_of};
 use sq_live::block_names;
 use sq_num::Memory;
 use std::alloc::Global;
@@ -24,13 +24,14 @@ pub(crate) struct Extent {
 }
 
 /// The blocks of a graph in layout order, room for an address under each of their names, their addresses once each Jump to
-/// the next slot is Fall, and how many these are.
+/// the next slot is Fall, how many these are, and how many words the graph takes.
 #[derive(Drop)]
 pub(crate) struct Survey {
     pub extents: Vec<Extent>,
     pub room: Vec<Option<u64>>,
     pub addresses: Vec<Option<u64>>,
     pub falls: u32,
+    pub words: u32,
 }
 
 fn extent_of(graph: &Graph, block: u32) -> Extent
@@ -85,7 +86,7 @@ fn room_for(alloc: Global, names: &[u32]) -> Result<Vec<Option<u64>>, Memory>
     Ok(room)
 }
 
-/// Two looks over the blocks.
+/// Three looks over the blocks.
 pub(crate) fn survey_of(alloc: Global, graph: &Graph) -> Result<Survey, Memory>
     ensures { IfOk result (λ survey. IsSurvey graph.now.graph survey) }
 {
@@ -99,5 +100,6 @@ pub(crate) fn survey_of(alloc: Global, graph: &Graph) -> Result<Survey, Memory>
         room,
         addresses: fallen.addresses,
         falls: fallen.falls,
+        words: words_of(graph),
     })
 }

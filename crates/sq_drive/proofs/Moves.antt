@@ -75,11 +75,11 @@ by_rows = stepped_wider (IsRewrite IsRowCandidate row_described) (IsRewrite IsCa
 pub by_moves : (before after : Savings) (old new : Graph) → IsRewritten IsMove move_described before after old new → IsRewritten IsCandidate described before after old new
 by_moves = stepped_wider (IsRewrite IsMove move_described) (IsRewrite IsCandidate described) move_rewrite
 
--- so where a move is made of the same graph, if one is
-pub moved_some : (before : Savings) (old same new : Graph) (r : Result (Option Savings) Memory) → same ≡ old → IfOk r (λ done. IfSome done (λ after. IsRewritten IsMove move_described before after same new)) → IfOk r (λ done. IfSome done (λ after. IsRewritten IsCandidate described before after old new))
-moved_some before old same new (Ok (Some after)) e moved = by_moves before after old new (subst (λ (g : Graph). IsRewritten IsMove move_described before after g new) e moved)
-moved_some before old same new (Ok None) e moved = tt
-moved_some before old same new (Err error) e moved = tt
+-- so where some are made of the same graph, if they are
+pub some_by_all : (is : Graph → Cut → Type 0) (its : Graph → Cut → Graph) → ((before after : Savings) (old new : Graph) → IsRewritten is its before after old new → IsRewritten IsCandidate described before after old new) → (before : Savings) (old same new : Graph) (r : Result (Option Savings) Memory) → same ≡ old → IfOk r (λ done. IfSome done (λ after. IsRewritten is its before after same new)) → IfOk r (λ done. IfSome done (λ after. IsRewritten IsCandidate described before after old new))
+some_by_all is its by before old same new (Ok (Some after)) e made = by before after old new (subst (λ (g : Graph). IsRewritten is its before after g new) e made)
+some_by_all is its by before old same new (Ok None) e made = tt
+some_by_all is its by before old same new (Err error) e made = tt
 
 -- WHERE NO CANDIDATE IS LEFT
 

@@ -9,17 +9,45 @@ ghost use Rattle.sq_pass.specs.declared.cut.Cut.{Cut as Told};
 ghost use Rattle.sq_pass.specs.Rewrites.{IsRewritten};
 ghost use Rattle.sq_chain.specs.Candidates.{IsCandidate, described};
 
+use crate::once::find_one;
 use crate::rows::AllRows;
 use sq_chain::{Watch, move_once};
 use sq_graph::Graph;
 use sq_layout::words_of;
-use sq_live::live;
 use sq_lookup::Names;
 use sq_num::{Memory, Savings};
-use sq_outline::Unmoved;
-use sq_pass::Pass;
+use sq_outline::{News, Unmoved};
 use std::alloc::Global;
 use std::mem::{replace, swap};
+
+/// With what sweeps of moves that ended go on.
+#[derive(Drop)]
+pub struct LeftMoves {
+    // The blocks behind which a move was tried.
+    tried: Names,
+    // Whether windows are to be asked before chains move.
+    windows: bool,
+}
+
+impl LeftMoves {
+    /// What there is before any sweep.
+    pub fn new(alloc: Global) -> LeftMoves {
+        LeftMoves {
+            tried: Names::new(alloc),
+            windows: true,
+        }
+    }
+
+    /// Whether windows may have come since they were asked last.
+    pub(crate) fn asks_windows(&self) -> bool {
+        self.windows
+    }
+
+    /// Has windows asked before the next move.
+    pub(crate) fn ask_windows(&mut self) {
+        self.windows = true;
+    }
+}
 
 /// What tells whether a pass has a candidate since the last move.
 #[derive(Drop)]
@@ -27,10 +55,21 @@ struct RowWatch {
     unmoved: Unmoved,
     // The blocks behind which a move was tried.
     tried: Names,
+    news: News,
     ended: bool,
 }
 
 impl Watch for RowWatch {
+    fn begins(
+        &mut self,
+        alloc: Global,
+        graph: &Graph,
+        addresses: &[Option<u64>],
+    ) -> Result<(), Memory> {
+        self.unmoved = Unmoved::look(alloc, graph, addresses)?;
+        Ok(())
+    }
+
     fn wants(&mut self, graph: &Graph, from: u32) -> Result<bool, Memory> {
         if self.tried.has(from) || !self.unmoved.begin(graph, from)? {
             return Ok(false);
@@ -39,24 +78,30 @@ impl Watch for RowWatch {
         Ok(true)
     }
 
-    /// It ends where a pass has a candidate, of which none had one before the move. Where one may have, it looks at the whole
-    /// graph.
-    fn ends(&mut self, alloc: Global, graph: &Graph) -> Result<bool, Memory> {
-        if !self.unmoved.may_have_more(alloc, graph)? {
-            return Ok(false);
-        }
-        let live = live(alloc, graph)?;
-        self.ended = AllRows.find(alloc, graph, &live)?.is_some();
+    /// It ends where a Branch came to reach, or where blocks became one and a look at the whole graph finds a candidate of a pass,
+    /// of which none had one before the move.
+    fn ends(
+        &mut self,
+        alloc: Global,
+        graph: &Graph,
+        addresses: &[Option<u64>],
+    ) -> Result<bool, Memory> {
+        self.news = self.unmoved.news(alloc, graph, addresses)?;
+        self.ended = match self.news {
+            News::Nothing => false,
+            News::Reach => true,
+            News::Items => find_one(alloc, graph, &AllRows)?.is_some(),
+        };
         Ok(self.ended)
     }
 }
 
 /// Moves chains by one look over the blocks, as `sq_chain::sweep_moves` does, where no pass has a candidate when it begins. It
-/// ends where one has since a chain moved, and the next sweep then goes on behind the blocks that weren't tried.
+/// ends where one may have since a chain moved, and the next sweep then goes on behind the blocks that weren't tried.
 pub fn sweep_moves(
     alloc: Global,
     graph: &mut Graph,
-    tried: &mut Names,
+    left: &mut LeftMoves,
     savings: Savings,
 ) -> Result<Savings, Memory>
     requires canonical { IsCanonical graph.old.graph }
@@ -66,14 +111,16 @@ pub fn sweep_moves(
 {
     graph.learn();
     let mut watch = RowWatch {
-        unmoved: Unmoved::look(alloc, graph)?,
-        tried: replace(tried, Names::new(alloc)),
+        unmoved: Unmoved::new(alloc),
+        tried: replace(&mut left.tried, Names::new(alloc)),
+        news: News::Nothing,
         ended: false,
     };
     let after = sq_chain::sweep_moves(alloc, graph, &mut watch, savings)?;
     if watch.ended {
-        swap(tried, &mut watch.tried);
+        swap(&mut left.tried, &mut watch.tried);
     }
+    left.windows = watch.ended && watch.news == News::Items;
     Ok(after)
 }
 
@@ -81,7 +128,7 @@ pub fn sweep_moves(
 pub(crate) fn move_some(
     alloc: Global,
     graph: &mut Graph,
-    tried: &mut Names,
+    left: &mut LeftMoves,
     savings: Savings,
 ) -> Result<Option<Savings>, Memory>
     requires canonical { IsCanonical graph.old.graph }
@@ -93,10 +140,11 @@ pub(crate) fn move_some(
     ensures follows { Follows graph.old.graph graph.new.graph }
 {
     let before = words_of(graph);
-    let after = sweep_moves(alloc, graph, tried, savings)?;
+    let after = sweep_moves(alloc, graph, left, savings)?;
     if words_of(graph) < before {
         return Ok(Some(after));
     }
+    left.ask_windows();
     let Some(done) = move_once(alloc, graph)? else {
         return Ok(None);
     };

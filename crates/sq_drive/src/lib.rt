@@ -20,7 +20,7 @@ mod settling;
 mod tracking;
 mod windows;
 
-pub use chains::sweep_moves;
+pub use chains::{LeftMoves, sweep_moves};
 pub use checking::check_graph;
 pub use listed::settle_with;
 pub use noting::{Noted, settle_noting};

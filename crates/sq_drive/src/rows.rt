@@ -68,15 +68,6 @@ pub(crate) fn find_earlier(
     Outlines.find(alloc, graph, live)
 }
 
-/// The same, by its own look for live registers.
-fn look_earlier(alloc: Global, graph: &Graph) -> Result<Option<Cut>, Memory>
-    ensures some { IfOk result (λ found. IfSome found (λ cut. IsRowCandidate graph.now.graph cut)) }
-    ensures none { result ≡ Ok None → (cut : Told) → ¬ IsEarlierCandidate graph.now.graph cut }
-{
-    let live = live(alloc, graph)?;
-    find_earlier(alloc, graph, &live)
-}
-
 /// The sweeps of the passes that come before windows, one after another.
 fn sweep_earlier(alloc: Global, graph: &mut Graph, savings: Savings) -> Result<Savings, Memory>
     requires canonical { IsCanonical graph.old.graph }
@@ -119,32 +110,37 @@ fn sweep_in_turn(
     Ok(after)
 }
 
-/// Rewrites the graph by sweeps of the passes that come before windows, or by one candidate of theirs. None where they have
-/// none: it looks at the whole graph.
+/// Rewrites the graph, of which this is a candidate of the passes that come before windows, by their sweeps, or where these save
+/// nothing by the candidate.
 fn rewrite_earlier(
     alloc: Global,
     graph: &mut Graph,
+    cut: &Cut,
     looks: &mut u32,
     savings: Savings,
-) -> Result<Option<Savings>, Memory>
+) -> Result<Savings, Memory>
     requires canonical { IsCanonical graph.old.graph }
     requires words { words_of graph.old.graph + words_saved savings ≤ most_words }
-    ensures rewritten { IfOk result (λ done. IfSome done (λ after. IsRewritten IsRowCandidate row_described savings after graph.old.graph graph.new.graph)) }
-    ensures fewer { IfOk result (λ done. IfSome done (λ after. words_of graph.new.graph < words_of graph.old.graph)) }
-    ensures none { result ≡ Ok None → graph.new.graph ≡ graph.old.graph }
-    ensures left { result ≡ Ok None → (cut : Told) → ¬ IsEarlierCandidate graph.old.graph cut }
+    requires candidate { IsRowCandidate graph.old.graph cut.now }
+    ensures rewritten { IfOk result (λ after. IsRewritten IsRowCandidate row_described savings after graph.old.graph graph.new.graph) }
+    ensures fewer { OnOk result (words_of graph.new.graph < words_of graph.old.graph) }
     ensures follows { Follows graph.old.graph graph.new.graph }
 {
-    let Some(cut) = look_earlier(alloc, graph)? else {
-        return Ok(None);
-    };
     let before = words_of(graph);
     let after = sweep_in_turn(alloc, graph, looks, savings)?;
     if words_of(graph) < before {
-        return Ok(Some(after));
+        return Ok(after);
     }
-    let done = rewrite_by_cut(graph, &AllRows, &cut)?;
-    Ok(Some(done.count(after)))
+    let done = rewrite_by_cut(graph, &AllRows, cut)?;
+    Ok(done.count(after))
+}
+
+/// What rewriting by the passes that come before windows comes to.
+#[derive(Drop)]
+pub(crate) struct Settled {
+    pub(crate) savings: Savings,
+    /// The live registers of the graph that is left.
+    pub(crate) live: Liveness,
 }
 
 /// Rewrites the graph by candidates of the passes that come before windows until they have none: many by a sweep, and where
@@ -154,19 +150,21 @@ pub(crate) fn settle_earlier(
     graph: &mut Graph,
     looks: &mut u32,
     savings: Savings,
-) -> Result<Savings, Memory>
+) -> Result<Settled, Memory>
     requires canonical { IsCanonical graph.old.graph }
     requires words { words_of graph.old.graph + words_saved savings ≤ most_words }
-    ensures rewritten { IfOk result (λ after. IsRewritten IsRowCandidate row_described savings after graph.old.graph graph.new.graph) }
+    ensures rewritten { IfOk result (λ settled. IsRewritten IsRowCandidate row_described savings settled.savings graph.old.graph graph.new.graph) }
+    ensures live { IfOk result (λ settled. IsLivenessOf graph.new.graph settled.live) }
     ensures left { OnOk result ((cut : Told) → ¬ IsEarlierCandidate graph.new.graph cut) }
     ensures follows { Follows graph.old.graph graph.new.graph }
 {
-    let mut saved = savings;
+    let mut savings = savings;
     loop {
-        let Some(after) = rewrite_earlier(alloc, graph, looks, saved)? else {
-            return Ok(saved);
+        let live = live(alloc, graph)?;
+        let Some(cut) = find_earlier(alloc, graph, &live)? else {
+            return Ok(Settled { savings, live });
         };
-        saved = after;
+        savings = rewrite_earlier(alloc, graph, &cut, looks, savings)?;
     }
 }
 
@@ -229,7 +227,8 @@ impl Pass for AllRows {
     /// Windows are swept only where no row before them has a candidate.
     fn sweep(&self, alloc: Global, graph: &mut Graph, savings: Savings) -> Result<Savings, Memory> {
         let swept = sweep_earlier(alloc, graph, savings)?;
-        if look_earlier(alloc, graph)?.is_some() {
+        let live = live(alloc, graph)?;
+        if find_earlier(alloc, graph, &live)?.is_some() {
             return Ok(swept);
         }
         Windows.sweep(alloc, graph, swept)

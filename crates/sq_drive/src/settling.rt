@@ -6,6 +6,7 @@ ghost use Rattle.sq_graph.specs.Leaders.{IsCanonical};
 ghost use Rattle.sq_graph.specs.Slotted.{IsSlotted};
 ghost use Rattle.sq_graph.specs.Words.{words_of, most_words};
 ghost use Rattle.law_follow.specs.Follows.{Follows};
+ghost use Rattle.sq_live.specs.Liveness.{IsLivenessOf};
 ghost use Rattle.sq_pass.specs.declared.cut.Cut.{Cut as Told};
 ghost use Rattle.sq_pass.specs.Rewrites.{IsRewritten};
 ghost use Rattle.sq_chain.specs.Moves.{IsStill};
@@ -13,13 +14,13 @@ ghost use Rattle.sq_chain.specs.Candidates.{IsCandidate as IsMove};
 ghost use Rattle.sq_drive.specs.declared.rows.RowPass.TheVariants.{Windows as WindowsPass};
 ghost use Rattle.sq_drive.specs.Rows.{IsCandidateOf, IsCandidate, described, IsLeftoverFree};
 
-use crate::chains::move_some;
+use crate::chains::{LeftMoves, move_some};
 use crate::once::{find_one, rewrite_by_cut};
-use crate::rows::settle_earlier;
+use crate::rows::{Settled, settle_earlier};
 use crate::windows::window_some;
 use sq_graph::Graph;
 use sq_layout::words_of;
-use sq_lookup::Names;
+use sq_live::{Liveness, block_names};
 use sq_num::{Memory, Savings};
 use sq_outline::FoundWindows;
 use sq_pass::Pass;
@@ -81,20 +82,22 @@ pub fn settle_by<P: Pass>(
 #[derive(Drop)]
 struct Left {
     windows: FoundWindows,
-    // The blocks behind which a move was tried.
-    tried: Names,
+    moves: LeftMoves,
 }
 
-/// Rewrites the graph by windows, where no pass before them has a candidate, or where they have none either by moves of
-/// chains. None where neither saves a word. Sweeps go on with what is left.
+/// Rewrites the graph, of which these are the live registers, by windows, where no pass before them has a candidate, or where they
+/// have none either by moves of chains. None where neither saves a word. Sweeps go on with what is left. Where no window can have
+/// come since windows were asked, chains move first.
 fn rewrite_late(
     alloc: Global,
     graph: &mut Graph,
+    live: &Liveness,
     left: &mut Left,
     savings: Savings,
 ) -> Result<Option<Savings>, Memory>
     requires canonical { IsCanonical graph.old.graph }
     requires words { words_of graph.old.graph + words_saved savings ≤ most_words }
+    requires live { IsLivenessOf graph.old.graph live.now }
     ensures rewritten { IfOk result (λ done. IfSome done (λ after. IsRewritten IsCandidate described savings after graph.old.graph graph.new.graph)) }
     ensures fewer { IfOk result (λ done. IfSome done (λ after. words_of graph.new.graph < words_of graph.old.graph)) }
     ensures none { result ≡ Ok None → graph.new.graph ≡ graph.old.graph }
@@ -102,10 +105,28 @@ fn rewrite_late(
     ensures moves { result ≡ Ok None → (cut : Told) → ¬ IsMove graph.old.graph cut }
     ensures follows { Follows graph.old.graph graph.new.graph }
 {
-    if let Some(after) = window_some(alloc, graph, &mut left.windows, savings)? {
+    if left.moves.asks_windows() {
+        if let Some(after) = window_some(alloc, graph, live, &mut left.windows, savings)? {
+            return Ok(Some(after));
+        }
+        return move_some(alloc, graph, &mut left.moves, savings);
+    }
+    if let Some(after) = move_some(alloc, graph, &mut left.moves, savings)? {
         return Ok(Some(after));
     }
-    move_some(alloc, graph, &mut left.tried, savings)
+    window_some(alloc, graph, live, &mut left.windows, savings)
+}
+
+/// Whether rows J2 and J3 alone saved words between these savings, each of which took a block away, where so many blocks went: then
+/// none became one with another.
+fn are_lone_jumps(before: Savings, after: Savings, blocks: usize) -> bool {
+    let others = Savings {
+        j2: before.j2,
+        j3: before.j3,
+        ..after
+    };
+    let jumps = after.j2.saturating_sub(before.j2) as usize + after.j3.saturating_sub(before.j3) as usize;
+    others == before && blocks == jumps
 }
 
 /// Rewrites the graph by all rows until none has a candidate, and answers the savings with what each row saved. Windows are
@@ -122,12 +143,17 @@ fn settle_from(alloc: Global, graph: &mut Graph, savings: Savings) -> Result<Sav
     let mut looks = 0;
     let mut left = Left {
         windows: FoundWindows::new(alloc),
-        tried: Names::new(alloc),
+        moves: LeftMoves::new(alloc),
     };
     loop {
-        let settled = settle_earlier(alloc, graph, &mut looks, saved)?;
-        let Some(after) = rewrite_late(alloc, graph, &mut left, settled)? else {
-            return Ok(settled);
+        let blocks = block_names(alloc, graph)?.len();
+        let Settled { savings, live } = settle_earlier(alloc, graph, &mut looks, saved)?;
+        let gone = blocks.saturating_sub(block_names(alloc, graph)?.len());
+        if !are_lone_jumps(saved, savings, gone) {
+            left.moves.ask_windows();
+        }
+        let Some(after) = rewrite_late(alloc, graph, &live, &mut left, savings)? else {
+            return Ok(savings);
         };
         saved = after;
     }

@@ -27,5 +27,5 @@ mod windows;
 
 pub use outlines::Outlines;
 pub use proposals::propose;
-pub use unmoved::Unmoved;
+pub use unmoved::{News, Unmoved};
 pub use windows::{FoundWindows, Windows, propose_windows, sweep_windows};

@@ -14,6 +14,16 @@ use sq_lookup::{Names, is_block};
 use sq_num::Memory;
 use std::alloc::Global;
 
+/// What may give a row a candidate since a chain moved.
+#[derive(Clone, Copy, Debug, PartialEq, Eq)]
+pub enum News {
+    Nothing,
+    /// A Branch reaches that didn't, so rows J2 or J3 may have one.
+    Reach,
+    /// Items stand one behind the other that didn't, or a body may come in place of calls that didn't, so any row may.
+    Items,
+}
+
 /// A block before the move: how many items it had, and whether it ended in a Jump.
 #[derive(Clone, Copy, Debug)]
 struct Was {
@@ -121,11 +131,24 @@ fn set_of(alloc: Global, names: &[u32]) -> Result<Names, Memory> {
 }
 
 impl Unmoved {
-    /// One look at each block of a graph in which no row has a candidate.
-    pub fn look(alloc: Global, graph: &Graph) -> Result<Unmoved, Memory> {
+    /// What there is before any look.
+    pub fn new(alloc: Global) -> Unmoved {
+        Unmoved {
+            seams: Vec::new(alloc),
+            near: Names::new(alloc),
+            inlines: false,
+        }
+    }
+
+    /// One look at each block of a graph in which no row has a candidate, whose blocks stand at these addresses, by their names.
+    pub fn look(
+        alloc: Global,
+        graph: &Graph,
+        addresses: &[Option<u64>],
+    ) -> Result<Unmoved, Memory> {
         Ok(Unmoved {
             seams: Vec::new(alloc),
-            near: set_of(alloc, &near_jumps(alloc, graph)?)?,
+            near: set_of(alloc, &near_jumps(alloc, graph, addresses)?)?,
             inlines: any_would_save(alloc, graph)?,
         })
     }
@@ -240,8 +263,13 @@ impl Unmoved {
     }
 
     /// Whether a lone Jump may go that stayed before.
-    fn has_more_near(&mut self, alloc: Global, graph: &Graph) -> Result<bool, Memory> {
-        let near = near_jumps(alloc, graph)?;
+    fn has_more_near(
+        &mut self,
+        alloc: Global,
+        graph: &Graph,
+        addresses: &[Option<u64>],
+    ) -> Result<bool, Memory> {
+        let near = near_jumps(alloc, graph, addresses)?;
         let before = &self.near;
         let more = near.iter().any(|jump| !before.has(*jump));
         self.near = set_of(alloc, &near)?;
@@ -258,13 +286,20 @@ impl Unmoved {
         Ok(false)
     }
 
-    /// Whether a row may have a candidate since the chain moved, where none had one before. From then on the graph counts as
-    /// unmoved. It looks at each Branch, and where blocks became one, at each word a few times.
-    pub fn may_have_more(&mut self, alloc: Global, graph: &Graph) -> Result<bool, Memory> {
-        Ok(
-            self.has_more_near(alloc, graph)?
-                || self.inlines && find_inline(alloc, graph)?.is_some()
-                || self.has_more_in_one(alloc, graph)?,
-        )
+    /// What may give a row a candidate since the chain moved, where none had one before. From then on the graph counts as unmoved. It
+    /// looks at each Branch, and where blocks became one, at each word a few times.
+    pub fn news(
+        &mut self,
+        alloc: Global,
+        graph: &Graph,
+        addresses: &[Option<u64>],
+    ) -> Result<News, Memory> {
+        let reaches = self.has_more_near(alloc, graph, addresses)?;
+        if self.inlines && find_inline(alloc, graph)?.is_some()
+            || self.has_more_in_one(alloc, graph)?
+        {
+            return Ok(News::Items);
+        }
+        Ok(if reaches { News::Reach } else { News::Nothing })
     }
 }

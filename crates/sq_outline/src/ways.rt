@@ -1,15 +1,16 @@
 //! Branches that rows J2 and J3 would lead elsewhere if they reached: so that it is told, as words go, when one does.
 
+ghost use Rattle.std.specs.Prelude.{◌≡◌};
 ghost use Rattle.sq_graph.specs.Blocks.{HasBlock};
+ghost use Rattle.sq_graph.specs.Parts.{names_of};
 
 use sq_graph::{Graph, Term};
 use sq_layout::block_words;
-use sq_live::block_names;
 use sq_lookup::{Names, Table, address, block_addresses, is_block, jump_from};
 use sq_num::Memory;
 use std::alloc::Global;
 
-/// The most slots along which a Branch's new target is looked for, and the bytes behind which it counts as far.
+/// The most slots along which a Branch's new target is looked for again, and the bytes behind which it counts as far then.
 const SLOTS: u32 = 1400;
 
 const FAR: u64 = 5120;
@@ -147,6 +148,41 @@ fn ways_of(graph: &Graph, from: u32) -> (Option<Way>, Option<Way>)
     (detour(graph, from, to), inversion(graph, from, to))
 }
 
+/// Where a way begins, where its lone Jump stands, and where that leads.
+#[derive(Clone, Copy, Debug)]
+struct Ends {
+    from: u64,
+    over: u64,
+    to: u64,
+}
+
+fn addresses_of(addresses: &Table, way: Way) -> Ends {
+    Ends {
+        from: address(addresses, way.from),
+        over: address(addresses, way.over),
+        to: address(addresses, way.to),
+    }
+}
+
+/// Where a place stands once the word that begins at the other one is gone.
+fn lifted(word: u64, at: u64) -> u64 {
+    if word < at { at.saturating_sub(4) } else { at }
+}
+
+/// By how many bytes the Branch misses where the lone Jump leads once that is gone, by where they stand: 0 where it reaches.
+fn missing_between(graph: &Graph, way: Way, ends: Ends) -> u64 {
+    graph.learn();
+    if !is_block(graph, way.from) {
+        return FAR;
+    }
+    let start = lifted(ends.over, ends.from);
+    let at = start.saturating_add(4 * graph.items(way.from).len() as u64);
+    let to = lifted(ends.over, ends.to);
+    to.saturating_sub(at)
+        .saturating_sub(4094)
+        .max(at.saturating_sub(to).saturating_sub(4096))
+}
+
 /// Branches that don't reach where rows J2 and J3 would lead them.
 #[derive(Drop)]
 pub(crate) struct FarWays {
@@ -155,9 +191,14 @@ pub(crate) struct FarWays {
 
 impl FarWays {
     /// Adds a way whose Branch doesn't reach.
-    fn push(&mut self, graph: &Graph, found: Option<Way>) -> Result<(), Memory> {
+    fn push(
+        &mut self,
+        graph: &Graph,
+        addresses: &Table,
+        found: Option<Way>,
+    ) -> Result<(), Memory> {
         if let Some(way) = found {
-            let rest = missing(graph, way);
+            let rest = missing_between(graph, way, addresses_of(addresses, way));
             if rest > 0 {
                 self.ways.push(Way { rest, ..way })?;
             }
@@ -165,17 +206,20 @@ impl FarWays {
         Ok(())
     }
 
-    /// Those of a graph. It looks at each block a few times, and from each such Branch along some thousand words.
-    pub(crate) fn look(alloc: Global, graph: &Graph, names: &[u32]) -> Result<FarWays, Memory> {
+    /// Those of a graph. It looks at each block a few times.
+    pub(crate) fn look(alloc: Global, graph: &Graph, names: &[u32]) -> Result<FarWays, Memory>
+        requires { names.now ≡ names_of graph.now.graph }
+    {
         graph.learn();
+        let addresses = block_addresses(alloc, graph, names)?;
         let mut far = FarWays {
             ways: Vec::new(alloc),
         };
         for name in names {
             if is_block(graph, *name) {
                 let (by_target, by_slot) = ways_of(graph, *name);
-                far.push(graph, by_target)?;
-                far.push(graph, by_slot)?;
+                far.push(graph, &addresses, by_target)?;
+                far.push(graph, &addresses, by_slot)?;
             }
         }
         Ok(far)
@@ -210,28 +254,29 @@ impl FarWays {
     }
 }
 
-/// Where a place stands once the word that begins at the other one is gone.
-fn lifted(word: u64, at: u64) -> u64 {
-    if word < at { at.saturating_sub(4) } else { at }
+/// The address under this name.
+fn address_in(addresses: &[Option<u64>], name: u32) -> u64 {
+    addresses
+        .get(name as usize)
+        .copied()
+        .flatten()
+        .unwrap_or(0)
 }
 
 /// Whether the Branch of a way reaches where the lone Jump leads once that is gone, by these addresses.
-fn is_near(graph: &Graph, addresses: &Table, way: Way) -> bool {
-    graph.learn();
-    if !is_block(graph, way.from) {
-        return false;
-    }
-    let word = address(addresses, way.over);
-    let start = lifted(word, address(addresses, way.from));
-    let at = start.saturating_add(4 * graph.items(way.from).len() as u64);
-    let to = lifted(word, address(addresses, way.to));
-    to.saturating_sub(at) <= 4094 && at.saturating_sub(to) <= 4096
+fn is_near(graph: &Graph, addresses: &[Option<u64>], way: Way) -> bool {
+    let ends = Ends {
+        from: address_in(addresses, way.from),
+        over: address_in(addresses, way.over),
+        to: address_in(addresses, way.to),
+    };
+    missing_between(graph, way, ends) == 0
 }
 
 /// Puts the lone Jump of a way with those whose Branches reach, or with those of which one doesn't.
 fn note(
     graph: &Graph,
-    addresses: &Table,
+    addresses: &[Option<u64>],
     found: Option<Way>,
     near: &mut Vec<u32>,
     far: &mut Names,
@@ -248,17 +293,20 @@ fn note(
 
 /// The lone Jumps that could go as far as reach is asked: each Branch that leads by them reaches where they lead. It looks at
 /// each block a few times.
-pub(crate) fn near_jumps(alloc: Global, graph: &Graph) -> Result<Vec<u32>, Memory> {
+pub(crate) fn near_jumps(
+    alloc: Global,
+    graph: &Graph,
+    addresses: &[Option<u64>],
+) -> Result<Vec<u32>, Memory> {
     graph.learn();
-    let names = block_names(alloc, graph)?;
-    let addresses = block_addresses(alloc, graph, &names)?;
     let mut far = Names::new(alloc);
     let mut near = Vec::new(alloc);
-    for name in &names {
-        if is_block(graph, *name) {
-            let (by_target, by_slot) = ways_of(graph, *name);
-            note(graph, &addresses, by_target, &mut near, &mut far)?;
-            note(graph, &addresses, by_slot, &mut near, &mut far)?;
+    for at in 0..addresses.len() {
+        let name = at as u32;
+        if is_block(graph, name) {
+            let (by_target, by_slot) = ways_of(graph, name);
+            note(graph, addresses, by_target, &mut near, &mut far)?;
+            note(graph, addresses, by_slot, &mut near, &mut far)?;
         }
     }
     near.retain(|over| !far.has(*over));

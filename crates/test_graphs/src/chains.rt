@@ -8,9 +8,8 @@ use crate::cuts::savings_text;
 use crate::passes::{is_ready, rewrite_text};
 use crate::texts::names_of;
 use sq_chain::{movable, move_once, try_move, widen};
-use sq_drive::sweep_moves;
+use sq_drive::{LeftMoves, sweep_moves};
 use sq_graph::Graph;
-use sq_lookup::Names;
 use sq_num::{Memory, Savings};
 use std::alloc::Global;
 
@@ -75,9 +74,9 @@ pub fn chain_text(alloc: Global, graph: &mut Graph, verb: &str) -> Result<String
     if verb == "moves" {
         return rewrite_text(alloc, move_once(alloc, graph)?);
     }
-    let mut tried = Names::new(alloc);
+    let mut left = LeftMoves::new(alloc);
     savings_text(
         alloc,
-        &sweep_moves(alloc, graph, &mut tried, Savings::NONE)?,
+        &sweep_moves(alloc, graph, &mut left, Savings::NONE)?,
     )
 }

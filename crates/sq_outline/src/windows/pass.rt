@@ -7,7 +7,7 @@ use crate::windows::search::{admit_window, find_window};
 use crate::windows::sweep::sweep_windows;
 use crate::windows::window::make_window;
 use sq_graph::{Graph, Room};
-use sq_live::Liveness;
+use sq_live::{Liveness, live};
 use sq_num::{Memory, Savings};
 use sq_pass::{Cut, Pass, Row};
 use std::alloc::Global;
@@ -81,6 +81,8 @@ impl Pass for Windows {
 
     /// It looks for candidates of V once and for those of W a few times, and tests each on the graph as it is then.
     fn sweep(&self, alloc: Global, graph: &mut Graph, savings: Savings) -> Result<Savings, Memory> {
-        sweep_windows(alloc, graph, &mut FoundWindows::new(alloc), savings)
+        let live = live(alloc, graph)?;
+        let mut windows = FoundWindows::new(alloc);
+        sweep_windows(alloc, graph, &live, &mut windows, savings)
     }
 }

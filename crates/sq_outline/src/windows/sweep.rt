@@ -145,24 +145,25 @@ fn call_each(
     Ok(after)
 }
 
-/// Rewrites the graph by row V, with live registers that are looked for once. It tries the calls that one look finds, and
+/// Rewrites the graph by row V, with its live registers as they are before that. It tries the calls that one look finds, and
 /// may leave candidates.
 #[tactic(auto, using(law_follow::proofs::Following::graph_follows_itself))]
 fn sweep_calls(
     alloc: Global,
     graph: &mut Graph,
+    live: &Liveness,
     earlier: &mut Earlier,
     savings: Savings,
 ) -> Result<Savings, Memory>
     requires canonical { IsCanonical graph.old.graph }
     requires words { words_of graph.old.graph + words_saved savings ≤ most_words }
+    requires live { IsLivenessOf graph.old.graph live.now }
     ensures rewritten { IfOk result (λ after. IsRewritten IsWindowsCandidate windows_described savings after graph.old.graph graph.new.graph) }
     ensures follows { Follows graph.old.graph graph.new.graph }
 {
-    let before = live(alloc, graph)?;
-    let calls = calls_to_try(alloc, graph, &before)?;
+    let calls = calls_to_try(alloc, graph, live)?;
     let mut shifts = Vec::new(alloc);
-    call_each(alloc, graph, earlier, &before, &mut shifts, &calls, savings)
+    call_each(alloc, graph, earlier, live, &mut shifts, &calls, savings)
 }
 
 /// The places where a window stands that a look found, where its items stand still and the window may pay.
@@ -346,24 +347,27 @@ fn sweep_made(
     Ok(after)
 }
 
-/// Rewrites the graph by rows V and W, where no earlier row has a candidate. It looks for candidates of V and live registers
-/// once, and so for W a few times. It ends where an earlier row may have a candidate, and leaves the windows that it didn't try:
-/// given them, the next sweep goes on with them. It may leave candidates.
+/// Rewrites the graph, of which these are the live registers, by rows V and W, where no earlier row has a candidate. It looks for
+/// candidates of V once, and for those of W and for live registers a few times. It ends where an earlier row may have a candidate,
+/// and leaves the windows that it didn't try: given them, the next sweep goes on with them. It may leave candidates.
 pub fn sweep_windows(
     alloc: Global,
     graph: &mut Graph,
+    live: &Liveness,
     windows: &mut FoundWindows,
     savings: Savings,
 ) -> Result<Savings, Memory>
     requires canonical { IsCanonical graph.old.graph }
     requires words { words_of graph.old.graph + words_saved savings ≤ most_words }
+    requires live { IsLivenessOf graph.old.graph live.now }
     ensures rewritten { IfOk result (λ after. IsRewritten IsWindowsCandidate windows_described savings after graph.old.graph graph.new.graph) }
     ensures follows { Follows graph.old.graph graph.new.graph }
 {
     let mut earlier = Earlier::look(alloc, graph)?;
-    if !windows.is_empty() {
-        return sweep_made(alloc, graph, &mut earlier, windows, savings);
-    }
-    let called = sweep_calls(alloc, graph, &mut earlier, savings)?;
-    sweep_made(alloc, graph, &mut earlier, windows, called)
+    let first = if windows.is_empty() {
+        sweep_calls(alloc, graph, live, &mut earlier, savings)?
+    } else {
+        make_each(alloc, graph, &mut earlier, live, windows, savings)?
+    };
+    sweep_made(alloc, graph, &mut earlier, windows, first)
 }

@@ -24,4 +24,5 @@ returns c =
       room = room;
       addresses = c.in_ok-fallen.ensures.addresses g laid there;
       falls = c.in_ok-fallen.ensures.falls g laid there;
+      words = c.words_of.ensures;
     }

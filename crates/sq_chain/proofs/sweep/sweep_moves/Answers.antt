@@ -9,6 +9,9 @@ returns-in_err-names-clause-follows g c = graph_follows_itself c.args.graph.now.
 pub returns-in_err-view-clause-follows : goal.returns-in_err-view-clause-follows
 returns-in_err-view-clause-follows g c = graph_follows_itself c.args.graph.now.graph
 
+pub returns-in_err-begins-clause-follows : goal.returns-in_err-begins-clause-follows
+returns-in_err-begins-clause-follows g c = graph_follows_itself c.args.graph.now.graph
+
 pub loop-name-init : goal.loop-name-init
 loop-name-init g c = record {
   rewritten = rewritten_itself IsCandidate described c.args.savings c.args.graph.now.graph c.requires.canonical;

@@ -1,27 +1,17 @@
-use Rattle.std.proofs.Common.{Ok, ap, ◌∙◌, sym, subst, arith}
+use Rattle.std.proofs.Common.{sym, subst, arith}
 use Rattle.sq_graph.specs.Graph.{Graph}
-use Rattle.law_follow.proofs.Following.{graph_follows_itself}
 use Rattle.sq_pass.proofs.Rewriting.{rewritten_on}
 use Rattle.sq_drive.specs.Rows.{IsRowCandidate, row_described, row_saves}
 use Rattle.sq_drive.proofs.Steps.{none_swept}
 use Rattle.sq_drive.proofs.rows.rewrite_earlier.Goals as goal
 
-pub returns-in_err-cut-clause-follows : goal.returns-in_err-cut-clause-follows
-returns-in_err-cut-clause-follows c = graph_follows_itself c.args.graph.now.graph
-
-pub returns-in_default-clause-follows : goal.returns-in_default-clause-follows
-returns-in_default-clause-follows c = graph_follows_itself c.args.graph.now.graph
-
-pub returns-in_default-clause-left : goal.returns-in_default-clause-left
-returns-in_default-clause-left c = λ _. c.look_earlier.ensures.none (c.in_ok-cut.was ∙ ap Ok c.in_default.is)
-
 -- sweeps that saved nothing left the graph as it was
 pub rewrite_by_cut-requires-clause-candidate : goal.rewrite_by_cut-requires-clause-candidate
 rewrite_by_cut-requires-clause-candidate c =
-    subst (λ (h : Graph). IsRowCandidate h c.in-Some.cut)
+    subst (λ (h : Graph). IsRowCandidate h c.args.cut.now)
     (sym (none_swept IsRowCandidate row_described c.args.savings c.in_ok-after.after c.args.graph.now.graph c.sweep_in_turn.new.graph.graph
     c.in_ok-after.ensures.rewritten row_saves (let few = c.if-words_of-before.false in omega (arith, few))))
-    (rw c.in-Some.is at c.in_ok-cut.ensures.some)
+    c.requires.candidate
 
 pub returns-clause-rewritten : goal.returns-clause-rewritten
 returns-clause-rewritten c =

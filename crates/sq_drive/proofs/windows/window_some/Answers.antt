@@ -7,8 +7,8 @@ use Rattle.sq_outline.specs.WindowsCandidates.{IsWindowsCandidate, windows_descr
 use Rattle.sq_drive.proofs.Steps.{none_swept}
 use Rattle.sq_drive.proofs.windows.window_some.Goals as goal
 
-pub returns-in_err-find_one-clause-follows : goal.returns-in_err-find_one-clause-follows
-returns-in_err-find_one-clause-follows c = graph_follows_itself c.args.graph.now.graph
+pub returns-in_err-find-clause-follows : goal.returns-in_err-find-clause-follows
+returns-in_err-find-clause-follows c = graph_follows_itself c.args.graph.now.graph
 
 pub returns-then-is_none-clause-follows : goal.returns-then-is_none-clause-follows
 returns-then-is_none-clause-follows c = graph_follows_itself c.args.graph.now.graph
