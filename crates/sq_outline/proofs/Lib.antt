@@ -18,8 +18,10 @@ pub mod Inlining
 pub mod InlineSteps
 pub mod InlineSearch
 pub mod Kept
+pub mod Undone
 pub mod Still
 pub mod Sweeping
+pub mod SweepingRecalls
 pub mod WindowsStanding
 pub mod WindowsLining
 pub mod WindowsListed
