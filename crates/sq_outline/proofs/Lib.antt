@@ -22,6 +22,7 @@ pub mod Undone
 pub mod Still
 pub mod Sweeping
 pub mod SweepingRecalls
+pub mod SweepingInlines
 pub mod WindowsStanding
 pub mod WindowsLining
 pub mod WindowsListed

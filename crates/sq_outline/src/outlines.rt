@@ -1,7 +1,7 @@
 //! The pass.
 
 use crate::call::{admit_call, call, find_called};
-use crate::inline::{admit_inline, apply_inline, find_inline, inline_room};
+use crate::inline::{admit_inline, apply_inline, find_inline, inline_room, sweep_inlines};
 use crate::make::{admit_make, find_made, make};
 use crate::recall::{admit_recall, apply_recall, find_recall, sweep_recalls};
 use crate::sweep::sweep;
@@ -94,9 +94,10 @@ impl Pass for Outlines {
 
     /// Two looks at all bodies, and for each procedure that it makes one at the bodies of a group; where the link isn't sure
     /// without it, also one for live registers. For O3 a look at all bodies of procedures, and two at all items for each one
-    /// that goes.
+    /// that goes; for O4 a few at each word, and three at all items for each procedure that goes.
     fn sweep(&self, alloc: Global, graph: &mut Graph, savings: Savings) -> Result<Savings, Memory> {
         let made = sweep(alloc, graph, savings)?;
-        sweep_recalls(alloc, graph, made)
+        let recalled = sweep_recalls(alloc, graph, made)?;
+        sweep_inlines(alloc, graph, recalled)
     }
 }
