@@ -9,7 +9,7 @@ use Rattle.sq_graph.specs.Room.{GraphAndRoom, IsSmall, count_of, sum_of, total_o
 use Rattle.sq_graph.specs.Words.{block_words, procedure_words, words_of}
 use Rattle.sq_pass.specs.declared.cut.Cut.{Cut}
 use Rattle.sq_pass.specs.Cuts.{IsCompleted}
-use Rattle.sq_outline.specs.Inlined.{is_call, call_count, IsInlinable, IsInlined}
+use Rattle.sq_outline.specs.Inlined.{is_call, call_count, WouldSave, IsInlinable, IsInlined}
 use Rattle.sq_outline.specs.InlineSteps.{HasRoom, inline_room, number_or_0}
 use Rattle.sq_outline.proofs.RecallNumbers.{body_words}
 
@@ -57,6 +57,9 @@ room_of v p saving inlinable room = has_room v p (omega (arith, inlinable.saved,
 -- that room isn't more than the words
 pub room_within : (g : Graph) (p saving : ℕ) → IsInlinable g p saving → length (body_of g p) + 1 ≤ words_of g
 room_within g p saving inlinable = body_words g p inlinable.there
+
+pub would_of : (g : Graph) (p saving : ℕ) → IsInlinable g p saving → WouldSave g p saving
+would_of g p saving inlinable = record { there = inlinable.there; called = inlinable.called; saved = inlinable.saved; some = inlinable.some }
 
 -- the procedure of a cut that is completed
 pub inlinable_of : (g : Graph) (cut given : Cut) → IsCompleted cut given → (inlined : IsInlined g given) → IsInlinable g cut.procedure inlined.saving

@@ -6,7 +6,7 @@ use Rattle.std.proofs.lemmas.List.Elements.{All-nil, All-cons, All-contains}
 use Rattle.sq_graph.specs.declared.item.Item.{Item}
 use Rattle.sq_graph.specs.declared.item.Item.TheVariants.{Op, Hi, Lo, Out}
 use Rattle.sq_graph.specs.Graph.{Block, Graph}
-use Rattle.sq_graph.specs.Blocks.{HasBlock, block_of, block_items, body_of, items_of_blocks, items_of_bodies}
+use Rattle.sq_graph.specs.Blocks.{HasBlock, HasProcedure, block_of, block_items, body_of, items_of_blocks, items_of_bodies}
 use Rattle.sq_graph.specs.Operations.{inlined}
 use Rattle.sq_graph.specs.Rules.{IsGraph}
 use Rattle.sq_graph.specs.Soundness.{IsSound}
@@ -20,7 +20,7 @@ use Rattle.law_patch.proofs.OneBlock.{inline_follows, inline_sound}
 use Rattle.law_patch.proofs.Recalling.{uncalled_goes_follows, uncalled_goes_sound}
 use Rattle.law_patch.proofs.Saving.{inline_saves, uncalled_goes_saves}
 use Rattle.sq_pass.specs.Applied.{IsApplied}
-use Rattle.sq_outline.specs.Inlined.{call_count, spread_all, inlined_all, IsInlinable}
+use Rattle.sq_outline.specs.Inlined.{call_count, spread_all, inlined_all, WouldSave, IsInlinable}
 use Rattle.sq_outline.proofs.Spreading.{is_one, calls_in, calls_in-append, calls_in-cons, none_left_in, bodies_call_none, all_bodies_call_none, IsCall, inlined_sooner, inlined_fewer, spread_itself, some_call}
 
 -- BODIES IN PLACE OF CALLS
@@ -90,6 +90,17 @@ not_called g p all c = All-contains (λ q. q ≢ p) (calls g) p all c refl
 pub spread_count : (g : Graph) (p : ℕ) → IsGraph g → call_count (spread_all g p) p ≡ 0
 spread_count g p rules = none_left_in p (body_of g p) (bodies_call_none g p p rules) g.blocks
 
+pub inlined_all_rules : (g : Graph) (p : ℕ) → IsGraph g → HasProcedure g p → IsGraph (inlined_all g p)
+inlined_all_rules g p rules there =
+    let spread = is_spread (call_count g p) g p rules refl in
+    without_procedure_rules (spread_all g p) p spread.rules there (unused (spread_all g p) p spread.rules (spread_count g p rules))
+
+-- the words that are saved, whether or not each Branch reaches
+pub inline_words : (g : Graph) (p saving : ℕ) → IsGraph g → WouldSave g p saving → words_of (inlined_all g p) + saving ≡ words_of g
+inline_words g p saving rules would =
+    let spread = is_spread (call_count g p) g p rules refl in
+    omega (arith, spread.words, uncalled_goes_saves (spread_all g p) p would.there, would.saved)
+
 pub inline_applied : (g : Graph) (p saving : ℕ) → IsGraph g → IsInlinable g p saving → IsApplied saving (inlined_all g p) g (inlined_all g p)
 inline_applied g p saving rules inlinable =
     let h = spread_all g p in
@@ -97,7 +108,7 @@ inline_applied g p saving rules inlinable =
     let words = spread.words in
     let uncalled = unused (spread_all g p) p spread.rules (spread_count g p rules) in
     record {
-      rules = without_procedure_rules (spread_all g p) p spread.rules inlinable.there uncalled;
+      rules = inlined_all_rules g p rules inlinable.there;
       follows =
           graph_follows_through g (spread_all g p) (inlined_all g p) spread.follows
           (uncalled_goes_follows (spread_all g p) p spread.rules (not_called (spread_all g p) p uncalled));

@@ -28,10 +28,10 @@ use Rattle.sq_outline.proofs.Standing.{one_call, next_calls}
 
 -- USES
 
-abbrev Uses : List Item → ℕ → Type 0
+abbrev pub Uses : List Item → ℕ → Type 0
 Uses items n = is_among (items_uses items) n ≡ true
 
-uses_left : (xs ys : List Item) (n : ℕ) → Uses xs n → Uses (xs ++ ys) n
+pub uses_left : (xs ys : List Item) (n : ℕ) → Uses xs n → Uses (xs ++ ys) n
 uses_left [] ys n used = absurd (cc)
 uses_left (x ∷ xs) ys n used =
     elim (or_cases (is_among (item_uses x) n) (is_among (items_uses xs) n) (sym (is_among-append (item_uses x) (items_uses xs) n) ∙ used)) [
@@ -39,12 +39,12 @@ uses_left (x ∷ xs) ys n used =
       | inr later ↦ is_among-append (item_uses x) (items_uses (xs ++ ys)) n ∙ or_right (is_among (item_uses x) n) (is_among (items_uses (xs ++ ys)) n) (uses_left xs ys n later)
     ]
 
-uses_right : (xs ys : List Item) (n : ℕ) → Uses ys n → Uses (xs ++ ys) n
+pub uses_right : (xs ys : List Item) (n : ℕ) → Uses ys n → Uses (xs ++ ys) n
 uses_right [] ys n used = used
 uses_right (x ∷ xs) ys n used =
     is_among-append (item_uses x) (items_uses (xs ++ ys)) n ∙ or_right (is_among (item_uses x) n) (is_among (items_uses (xs ++ ys)) n) (uses_right xs ys n used)
 
-uses_either : (xs ys : List Item) (n : ℕ) → Uses (xs ++ ys) n → Uses xs n ⊎ Uses ys n
+pub uses_either : (xs ys : List Item) (n : ℕ) → Uses (xs ++ ys) n → Uses xs n ⊎ Uses ys n
 uses_either [] ys n used = inr used
 uses_either (x ∷ xs) ys n used =
     elim (or_cases (is_among (item_uses x) n) (is_among (items_uses (xs ++ ys)) n) (sym (is_among-append (item_uses x) (items_uses (xs ++ ys)) n) ∙ used)) [
@@ -78,7 +78,7 @@ same_uses (Out p ∷ items) (Op insn ∷ others) same = absurd same.0
 same_uses (Out p ∷ items) (Hi rd to ∷ others) same = absurd same.0
 same_uses (Out p ∷ items) (Lo rd rs to ∷ others) same = absurd same.0
 
-body_used : (ps : List Procedure) (p n : ℕ) → Uses (procedure_body (slice_get ps p)) n → Uses (items_of_bodies ps) n
+pub body_used : (ps : List Procedure) (p n : ℕ) → Uses (procedure_body (slice_get ps p)) n → Uses (items_of_bodies ps) n
 body_used [] p n used = absurd (cc)
 body_used (q ∷ ps) zero n used = uses_left q.body (items_of_bodies ps) n used
 body_used (q ∷ ps) (suc p) n used = uses_right q.body (items_of_bodies ps) n (body_used ps p n used)
@@ -92,7 +92,7 @@ bodies_more (p ∷ ps) q n used =
     ]
 
 -- where the items use no fewer names, all uses are no fewer
-all_used : (entry n : ℕ) (words terms : List ℕ) (olds news : List Item) → (Uses olds n → Uses news n) → is_among (entry ∷ (words ++ (terms ++ items_uses olds))) n ≡ true → is_among (entry ∷ (words ++ (terms ++ items_uses news))) n ≡ true
+pub all_used : (entry n : ℕ) (words terms : List ℕ) (olds news : List Item) → (Uses olds n → Uses news n) → is_among (entry ∷ (words ++ (terms ++ items_uses olds))) n ≡ true → is_among (entry ∷ (words ++ (terms ++ items_uses news))) n ≡ true
 all_used entry n words terms olds news more used =
     elim (or_cases (entry == n) (is_among (words ++ (terms ++ items_uses olds)) n) used) [
       | inl here ↦ or_left (entry == n) (is_among (words ++ (terms ++ items_uses news)) n) here
@@ -106,7 +106,7 @@ all_used entry n words terms olds news more used =
           | inr later ↦ is_among-append front ys n ∙ or_right (is_among front n) (is_among ys n) (on later)
         ]
 
-falls_more : (leads others : ℕ → Bool) → ((n : ℕ) → leads n ≡ true → others n ≡ true) → (bs : List Block) → FallsIntoLeaders leads bs → FallsIntoLeaders others bs
+pub falls_more : (leads others : ℕ → Bool) → ((n : ℕ) → leads n ≡ true → others n ≡ true) → (bs : List Block) → FallsIntoLeaders leads bs → FallsIntoLeaders others bs
 falls_more leads others more [] falls = tt
 falls_more leads others more (b ∷ []) falls = tt
 falls_more leads others more (b ∷ next ∷ bs) falls = (λ fall. more next.name (falls.0 fall), falls_more leads others more (next ∷ bs) falls.1)

@@ -18,8 +18,11 @@ pub mod Inlining
 pub mod InlineSteps
 pub mod InlineSearch
 pub mod Kept
+pub mod Undone
 pub mod Still
 pub mod Sweeping
+pub mod SweepingRecalls
+pub mod SweepingInlines
 pub mod WindowsStanding
 pub mod WindowsLining
 pub mod WindowsListed

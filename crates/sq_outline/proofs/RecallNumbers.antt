@@ -1,9 +1,9 @@
 -- Numbers of links and bodies.
-use Rattle.std.proofs.Common.{◌≡◌, ◌≢◌, ℕ, zero, suc, ◌+◌, ◌<◌, ◌≤◌, Bool, true, false, true≢false, ◌==◌, ◌&&◌, not, nat_eq, List, [], ◌∷◌, ◌++◌, map, reverse, take, length, sum_by, get_or, Option, Some, None, slice_get, refl, sym, ap, ◌∙◌, subst, inl, inr, arith, length-append}
+use Rattle.std.proofs.Common.{◌≡◌, ◌≢◌, ℕ, zero, suc, ◌+◌, ◌<◌, ◌≤◌, Bool, true, false, true≢false, ◌==◌, ◌&&◌, nat_eq, List, [], ◌∷◌, ◌++◌, map, reverse, take, length, sum_by, get_or, Option, Some, slice_get, refl, sym, ap, ◌∙◌, subst, inl, inr, arith, length-append}
 use Rattle.std.specs.List.{All, AllByRecursion, IsDistinct, list_any}
 use Rattle.std.proofs.lemmas.Bool.{cases_Bool, cases_lt, eq-eqb, eqb-true}
 use Rattle.std.proofs.lemmas.List.{append_assoc, take_more, append-nil, map-append, reverse-append, reverse-reverse}
-use Rattle.std.proofs.lemmas.Option.{slice_get_within, slice_get-get_or}
+use Rattle.std.proofs.lemmas.Option.{slice_get_within}
 use Rattle.std.proofs.lemmas.List.Elements.{All-nil, All-head, All-tail}
 use Rattle.indexmap.specs.IndexSet.{insert_key}
 use Rattle.sq_isa.specs.Encoding.{word_of}
@@ -23,7 +23,6 @@ use Rattle.sq_graph.specs.Words.{procedure_words, words_of}
 use Rattle.std.proofs.lemmas.List.Sums.{sum_by-cons}
 use Rattle.sq_pass.specs.Cuts.{IsCompleted}
 use Rattle.law_patch.proofs.Saving.{uncalled_goes_saves}
-use Rattle.std.specs.Option.{option_eq}
 use Rattle.sq_pass.specs.declared.cut.Cut.{Cut}
 use Rattle.sq_pass.specs.declared.cut.Row.TheVariants.{O3}
 use Rattle.sq_finger.specs.Numbers.{IsDouble, NoDouble}
@@ -308,19 +307,6 @@ doubles_of g cut given completed recalled =
     let goes : recalled.goes ≡ cut.other = sym (ap (λ (k : Cut). k.other) recalled.is) ∙ completed.other in
     subst (λ p. AreDoubles g p cut.other) stays (subst (λ q. AreDoubles g recalled.stays q) goes recalled.doubles)
 
-pub one_number_twice : (g : Graph) (numbers : List (Option ℕ)) (stays goes : ℕ) → AreBodyNumbers g numbers → AreDoubles g stays goes → slice_get numbers stays ≡ slice_get numbers goes
-one_number_twice g numbers stays goes are doubles =
-    let equal = doubles.equal in
-    let m = are.each stays equal.there in
-    let n = are.each goes doubles.there in
-    let same = (are.same stays goes m.0 n.0 m.1 n.1).1 (sym equal.bodies, sym equal.links) in
-    m.1 ∙ ap (λ k. Some (Some k)) same ∙ sym n.1
-
-pub twice_found : (g : Graph) (numbers : List (Option ℕ)) (stays goes : ℕ) → AreBodyNumbers g numbers → stays ≢ goes → HasProcedure g stays → slice_get numbers stays ≡ slice_get numbers goes → AreDoubles g stays goes
-twice_found g numbers stays goes are apart there same =
-    let m = are.each stays there in
-    double_found g numbers stays goes m.0 are apart m.1 (sym same ∙ m.1)
-
 pub procedures_few : (g : Graph) → length g.procedures ≤ words_of g
 procedures_few g = omega (arith, each g.procedures)
   where
@@ -329,41 +315,6 @@ procedures_few g = omega (arith, each g.procedures)
     each (p ∷ ps) = omega (arith, sum_by-cons procedure_words p ps, each ps)
 
 -- ADMITTING A CUT
-
-at_index : (numbers : List (Option ℕ)) (p : ℕ) (x : Option ℕ) → p < length numbers → x ≡ get_or numbers p x → slice_get numbers p ≡ Some x
-at_index numbers p x below e = slice_get-get_or numbers p x below ∙ ap Some (sym e)
-
-option_same : (x y : Option ℕ) → option_eq nat_eq x y ≡ true → x ≡ y
-option_same None None e = refl
-option_same None (Some b) e = absurd (cc)
-option_same (Some a) None e = absurd (cc)
-option_same (Some a) (Some b) e = ap Some (eqb-true a b e)
-
-option_itself : (x : Option ℕ) → option_eq nat_eq x x ≡ true
-option_itself None = refl
-option_itself (Some a) = eq-eqb a a refl
-
--- numbers that differ aren't those of two equal procedures
-pub differ : (g : Graph) (numbers : List (Option ℕ)) (cut given : Cut) (x y : Option ℕ) (test : Bool) → AreBodyNumbers g numbers → x ≡ get_or numbers cut.procedure x → y ≡ get_or numbers cut.other y → test ≡ not (option_eq nat_eq x y) → test ≡ true → IsCompleted cut given → IsRecalled g given → ⊥
-differ g numbers cut given x y test are first second is holds completed recalled =
-    let doubles = doubles_of g cut given completed recalled in
-    let equal = doubles.equal in
-    let same : x ≡ y =
-    some_same (
-    sym (at_index numbers cut.procedure x (omega (arith, are.many, equal.there)) first)
-    ∙ one_number_twice g numbers cut.procedure cut.other are doubles
-    ∙ at_index numbers cut.other y (omega (arith, are.many, doubles.there)) second) in
-    true≢false (sym holds ∙ is ∙ ap (λ z. not (option_eq nat_eq z y)) same ∙ ap not (option_itself y))
-
-pub agree : (g : Graph) (numbers : List (Option ℕ)) (stays goes : ℕ) (x y : Option ℕ) (test : Bool) → AreBodyNumbers g numbers → stays ≢ goes → HasProcedure g stays → HasProcedure g goes → x ≡ get_or numbers stays x → y ≡ get_or numbers goes y → test ≡ not (option_eq nat_eq x y) → test ≡ false → AreDoubles g stays goes
-agree g numbers stays goes x y test are apart there there' first second is fails =
-    let same : x ≡ y = option_same x y (twice_not (option_eq nat_eq x y) (sym is ∙ fails)) in
-    twice_found g numbers stays goes are apart there
-    (at_index numbers stays x (omega (arith, are.many, there)) first ∙ ap Some same ∙ sym (at_index numbers goes y (omega (arith, are.many, there')) second))
-  where
-    twice_not : (b : Bool) → not b ≡ false → b ≡ true
-    twice_not true e = refl
-    twice_not false e = absurd (cc)
 
 pub empty : {X : Type 0} (xs ys : List X) (test : Bool) → xs ≡ ys → test ≡ (length xs == 0) → test ≡ true → ys ≡ []
 empty [] ys test same is holds = sym same

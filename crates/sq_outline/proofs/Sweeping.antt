@@ -45,6 +45,16 @@ room_for_procedure g items blocks few short =
     let bodies = few_bodies g.procedures in
     record { blocks = omega (arith, blocks); items = omega (arith, all, own, bodies, few, short); procedures = omega (arith, bodies, few) }
 
+-- A CANDIDATE THAT IS APPLIED
+
+-- where that leaves the graph canonical
+pub applied_rewritten : (g h : Graph) (cut : Cut) (before after : Savings) → IsCandidate g cut → IsApplied cut.saving (described g cut) g h → IsCanonical h → after ≡ counted before cut.row cut.saving → IsRewritten IsCandidate described before after g h
+applied_rewritten g h cut before after candidate applied still counts =
+    subst (λ s. IsRewritten IsCandidate described before s g h) (sym counts)
+    (rewritten_once IsCandidate described before (record { row = cut.row; saving = cut.saving }) g h
+    (rewrite_made IsCandidate described cut g h h candidate applied (sym (canonical_again h still)))
+    (lighter_made cut.saving (described g cut) g h h applied (lighter_itself h still)))
+
 -- A CUT OF ROW O1
 
 -- the candidate, as one of the pass
@@ -85,10 +95,7 @@ module _ (g h : Graph) (cut : Cut) (rules : IsGraph g) (candidate : IsMadeCut g 
       let row = row_of g cut candidate in
       let applied : IsApplied cut.saving (described g cut) g h = make_cut_applied g h cut cut.blocks rules row candidate refl is in
       let still : IsCanonical h = subst IsCanonical (sym made_is) (made_canonical g candidate.first candidate.others cut.link cut.saving rules candidate.made canonical) in
-      subst (λ s. IsRewritten IsCandidate described before s g h) (sym (counts ∙ ap (λ r. counted before r cut.saving) (sym row)))
-      (rewritten_once IsCandidate described before (record { row = cut.row; saving = cut.saving }) g h
-      (rewrite_made IsCandidate described cut g h h (candidate_of g cut candidate) applied (sym (canonical_again h still)))
-      (lighter_made cut.saving (described g cut) g h h applied (lighter_itself h still)))
+      applied_rewritten g h cut before after (candidate_of g cut candidate) applied still (counts ∙ ap (λ r. counted before r cut.saving) (sym row))
 
 -- what it saves is no more than there is
 pub cut_words : (g : Graph) (cut : Cut) → IsGraph g → IsMadeCut g cut → cut.saving ≤ words_of g
@@ -112,10 +119,7 @@ module _ (g h : Graph) (block procedure : ℕ) (rules : IsGraph g) (there : HasP
       let done = called_applied g block procedure (call_saving g procedure) rules may in
       let applied : IsApplied (call_saving g procedure) (called g block procedure) g h = subst (IsApplied (call_saving g procedure) (called g block procedure) g) (sym is) done in
       let still : IsCanonical h = subst IsCanonical (sym is) (called_canonical g (record { block = block; at = 0 }) procedure matching canonical) in
-      subst (λ s. IsRewritten IsCandidate described before s g h) (sym counts)
-      (rewritten_once IsCandidate described before (record { row = O2; saving = call_saving g procedure }) g h
-      (rewrite_made IsCandidate described (call_cut block procedure (call_saving g procedure)) g h h is_cut applied (sym (canonical_again h still)))
-      (lighter_made (call_saving g procedure) (called g block procedure) g h h applied (lighter_itself h still)))
+      applied_rewritten g h (call_cut block procedure (call_saving g procedure)) before after is_cut applied still counts
 
 pub call_words : (g : Graph) (block procedure : ℕ) → IsGraph g → MayCall g block procedure → call_saving g procedure ≤ words_of g
 call_words g block procedure rules may =

@@ -36,6 +36,13 @@ spread_all g p = record g { blocks = map (spread_block p (body_of g p)) g.blocks
 abbrev pub inlined_all : Graph → ℕ → Graph
 inlined_all g p = without_procedure (spread_all g p) p
 
+-- a procedure of n items with k calls, k at least 1, that saves words in their place: k + n + 1 are fewer, and k * n more
+pub record WouldSave (g : Graph) (procedure saving : ℕ) : Type 0 where
+  pub there : HasProcedure g procedure
+  pub called : 1 ≤ call_count g procedure
+  pub saved : saving + call_count g procedure * length (body_of g procedure) ≡ call_count g procedure + length (body_of g procedure) + 1
+  pub some : 1 ≤ saving
+
 -- O4: a procedure of n items with k calls, k at least 1, each Branch still in reach after the body stands in their place.
 -- With k + n + 1 words fewer and k * n more there are fewer
 pub record IsInlinable (g : Graph) (procedure saving : ℕ) : Type 0 where

@@ -8,6 +8,7 @@ pub mod Recalled
 pub mod RecalledNumbers
 pub mod Inlined
 pub mod InlineSteps
+pub mod InlineSweeps
 pub mod Still
 pub mod Spans
 pub mod Prints

@@ -3,6 +3,8 @@
 //!     before   a: jal x5,p              after   a: add a0,a0,a1
 //!              p: add a0,a0,a1; jr x5
 
+mod sweep;
+
 ghost use Rattle.std.specs.Prelude.{◌≡◌, ◌↔◌, ℕ, ◌+◌, ◌*◌, ◌≤◌, ◌<◌, ◌^◌, IsTrue, length, None, Ok, IfOk, IfSome, OnOk};
 ghost use Rattle.std.specs.List.{count_by};
 ghost use Rattle.sq_graph.specs.Blocks.{HasBlock, HasProcedure, items_of, body_of};
@@ -12,7 +14,7 @@ ghost use Rattle.sq_pass.specs.declared.cut.Cut.{Cut as Told};
 ghost use Rattle.sq_pass.specs.declared.cut.Row.TheVariants.{O4 as InPlace};
 ghost use Rattle.sq_pass.specs.Applied.{IsApplied};
 ghost use Rattle.sq_pass.specs.Cuts.{IsCompleted};
-ghost use Rattle.sq_outline.specs.Inlined.{is_call, call_count, spread_all, inlined_all, IsInlinable, inline_cut, IsInlined};
+ghost use Rattle.sq_outline.specs.Inlined.{is_call, call_count, spread_all, inlined_all, WouldSave, IsInlinable, inline_cut, IsInlined};
 ghost use Rattle.sq_outline.specs.InlineSteps.{inlined_if, spread_at, HasRoom, inline_room, counted};
 
 use sq_graph::{Graph, Item, Room};
@@ -22,6 +24,7 @@ use sq_lookup::{Table, in_reach};
 use sq_num::Memory;
 use sq_pass::{Blocks, Cut, Row};
 use std::alloc::Global;
+pub(crate) use sweep::sweep_inlines;
 
 // Whether the item calls the procedure.
 fn is_call(item: &Item, number: u32) -> bool
@@ -153,8 +156,25 @@ fn is_near(alloc: Global, graph: &Graph, procedure: u32) -> Result<bool, Memory>
     in_reach(alloc, &copy)
 }
 
-// How many words are saved by a procedure whose body comes in place of its calls, or `None` where that is none or a Branch
-// doesn't reach.
+// How many words are saved by a procedure whose body comes in place of its calls, or `None` where that is none.
+fn would_save(graph: &Graph, calls: &Table, procedure: u32) -> Option<u32>
+    requires there { HasProcedure graph.now.graph procedure }
+    requires calls { counted calls.now procedure ≡ call_count graph.now.graph procedure }
+    ensures some { IfSome result (WouldSave graph.now.graph procedure) }
+    ensures none { result ≡ None → (saving : ℕ) → ¬ WouldSave graph.now.graph procedure saving }
+{
+    graph.learn();
+    let count = calls.get(procedure).unwrap_or(0);
+    let size = graph.body(procedure).len() as u64;
+    let gone = count + size + 1;
+    let come = count * size;
+    if count == 0 || gone <= come {
+        return None;
+    }
+    Some((gone - come) as u32)
+}
+
+// The same, or `None` where a Branch doesn't reach.
 fn inline_saving(
     alloc: Global,
     graph: &Graph,
@@ -162,19 +182,17 @@ fn inline_saving(
     procedure: u32,
 ) -> Result<Option<u32>, Memory>
     requires there { HasProcedure graph.now.graph procedure }
-    requires calls { (p : ℕ) → counted calls.now p ≡ call_count graph.now.graph p }
+    requires calls { counted calls.now procedure ≡ call_count graph.now.graph procedure }
     ensures some { IfOk result (λ found. IfSome found (IsInlinable graph.now.graph procedure)) }
     ensures none { result ≡ Ok None → (saving : ℕ) → ¬ IsInlinable graph.now.graph procedure saving }
 {
-    graph.learn();
-    let count = calls.get(procedure).unwrap_or(0);
-    let size = graph.body(procedure).len() as u64;
-    let gone = count + size + 1;
-    let come = count * size;
-    if count == 0 || gone <= come || !is_near(alloc, graph, procedure)? {
+    let Some(saving) = would_save(graph, calls, procedure) else {
+        return Ok(None);
+    };
+    if !is_near(alloc, graph, procedure)? {
         return Ok(None);
     }
-    Ok(Some((gone - come) as u32))
+    Ok(Some(saving))
 }
 
 /// Whether some procedure would save words in place of its calls if each Branch reached then. Such are called once, have one

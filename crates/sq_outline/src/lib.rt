@@ -2,7 +2,7 @@
 //!
 //! To the layers above it promises that `Outlines` keeps the laws of passes, for the rows O1, O2, O3 and O4: what it finds
 //! and admits are candidates of these rows, it misses none, whatever set of blocks is taken, and what it makes of a graph is
-//! exactly what the row says. Its sweep takes many candidates of O1 and O2 by one look. The same of `Windows`, for the rows W
+//! exactly what the row says. Its sweep takes many candidates of each row by one look. The same of `Windows`, for the rows W
 //! and V: over all windows of all lengths it misses none. `propose` and `propose_windows` give candidates that one look finds.
 #![tactic(auto)]
 

@@ -1,9 +1,9 @@
 //! The pass.
 
 use crate::call::{admit_call, call, find_called};
-use crate::inline::{admit_inline, apply_inline, find_inline, inline_room};
+use crate::inline::{admit_inline, apply_inline, find_inline, inline_room, sweep_inlines};
 use crate::make::{admit_make, find_made, make};
-use crate::recall::{admit_recall, apply_recall, find_recall};
+use crate::recall::{admit_recall, apply_recall, find_recall, sweep_recalls};
 use crate::sweep::sweep;
 use sq_graph::{Graph, Room};
 use sq_live::{Liveness, block_names};
@@ -26,8 +26,7 @@ impl Pass for Outlines {
 
     ghost saves = { λ _ graph cut. saves_a_word graph cut };
 
-    /// For O1 and O2 it looks at the blocks of the cut, for O3 at each word of procedures once,
-    /// for O4 at each word a few times.
+    /// For O1 and O2 it looks at the blocks of the cut, for O3 at the two procedures, for O4 at each word a few times.
     fn admit(
         &self,
         alloc: Global,
@@ -94,8 +93,11 @@ impl Pass for Outlines {
     }
 
     /// Two looks at all bodies, and for each procedure that it makes one at the bodies of a group; where the link isn't sure
-    /// without it, also one for live registers.
+    /// without it, also one for live registers. For O3 a look at all bodies of procedures, and two at all items for each one
+    /// that goes; for O4 a few at each word, and three at all items for each procedure that goes.
     fn sweep(&self, alloc: Global, graph: &mut Graph, savings: Savings) -> Result<Savings, Memory> {
-        sweep(alloc, graph, savings)
+        let made = sweep(alloc, graph, savings)?;
+        let recalled = sweep_recalls(alloc, graph, made)?;
+        sweep_inlines(alloc, graph, recalled)
     }
 }

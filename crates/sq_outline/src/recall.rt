@@ -4,17 +4,23 @@
 //!              p: add a0,a0,a1; jr x5                p: add a0,a0,a1; jr x5
 //!              q: add a0,a0,a1; jr x5
 
-ghost use Rattle.std.specs.Prelude.{◌≡◌, ℕ, slice_get, ◌≤◌, ◌<◌, ◌+◌, ◌^◌, length, None, Ok, Some, IfOk, IfSome, OnOk};
+ghost use Rattle.std.specs.Prelude.{◌≡◌, ◌↔◌, ℕ, slice_get, ◌≤◌, ◌<◌, ◌+◌, ◌^◌, length, None, Ok, Some, IsTrue, IfOk, IfSome, OnOk};
 ghost use Rattle.std.specs.List.{All};
 ghost use Rattle.indexmap.specs.IndexSet.{index_set_len};
+ghost use Rattle.sq_num.specs.Saved.{words_saved};
 ghost use Rattle.sq_graph.specs.Blocks.{HasProcedure, body_of};
+ghost use Rattle.sq_graph.specs.Leaders.{IsCanonical};
 ghost use Rattle.sq_graph.specs.Room.{KeepsTotal};
 ghost use Rattle.sq_graph.specs.Rules.{IsGraph, ItemFits};
+ghost use Rattle.sq_graph.specs.Words.{words_of, most_words};
 ghost use Rattle.sq_finger.specs.ItemKeys.{key_of};
+ghost use Rattle.law_follow.specs.Follows.{Follows};
 ghost use Rattle.sq_pass.specs.declared.cut.Cut.{Cut as Told};
 ghost use Rattle.sq_pass.specs.declared.cut.Row.TheVariants.{O3 as Doubles};
 ghost use Rattle.sq_pass.specs.Applied.{IsApplied};
 ghost use Rattle.sq_pass.specs.Cuts.{IsCompleted};
+ghost use Rattle.sq_pass.specs.Rewrites.{IsRewritten};
+ghost use Rattle.sq_outline.specs.Candidates.{IsCandidate, described};
 ghost use Rattle.sq_outline.specs.Recalled.{AreDoubles, IsRecalled, recall_cut, without_double};
 ghost use Rattle.sq_outline.specs.RecalledNumbers.{IsNumberOf, HasGrown, StandOnce, AreBodyNumbers};
 
@@ -22,9 +28,10 @@ use indexmap::IndexSet;
 use sq_finger::{ItemKey, first_double, item_key};
 use sq_graph::{Graph, Item};
 use sq_isa::Reg;
-use sq_num::Memory;
-use sq_pass::{Blocks, Cut, Row};
+use sq_num::{Memory, Savings};
+use sq_pass::{Blocks, Cut, Rewrite, Row};
 use std::alloc::Global;
+use std::collections::HashMap;
 
 // The number of what was read of a body, once this item is read too.
 fn number_after(
@@ -105,21 +112,29 @@ pub(crate) fn find_recall(alloc: Global, graph: &Graph) -> Result<Option<Cut>, M
     Ok(Some(recall_cut(alloc, graph, stays as u32, goes as u32)))
 }
 
-/// The cut of O3 with its saving, or `None` where the two procedures aren't equal. It looks at each word of procedures once.
+// Whether these are two procedures with equal bodies and equal links.
+fn are_doubles(graph: &Graph, stays: u32, goes: u32) -> bool
+    ensures { IsTrue result ↔ AreDoubles graph.now.graph stays goes }
+{
+    if stays == goes || stays >= graph.procedures() || goes >= graph.procedures() {
+        return false;
+    }
+    if graph.link(stays).number() != graph.link(goes).number() {
+        return false;
+    }
+    graph.body(stays) == graph.body(goes)
+}
+
+/// The cut of O3 with its saving, or `None` where the two procedures aren't equal. It looks at the two.
 pub(crate) fn admit_recall(alloc: Global, graph: &Graph, cut: &Cut) -> Result<Option<Cut>, Memory>
     requires row { cut.now.row ≡ Doubles }
     ensures some { IfOk result (λ found. IfSome found (λ given. IsRecalled graph.now.graph given × IsCompleted cut.now given)) }
     ensures none { result ≡ Ok None → (given : Told) → IsCompleted cut.now given → ¬ IsRecalled graph.now.graph given }
 {
-    graph.learn();
-    if !cut.blocks.as_slice().is_empty() || cut.length != 0 || cut.procedure == cut.other {
+    if !cut.blocks.as_slice().is_empty() || cut.length != 0 {
         return Ok(None);
     }
-    if cut.procedure >= graph.procedures() || cut.other >= graph.procedures() {
-        return Ok(None);
-    }
-    let numbers = body_numbers(alloc, graph)?;
-    if numbers[cut.procedure as usize] != numbers[cut.other as usize] {
+    if !are_doubles(graph, cut.procedure, cut.other) {
         return Ok(None);
     }
     Ok(Some(recall_cut(alloc, graph, cut.procedure, cut.other)))
@@ -128,10 +143,80 @@ pub(crate) fn admit_recall(alloc: Global, graph: &Graph, cut: &Cut) -> Result<Op
 /// Gives the calls of the one procedure to the other, and removes it.
 pub(crate) fn apply_recall(graph: &mut Graph, stays: u32, goes: u32)
     requires { AreDoubles graph.old.graph stays goes }
+    ensures graph { graph.new.graph ≡ without_double graph.old.graph stays goes }
     ensures applied { IsApplied (length (body_of graph.old.graph goes) + 1) (without_double graph.old.graph stays goes) graph.old.graph graph.new.graph }
     ensures total { KeepsTotal graph.old graph.new }
 {
     graph.learn();
     graph.redirect_calls(goes, stays);
     graph.remove_procedure(goes);
+}
+
+// Two procedures of one number.
+#[derive(Clone, Copy, Debug)]
+struct Double {
+    first: u32,
+    later: u32,
+}
+
+// The procedures whose number an earlier one has, each with the first that has it. It looks at each item of procedures once.
+fn doubles(alloc: Global, graph: &Graph) -> Result<Vec<Double>, Memory> {
+    graph.learn();
+    let numbers = body_numbers(alloc, graph)?;
+    let mut firsts = HashMap::new(alloc);
+    let mut doubles = Vec::new(alloc);
+    for later in 0..graph.procedures() {
+        let number = numbers[later as usize];
+        match firsts.get(&number).copied() {
+            Some(first) => doubles.push(Double { first, later })?,
+            None => {
+                firsts.insert(number, later)?;
+            }
+        }
+    }
+    Ok(doubles)
+}
+
+// Rewrites the graph by row O3, which leaves it canonical.
+fn rewrite_recalled(graph: &mut Graph, stays: u32, goes: u32, savings: Savings) -> Savings
+    requires canonical { IsCanonical graph.old.graph }
+    requires words { words_of graph.old.graph + words_saved savings ≤ most_words }
+    requires doubles { AreDoubles graph.old.graph stays goes }
+    ensures { IsRewritten IsCandidate described savings result graph.old.graph graph.new.graph }
+{
+    graph.learn();
+    let saving = graph.body(goes).len() as u32 + 1;
+    apply_recall(graph, stays, goes);
+    let done = Rewrite {
+        row: Row::O3,
+        saving,
+    };
+    done.count(savings)
+}
+
+/// Of procedures with equal bodies and equal links leaves the first. It looks at each item of procedures once, and for each
+/// procedure that goes at all items twice.
+///
+/// The last one goes first, so that those that are still to go keep their numbers.
+#[tactic(auto, using(law_follow::proofs::Following::graph_follows_through))]
+pub(crate) fn sweep_recalls(
+    alloc: Global,
+    graph: &mut Graph,
+    savings: Savings,
+) -> Result<Savings, Memory>
+    requires canonical { IsCanonical graph.old.graph }
+    requires words { words_of graph.old.graph + words_saved savings ≤ most_words }
+    ensures rewritten { IfOk result (λ after. IsRewritten IsCandidate described savings after graph.old.graph graph.new.graph) }
+    ensures follows { Follows graph.old.graph graph.new.graph }
+{
+    let doubles = doubles(alloc, graph)?;
+    let mut after = savings;
+    for at in (0..doubles.len()).rev() {
+        let double = doubles[at];
+        if !are_doubles(graph, double.first, double.later) {
+            continue;
+        }
+        after = rewrite_recalled(graph, double.first, double.later, after);
+    }
+    Ok(after)
 }

@@ -27,11 +27,13 @@ remove_procedure-requires-clause-rules c =
     subst (λ (h : Graph). IsGraph (without_procedure h c.args.goes)) (sym c.redirect_calls.ensures.graph)
     (left_rules c.args.graph.now.graph c.args.stays c.args.goes c.learn.ensures.rules c.requires)
 
+pub returns-clause-graph : goal.returns-clause-graph
+returns-clause-graph c = c.remove_procedure.ensures.graph ∙ ap (λ (h : Graph). without_procedure h c.args.goes) c.redirect_calls.ensures.graph
+
 pub returns-clause-applied : goal.returns-clause-applied
 returns-clause-applied c =
     let g = c.args.graph.now.graph in
-    let is = c.remove_procedure.ensures.graph ∙ ap (λ (h : Graph). without_procedure h c.args.goes) c.redirect_calls.ensures.graph in
-    subst (λ (k : Graph). IsApplied (length (body_of g c.args.goes) + 1) (without_double g c.args.stays c.args.goes) g k) (sym is)
+    subst (λ (k : Graph). IsApplied (length (body_of g c.args.goes) + 1) (without_double g c.args.stays c.args.goes) g k) (sym (returns-clause-graph c))
     (double_applied g c.args.stays c.args.goes c.learn.ensures.rules c.requires)
 
 pub returns-clause-total : goal.returns-clause-total
