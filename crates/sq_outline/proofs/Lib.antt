@@ -39,4 +39,5 @@ pub mod WindowsThin
 pub mod WindowsFinding
 pub mod WindowsClasses
 pub mod WindowsPast
+pub mod WindowsKinds
 pub mod WindowsSweeping

@@ -18,5 +18,6 @@ pub mod WindowsHeads
 pub mod WindowsMade
 pub mod WindowsSearch
 pub mod WindowsPast
+pub mod WindowsKinds
 pub mod WindowsCandidates
 pub mod WindowsProposed

@@ -6,6 +6,7 @@ mod found;
 mod heads;
 mod inside;
 mod joins;
+mod kinds;
 mod left;
 mod occurrences;
 mod pass;

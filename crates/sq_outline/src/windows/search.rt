@@ -8,15 +8,17 @@ ghost use Rattle.sq_live.specs.Liveness.{IsLivenessOf};
 ghost use Rattle.sq_pass.specs.declared.cut.Cut.{Cut as Told};
 ghost use Rattle.sq_pass.specs.declared.cut.Row.TheVariants.{W as Window};
 ghost use Rattle.sq_pass.specs.Cuts.{IsCompleted};
+ghost use Rattle.sq_outline.specs.WindowsKinds.{AreKinds};
 ghost use Rattle.sq_outline.specs.WindowsMade.{items_at, IsWindowMade, IsWindowCut};
 ghost use Rattle.sq_outline.specs.WindowsPlaces.{places_from};
 ghost use Rattle.sq_outline.specs.WindowsSearch.{place_in, standing, AreWindowClasses};
 
 use crate::windows::found::{Found, found_at, items_at};
+use crate::windows::kinds::{BlockKinds, block_kinds, kinds_of};
 use crate::windows::stands::begins;
 use sq_finger::{Groups, WindowAt, all_places, number_items, number_longer_runs, window_laws};
 use sq_graph::{Graph, Item};
-use sq_live::{Liveness, block_names};
+use sq_live::Liveness;
 use sq_lookup::is_block;
 use sq_num::Memory;
 use sq_pass::{Blocks, Cut, Row};
@@ -146,29 +148,33 @@ fn push_places(
     Ok(())
 }
 
-/// The places where the n items of a place stand. It looks at each item once.
+/// The places where the n items of a place stand. It looks at the items of those blocks alone that may hold them.
 pub(crate) fn standing(
     alloc: Global,
     graph: &Graph,
+    blocks: &[BlockKinds],
     block: u32,
     at: u32,
     n: u32,
 ) -> Result<Vec<WindowAt>, Memory>
+    requires kinds { AreKinds graph.now.graph blocks.now }
     requires block { HasBlock graph.now.graph block }
     requires within { at + n ≤ length (items_of graph.now.graph block) }
     ensures { IfOk result (λ places. places.items ≡ standing graph.now.graph (items_at graph.now.graph block at n)) }
 {
     graph.learn();
     let window = items_at(graph, block, at, n);
-    let names = block_names(alloc, graph)?;
+    let wanted = kinds_of(window);
     let mut places = Vec::new(alloc);
-    for name in &names {
-        push_places(&mut places, graph, *name, window)?;
+    for other in blocks {
+        if other.kinds.grown_by(wanted).is_none() {
+            push_places(&mut places, graph, other.name, window)?;
+        }
     }
     Ok(places)
 }
 
-/// A cut of row W with its link and saving, or `None` where it is no candidate. It looks at each place.
+/// A cut of row W with its link and saving, or `None` where it is no candidate. It looks at each item.
 pub(crate) fn admit_window(
     alloc: Global,
     graph: &Graph,
@@ -195,7 +201,8 @@ pub(crate) fn admit_window(
     if count < cut.other as usize + n as usize {
         return Ok(None);
     }
-    let places = standing(alloc, graph, block, cut.other, n)?;
+    let blocks = block_kinds(alloc, graph)?;
+    let places = standing(alloc, graph, &blocks, block, cut.other, n)?;
     let Some(found) = found_at(alloc, graph, live, n, &places)? else {
         return Ok(None);
     };

@@ -10,6 +10,7 @@ ghost use Rattle.sq_live.specs.Liveness.{IsLivenessOf};
 ghost use Rattle.sq_pass.specs.Rewrites.{IsRewritten};
 ghost use Rattle.sq_outline.specs.WindowsCandidates.{IsWindowsCandidate, windows_described};
 ghost use Rattle.sq_outline.specs.WindowsInside.{MayCallInside};
+ghost use Rattle.sq_outline.specs.WindowsKinds.{AreKinds, KeepsKinds};
 ghost use Rattle.sq_outline.specs.WindowsMade.{items_at, IsWindowMade};
 ghost use Rattle.sq_outline.specs.WindowsPast.{IsPast, KeepsPast};
 ghost use Rattle.sq_outline.specs.WindowsPlaces.{occurrences};
@@ -22,6 +23,7 @@ use crate::windows::earlier::Earlier;
 use crate::windows::found::{Found, found_at, found_still, items_at};
 use crate::windows::heads::heads;
 use crate::windows::inside::{may_call_still, procedure_inside};
+use crate::windows::kinds::{BlockKinds, block_kinds};
 use crate::windows::left::FoundWindows;
 use crate::windows::past::{Shift, note_calls, now_at};
 use crate::windows::proposals::{FoundWindow, sixteenths};
@@ -170,9 +172,11 @@ fn sweep_calls(
 fn places_of(
     alloc: Global,
     graph: &Graph,
+    blocks: &[BlockKinds],
     shifts: &[Shift],
     window: FoundWindow,
 ) -> Result<Option<Vec<WindowAt>>, Memory>
+    requires kinds { AreKinds graph.now.graph blocks.now }
     ensures least { IfOk result (λ found. IfSome found (λ places. 3 ≤ window.n)) }
     ensures most { IfOk result (λ found. IfSome found (λ places. window.n ≤ 16)) }
     ensures places { IfOk result (λ found. IfSome found (λ places. AreStanding graph.now.graph window.n places.items)) }
@@ -192,7 +196,7 @@ fn places_of(
     if !are_plain(items_at(graph, block, at, n)) {
         return Ok(None);
     }
-    let places = standing(alloc, graph, block, at, n)?;
+    let places = standing(alloc, graph, blocks, block, at, n)?;
     if places.len() as u64 * u64::from(n - 1) <= u64::from(n + 1) {
         return Ok(None);
     }
@@ -215,6 +219,7 @@ fn rewrite_window(
     ensures rewritten { IfOk result (λ after. IsRewritten IsWindowsCandidate windows_described savings after graph.old.graph graph.new.graph) }
     ensures follows { Follows graph.old.graph graph.new.graph }
     ensures past { OnOk result (KeepsPast graph.old.graph shifts.old.items graph.new.graph shifts.new.items) }
+    ensures kinds { OnOk result (KeepsKinds graph.old.graph graph.new.graph) }
 {
     graph.learn();
     note_calls(shifts, n, sites)?;
@@ -232,13 +237,15 @@ fn rewrite_window(
 }
 
 /// The same where a window that a look found may become one still, by registers that were dead before these calls came. It
-/// looks at each place. Where it saves a lesser part of its words by now it is put back.
+/// looks at the kinds of each block, and at the items of those that may hold it. Where it saves a lesser part of its words by
+/// now it is put back.
 #[tactic(auto, using(sq_pass::proofs::Rewriting::rewritten_itself, law_follow::proofs::Following::graph_follows_itself))]
 fn make_if_may(
     alloc: Global,
     graph: &mut Graph,
     earlier: &mut Earlier,
     before: &Liveness,
+    blocks: &[BlockKinds],
     shifts: &mut Vec<Shift>,
     windows: &mut FoundWindows,
     window: &FoundWindow,
@@ -247,13 +254,15 @@ fn make_if_may(
     requires canonical { IsCanonical graph.old.graph }
     requires words { words_of graph.old.graph + words_saved savings ≤ most_words }
     requires past { IsPast graph.old.graph before.now shifts.old.items }
+    requires kinds { AreKinds graph.old.graph blocks.now }
     ensures rewritten { IfOk result (λ after. IsRewritten IsWindowsCandidate windows_described savings after graph.old.graph graph.new.graph) }
     ensures follows { Follows graph.old.graph graph.new.graph }
     ensures past { OnOk result (KeepsPast graph.old.graph shifts.old.items graph.new.graph shifts.new.items) }
+    ensures kinds { OnOk result (KeepsKinds graph.old.graph graph.new.graph) }
 {
     let tried = *window;
     let (n, most) = (tried.n, tried.sixteenths);
-    let Some(places) = places_of(alloc, graph, shifts, tried)? else {
+    let Some(places) = places_of(alloc, graph, blocks, shifts, tried)? else {
         return Ok(savings);
     };
     let Some((found, sites)) = found_still(alloc, graph, before, shifts, n, &places)? else {
@@ -272,7 +281,7 @@ fn make_if_may(
 }
 
 /// The same for these windows, the last first, until an earlier row is to be asked. Those that are left are moved along with their
-/// items.
+/// items. It looks at each item once for the kinds of all blocks.
 #[tactic(auto, using(law_follow::proofs::Following::graph_follows_through))]
 fn make_each(
     alloc: Global,
@@ -288,6 +297,7 @@ fn make_each(
     ensures rewritten { IfOk result (λ after. IsRewritten IsWindowsCandidate windows_described savings after graph.old.graph graph.new.graph) }
     ensures follows { Follows graph.old.graph graph.new.graph }
 {
+    let blocks = block_kinds(alloc, graph)?;
     let mut shifts = Vec::new(alloc);
     let mut after = savings;
     for _window in 0..u32::MAX {
@@ -299,6 +309,7 @@ fn make_each(
             graph,
             earlier,
             before,
+            &blocks,
             &mut shifts,
             windows,
             &window,

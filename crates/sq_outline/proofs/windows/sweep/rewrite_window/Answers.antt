@@ -4,6 +4,7 @@ use Rattle.law_follow.proofs.Following.{graph_follows_itself}
 use Rattle.sq_graph.specs.Graph.{Graph}
 use Rattle.sq_outline.specs.WindowsMade.{window_made}
 use Rattle.sq_outline.proofs.Sweeping.{room_for_procedure}
+use Rattle.sq_outline.proofs.WindowsKinds.{made_kinds}
 use Rattle.sq_outline.proofs.WindowsPast.{made_past}
 use Rattle.sq_outline.proofs.WindowsSweeping.{window_rewritten, window_words}
 use Rattle.sq_outline.proofs.windows.sweep.rewrite_window.Goals as goal
@@ -43,3 +44,9 @@ returns-clause-past c =
     let h = c.make_window_at.new.graph.graph in
     let is = subst (λ (k : Graph). h ≡ window_made k c.args.found.first.block c.args.found.first.at c.args.n c.args.found.link) c.reserve.ensures.graph c.make_window_at.ensures.graph in
     made_past c.args.graph.now.graph h c.args.found.first.block c.args.found.first.at c.args.n c.args.found.link c.args.found.saving c.args.sites.now _ _ c.learn.ensures.rules c.requires.made c.requires.sites c.in_ok-note_calls.ensures is
+
+pub returns-clause-kinds : goal.returns-clause-kinds
+returns-clause-kinds c =
+    let h = c.make_window_at.new.graph.graph in
+    let is = subst (λ (k : Graph). h ≡ window_made k c.args.found.first.block c.args.found.first.at c.args.n c.args.found.link) c.reserve.ensures.graph c.make_window_at.ensures.graph in
+    made_kinds c.args.graph.now.graph h c.args.found.first.block c.args.found.first.at c.args.n c.args.found.link is
