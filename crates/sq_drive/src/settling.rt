@@ -125,7 +125,8 @@ fn are_lone_jumps(before: Savings, after: Savings, blocks: usize) -> bool {
         j3: before.j3,
         ..after
     };
-    let jumps = after.j2.saturating_sub(before.j2) as usize + after.j3.saturating_sub(before.j3) as usize;
+    let jumps = after.j2.saturating_sub(before.j2) as usize
+        + after.j3.saturating_sub(before.j3) as usize;
     others == before && blocks == jumps
 }
 

@@ -191,12 +191,7 @@ pub(crate) struct FarWays {
 
 impl FarWays {
     /// Adds a way whose Branch doesn't reach.
-    fn push(
-        &mut self,
-        graph: &Graph,
-        addresses: &Table,
-        found: Option<Way>,
-    ) -> Result<(), Memory> {
+    fn push(&mut self, graph: &Graph, addresses: &Table, found: Option<Way>) -> Result<(), Memory> {
         if let Some(way) = found {
             let rest = missing_between(graph, way, addresses_of(addresses, way));
             if rest > 0 {
@@ -256,11 +251,7 @@ impl FarWays {
 
 /// The address under this name.
 fn address_in(addresses: &[Option<u64>], name: u32) -> u64 {
-    addresses
-        .get(name as usize)
-        .copied()
-        .flatten()
-        .unwrap_or(0)
+    addresses.get(name as usize).copied().flatten().unwrap_or(0)
 }
 
 /// Whether the Branch of a way reaches where the lone Jump leads once that is gone, by these addresses.
@@ -301,8 +292,7 @@ pub(crate) fn near_jumps(
     graph.learn();
     let mut far = Names::new(alloc);
     let mut near = Vec::new(alloc);
-    for at in 0..addresses.len() {
-        let name = at as u32;
+    for name in 0..u32::try_from(addresses.len()).unwrap_or(u32::MAX) {
         if is_block(graph, name) {
             let (by_target, by_slot) = ways_of(graph, name);
             note(graph, addresses, by_target, &mut near, &mut far)?;

@@ -75,8 +75,5 @@ pub fn chain_text(alloc: Global, graph: &mut Graph, verb: &str) -> Result<String
         return rewrite_text(alloc, move_once(alloc, graph)?);
     }
     let mut left = LeftMoves::new(alloc);
-    savings_text(
-        alloc,
-        &sweep_moves(alloc, graph, &mut left, Savings::NONE)?,
-    )
+    savings_text(alloc, &sweep_moves(alloc, graph, &mut left, Savings::NONE)?)
 }

@@ -375,10 +375,10 @@ pub fn sweep_windows(
     ensures follows { Follows graph.old.graph graph.new.graph }
 {
     let mut earlier = Earlier::look(alloc, graph)?;
-    let first = if windows.is_empty() {
-        sweep_calls(alloc, graph, live, &mut earlier, savings)?
-    } else {
-        make_each(alloc, graph, &mut earlier, live, windows, savings)?
-    };
-    sweep_made(alloc, graph, &mut earlier, windows, first)
+    if windows.is_empty() {
+        let called = sweep_calls(alloc, graph, live, &mut earlier, savings)?;
+        return sweep_made(alloc, graph, &mut earlier, windows, called);
+    }
+    let made = make_each(alloc, graph, &mut earlier, live, windows, savings)?;
+    sweep_made(alloc, graph, &mut earlier, windows, made)
 }
