@@ -130,6 +130,11 @@ fn are_lone_jumps(before: Savings, after: Savings, blocks: usize) -> bool {
     others == before && blocks == jumps
 }
 
+fn block_count(alloc: Global, graph: &Graph) -> Result<usize, Memory> {
+    graph.learn();
+    Ok(block_names(alloc, graph)?.len())
+}
+
 /// Rewrites the graph by all rows until none has a candidate, and answers the savings with what each row saved. Windows are
 /// asked only where no row before them has a candidate, and chains move only where no other row has one. Where it finds no
 /// memory, the graph is left as the rewrites made it so far.
@@ -147,9 +152,9 @@ fn settle_from(alloc: Global, graph: &mut Graph, savings: Savings) -> Result<Sav
         moves: LeftMoves::new(alloc),
     };
     loop {
-        let blocks = block_names(alloc, graph)?.len();
+        let blocks = block_count(alloc, graph)?;
         let Settled { savings, live } = settle_earlier(alloc, graph, &mut looks, saved)?;
-        let gone = blocks.saturating_sub(block_names(alloc, graph)?.len());
+        let gone = blocks.saturating_sub(block_count(alloc, graph)?);
         if !are_lone_jumps(saved, savings, gone) {
             left.moves.ask_windows();
         }

@@ -16,23 +16,23 @@ pub loop-left-preserved : goal.loop-left-preserved
 loop-left-preserved c =
     let old = c.args.graph.now.graph in
     let mid = c.settle_earlier.new.graph.graph in
-    let rows = by_rows c.loop-left.saved c.in_ok-settled.settled c.loop-left.graph.graph mid c.in_ok-settled.ensures.rewritten in
-    let settled = rewritten_through IsCandidate described c.args.savings c.loop-left.saved c.in_ok-settled.settled old c.loop-left.graph.graph mid c.loop-left.invariant rows in
-    rewritten_through IsCandidate described c.args.savings c.in_ok-settled.settled c.in-Some.after old mid c.rewrite_late.new.graph.graph settled (rw c.in-Some.is at c.in_ok-after.ensures.rewritten)
+    let rows = by_rows c.loop-left.saved c.in_ok-savings.field-0.savings c.loop-left.graph.graph mid c.in_ok-savings.ensures.rewritten in
+    let settled = rewritten_through IsCandidate described c.args.savings c.loop-left.saved c.in_ok-savings.field-0.savings old c.loop-left.graph.graph mid c.loop-left.invariant rows in
+    rewritten_through IsCandidate described c.args.savings c.in_ok-savings.field-0.savings c.in-Some.after old mid c.rewrite_late.new.graph.graph settled (rw c.in-Some.is at c.in_ok-after.ensures.rewritten)
 
 pub returns-in_default-clause-rewritten : goal.returns-in_default-clause-rewritten
 returns-in_default-clause-rewritten c =
     let old = c.args.graph.now.graph in
     let mid = c.settle_earlier.new.graph.graph in
-    let rows = by_rows c.loop-left.saved c.in_ok-settled.settled c.loop-left.graph.graph mid c.in_ok-settled.ensures.rewritten in
-    let settled = rewritten_through IsCandidate described c.args.savings c.loop-left.saved c.in_ok-settled.settled old c.loop-left.graph.graph mid c.loop-left.invariant rows in
-    subst (IsRewritten IsCandidate described c.args.savings c.in_ok-settled.settled old) (sym (c.rewrite_late.ensures.none (c.in_ok-after.was ∙ ap Ok c.in_default.is))) settled
+    let rows = by_rows c.loop-left.saved c.in_ok-savings.field-0.savings c.loop-left.graph.graph mid c.in_ok-savings.ensures.rewritten in
+    let settled = rewritten_through IsCandidate described c.args.savings c.loop-left.saved c.in_ok-savings.field-0.savings old c.loop-left.graph.graph mid c.loop-left.invariant rows in
+    subst (IsRewritten IsCandidate described c.args.savings c.in_ok-savings.field-0.savings old) (sym (c.rewrite_late.ensures.none (c.in_ok-after.was ∙ ap Ok c.in_default.is))) settled
 
 pub returns-in_default-clause-left : goal.returns-in_default-clause-left
 returns-in_default-clause-left c =
     let mid = c.settle_earlier.new.graph.graph in
     let is = c.in_ok-after.was ∙ ap Ok c.in_default.is in
-    let left : IsLeftoverFree mid = none_left mid (none_of_rows mid c.in_ok-settled.ensures.left (c.rewrite_late.ensures.windows is)) (c.rewrite_late.ensures.moves is) in
+    let left : IsLeftoverFree mid = none_left mid (none_of_rows mid c.in_ok-savings.ensures.left (c.rewrite_late.ensures.windows is)) (c.rewrite_late.ensures.moves is) in
     subst (λ (g : Graph). IsLeftoverFree g) (sym (c.rewrite_late.ensures.none is)) left
 
 pub returns-in_default-clause-follows : goal.returns-in_default-clause-follows
@@ -41,8 +41,8 @@ returns-in_default-clause-follows c =
     let follows = graph_follows_through old c.loop-left.graph.graph c.settle_earlier.new.graph.graph c.loop-left.invariant.lighter.follows c.settle_earlier.ensures.follows in
     subst (Follows old) (sym (c.rewrite_late.ensures.none (c.in_ok-after.was ∙ ap Ok c.in_default.is))) follows
 
-pub returns-in_err-settled-clause-follows : goal.returns-in_err-settled-clause-follows
-returns-in_err-settled-clause-follows c =
+pub returns-in_err-savings-clause-follows : goal.returns-in_err-savings-clause-follows
+returns-in_err-savings-clause-follows c =
     graph_follows_through c.args.graph.now.graph c.loop-left.graph.graph c.settle_earlier.new.graph.graph c.loop-left.invariant.lighter.follows c.settle_earlier.ensures.follows
 
 pub returns-in_err-after-clause-follows : goal.returns-in_err-after-clause-follows
@@ -51,3 +51,7 @@ returns-in_err-after-clause-follows c =
     let mid = c.settle_earlier.new.graph.graph in
     graph_follows_through old mid c.rewrite_late.new.graph.graph
     (graph_follows_through old c.loop-left.graph.graph mid c.loop-left.invariant.lighter.follows c.settle_earlier.ensures.follows) c.rewrite_late.ensures.follows
+
+pub returns-in_err-block_count-clause-follows : goal.returns-in_err-block_count-clause-follows
+returns-in_err-block_count-clause-follows c =
+    graph_follows_through c.args.graph.now.graph c.loop-left.graph.graph c.settle_earlier.new.graph.graph c.loop-left.invariant.lighter.follows c.settle_earlier.ensures.follows
