@@ -122,7 +122,7 @@ module _ (g : Graph) (from to : ℕ) (rules : IsGraph g) (movable : IsMovable g 
   pub behind_chain : behind es last ≡ C
   behind_chain = ap (λ (ps : List (ℕ × Block)). behind ps last) split ∙ behind-out A S last none_ahead
 
-  module _ (i j k : ℕ) (at_to : IsBlockAt g i to) (at_last : IsBlockAt g j (chain_end g to)) (at_from : IsBlockAt g k from) where
+  module _ (i j : ℕ) (at_to : IsBlockAt g i to) (at_last : IsBlockAt g j (chain_end g to)) where
     lengths : i + length R ≡ j + 1
     lengths =
         omega (
@@ -136,67 +136,69 @@ module _ (g : Graph) (from to : ℕ) (rules : IsGraph g) (movable : IsMovable g 
           named_length g.blocks,
         )
 
-    pub chain_past : i ≤ j + 1
-    chain_past = omega (arith, lengths)
+    -- its end isn't ahead of its start
+    pub chain_on : i ≤ j
+    chain_on = omega (arith, lengths, ap (λ (ps : List (ℕ × Block)). length ps) (shape_of es to last (chain_run g from to rules movable)).is)
 
-    -- the Jump is ahead of the chain
-    ahead : IsSome (value_of A from) → length (through A from) ≡ k + 1
-    ahead some =
-        let is = ap (λ (ps : List (ℕ × Block)). through ps from) all ∙ through-in A (R ++ C) from some in
-        omega (arith, through_length g rules k from at_from, ap (λ (ps : List (ℕ × Block)). length ps) is)
+    module _ (k : ℕ) (at_from : IsBlockAt g k from) where
+      -- the Jump is ahead of the chain
+      ahead : IsSome (value_of A from) → length (through A from) ≡ k + 1
+      ahead some =
+          let is = ap (λ (ps : List (ℕ × Block)). through ps from) all ∙ through-in A (R ++ C) from some in
+          omega (arith, through_length g rules k from at_from, ap (λ (ps : List (ℕ × Block)). length ps) is)
 
-    ahead_of_chain : IsSome (value_of A from) → (k + 1) + length (behind A from) ≡ i
-    ahead_of_chain some =
-        omega (
-          arith,
-          ahead some,
-          ap (λ (ps : List (ℕ × Block)). length ps) (through-behind A from),
-          length-append (through A from) (behind A from),
-          before_length g rules i to at_to,
-        )
+      ahead_of_chain : IsSome (value_of A from) → (k + 1) + length (behind A from) ≡ i
+      ahead_of_chain some =
+          omega (
+            arith,
+            ahead some,
+            ap (λ (ps : List (ℕ × Block)). length ps) (through-behind A from),
+            length-append (through A from) (behind A from),
+            before_length g rules i to at_to,
+          )
 
-    -- or behind it
-    out_r : value_of R from ≡ None
-    out_r = elim (some_or_none (value_of R from)) [ inl some ↦ absurd (movable.outside some) | inr none ↦ none ]
+      -- or behind it
+      out_r : value_of R from ≡ None
+      out_r = elim (some_or_none (value_of R from)) [ inl some ↦ absurd (movable.outside some) | inr none ↦ none ]
 
-    past_chain : value_of A from ≡ None → (j + 1) + length (through C from) ≡ k + 1
-    past_chain none =
-        let is = ap (λ (ps : List (ℕ × Block)). through ps from) all ∙ through-out A (R ++ C) from none ∙ ap (λ (ps : List (ℕ × Block)). A ++ ps) (through-out R C from out_r) in
-        omega (
-          arith,
-          lengths,
-          through_length g rules k from at_from,
-          ap (λ (ps : List (ℕ × Block)). length ps) is,
-          length-append A (R ++ through C from),
-          length-append R (through C from),
-          before_length g rules i to at_to,
-        )
+      past_chain : value_of A from ≡ None → (j + 1) + length (through C from) ≡ k + 1
+      past_chain none =
+          let is = ap (λ (ps : List (ℕ × Block)). through ps from) all ∙ through-out A (R ++ C) from none ∙ ap (λ (ps : List (ℕ × Block)). A ++ ps) (through-out R C from out_r) in
+          omega (
+            arith,
+            lengths,
+            through_length g rules k from at_from,
+            ap (λ (ps : List (ℕ × Block)). length ps) is,
+            length-append A (R ++ through C from),
+            length-append R (through C from),
+            before_length g rules i to at_to,
+          )
 
-    pub order_back : {T : Type 0} (f : Block → T) → k + 1 ≤ i → exchanged (map f g.blocks) (k + 1) i (j + 1) ≡ map f (carried g from to).blocks
-    order_back {T} f less =
-        elim (some_or_none (value_of A from)) [
-          | inl some ↦
-              ap (λ (ts : List T). exchanged ts (k + 1) i (j + 1)) (blocks_mapped f g.blocks)
-              ∙ by_exchange f es _ (moves_back g from to rules movable some) (k + 1) i (j + 1) (omega (arith, ahead some)) (omega (arith, ahead_of_chain some)) (omega (arith, lengths))
-              ∙ sym (blocks_moved f _)
-          | inr none ↦
-              let shape = shape_of es to last (chain_run g from to rules movable) in
-              absurd (omega (arith, less, lengths, past_chain none, ap (λ (ps : List (ℕ × Block)). length ps) shape.is))
-        ]
+      pub order_back : {T : Type 0} (f : Block → T) → k + 1 ≤ i → exchanged (map f g.blocks) (k + 1) i (j + 1) ≡ map f (carried g from to).blocks
+      order_back {T} f less =
+          elim (some_or_none (value_of A from)) [
+            | inl some ↦
+                ap (λ (ts : List T). exchanged ts (k + 1) i (j + 1)) (blocks_mapped f g.blocks)
+                ∙ by_exchange f es _ (moves_back g from to rules movable some) (k + 1) i (j + 1) (omega (arith, ahead some)) (omega (arith, ahead_of_chain some)) (omega (arith, lengths))
+                ∙ sym (blocks_moved f _)
+            | inr none ↦
+                let shape = shape_of es to last (chain_run g from to rules movable) in
+                absurd (omega (arith, less, lengths, past_chain none, ap (λ (ps : List (ℕ × Block)). length ps) shape.is))
+          ]
 
-    pub past_to : i ≤ k → j + 1 ≤ k + 1
-    past_to more =
-        elim (some_or_none (value_of A from)) [
-          | inl some ↦ absurd (omega (arith, more, ahead_of_chain some))
-          | inr none ↦ omega (arith, past_chain none)
-        ]
+      pub past_to : i ≤ k → j + 1 ≤ k + 1
+      past_to more =
+          elim (some_or_none (value_of A from)) [
+            | inl some ↦ absurd (omega (arith, more, ahead_of_chain some))
+            | inr none ↦ omega (arith, past_chain none)
+          ]
 
-    pub order_ahead : {T : Type 0} (f : Block → T) → i ≤ k → exchanged (map f g.blocks) i (j + 1) (k + 1) ≡ map f (carried g from to).blocks
-    order_ahead {T} f more =
-        elim (some_or_none (value_of A from)) [
-          | inl some ↦ absurd (omega (arith, more, ahead_of_chain some))
-          | inr none ↦
-              ap (λ (ts : List T). exchanged ts i (j + 1) (k + 1)) (blocks_mapped f g.blocks)
-              ∙ by_exchange f es _ (moves_ahead g from to rules movable none) i (j + 1) (k + 1) (omega (arith, before_length g rules i to at_to)) (omega (arith, lengths)) (omega (arith, past_chain none))
-              ∙ sym (blocks_moved f _)
-        ]
+      pub order_ahead : {T : Type 0} (f : Block → T) → i ≤ k → exchanged (map f g.blocks) i (j + 1) (k + 1) ≡ map f (carried g from to).blocks
+      order_ahead {T} f more =
+          elim (some_or_none (value_of A from)) [
+            | inl some ↦ absurd (omega (arith, more, ahead_of_chain some))
+            | inr none ↦
+                ap (λ (ts : List T). exchanged ts i (j + 1) (k + 1)) (blocks_mapped f g.blocks)
+                ∙ by_exchange f es _ (moves_ahead g from to rules movable none) i (j + 1) (k + 1) (omega (arith, before_length g rules i to at_to)) (omega (arith, lengths)) (omega (arith, past_chain none))
+                ∙ sym (blocks_moved f _)
+          ]

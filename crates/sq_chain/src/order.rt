@@ -1,6 +1,6 @@
 //! The order of the blocks in which a chain stands behind the Jump to it.
 
-ghost use Rattle.std.specs.Prelude.{◌≡◌, ℕ, ◌≤◌, ◌<◌, length, get_or, map, IfOk};
+ghost use Rattle.std.specs.Prelude.{◌≡◌, ◌≢◌, ℕ, ◌+◌, ◌≤◌, ◌<◌, length, get_or, map, IfOk};
 ghost use Rattle.sq_graph.specs.Pieces.{exchanged};
 ghost use Rattle.sq_chain.specs.Surveys.{extents_of};
 ghost use Rattle.sq_chain.specs.Moves.{IsMovable, carried};
@@ -11,18 +11,7 @@ use sq_graph::Graph;
 use sq_num::Memory;
 use std::alloc::Global;
 
-/// Exchanges two pieces that follow each other: the first from `from` up to `mid`, the second up to `to`.
-fn exchange(extents: &mut [Extent], from: usize, mid: usize, to: usize)
-    requires first { from ≤ mid }
-    requires second { mid ≤ to }
-    requires there { to ≤ length extents.old }
-    ensures { extents.new ≡ exchanged extents.old from mid to }
-{
-    let part = &mut extents[from..to];
-    part.rotate_left(mid - from);
-}
-
-/// A copy in which two pieces are exchanged.
+/// A copy in which two pieces that follow each other are exchanged: the first from `from` up to `mid`, the second up to `to`.
 fn with_exchange(
     alloc: Global,
     extents: &[Extent],
@@ -36,18 +25,38 @@ fn with_exchange(
     ensures { IfOk result (λ copy. copy.items ≡ exchanged extents.now from mid to) }
 {
     let mut copy = Vec::with_capacity(alloc, extents.len())?;
-    copy.extend_from_slice(extents)?;
-    exchange(&mut copy, from, mid, to);
+    copy.extend_from_slice(&extents[..from])?;
+    copy.extend_from_slice(&extents[mid..to])?;
+    copy.extend_from_slice(&extents[from..mid])?;
+    copy.extend_from_slice(&extents[to..])?;
     Ok(copy)
 }
 
-/// The place of a name among these.
-fn place_of(extents: &[Extent], name: u32) -> usize
-    requires { (k : ℕ) × (k < length extents.now) × (get_or (map (λ e. e.name) extents.now) k 0 ≡ name) }
+/// The place of the first block that has one of these two names.
+fn place_of_either(extents: &[Extent], one: u32, other: u32) -> usize
+    requires { (k : ℕ) × (k < length extents.now) × (get_or (map (λ e. e.name) extents.now) k 0 ≡ one) }
+    ensures within { result < length extents.now }
+    ensures there { get_or (map (λ e. e.name) extents.now) result 0 ≢ one → get_or (map (λ e. e.name) extents.now) result 0 ≡ other }
+    ensures first { (k : ℕ) → get_or (map (λ e. e.name) extents.now) k 0 ≡ one → result ≤ k }
+    ensures before { (k : ℕ) → get_or (map (λ e. e.name) extents.now) k 0 ≡ other → result ≤ k }
+{
+    for i in 0..extents.len() {
+        let name = extents[i].name;
+        if name == one || name == other {
+            return i;
+        }
+    }
+    unreachable!()
+}
+
+/// The place of a name among these from the place `from` on.
+fn place_of(extents: &[Extent], from: usize, name: u32) -> usize
+    requires { (k : ℕ) × (from ≤ k) × (k < length extents.now) × (get_or (map (λ e. e.name) extents.now) k 0 ≡ name) }
+    ensures behind { from ≤ result }
     ensures within { result < length extents.now }
     ensures there { get_or (map (λ e. e.name) extents.now) result 0 ≡ name }
 {
-    for i in 0..extents.len() {
+    for i in from..extents.len() {
         let other = extents[i].name;
         if other == name {
             return i;
@@ -56,7 +65,7 @@ fn place_of(extents: &[Extent], name: u32) -> usize
     unreachable!()
 }
 
-/// The blocks once the chain of `to` stands behind `from`.
+/// The blocks once the chain of `to` stands behind `from`. It looks for the chain and for `from` in one pass.
 pub(crate) fn carried_extents(
     alloc: Global,
     graph: &Graph,
@@ -72,11 +81,13 @@ pub(crate) fn carried_extents(
     let Some(end) = end_of_chain(graph, to, from) else {
         unreachable!()
     };
-    let start = place_of(extents, to);
-    let behind = place_of(extents, end) + 1;
-    let after = place_of(extents, from) + 1;
-    if after <= start {
-        return with_exchange(alloc, extents, after, start, behind);
+    let first = place_of_either(extents, to, from);
+    if extents[first].name == to {
+        let last = place_of(extents, first, end);
+        let after = place_of(extents, last, from);
+        return with_exchange(alloc, extents, first, last + 1, after + 1);
     }
-    with_exchange(alloc, extents, start, behind, after)
+    let start = place_of(extents, first, to);
+    let last = place_of(extents, start, end);
+    with_exchange(alloc, extents, first + 1, start, last + 1)
 }

@@ -16,7 +16,7 @@ ghost use Rattle.sq_chain.specs.declared.outlook.Outlook.TheVariants.{Near, Stil
 use crate::order::carried_extents;
 use crate::placing::{address, fallen_addresses};
 use crate::seams::saves_nothing;
-use crate::survey::{Extent, Survey};
+use crate::survey::{Extent, Survey, room_for};
 use sq_graph::{Graph, Term};
 use sq_layout::{distance, reaches};
 use sq_num::Memory;
@@ -82,7 +82,8 @@ fn ordered_outlook(alloc: Global, room: &[Option<u64>], order: &[Extent]) -> Res
     ensures near { result ≡ Ok Near → (h : Parts) → IsLaidOut h order.now → IsRoom h room.now → IsInReach (fallen h) }
     ensures still { result ≡ Ok Still → (h : Parts) → IsLaidOut h order.now → IsRoom h room.now → words_of h ≤ words_of (least_widened (fallen h)) }
 {
-    let they = fallen_addresses(alloc, room, order)?;
+    let addresses = room_for(alloc, room.len())?;
+    let they = fallen_addresses(addresses, order);
     let short = count_short(&they.addresses, order, they.falls);
     if they.falls <= short {
         return Ok(Outlook::Still);

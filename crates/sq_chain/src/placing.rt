@@ -1,6 +1,6 @@
 //! Where the blocks stand once each Jump to the next slot is Fall.
 
-ghost use Rattle.std.specs.Prelude.{◌≡◌, ◌↔◌, ℕ, ◌+◌, ◌<◌, ◌^◌, Ok, Some, IsTrue, length, option_map, slice_get, nat_eq, IfOk};
+ghost use Rattle.std.specs.Prelude.{◌≡◌, ◌↔◌, ℕ, ◌+◌, ◌<◌, ◌^◌, Some, IsTrue, length, option_map, slice_get, nat_eq};
 ghost use Rattle.std.specs.Map.{update};
 ghost use Rattle.sq_graph.specs.Graph.{Block, Graph as Parts};
 ghost use Rattle.sq_graph.specs.Blocks.{block_of, next_of};
@@ -13,8 +13,6 @@ ghost use Rattle.sq_chain.specs.Surveys.{extent_of, IsRoom, IsLaidOut};
 
 use crate::survey::Extent;
 use sq_graph::Term;
-use sq_num::Memory;
-use std::alloc::Global;
 
 /// Where blocks stand once each Jump to the next slot is Fall, and how many words that saves.
 #[derive(Drop)]
@@ -51,14 +49,6 @@ fn fall_of(extent: Extent, next: Option<u32>) -> u32
     if jumps_to(extent.term, next) { 1 } else { 0 }
 }
 
-fn copy_of(alloc: Global, room: &[Option<u64>]) -> Result<Vec<Option<u64>>, Memory>
-    ensures { IfOk result (λ copy. copy.items ≡ room.now) }
-{
-    let mut copy = Vec::with_capacity(alloc, room.len())?;
-    copy.extend_from_slice(room)?;
-    Ok(copy)
-}
-
 /// Puts an address under a name for which there is room.
 fn put(addresses: &mut Vec<Option<u64>>, name: u32, at: u64)
     requires { name < length addresses.old.items }
@@ -68,18 +58,14 @@ fn put(addresses: &mut Vec<Option<u64>>, name: u32, at: u64)
     addresses[name as usize] = Some(at);
 }
 
-/// Where the blocks stand in this order once each Jump to the next slot is Fall.
-pub(crate) fn fallen_addresses(
-    alloc: Global,
-    room: &[Option<u64>],
-    order: &[Extent],
-) -> Result<Fallen, Memory>
-    requires { (h : Parts) × IsLaidOut h order.now × IsRoom h room.now }
-    ensures addresses { IfOk result (λ they. (h : Parts) → IsLaidOut h order.now → IsRoom h room.now → (n : ℕ) → number_at they.addresses.items n ≡ address_by words_in (fallen_blocks h.blocks) 0 n) }
-    ensures small { IfOk result (λ they. (n : ℕ) → address_at (number_at they.addresses.items) n < 2 ^ 34) }
-    ensures falls { IfOk result (λ they. (h : Parts) → IsLaidOut h order.now → IsRoom h room.now → words_of (fallen h) + they.falls ≡ words_of h) }
+/// Where the blocks stand in this order once each Jump to the next slot is Fall. The addresses fill the room for them.
+pub(crate) fn fallen_addresses(room: Vec<Option<u64>>, order: &[Extent]) -> Fallen
+    requires { (h : Parts) × IsLaidOut h order.now × IsRoom h room.items }
+    ensures addresses { (h : Parts) → IsLaidOut h order.now → IsRoom h room.items → (n : ℕ) → number_at result.addresses.items n ≡ address_by words_in (fallen_blocks h.blocks) 0 n }
+    ensures small { (n : ℕ) → address_at (number_at result.addresses.items) n < 2 ^ 34 }
+    ensures falls { (h : Parts) → IsLaidOut h order.now → IsRoom h room.items → words_of (fallen h) + result.falls ≡ words_of h }
 {
-    let mut addresses = copy_of(alloc, room)?;
+    let mut addresses = room;
     let mut falls = 0;
     let mut at = 0;
     for i in 0..order.len() {
@@ -91,7 +77,7 @@ pub(crate) fn fallen_addresses(
         falls += fall;
         at += 4 * u64::from(words - fall);
     }
-    Ok(Fallen { addresses, falls })
+    Fallen { addresses, falls }
 }
 
 /// The address under this name.

@@ -1,17 +1,15 @@
 //! What a graph's blocks have that decides where they stand.
 
-ghost use Rattle.std.specs.Prelude.{◌≡◌, ℕ, ◌<◌, ◌≤◌, length, option_map, Some, None, IfOk, OnOk};
+ghost use Rattle.std.specs.Prelude.{◌≡◌, ℕ, ◌<◌, ◌^◌, length, option_map, sum_by, Some, None, IfOk};
 ghost use Rattle.std.specs.List.{All};
 ghost use Rattle.sq_graph.specs.Blocks.{HasBlock, block_of};
 ghost use Rattle.sq_graph.specs.Parts.{names_of};
-ghost use Rattle.sq_graph.specs.Rules.{IsGraph};
+ghost use Rattle.sq_graph.specs.Words.{block_words, procedure_words, words_of};
 ghost use Rattle.sq_lookup.specs.Tables.{number_at};
 ghost use Rattle.sq_chain.specs.Surveys.{extent_of, extents_of, IsSurvey};
 
 use crate::placing::fallen_addresses;
 use sq_graph::{Graph, Term};
-use sq_layout::{block_words, words_of};
-use sq_live::block_names;
 use sq_num::Memory;
 use std::alloc::Global;
 
@@ -34,72 +32,97 @@ pub(crate) struct Survey {
     pub words: u32,
 }
 
+/// The blocks of a graph in layout order, how many words they take, and a number that is greater than each of their names.
+#[derive(Drop)]
+struct Listing {
+    extents: Vec<Extent>,
+    words: u32,
+    names: usize,
+}
+
+/// The block of this name, by its slot alone: the length there is that of its items.
 fn extent_of(graph: &Graph, block: u32) -> Extent
-    requires rules { IsGraph graph.now.graph }
+    requires few { words_of graph.now.graph < 2 ^ 31 }
     requires block { HasBlock graph.now.graph block }
     ensures { option_map extent_of (block_of graph.now.graph block) ≡ Some result }
 {
+    let Some(slot) = graph.links().get(block) else {
+        unreachable!()
+    };
+    let term = slot.term;
+    let words = match term {
+        Term::Fall => slot.length,
+        _ => slot.length + 1,
+    };
     Extent {
         name: block,
-        words: block_words(graph, block),
-        term: graph.term(block),
+        words,
+        term,
     }
 }
 
-fn extents_of(alloc: Global, graph: &Graph, names: &[u32]) -> Result<Vec<Extent>, Memory>
-    requires { names.now ≡ names_of graph.now.graph }
-    ensures { IfOk result (λ extents. extents.items ≡ extents_of graph.now.graph) }
+/// The listing of the blocks, by one walk over them.
+fn listing_of(alloc: Global, graph: &Graph) -> Result<Listing, Memory>
+    ensures extents { IfOk result (λ they. they.extents.items ≡ extents_of graph.now.graph) }
+    ensures words { IfOk result (λ they. they.words ≡ sum_by block_words graph.now.graph.blocks) }
+    ensures names { IfOk result (λ they. All (λ name. name < they.names) (names_of graph.now.graph)) }
 {
     graph.learn();
-    let mut extents = Vec::with_capacity(alloc, names.len())?;
-    for name in names {
-        let taken = extent_of(graph, *name);
+    let mut extents = Vec::with_capacity(alloc, graph.links().len() as usize)?;
+    let mut words = 0;
+    let mut names = 0;
+    let mut place = Some(graph.first());
+    while let Some(name) = place {
+        let taken = extent_of(graph, name);
         let term = taken.term;
         extents.push(Extent { term, ..taken })?;
+        words += taken.words;
+        names = names.max(name as usize + 1);
+        place = graph.next(name);
     }
-    Ok(extents)
+    Ok(Listing {
+        extents,
+        words,
+        names,
+    })
 }
 
-/// Makes room for a name, and for as many again, so that names in a row take few calls.
-fn grow(room: &mut Vec<Option<u64>>, name: u32) -> Result<(), Memory>
-    ensures within { OnOk result (name < length room.new.items) }
-    ensures more { length room.old.items ≤ length room.new.items }
-    ensures same { (n : ℕ) → number_at room.new.items n ≡ number_at room.old.items n }
+/// The words of the procedures: their bodies, and one of each that returns.
+fn words_of_procedures(graph: &Graph) -> u32
+    requires { sum_by procedure_words graph.now.graph.procedures < 2 ^ 31 }
+    ensures { result ≡ sum_by procedure_words graph.now.graph.procedures }
 {
-    let len = room.len();
-    if len <= name as usize {
-        let more = len.saturating_mul(2).max(name as usize + 1);
-        room.resize(more, None)?;
+    let mut words = 0;
+    for procedure in 0..graph.procedures() {
+        words += graph.body(procedure).len() as u32 + 1;
     }
-    Ok(())
+    words
 }
 
-/// Room for an address under each of these names.
-fn room_for(alloc: Global, names: &[u32]) -> Result<Vec<Option<u64>>, Memory>
-    ensures within { IfOk result (λ room. All (λ name. name < length room.items) names.now) }
+/// Room for an address under each name below this number.
+pub(crate) fn room_for(alloc: Global, names: usize) -> Result<Vec<Option<u64>>, Memory>
+    ensures within { IfOk result (λ room. length room.items ≡ names) }
     ensures none { IfOk result (λ room. (n : ℕ) → number_at room.items n ≡ None) }
 {
     let mut room = Vec::new(alloc);
-    for name in names {
-        grow(&mut room, *name)?;
-    }
+    room.resize(names, None)?;
     Ok(room)
 }
 
-/// Three looks over the blocks.
+/// The survey of a graph, by one walk over the blocks and one look at their listing.
 pub(crate) fn survey_of(alloc: Global, graph: &Graph) -> Result<Survey, Memory>
     ensures { IfOk result (λ survey. IsSurvey graph.now.graph survey) }
 {
     graph.learn();
-    let names = block_names(alloc, graph)?;
-    let extents = extents_of(alloc, graph, &names)?;
-    let room = room_for(alloc, &names)?;
-    let fallen = fallen_addresses(alloc, &room, &extents)?;
+    let listing = listing_of(alloc, graph)?;
+    let room = room_for(alloc, listing.names)?;
+    let addresses = room_for(alloc, listing.names)?;
+    let fallen = fallen_addresses(addresses, &listing.extents);
     Ok(Survey {
-        extents,
+        extents: listing.extents,
         room,
         addresses: fallen.addresses,
         falls: fallen.falls,
-        words: words_of(graph),
+        words: listing.words + words_of_procedures(graph),
     })
 }

@@ -1,6 +1,6 @@
-use Rattle.std.proofs.Common.{ℕ, ◌≢◌, ◌<◌, get_or, map}
+use Rattle.std.proofs.Common.{ℕ, ◌≢◌, ◌≤◌, ◌<◌, get_or, map}
 use Rattle.sq_chain.specs.declared.survey.Extent.{Extent}
 use Rattle.sq_chain.proofs.order.place_of.Given as goal
 
 abbrev pub invariant-loop-i : goal.invariant-loop-i
-invariant-loop-i l = (k : ℕ) → k < l.i → get_or (map (λ (e : Extent). e.name) l.extents) k 0 ≢ l.name
+invariant-loop-i l = (k : ℕ) → l.from ≤ k → k < l.i → get_or (map (λ (e : Extent). e.name) l.extents) k 0 ≢ l.name

@@ -5,21 +5,29 @@ use Rattle.sq_lookup.specs.Tables.{number_at}
 use Rattle.sq_chain.specs.Least.{is_short}
 use Rattle.sq_chain.specs.Widening.{size_of}
 use Rattle.sq_chain.proofs.Lighter.{none_short, short_widened}
+use Rattle.sq_chain.proofs.Surveyed.{room_alike}
 use Rattle.sq_chain.proofs.outlook.ordered_outlook.Goals as goal
+
+pub fallen_addresses-they-requires : goal.fallen_addresses-they-requires
+fallen_addresses-they-requires c =
+    let there = room_alike c.requires.0 c.args.room.now c.in_ok-addresses.addresses.items c.requires.2 c.in_ok-addresses.ensures.within c.in_ok-addresses.ensures.none in
+    (c.requires.0, c.requires.1, there)
 
 pub returns-then-they-short-clause-still : goal.returns-then-they-short-clause-still
 returns-then-they-short-clause-still c = λ e h laid room.
+    let there = room_alike h c.args.room.now c.in_ok-addresses.addresses.items room c.in_ok-addresses.ensures.within c.in_ok-addresses.ensures.none in
     let many = c.if-they-short.true in
     let some = c.count_short-short.ensures.some h laid in
     let same = ap (λ (t : List (Option ℕ)). size_of h (λ n. is_short (address_at (number_at t)) h n (term_of h n))) c.deref.ensures.value in
-    let falls = c.in_ok-they.ensures.falls h laid room in
-    let more = short_widened h laid.rules (number_at c.in_ok-they.they.addresses.items) (c.in_ok-they.ensures.addresses h laid room) in
+    let falls = c.fallen_addresses-they.ensures.falls h laid there in
+    let more = short_widened h laid.rules (number_at c.fallen_addresses-they.result.addresses.items) (c.fallen_addresses-they.ensures.addresses h laid there) in
     omega (arith, many, some, same, falls, more)
 
 pub returns-then-short-eq0-clause-near : goal.returns-then-short-eq0-clause-near
 returns-then-short-eq0-clause-near c = λ e h laid room.
+    let there = room_alike h c.args.room.now c.in_ok-addresses.addresses.items room c.in_ok-addresses.ensures.within c.in_ok-addresses.ensures.none in
     let none = c.if-short-eq0.true in
     let fewer = c.if-they-short.false in
     let all = c.count_short-short.ensures.all h laid (omega (arith, fewer)) in
     let same = ap (λ (t : List (Option ℕ)). size_of h (λ n. is_short (address_at (number_at t)) h n (term_of h n))) c.deref.ensures.value in
-    none_short h laid.rules (number_at c.in_ok-they.they.addresses.items) (c.in_ok-they.ensures.addresses h laid room) (omega (arith, none, all, same))
+    none_short h laid.rules (number_at c.fallen_addresses-they.result.addresses.items) (c.fallen_addresses-they.ensures.addresses h laid there) (omega (arith, none, all, same))

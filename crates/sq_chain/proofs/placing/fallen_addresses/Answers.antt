@@ -1,4 +1,4 @@
-use Rattle.std.proofs.Common.{◌≡◌, ◌∙◌, ◌+◌, ◌*◌, ℕ, List, Option, [], ◌∷◌, length, drop, sum_by, refl, ap, is_some, subst, sym, arith}
+use Rattle.std.proofs.Common.{◌≡◌, ◌∙◌, ◌+◌, ◌*◌, List, [], ◌∷◌, length, drop, sum_by, refl, ap, is_some, subst, sym, arith}
 use Rattle.std.proofs.lemmas.List.{drop_all}
 use Rattle.std.proofs.lemmas.List.Sums.{sum_by-cons}
 use Rattle.sq_graph.specs.Graph.{Block}
@@ -64,8 +64,8 @@ overflow_add-at c =
 
 pub loop-i-init : goal.loop-i-init
 loop-i-init c = record {
-  room = ap (λ (xs : List (Option ℕ)). length xs) c.in_ok-addresses.ensures;
-  placed = λ h laid room. none_placed_by block_words (fallen_blocks h.blocks) (number_at c.in_ok-addresses.addresses.items) (λ n. ap (λ (table : List (Option ℕ)). number_at table n) c.in_ok-addresses.ensures ∙ room.none n);
+  room = refl;
+  placed = λ h laid room. none_placed_by block_words (fallen_blocks h.blocks) (number_at c.args.room.items) room.none;
   falls = λ h laid. omega arith;
 }
 

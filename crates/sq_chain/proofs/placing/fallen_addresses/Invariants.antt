@@ -9,7 +9,7 @@ use Rattle.sq_chain.proofs.placing.fallen_addresses.Given as goal
 
 abbrev pub invariant-loop-i : goal.invariant-loop-i
 invariant-loop-i l = record {
-  room : length l.addresses.items ≡ length l.room;
-  placed : (h : Graph) → IsLaidOut h l.order → IsRoom h l.room → IsPlacedBy block_words (fallen_blocks h.blocks) (number_at l.addresses.items) (drop l.i (fallen_blocks h.blocks)) l.at;
+  room : length l.addresses.items ≡ length l.fn.room.items;
+  placed : (h : Graph) → IsLaidOut h l.order → IsRoom h l.fn.room.items → IsPlacedBy block_words (fallen_blocks h.blocks) (number_at l.addresses.items) (drop l.i (fallen_blocks h.blocks)) l.at;
   falls : (h : Graph) → IsLaidOut h l.order → l.at + 4 * l.falls + 4 * sum_by block_words (drop l.i h.blocks) ≡ 4 * sum_by block_words h.blocks;
 }

@@ -1,28 +1,24 @@
-use Rattle.std.proofs.Common.{◌∙◌, ◌<◌, ℕ, List, length, subst, sym}
-use Rattle.std.specs.List.{All}
-use Rattle.sq_chain.specs.Surveys.{IsRoom, IsLaidOut}
+use Rattle.std.proofs.Common.{◌∙◌, arith}
+use Rattle.sq_chain.specs.Surveys.{IsLaidOut}
 use Rattle.sq_chain.proofs.Surveyed.{room_is}
 use Rattle.sq_chain.proofs.survey.survey_of.Goals as goal
 
-pub fallen_addresses-requires : goal.fallen_addresses-requires
-fallen_addresses-requires c =
+pub fallen_addresses-fallen-requires : goal.fallen_addresses-fallen-requires
+fallen_addresses-fallen-requires c =
     let g = c.args.graph.now.graph in
-    let all = subst (λ (ns : List ℕ). All (λ (n : ℕ). n < length c.in_ok-room.room.items) ns) (c.deref-2.ensures.value ∙ c.in_ok-names.ensures) c.in_ok-room.ensures.within in
-    let room = room_is g c.in_ok-room.room.items all c.in_ok-room.ensures.none in
-    let laid : IsLaidOut g c.deref-4.result.now = record { rules = c.learn.ensures.rules; few = c.learn.ensures.few; listed = c.deref-4.ensures.value ∙ c.in_ok-extents.ensures } in
-    (g, laid, subst (IsRoom g) (sym c.deref-3.ensures.value) room)
+    let laid : IsLaidOut g c.deref.result.now = record { rules = c.learn.ensures.rules; few = c.learn.ensures.few; listed = c.deref.ensures.value ∙ c.in_ok-listing.ensures.extents } in
+    let there = room_is g c.in_ok-listing.listing.names c.in_ok-addresses.addresses.items c.in_ok-listing.ensures.names c.in_ok-addresses.ensures.within c.in_ok-addresses.ensures.none in
+    (g, laid, there)
 
 pub returns : goal.returns
 returns c =
     let g = c.args.graph.now.graph in
-    let all = subst (λ (ns : List ℕ). All (λ (n : ℕ). n < length c.in_ok-room.room.items) ns) (c.deref-2.ensures.value ∙ c.in_ok-names.ensures) c.in_ok-room.ensures.within in
-    let room = room_is g c.in_ok-room.room.items all c.in_ok-room.ensures.none in
-    let laid : IsLaidOut g c.deref-4.result.now = record { rules = c.learn.ensures.rules; few = c.learn.ensures.few; listed = c.deref-4.ensures.value ∙ c.in_ok-extents.ensures } in
-    let there = subst (IsRoom g) (sym c.deref-3.ensures.value) room in
+    let laid : IsLaidOut g c.deref.result.now = record { rules = c.learn.ensures.rules; few = c.learn.ensures.few; listed = c.deref.ensures.value ∙ c.in_ok-listing.ensures.extents } in
+    let there = room_is g c.in_ok-listing.listing.names c.in_ok-addresses.addresses.items c.in_ok-listing.ensures.names c.in_ok-addresses.ensures.within c.in_ok-addresses.ensures.none in
     record {
-      extents = c.in_ok-extents.ensures;
-      room = room;
-      addresses = c.in_ok-fallen.ensures.addresses g laid there;
-      falls = c.in_ok-fallen.ensures.falls g laid there;
-      words = c.words_of.ensures;
+      extents = c.in_ok-listing.ensures.extents;
+      room = room_is g c.in_ok-listing.listing.names c.in_ok-room.room.items c.in_ok-listing.ensures.names c.in_ok-room.ensures.within c.in_ok-room.ensures.none;
+      addresses = c.fallen_addresses-fallen.ensures.addresses g laid there;
+      falls = c.fallen_addresses-fallen.ensures.falls g laid there;
+      words = omega (arith, c.in_ok-listing.ensures.words, c.words_of_procedures.ensures);
     }

@@ -5,7 +5,7 @@ use Rattle.law_follow.specs.Follows.{Follows}
 use Rattle.law_follow.proofs.Following.{graph_follows_itself}
 use Rattle.sq_pass.specs.Rewrites.{IsRewritten}
 use Rattle.sq_pass.proofs.Rewriting.{rewritten_itself}
-use Rattle.sq_chain.specs.Candidates.{IsCandidate, described, HasMoved}
+use Rattle.sq_chain.specs.Candidates.{IsCandidate, described}
 use Rattle.sq_chain.specs.Surveys.{IsSurvey}
 use Rattle.sq_chain.proofs.Moved.{canonical_few, move_lighter, move_rewritten}
 use Rattle.sq_chain.proofs.sweep.sweep_behind.Goals as goal
