@@ -15,8 +15,10 @@ use Rattle.sq_graph.specs.Words.{block_words, procedure_words, words_of}
 use Rattle.law_patch.specs.Restrictions.{procedures_held}
 use Rattle.sq_reach.specs.Marks.{AreReached}
 use Rattle.sq_pass.specs.declared.cut.Cut.{Cut}
+use Rattle.sq_pass.specs.declared.cut.Row.TheVariants.{U}
 use Rattle.sq_lookup.specs.Names.{is_listed}
 use Rattle.sq_jumps.specs.Unreached.{stays, is_called_in, is_held, words_gone, AreUnreached}
+use Rattle.sq_jumps.specs.UnreachedClear.{AreHeld}
 use Rattle.sq_jumps.specs.Candidates.{IsUnreachedCut}
 use Rattle.sq_jumps.proofs.UnreachedUncalled.{held_same}
 use Rattle.sq_jumps.proofs.UnreachedLeft.{own_there, words_fall}
@@ -213,12 +215,16 @@ module _ (g : Graph) (marks gone : List ℕ) (rules : IsGraph g) (reached : AreR
       both a b true e f = rw (e, f) refl
       both a b false e f = rw (e, f) refl
 
+  -- marked blocks call what blocks that stay call
+  pub held_are : (called : List ℕ) → ((q : ℕ) → is_listed called q ≡ is_called_in (is_listed marks) g.blocks q) → AreHeld g gone called
+  held_are called calls = λ q. calls q ∙ calls_agree g (is_listed marks) (stays g gone) stays_is [] g.blocks refl q
+
   pub sums_are : (called : List ℕ) → ((q : ℕ) → is_listed called q ≡ is_called_in (is_listed marks) g.blocks q)
       → sum_by block_words (filter (λ b. not (is_listed marks b.name)) g.blocks) + sum_by procedure_words (procedures_held (λ q. not (is_listed called q)) g.procedures) ≡ words_gone g gone
   sums_are called calls =
       ap (λ (bs : List Block). sum_by block_words bs + sum_by procedure_words (procedures_held (λ q. not (is_listed called q)) g.procedures)) (blocks_agree g (λ n. not (is_listed marks n)) (λ n. is_listed gone n) (λ n has. sym (listed_is n has)) [] g.blocks refl)
       ∙ ap (λ (ps : List Procedure). sum_by block_words (filter (λ b. is_listed gone b.name) g.blocks) + sum_by procedure_words ps)
-      (held_same (λ q. not (is_listed called q)) (λ q. not (is_held g gone q)) g.procedures (λ q below. ap not (calls q ∙ calls_agree g (is_listed marks) (stays g gone) stays_is [] g.blocks refl q)))
+      (held_same (λ q. not (is_listed called q)) (λ q. not (is_held g gone q)) g.procedures (λ q below. ap not (held_are called calls q)))
 
   pub gone_few : words_of g < 2 ^ 31 → words_gone g gone < 2 ^ 31
   gone_few few = omega (arith, few, words_fall g gone rules are_unreached)
@@ -244,3 +250,20 @@ none_unreached g gone are none cut u =
     let saving = u.saving in
     let words : words_gone g cut.blocks ≡ 0 = ap (words_gone g) same ∙ none in
     omega arith
+
+-- the cut of what isn't reached
+abbrev pub cut_of : List ℕ → ℕ → Cut
+cut_of gone saving =
+    record { row = U; blocks = gone; procedure = 0; other = 0; length = 0; link = 0; saving = saving }
+
+pub cut_is : (g : Graph) (gone : List ℕ) (saving : ℕ) → AreUnreached g gone → saving ≡ words_gone g gone → 1 ≤ saving → IsUnreachedCut g (cut_of gone saving)
+cut_is g gone saving are words some = record {
+  row = refl;
+  unreached = are;
+  procedure = refl;
+  other = refl;
+  length = refl;
+  link = refl;
+  saving = words;
+  some = some;
+}

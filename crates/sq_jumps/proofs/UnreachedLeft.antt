@@ -27,13 +27,13 @@ use Rattle.sq_reach.proofs.Blocks.{reached_has}
 use Rattle.sq_pass.specs.Applied.{IsApplied}
 use Rattle.sq_lookup.specs.Names.{is_listed}
 use Rattle.sq_jumps.specs.Unreached.{stays, is_called_in, is_held, without_all, words_gone, AreUnreached}
-use Rattle.sq_jumps.specs.UnreachedClear.{is_called, without_each}
+use Rattle.sq_jumps.specs.UnreachedClear.{AreHeld, cleared_each, is_called, TellsCalled, without_each}
 use Rattle.sq_layout.specs.Shrinks.{Shrinks}
 use Rattle.sq_layout.specs.Reach.{LedThere}
 use Rattle.sq_layout.proofs.Shrinking.{shrunk_in_reach, block_with}
 use Rattle.sq_layout.proofs.Shrunk.{shrinks_twice, each_shrinks, filter_shrinks, recalled_shrunk}
 use Rattle.sq_jumps.proofs.Ruled.{block_found}
-use Rattle.sq_jumps.proofs.UnreachedCleared.{cleared_if, all_cleared}
+use Rattle.sq_jumps.proofs.UnreachedCleared.{cleared_if, all_cleared, each_cleared}
 use Rattle.sq_jumps.proofs.UnreachedUncalled.{number_same, held_same, only_held, held_from}
 use Rattle.sq_jumps.proofs.UnreachedRemoved.{left_of, each_goes}
 use Rattle.sq_jumps.proofs.UnreachedGo.{listed_in, contains_listed, held_each}
@@ -77,6 +77,10 @@ module _ (g : Graph) (gone : List ℕ) (rules : IsGraph g) (are : AreUnreached g
         | inl listed ↦ rw (has, listed) later
         | inr stay ↦ rw (has, stay) (ap (λ t. is_listed (flat_map item_calls x.items) q || t) later)
       ]
+
+  -- once the blocks are cleared, those that stay are all that call
+  pub tells_held : (bound : ℕ) (called : List ℕ) → AreHeld g gone called → TellsCalled (cleared_each gone g) bound called
+  tells_held bound called held = λ q below. held q ∙ sym (called_same [] g.blocks refl q) ∙ ap (λ (k : Graph). is_called k q) (sym (each_cleared gone g rules.distinct))
 
   tests_same : (q : ℕ) → q < length g.procedures → h q ≡ held q
   tests_same q below =

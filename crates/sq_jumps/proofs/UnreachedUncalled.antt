@@ -15,7 +15,7 @@ use Rattle.sq_graph.specs.Uses.{item_calls}
 use Rattle.law_patch.specs.Restrictions.{procedures_held, number_held}
 use Rattle.sq_lookup.specs.Names.{is_listed}
 use Rattle.sq_jumps.specs.Unreached.{is_called_in}
-use Rattle.sq_jumps.specs.UnreachedClear.{is_called, without_uncalled}
+use Rattle.sq_jumps.specs.UnreachedClear.{is_called, TellsCalled, without_uncalled}
 
 -- TESTS THAT AGREE
 
@@ -170,6 +170,10 @@ items_call q n (Out p ∷ items) below = ap (λ t. t || is_listed (flat_map item
 blocks_call : (q n : ℕ) (bs : List Block) → n < q → is_called_in (λ m. true) (map (recalled_block (lowered q)) bs) n ≡ is_called_in (λ m. true) bs n
 blocks_call q n [] below = refl
 blocks_call q n (b ∷ bs) below = ap (λ t. t || is_called_in (λ m. true) (map (recalled_block (lowered q)) bs) n) (items_call q n b.items below) ∙ ap (λ t. is_listed (flat_map item_calls b.items) n || t) (blocks_call q n bs below)
+
+-- a set that told of a procedure and those below it tells of the latter still, once the procedure went
+pub tells_still : (g : Graph) (q : ℕ) (called : List ℕ) → TellsCalled g q called → TellsCalled (without_procedure g q) q called
+tells_still g q called tells = λ n below. tells n below ∙ sym (blocks_call q n g.blocks below)
 
 -- the tests before and after one went
 less_one : (g : Graph) (q : ℕ) → is_called g q ≡ false → IsLess q (held_from g (suc q)) (held_from (without_procedure g q) q)

@@ -1,5 +1,5 @@
 -- How the blocks and procedures of row U go, one after another. No public clause cites this module.
-use Rattle.std.specs.Prelude.{◌≡◌, ℕ, zero, suc, Bool, true, false, List, [], ◌∷◌, length, if◌then◌else◌}
+use Rattle.std.specs.Prelude.{◌≡◌, ℕ, ◌<◌, zero, suc, Bool, true, false, List, [], ◌∷◌, length, if◌then◌else◌}
 use Rattle.std.specs.List.{All}
 use Rattle.sq_graph.specs.declared.item.Term.TheVariants.{Stop}
 use Rattle.sq_graph.specs.Graph.{Block, Graph}
@@ -8,7 +8,7 @@ use Rattle.sq_graph.specs.Operations.{with_term, replaced, without_block, withou
 use Rattle.sq_graph.specs.Terms.{goes_on}
 use Rattle.sq_graph.specs.Uses.{uses}
 use Rattle.sq_lookup.specs.Names.{is_listed}
-use Rattle.sq_jumps.specs.Unreached.{is_called_in}
+use Rattle.sq_jumps.specs.Unreached.{is_called_in, is_held}
 
 -- the block loses its items, and stops
 abbrev pub cleared : Graph → ℕ → Graph
@@ -21,6 +21,14 @@ cleared_each (block ∷ rest) g = cleared_each rest (cleared g block)
 -- whether a block calls the procedure
 abbrev pub is_called : Graph → ℕ → Bool
 is_called g q = is_called_in (λ n. true) g.blocks q
+
+-- the set has the procedures that blocks which stay call
+abbrev pub AreHeld : Graph → List ℕ → List ℕ → Type 0
+AreHeld g gone called = (q : ℕ) → is_listed called q ≡ is_held g gone q
+
+-- the set tells of each procedure with a number below this one whether a block calls it
+abbrev pub TellsCalled : Graph → ℕ → List ℕ → Type 0
+TellsCalled g bound called = (q : ℕ) → q < bound → is_listed called q ≡ is_called g q
 
 -- the procedures with a number below this one that no block calls go, from the highest on
 abbrev pub without_uncalled : ℕ → Graph → Graph

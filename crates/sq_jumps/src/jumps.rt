@@ -236,7 +236,7 @@ impl Pass for Jumps {
         graph.learn();
         let blocks = cut.blocks.as_slice();
         match cut.row {
-            Row::U => drop_unreached(graph, blocks),
+            Row::U => drop_unreached(graph, blocks, None),
             row => apply_row(graph, row, blocks[0]),
         }
     }

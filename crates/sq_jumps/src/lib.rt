@@ -20,3 +20,4 @@ mod uses;
 pub use jumps::Jumps;
 pub use proposals::propose;
 pub use shorten::shorten_first;
+pub use sweep::sweep_reach;

@@ -57,3 +57,23 @@ pub(crate) fn sweep_jumps(
     }
     Ok(after)
 }
+
+/// Rewrites the graph by candidates of J2 and J3 alone, which may come where a Branch comes to reach, in rounds until one saves
+/// nothing. Each looks at the whole graph a few times.
+pub fn sweep_reach(alloc: Global, graph: &mut Graph, savings: Savings) -> Result<Savings, Memory>
+    requires canonical { IsCanonical graph.old.graph }
+    requires words { words_of graph.old.graph + words_saved savings ≤ most_words }
+    ensures rewritten { IfOk result (λ after. IsRewritten IsCandidate described savings after graph.old.graph graph.new.graph) }
+    ensures follows { Follows graph.old.graph graph.new.graph }
+{
+    let mut after = savings;
+    for _round in 0..ROUNDS {
+        let before = after;
+        let after_detours = sweep_lone_jumps(alloc, graph, Row::J2, before)?;
+        after = sweep_branches(alloc, graph, after_detours)?;
+        if after == before {
+            return Ok(after);
+        }
+    }
+    Ok(after)
+}

@@ -23,7 +23,8 @@ ghost use Rattle.sq_graph.specs.Uses.{item_calls};
 ghost use Rattle.law_patch.specs.Restrictions.{procedures_held};
 ghost use Rattle.sq_pass.specs.declared.cut.Cut.{Cut as Told};
 ghost use Rattle.sq_lookup.specs.Names.{is_listed, Adds};
-ghost use Rattle.sq_jumps.specs.Unreached.{is_called_in};
+ghost use Rattle.sq_jumps.specs.Unreached.{is_called_in, words_gone, AreUnreached};
+ghost use Rattle.sq_jumps.specs.UnreachedClear.{AreHeld};
 ghost use Rattle.sq_pass.specs.declared.cut.Row.TheVariants.{U as Unreached};
 ghost use Rattle.sq_pass.specs.Cuts.{IsCompleted};
 
@@ -37,6 +38,14 @@ use sq_num::{Memory, Savings};
 use sq_pass::{Blocks, Cut, Rewrite, Row};
 use sq_reach::{Marks, reachable};
 use std::alloc::Global;
+
+/// What goes by row U: the blocks that aren't reached, and all procedures but those that the other blocks call.
+#[derive(Drop)]
+struct Removal {
+    gone: Blocks,
+    called: Names,
+    saving: u32,
+}
 
 /// The names that aren't marked.
 fn unmarked(alloc: Global, marks: &Marks, names: &[u32]) -> Result<Blocks, Memory>
@@ -116,6 +125,25 @@ fn words_of_uncalled(graph: &Graph, called: &Names) -> u64
     words
 }
 
+/// What goes by row U, which may be nothing. It looks at each word a few times.
+fn find_removal(alloc: Global, graph: &Graph, names: &[u32]) -> Result<Removal, Memory>
+    requires { names.now ≡ names_of graph.now.graph }
+    ensures unreached { IfOk result (λ found. AreUnreached graph.now.graph found.gone) }
+    ensures called { IfOk result (λ found. AreHeld graph.now.graph found.gone found.called) }
+    ensures saving { IfOk result (λ found. found.saving ≡ words_gone graph.now.graph found.gone) }
+{
+    graph.learn();
+    let marks = reachable(alloc, graph)?;
+    let gone = unmarked(alloc, &marks, names)?;
+    let called = called_procedures(alloc, graph, &marks, names)?;
+    let saving = words_of_unmarked(graph, &marks, names) + words_of_uncalled(graph, &called);
+    Ok(Removal {
+        gone,
+        called,
+        saving: saving as u32,
+    })
+}
+
 /// The cut of all that isn't reached, or `None` where that has no words. It looks at each word a few times.
 pub(crate) fn find_unreached(
     alloc: Global,
@@ -126,22 +154,18 @@ pub(crate) fn find_unreached(
     ensures some { IfOk result (λ found. IfSome found (IsUnreachedCut graph.now.graph)) }
     ensures none { result ≡ Ok None → (cut : Told) → ¬ IsUnreachedCut graph.now.graph cut }
 {
-    graph.learn();
-    let marks = reachable(alloc, graph)?;
-    let blocks = unmarked(alloc, &marks, names)?;
-    let called = called_procedures(alloc, graph, &marks, names)?;
-    let saving = words_of_unmarked(graph, &marks, names) + words_of_uncalled(graph, &called);
-    if saving == 0 {
+    let found = find_removal(alloc, graph, names)?;
+    if found.saving == 0 {
         return Ok(None);
     }
     Ok(Some(Cut {
         row: Row::U,
-        blocks,
+        blocks: found.gone,
         procedure: 0,
         other: 0,
         length: 0,
         link: no_register(),
-        saving: saving as u32,
+        saving: found.saving,
     }))
 }
 
@@ -163,8 +187,8 @@ pub(crate) fn admit_unreached(
     find_unreached(alloc, graph, &names)
 }
 
-/// Rewrites the graph by row U, where that has a candidate. It looks at each word a few times, and once at the blocks for
-/// each procedure.
+/// Rewrites the graph by row U, where that has a candidate. It looks at each word a few times, and at all items once more
+/// for each procedure that goes.
 pub(crate) fn sweep_unreached(
     alloc: Global,
     graph: &mut Graph,
@@ -177,14 +201,15 @@ pub(crate) fn sweep_unreached(
 {
     graph.learn();
     let names = block_names(alloc, graph)?;
-    let Some(cut) = find_unreached(alloc, graph, &names)? else {
+    let found = find_removal(alloc, graph, &names)?;
+    if found.saving == 0 {
         return Ok(savings);
-    };
-    drop_unreached(graph, cut.blocks.as_slice());
+    }
+    drop_unreached(graph, found.gone.as_slice(), Some(&found.called));
     graph.canonical();
     let done = Rewrite {
         row: Row::U,
-        saving: cut.saving,
+        saving: found.saving,
     };
     Ok(done.count(savings))
 }

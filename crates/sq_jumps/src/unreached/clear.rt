@@ -1,6 +1,6 @@
 //! Blocks and procedures that go together, though they name one another.
 
-ghost use Rattle.std.specs.Prelude.{◌≡◌, ℕ, length};
+ghost use Rattle.std.specs.Prelude.{◌≡◌, ℕ, IfSome, length, option_copied};
 ghost use Rattle.std.specs.List.{All, flat_map};
 ghost use Rattle.sq_graph.specs.Blocks.{HasBlock};
 ghost use Rattle.sq_graph.specs.Room.{KeepsTotal};
@@ -8,9 +8,10 @@ ghost use Rattle.sq_graph.specs.Rules.{IsGraph};
 ghost use Rattle.sq_graph.specs.Uses.{item_calls};
 ghost use Rattle.sq_lookup.specs.Names.{is_listed};
 ghost use Rattle.sq_jumps.specs.Unreached.{AreUnreached, without_all};
-ghost use Rattle.sq_jumps.specs.UnreachedClear.{cleared, cleared_each, is_called, without_uncalled, without_each, MayGo};
+ghost use Rattle.sq_jumps.specs.UnreachedClear.{AreHeld, cleared, cleared_each, is_called, TellsCalled, without_uncalled, without_each, MayGo};
 
 use sq_graph::{Graph, Item, Term};
+use sq_lookup::Names;
 
 /// Takes the items of a block away, and makes it stop, so that it names nothing.
 fn clear(graph: &mut Graph, block: u32)
@@ -65,14 +66,28 @@ fn is_called(graph: &Graph, number: u32) -> bool
     false
 }
 
-/// Removes each procedure that no block calls. It looks at the graph once for each procedure.
-fn remove_uncalled(graph: &mut Graph)
+/// The same, by one look where the set of the procedures that blocks call is given.
+fn has_caller(graph: &Graph, called: Option<&Names>, number: u32) -> bool
+    requires rules { IsGraph graph.now.graph }
+    requires called { IfSome (option_copied called) (λ called. is_listed called number ≡ is_called graph.now.graph number) }
+    ensures { result ≡ is_called graph.now.graph number }
+{
+    match called {
+        Some(called) => called.has(number),
+        None => is_called(graph, number),
+    }
+}
+
+/// Removes each procedure that no block calls. It looks at all items once for each of them, and at the blocks once for each
+/// procedure where the set isn't given.
+fn remove_uncalled(graph: &mut Graph, called: Option<&Names>)
+    requires { IfSome (option_copied called) (TellsCalled graph.old.graph (length graph.old.graph.procedures)) }
     ensures graph { graph.new.graph ≡ without_uncalled (length graph.old.graph.procedures) graph.old.graph }
     ensures total { KeepsTotal graph.old graph.new }
 {
     for number in (0..graph.procedures()).rev() {
         graph.learn();
-        if !is_called(graph, number) {
+        if !has_caller(graph, called, number) {
             graph.remove_procedure(number);
         }
     }
@@ -90,16 +105,18 @@ fn remove_each(graph: &mut Graph, blocks: &[u32])
     }
 }
 
-/// Removes the blocks that aren't reached, and the procedures that no other block calls.
-pub(crate) fn drop_unreached(graph: &mut Graph, blocks: &[u32])
-    requires { AreUnreached graph.old.graph blocks.now }
+/// Removes the blocks that aren't reached, and the procedures that no other block calls. It looks at all items once for each
+/// procedure that goes, and at the blocks once for each procedure where the set of those that they call isn't given.
+pub(crate) fn drop_unreached(graph: &mut Graph, blocks: &[u32], called: Option<&Names>)
+    requires unreached { AreUnreached graph.old.graph blocks.now }
+    requires called { IfSome (option_copied called) (AreHeld graph.old.graph blocks.now) }
     ensures graph { graph.new.graph ≡ without_all graph.old.graph blocks.now }
     ensures rules { IsGraph graph.new.graph }
     ensures total { KeepsTotal graph.old graph.new }
 {
     graph.learn();
     clear_each(graph, blocks);
-    remove_uncalled(graph);
+    remove_uncalled(graph, called);
     graph.learn();
     remove_each(graph, blocks);
     graph.learn();
