@@ -8,6 +8,7 @@
 
 mod call;
 mod callers;
+mod ends;
 mod groups;
 mod inline;
 mod link;
@@ -25,6 +26,7 @@ mod unmoved;
 mod ways;
 mod windows;
 
+pub use ends::Ends;
 pub use outlines::Outlines;
 pub use proposals::propose;
 pub use unmoved::{News, Unmoved};

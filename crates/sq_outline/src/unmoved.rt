@@ -6,7 +6,7 @@ ghost use Rattle.sq_graph.specs.Blocks.{HasBlock};
 use crate::groups::{block_print, procedure_prints};
 use crate::inline::{any_would_save, find_inline};
 use crate::seams::may_pay_at;
-use crate::ways::{near_jumps, previous};
+use crate::ways::{Reaching, near_jumps, previous};
 use crate::windows::may_end_alike;
 use sq_graph::{Graph, Term};
 use sq_live::block_names;
@@ -32,13 +32,23 @@ struct Was {
     jumped: bool,
 }
 
+/// A block and the one behind it, if there is one, between which a move closes or makes a seam.
+#[derive(Clone, Copy, Debug)]
+struct Sides {
+    first: u32,
+    second: Option<u32>,
+}
+
 /// What there was before a chain moved.
 #[derive(Drop)]
 pub struct Unmoved {
     // The blocks at the three seams that the move makes.
     seams: Vec<Was>,
+    // The blocks on both sides of the three seams that it closes and makes.
+    sides: Vec<Sides>,
     // The lone Jumps that stay though each Branch that leads by them reaches where they lead.
     near: Names,
+    reaching: Reaching,
     // Whether a procedure waits for Branches to reach.
     inlines: bool,
 }
@@ -135,7 +145,9 @@ impl Unmoved {
     pub fn new(alloc: Global) -> Unmoved {
         Unmoved {
             seams: Vec::new(alloc),
+            sides: Vec::new(alloc),
             near: Names::new(alloc),
+            reaching: Reaching::new(alloc),
             inlines: false,
         }
     }
@@ -148,7 +160,9 @@ impl Unmoved {
     ) -> Result<Unmoved, Memory> {
         Ok(Unmoved {
             seams: Vec::new(alloc),
+            sides: Vec::new(alloc),
             near: set_of(alloc, &near_jumps(alloc, graph, addresses)?)?,
+            reaching: Reaching::look(alloc, graph, addresses)?,
             inlines: any_would_save(alloc, graph)?,
         })
     }
@@ -167,9 +181,11 @@ impl Unmoved {
         if !is_block(graph, first) {
             return Ok(());
         }
+        let second = graph.next(first);
+        self.sides.push(Sides { first, second })?;
         self.note(graph, first)?;
-        match graph.next(first) {
-            Some(second) => self.note(graph, second),
+        match second {
+            Some(block) => self.note(graph, block),
             None => Ok(()),
         }
     }
@@ -178,6 +194,7 @@ impl Unmoved {
     /// It looks at the chain.
     pub fn begin(&mut self, graph: &Graph, from: u32) -> Result<bool, Memory> {
         self.seams.clear();
+        self.sides.clear();
         let Some(to) = jump_target(graph, from) else {
             return Ok(false);
         };
@@ -262,13 +279,34 @@ impl Unmoved {
         }
     }
 
-    /// Whether a lone Jump may go that stayed before.
+    /// Whether it is new that a Branch reaches, as far from the seams as one reaches.
+    fn reaches_more(&mut self, graph: &Graph, addresses: &[Option<u64>]) -> Result<bool, Memory> {
+        let mut more = false;
+        for at in 0..self.sides.len() {
+            let Sides { first, second } = self.sides[at];
+            let side = if is_block(graph, first) {
+                Some(first)
+            } else {
+                second
+            };
+            if let Some(block) = side {
+                more |= self.reaching.grows(graph, addresses, block, true)?;
+                more |= self.reaching.grows(graph, addresses, block, false)?;
+            }
+        }
+        Ok(more)
+    }
+
+    /// Whether a lone Jump may go that stayed before. It looks at each block only where it is new that a Branch reaches.
     fn has_more_near(
         &mut self,
         alloc: Global,
         graph: &Graph,
         addresses: &[Option<u64>],
     ) -> Result<bool, Memory> {
+        if !self.reaches_more(graph, addresses)? {
+            return Ok(false);
+        }
         let near = near_jumps(alloc, graph, addresses)?;
         let before = &self.near;
         let more = near.iter().any(|jump| !before.has(*jump));
@@ -287,7 +325,7 @@ impl Unmoved {
     }
 
     /// What may give a row a candidate since the chain moved, where none had one before. From then on the graph counts as unmoved. It
-    /// looks at each Branch, and where blocks became one, at each word a few times.
+    /// looks at the blocks around the seams, at each where one of these reaches, and where blocks became one, at each word a few times.
     pub fn news(
         &mut self,
         alloc: Global,

@@ -183,7 +183,12 @@ fn missing_between(graph: &Graph, way: Way, ends: Ends) -> u64 {
         .max(at.saturating_sub(to).saturating_sub(4096))
 }
 
-/// Branches that don't reach where rows J2 and J3 would lead them.
+/// By how many bytes less than all the way is worth a look again.
+fn nearness(way: &Way) -> u64 {
+    u64::MAX - way.rest
+}
+
+/// Branches that don't reach where rows J2 and J3 would lead them, those last for which fewest bytes have to go.
 #[derive(Drop)]
 pub(crate) struct FarWays {
     ways: Vec<Way>,
@@ -217,35 +222,41 @@ impl FarWays {
                 far.push(graph, &addresses, by_slot)?;
             }
         }
+        far.ways.sort_by_key(nearness)?;
         Ok(far)
     }
 
-    /// Whether no Branch that is still too far leads by this lone Jump.
-    fn none_waits(&self, over: u32) -> bool {
-        !self
-            .ways
-            .iter()
-            .any(|way| way.over == over && way.rest < u64::MAX)
+    /// Takes out a way along which it is worth while to look again, since so many bytes went in all.
+    fn next_within(&mut self, gone: u64) -> Option<Way> {
+        if self.ways.last()?.rest > gone {
+            return None;
+        }
+        self.ways.pop()
+    }
+
+    /// Puts a way back for which so many bytes have to go in all.
+    fn put_back(&mut self, way: Way, rest: u64) -> Result<(), Memory> {
+        let place = self.ways.partition_point(|other| other.rest > rest);
+        self.ways.insert(place, Way { rest, ..way })?;
+        Ok(())
     }
 
     /// Whether a lone Jump can go, since so many bytes went in all. It looks again along the ways for which enough of them
     /// did.
-    pub(crate) fn has_near(&mut self, graph: &Graph, gone: u64) -> bool {
+    pub(crate) fn has_near(&mut self, graph: &Graph, gone: u64) -> Result<bool, Memory> {
         let mut found = false;
-        for at in 0..self.ways.len() {
-            let way = self.ways[at];
-            if way.rest <= gone {
-                let missing = missing(graph, way);
-                let rest = if missing == 0 {
-                    u64::MAX
-                } else {
-                    gone.saturating_add(missing)
-                };
-                self.ways[at] = Way { rest, ..way };
-                found = found || missing == 0 && self.none_waits(way.over);
+        for _way in 0..self.ways.len() {
+            let Some(way) = self.next_within(gone) else {
+                return Ok(found);
+            };
+            let missing = missing(graph, way);
+            if missing > 0 {
+                self.put_back(way, gone.saturating_add(missing))?;
+            } else if !self.ways.iter().any(|other| other.over == way.over) {
+                found = true;
             }
         }
-        found
+        Ok(found)
     }
 }
 
@@ -253,6 +264,11 @@ impl FarWays {
 fn address_in(addresses: &[Option<u64>], name: u32) -> u64 {
     addresses.get(name as usize).copied().flatten().unwrap_or(0)
 }
+
+/// How many slots a look for Branches around a seam goes along at most, and how many bytes.
+const NEAR_SLOTS: u32 = 1200;
+
+const NEAR: u64 = 4200;
 
 /// Whether the Branch of a way reaches where the lone Jump leads once that is gone, by these addresses.
 fn is_near(graph: &Graph, addresses: &[Option<u64>], way: Way) -> bool {
@@ -301,4 +317,93 @@ pub(crate) fn near_jumps(
     }
     near.retain(|over| !far.has(*over));
     Ok(near)
+}
+
+/// Whether the block's Branch reaches where a lone Jump leads, to which or over which it leads.
+fn reaches_past(graph: &Graph, addresses: &[Option<u64>], block: u32) -> bool
+    requires { HasBlock graph.now.graph block }
+{
+    let (by_target, by_slot) = ways_of(graph, block);
+    by_target.is_some_and(|way| is_near(graph, addresses, way))
+        || by_slot.is_some_and(|way| is_near(graph, addresses, way))
+}
+
+/// The blocks whose Branches reach where a lone Jump leads, as far as they were looked for.
+#[derive(Drop)]
+pub(crate) struct Reaching {
+    blocks: Names,
+}
+
+impl Reaching {
+    /// None.
+    pub(crate) fn new(alloc: Global) -> Reaching {
+        Reaching {
+            blocks: Names::new(alloc),
+        }
+    }
+
+    /// Those of a graph, by where its blocks stand. It looks at each block.
+    pub(crate) fn look(
+        alloc: Global,
+        graph: &Graph,
+        addresses: &[Option<u64>],
+    ) -> Result<Reaching, Memory> {
+        let mut reaching = Reaching::new(alloc);
+        for name in 0..u32::try_from(addresses.len()).unwrap_or(u32::MAX) {
+            reaching.note(graph, addresses, name)?;
+        }
+        Ok(reaching)
+    }
+
+    /// Takes note of the block's Branch, if there is this block. Whether it is new that it reaches.
+    fn note(
+        &mut self,
+        graph: &Graph,
+        addresses: &[Option<u64>],
+        block: u32,
+    ) -> Result<bool, Memory> {
+        let new = is_block(graph, block)
+            && reaches_past(graph, addresses, block)
+            && !self.blocks.has(block);
+        if new {
+            self.blocks.insert(block)?;
+        }
+        Ok(new)
+    }
+
+    /// Whether it is new that a Branch reaches, from this block on, ahead or back, as far as one reaches.
+    pub(crate) fn grows(
+        &mut self,
+        graph: &Graph,
+        addresses: &[Option<u64>],
+        from: u32,
+        ahead: bool,
+    ) -> Result<bool, Memory> {
+        let start = address_in(addresses, from);
+        let mut new = false;
+        let mut place = Some(from);
+        for _slot in 0..NEAR_SLOTS {
+            let Some(at) = place else {
+                return Ok(new);
+            };
+            if address_in(addresses, at).abs_diff(start) > NEAR {
+                return Ok(new);
+            }
+            new |= self.note(graph, addresses, at)?;
+            place = beside(graph, at, ahead);
+        }
+        Ok(new)
+    }
+}
+
+/// The block in the slot behind this one, or in the slot before it, if there are both.
+fn beside(graph: &Graph, block: u32, ahead: bool) -> Option<u32> {
+    if !is_block(graph, block) {
+        return None;
+    }
+    if ahead {
+        graph.next(block)
+    } else {
+        previous(graph, block)
+    }
 }

@@ -8,6 +8,7 @@
 ghost use Rattle.sq_outline.specs.WindowsPast.{IsPast};
 
 use crate::inline::{any_would_save, find_inline};
+use crate::unmoved::News;
 use crate::ways::FarWays;
 use crate::windows::doubles::{Body, is_double, plain_bodies, stands_for_one};
 use crate::windows::joins::{callers_of, may_join_one};
@@ -27,7 +28,7 @@ pub(crate) struct Earlier {
     inlines: bool,
     bodies: Vec<Body>,
     callers: Vec<u32>,
-    asks: bool,
+    news: News,
 }
 
 impl Earlier {
@@ -41,22 +42,34 @@ impl Earlier {
             inlines: any_would_save(alloc, graph)?,
             bodies: plain_bodies(alloc, graph, &names)?,
             callers: callers_of(alloc, graph, &names)?,
-            asks: false,
+            news: News::Nothing,
         })
     }
 
     /// Whether one of the rows is to be asked before more windows become calls.
     pub(crate) fn asks(&self) -> bool {
-        self.asks
+        self.news != News::Nothing
     }
 
-    /// Whether a Branch reaches that kept a row from having a candidate, since so many words more went from blocks.
-    fn has_reach(&mut self, alloc: Global, graph: &Graph, words: u64) -> Result<bool, Memory> {
+    /// What may give one of them a candidate.
+    pub(crate) fn news(&self) -> News {
+        self.news
+    }
+
+    /// What may be new since so many words more went from blocks, and since items came by which there may be more or not.
+    fn news_of(
+        &mut self,
+        alloc: Global,
+        graph: &Graph,
+        words: u64,
+        more: bool,
+    ) -> Result<News, Memory> {
         self.gone = self.gone.saturating_add(words.saturating_mul(4));
-        if self.far.has_near(graph, self.gone) {
-            return Ok(true);
+        let reaches = self.far.has_near(graph, self.gone)?;
+        if more || self.inlines && find_inline(alloc, graph)?.is_some() {
+            return Ok(News::Items);
         }
-        Ok(self.inlines && find_inline(alloc, graph)?.is_some())
+        Ok(if reaches { News::Reach } else { News::Nothing })
     }
 
     /// Looks at what may be new since the last procedure came and so many words went from blocks, by registers that were dead
@@ -75,9 +88,9 @@ impl Earlier {
             return Ok(());
         }
         let new = graph.procedures() - 1;
-        self.asks = self.has_reach(alloc, graph, words)?
-            || is_double(graph, new)
+        let more = is_double(graph, new)
             || stands_for_one(graph, before, shifts, new, &self.bodies);
+        self.news = self.news_of(alloc, graph, words, more)?;
         Ok(())
     }
 
@@ -94,8 +107,8 @@ impl Earlier {
     ) -> Result<(), Memory>
         requires past { IsPast graph.now.graph before.now shifts.now }
     {
-        self.asks = self.has_reach(alloc, graph, words)?
-            || may_join_one(graph, before, shifts, place, &self.callers);
+        let more = may_join_one(graph, before, shifts, place, &self.callers);
+        self.news = self.news_of(alloc, graph, words, more)?;
         self.callers.push(place.block)?;
         Ok(())
     }

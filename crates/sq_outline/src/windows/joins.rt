@@ -156,6 +156,7 @@ pub(crate) fn may_end_alike(alloc: Global, graph: &Graph, block: u32) -> Result<
         if *name != block
             && is_block(graph, *name)
             && graph.items(*name).last() == Some(last)
+            && without_target(graph.term(*name)) == end.term
             && end_of(graph, *name) == end
         {
             return Ok(true);

@@ -2,6 +2,7 @@
 
 ghost use Rattle.sq_live.specs.Liveness.{IsLivenessOf};
 
+use crate::unmoved::News;
 use crate::windows::found::Found;
 use crate::windows::past::{Shift, now_at};
 use crate::windows::proposals::{FoundWindow, found_windows};
@@ -9,12 +10,15 @@ use sq_graph::Graph;
 use sq_live::Liveness;
 use sq_num::Memory;
 use std::alloc::Global;
+use std::mem::replace;
 
 /// Windows that may become procedures, the last to be tried first. Each is tested on the graph as it is then, so that graph may
 /// be another one than that in which they were found.
 #[derive(Drop)]
 pub struct FoundWindows {
     windows: Vec<FoundWindow>,
+    // Why the sweep ended that left them.
+    news: News,
 }
 
 impl FoundWindows {
@@ -22,6 +26,7 @@ impl FoundWindows {
     pub fn new(alloc: Global) -> FoundWindows {
         FoundWindows {
             windows: Vec::new(alloc),
+            news: News::Nothing,
         }
     }
 
@@ -40,7 +45,18 @@ impl FoundWindows {
     {
         Ok(FoundWindows {
             windows: found_windows(alloc, graph, live)?,
+            news: News::Nothing,
         })
+    }
+
+    /// Why the sweep ended that left them: what may have given an earlier row a candidate. From then on it is told no more.
+    pub fn take_news(&mut self) -> News {
+        replace(&mut self.news, News::Nothing)
+    }
+
+    /// Has it told.
+    pub(crate) fn tell(&mut self, news: News) {
+        self.news = news;
     }
 
     /// Takes out the one to be tried first.

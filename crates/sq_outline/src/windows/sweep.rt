@@ -358,9 +358,33 @@ fn sweep_made(
     Ok(after)
 }
 
+/// The same by both rows: by V, or where windows are left by these, and then by W.
+fn sweep_both(
+    alloc: Global,
+    graph: &mut Graph,
+    live: &Liveness,
+    earlier: &mut Earlier,
+    windows: &mut FoundWindows,
+    savings: Savings,
+) -> Result<Savings, Memory>
+    requires canonical { IsCanonical graph.old.graph }
+    requires words { words_of graph.old.graph + words_saved savings ≤ most_words }
+    requires live { IsLivenessOf graph.old.graph live.now }
+    ensures rewritten { IfOk result (λ after. IsRewritten IsWindowsCandidate windows_described savings after graph.old.graph graph.new.graph) }
+    ensures follows { Follows graph.old.graph graph.new.graph }
+{
+    if windows.is_empty() {
+        let called = sweep_calls(alloc, graph, live, earlier, savings)?;
+        return sweep_made(alloc, graph, earlier, windows, called);
+    }
+    let made = make_each(alloc, graph, earlier, live, windows, savings)?;
+    sweep_made(alloc, graph, earlier, windows, made)
+}
+
 /// Rewrites the graph, of which these are the live registers, by rows V and W, where no earlier row has a candidate. It looks for
 /// candidates of V once, and for those of W and for live registers a few times. It ends where an earlier row may have a candidate,
-/// and leaves the windows that it didn't try: given them, the next sweep goes on with them. It may leave candidates.
+/// and leaves the windows that it didn't try, and why it ended: given them, the next sweep goes on with them. It may leave
+/// candidates.
 pub fn sweep_windows(
     alloc: Global,
     graph: &mut Graph,
@@ -375,10 +399,7 @@ pub fn sweep_windows(
     ensures follows { Follows graph.old.graph graph.new.graph }
 {
     let mut earlier = Earlier::look(alloc, graph)?;
-    if windows.is_empty() {
-        let called = sweep_calls(alloc, graph, live, &mut earlier, savings)?;
-        return sweep_made(alloc, graph, &mut earlier, windows, called);
-    }
-    let made = make_each(alloc, graph, &mut earlier, live, windows, savings)?;
-    sweep_made(alloc, graph, &mut earlier, windows, made)
+    let after = sweep_both(alloc, graph, live, &mut earlier, windows, savings)?;
+    windows.tell(earlier.news());
+    Ok(after)
 }
