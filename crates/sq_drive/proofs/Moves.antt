@@ -13,12 +13,13 @@ use Rattle.sq_pass.specs.declared.cut.Row.TheVariants.{U, J1, J2, J3, C, T, O1, 
 use Rattle.sq_pass.specs.declared.rewrite.Rewrite.{Rewrite}
 use Rattle.sq_pass.specs.Rewrites.{IsRewrite, IsRewritten}
 use Rattle.sq_pass.proofs.Rewriting.{stepped_wider}
-use Rattle.sq_jumps.specs.Candidates.{HasRow}
+use Rattle.sq_jumps.specs.Candidates.{HasRow, IsCandidate as IsJumpsCandidate, described as jumps_described}
+use Rattle.sq_outline.specs.WindowsCandidates.{IsWindowsCandidate, windows_described}
 use Rattle.sq_chain.specs.Candidates.{cut_of, IsCandidate as IsMove, described as move_described}
 use Rattle.sq_chain.specs.Moves.{moved, IsStill}
 use Rattle.sq_drive.specs.declared.rows.RowPass.TheVariants.{Jumps, Tails, Outlines, Windows}
 use Rattle.sq_drive.specs.Rows.{pass_of, IsRowCandidate, row_described, IsCandidate, described_by, described, IsLeftoverFree}
-use Rattle.sq_drive.proofs.RowPasses.{its_row}
+use Rattle.sq_drive.proofs.RowPasses.{its_row, swept}
 
 -- WHAT THE ROW OF A CANDIDATE MAKES
 
@@ -74,6 +75,17 @@ by_rows = stepped_wider (IsRewrite IsRowCandidate row_described) (IsRewrite IsCa
 
 pub by_moves : (before after : Savings) (old new : Graph) → IsRewritten IsMove move_described before after old new → IsRewritten IsCandidate described before after old new
 by_moves = stepped_wider (IsRewrite IsMove move_described) (IsRewrite IsCandidate described) move_rewrite
+
+pub by_windows : (before after : Savings) (old new : Graph) → IsRewritten IsWindowsCandidate windows_described before after old new → IsRewritten IsCandidate described before after old new
+by_windows before after old new made = by_rows before after old new (swept Windows before after old new made)
+
+pub by_jumps : (before after : Savings) (old new : Graph) → IsRewritten IsJumpsCandidate jumps_described before after old new → IsRewritten IsCandidate described before after old new
+by_jumps before after old new made = by_rows before after old new (swept Jumps before after old new made)
+
+-- so where they are made, if they are
+pub made_by_all : (is : Graph → Cut → Type 0) (its : Graph → Cut → Graph) → ((before after : Savings) (old new : Graph) → IsRewritten is its before after old new → IsRewritten IsCandidate described before after old new) → (before : Savings) (old new : Graph) (r : Result Savings Memory) → IfOk r (λ after. IsRewritten is its before after old new) → IfOk r (λ after. IsRewritten IsCandidate described before after old new)
+made_by_all is its by before old new (Ok after) made = by before after old new made
+made_by_all is its by before old new (Err error) made = tt
 
 -- so where some are made of the same graph, if they are
 pub some_by_all : (is : Graph → Cut → Type 0) (its : Graph → Cut → Graph) → ((before after : Savings) (old new : Graph) → IsRewritten is its before after old new → IsRewritten IsCandidate described before after old new) → (before : Savings) (old same new : Graph) (r : Result (Option Savings) Memory) → same ≡ old → IfOk r (λ done. IfSome done (λ after. IsRewritten is its before after same new)) → IfOk r (λ done. IfSome done (λ after. IsRewritten IsCandidate described before after old new))

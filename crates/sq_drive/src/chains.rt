@@ -27,6 +27,8 @@ pub struct LeftMoves {
     tried: Names,
     // Whether windows are to be asked before chains move.
     windows: bool,
+    // Why the last one ended.
+    news: News,
 }
 
 impl LeftMoves {
@@ -35,7 +37,13 @@ impl LeftMoves {
         LeftMoves {
             tried: Names::new(alloc),
             windows: true,
+            news: News::Nothing,
         }
+    }
+
+    /// Why the last sweep ended: what may have given a row a candidate. From then on it is told no more.
+    pub(crate) fn take_news(&mut self) -> News {
+        replace(&mut self.news, News::Nothing)
     }
 
     /// Whether windows may have come since they were asked last.
@@ -117,10 +125,12 @@ pub fn sweep_moves(
         ended: false,
     };
     let after = sq_chain::sweep_moves(alloc, graph, &mut watch, savings)?;
+    left.news = News::Nothing;
     if watch.ended {
         swap(&mut left.tried, &mut watch.tried);
+        left.news = watch.news;
     }
-    left.windows = watch.ended && watch.news == News::Items;
+    left.windows = left.news == News::Items;
     Ok(after)
 }
 

@@ -14,6 +14,7 @@ mod hints;
 mod listed;
 mod noting;
 mod once;
+mod reach;
 mod replaying;
 mod rows;
 mod settling;

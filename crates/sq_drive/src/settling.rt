@@ -14,15 +14,15 @@ ghost use Rattle.sq_chain.specs.Candidates.{IsCandidate as IsMove};
 ghost use Rattle.sq_drive.specs.declared.rows.RowPass.TheVariants.{Windows as WindowsPass};
 ghost use Rattle.sq_drive.specs.Rows.{IsCandidateOf, IsCandidate, described, IsLeftoverFree};
 
-use crate::chains::{LeftMoves, move_some};
+use crate::chains::move_some;
 use crate::once::{find_one, rewrite_by_cut};
+use crate::reach::{Left, go_on};
 use crate::rows::{Settled, settle_earlier};
 use crate::windows::window_some;
 use sq_graph::Graph;
 use sq_layout::words_of;
 use sq_live::{Liveness, block_names};
 use sq_num::{Memory, Savings};
-use sq_outline::FoundWindows;
 use sq_pass::Pass;
 use std::alloc::Global;
 
@@ -76,13 +76,6 @@ pub fn settle_by<P: Pass>(
         };
         saved = after;
     }
-}
-
-/// With what sweeps that ended go on.
-#[derive(Drop)]
-struct Left {
-    windows: FoundWindows,
-    moves: LeftMoves,
 }
 
 /// Rewrites the graph, of which these are the live registers, by windows, where no pass before them has a candidate, or where they
@@ -147,10 +140,7 @@ fn settle_from(alloc: Global, graph: &mut Graph, savings: Savings) -> Result<Sav
 {
     let mut saved = savings;
     let mut looks = 0;
-    let mut left = Left {
-        windows: FoundWindows::new(alloc),
-        moves: LeftMoves::new(alloc),
-    };
+    let mut left = Left::new(alloc);
     loop {
         let blocks = block_count(alloc, graph)?;
         let Settled { savings, live } = settle_earlier(alloc, graph, &mut looks, saved)?;
@@ -161,7 +151,7 @@ fn settle_from(alloc: Global, graph: &mut Graph, savings: Savings) -> Result<Sav
         let Some(after) = rewrite_late(alloc, graph, &live, &mut left, savings)? else {
             return Ok(savings);
         };
-        saved = after;
+        saved = go_on(alloc, graph, &mut left, after)?;
     }
 }
 

@@ -5,15 +5,9 @@ use Rattle.sq_pass.specs.declared.cut.Cut.{Cut}
 use Rattle.sq_pass.specs.Rewrites.{IsRewritten}
 use Rattle.sq_outline.specs.WindowsCandidates.{IsWindowsCandidate, windows_described}
 use Rattle.sq_chain.specs.Candidates.{IsCandidate as IsMove, described as move_described}
-use Rattle.sq_drive.specs.declared.rows.RowPass.TheVariants.{Windows}
 use Rattle.sq_drive.specs.Rows.{IsCandidate, described}
-use Rattle.sq_drive.proofs.RowPasses.{swept}
-use Rattle.sq_drive.proofs.Moves.{by_rows, by_moves, some_by_all}
+use Rattle.sq_drive.proofs.Moves.{by_windows, by_moves, some_by_all}
 use Rattle.sq_drive.proofs.settling.rewrite_late.Goals as goal
-
--- rewrites by windows are rewrites by all rows
-by_windows : (before after : Savings) (old new : Graph) → IsRewritten IsWindowsCandidate windows_described before after old new → IsRewritten IsCandidate described before after old new
-by_windows before after old new made = by_rows before after old new (swept Windows before after old new made)
 
 pub returns-in-Some-clause-rewritten : goal.returns-in-Some-clause-rewritten
 returns-in-Some-clause-rewritten c =

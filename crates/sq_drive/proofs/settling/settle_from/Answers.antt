@@ -17,8 +17,10 @@ loop-left-preserved c =
     let old = c.args.graph.now.graph in
     let mid = c.settle_earlier.new.graph.graph in
     let rows = by_rows c.loop-left.saved c.in_ok-savings.field-0.savings c.loop-left.graph.graph mid c.in_ok-savings.ensures.rewritten in
+    let late = c.rewrite_late.new.graph.graph in
     let settled = rewritten_through IsCandidate described c.args.savings c.loop-left.saved c.in_ok-savings.field-0.savings old c.loop-left.graph.graph mid c.loop-left.invariant rows in
-    rewritten_through IsCandidate described c.args.savings c.in_ok-savings.field-0.savings c.in-Some.after old mid c.rewrite_late.new.graph.graph settled (rw c.in-Some.is at c.in_ok-after.ensures.rewritten)
+    let after = rewritten_through IsCandidate described c.args.savings c.in_ok-savings.field-0.savings c.in-Some.after old mid late settled (rw c.in-Some.is at c.in_ok-after.ensures.rewritten) in
+    rewritten_through IsCandidate described c.args.savings c.in-Some.after c.in_ok-saved.saved old late c.go_on.new.graph.graph after c.in_ok-saved.ensures.rewritten
 
 pub returns-in_default-clause-rewritten : goal.returns-in_default-clause-rewritten
 returns-in_default-clause-rewritten c =
@@ -55,3 +57,11 @@ returns-in_err-after-clause-follows c =
 pub returns-in_err-block_count-clause-follows : goal.returns-in_err-block_count-clause-follows
 returns-in_err-block_count-clause-follows c =
     graph_follows_through c.args.graph.now.graph c.loop-left.graph.graph c.settle_earlier.new.graph.graph c.loop-left.invariant.lighter.follows c.settle_earlier.ensures.follows
+
+pub returns-in_err-saved-clause-follows : goal.returns-in_err-saved-clause-follows
+returns-in_err-saved-clause-follows c =
+    let old = c.args.graph.now.graph in
+    let mid = c.settle_earlier.new.graph.graph in
+    let late = c.rewrite_late.new.graph.graph in
+    let settled = graph_follows_through old c.loop-left.graph.graph mid c.loop-left.invariant.lighter.follows c.settle_earlier.ensures.follows in
+    graph_follows_through old late c.go_on.new.graph.graph (graph_follows_through old mid late settled c.rewrite_late.ensures.follows) c.go_on.ensures.follows
