@@ -7,7 +7,7 @@ use crate::chains::{chain_text, tried};
 use crate::changes::{change, reserve};
 use crate::drafts::{graph_of, is_part, parts_ahead};
 use crate::folds::{difference_text, folded};
-use crate::passes::{pass_step, settled, settled_with};
+use crate::passes::{led_on, pass_step, settled, settled_with};
 use crate::places::{liveness_text, told};
 use crate::terms::{fields, register_of};
 use crate::texts::{graph_text, memory, names_of};
@@ -210,6 +210,7 @@ fn graph_step(
             expect(step.words, &found)?;
         }
         "fold" => expect(step.words, folded(alloc, graph).map_err(memory)?)?,
+        "sweep_reach" => expect(step.words, &led_on(alloc, graph).map_err(memory)?)?,
         "settle" => expect(step.words, &settled(alloc, graph).map_err(memory)?)?,
         "settle_with" => {
             let (count, wanted) = step.words.split_once(" saves ").context("no savings")?;

@@ -10,7 +10,7 @@ use anyhow::{Context, Error};
 use sq_cases::{decimal, expect};
 use sq_drive::{rewrite_once, settle, settle_by, settle_with};
 use sq_graph::Graph;
-use sq_jumps::Jumps;
+use sq_jumps::{Jumps, sweep_reach};
 use sq_layout::words_of;
 use sq_live::live;
 use sq_num::{Memory, Savings};
@@ -134,6 +134,14 @@ pub fn pass_step<P: Pass>(
     };
     let found = found.map_err(memory)?;
     expect(wanted, &found)
+}
+
+/// What the sweep of rows J2 and J3 alone saves. It begins with the canonical graph.
+pub fn led_on(alloc: Global, graph: &mut Graph) -> Result<String, Memory> {
+    if !is_ready(graph) {
+        return Ok(String::from_str(alloc, "too many words")?);
+    }
+    savings_text(alloc, &sweep_reach(alloc, graph, Savings::NONE)?)
 }
 
 /// What settling by all rows saves.
