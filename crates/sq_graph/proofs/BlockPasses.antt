@@ -17,7 +17,7 @@ use Rattle.sq_graph.specs.Rules.{last_goes_on}
 use Rattle.sq_graph.specs.Renames.{retargeted_term, retargeted_block, retargeted_item}
 use Rattle.sq_graph.specs.Slots.{slot_of, slots_from}
 use Rattle.sq_graph.specs.Cursor.{slot_uses, retargeted_slots, renumbered, length_of_slots}
-use Rattle.sq_graph.specs.Leaders.{is_fall, has_no_items, is_bare, follows_a_term}
+use Rattle.sq_graph.specs.Leaders.{is_fall, has_no_items, is_bare, follows_a_term, FallsIntoLeaders}
 use Rattle.sq_graph.specs.Canonical.{joined_onto, joined_blocks}
 use Rattle.sq_graph.specs.Bypasses.{kept, passed}
 use Rattle.sq_graph.specs.CanonicalSlots.{is_bare_slot, aim, aimed, start_of, full_slots, marked, joined_slot_onto, joined_slots}
@@ -148,11 +148,11 @@ fall_goes_no_other (Stop word) falls = absurd (cc)
 follows_skip : (x y : Block) (rest : List Block) (n : ℕ) → (y.name == n) ≡ false → follows_a_term (x ∷ y ∷ rest) n ≡ follows_a_term (y ∷ rest) n
 follows_skip x y rest n apart = ap (λ t. t || follows_a_term (y ∷ rest) n) (and_right (goes_on x.term && not (is_fall x.term)) (y.name == n) apart)
 
-head_apart : (y : Block) (rest : List Block) (n : ℕ) → value_of (named (y ∷ rest)) n ≡ None → (y.name == n) ≡ false
+pub head_apart : (y : Block) (rest : List Block) (n : ℕ) → value_of (named (y ∷ rest)) n ≡ None → (y.name == n) ≡ false
 head_apart y rest n none =
     elim (cases_Bool (y.name == n)) [ inl here ↦ absurd (cc (rw here at none)) | inr apart ↦ apart ]
 
-rest_apart : (y : Block) (rest : List Block) (n : ℕ) → value_of (named (y ∷ rest)) n ≡ None → value_of (named rest) n ≡ None
+pub rest_apart : (y : Block) (rest : List Block) (n : ℕ) → value_of (named (y ∷ rest)) n ≡ None → value_of (named rest) n ≡ None
 rest_apart y rest n none =
     elim (cases_Bool (y.name == n)) [ inl here ↦ absurd (cc (rw here at none)) | inr apart ↦ rw apart at none ]
 
@@ -171,16 +171,16 @@ follows_no_term (x ∷ y ∷ front) b next rest ahead apart none falls =
     follows_skip x y (front ++ b ∷ next ∷ rest) next.name (head_apart y front next.name ahead') ∙ follows_no_term (y ∷ front) b next rest ahead' apart none falls
 
 -- the first of these blocks has the name
-abbrev IsHead : List Block → ℕ → Type 0
+abbrev pub IsHead : List Block → ℕ → Type 0
 IsHead [] n = ⊥
 IsHead (b ∷ bs) n = b.name ≡ n
 
-head_joined : (leads : ℕ → Bool) (b : Block) (rest : List Block) → IsHead (joined_onto leads b rest) b.name
+pub head_joined : (leads : ℕ → Bool) (b : Block) (rest : List Block) → IsHead (joined_onto leads b rest) b.name
 head_joined leads b [] = refl
 head_joined leads b (next ∷ rest) =
     elim (cases_Bool (is_fall b.term && not (leads next.name))) [ inl joins ↦ rw joins refl | inr stays ↦ rw stays refl ]
 
-onto_same : (p q : ℕ → Bool) (b : Block) (n : ℕ) (rest : List Block) → IsHead rest n → (is_fall b.term ≡ true → p n ≡ q n) → joined_onto p b rest ≡ joined_onto q b rest
+pub onto_same : (p q : ℕ → Bool) (b : Block) (n : ℕ) (rest : List Block) → IsHead rest n → (is_fall b.term ≡ true → p n ≡ q n) → joined_onto p b rest ≡ joined_onto q b rest
 onto_same p q b n [] head same = absurd head
 onto_same p q b n (next ∷ rest) head same =
     let both : (is_fall b.term && not (p next.name)) ≡ (is_fall b.term && not (q next.name)) =
@@ -190,26 +190,18 @@ onto_same p q b n (next ∷ rest) head same =
     ] in
     ap (λ t. if t then record b { items = b.items ++ next.items; term = next.term } ∷ rest else b ∷ next ∷ rest) both
 
--- whether a name is used tells where blocks are joined
-pub used_joins : (us : List ℕ) (all front bs : List Block) → all ≡ front ++ bs → HasDistinctKeys (named all) → joined_blocks (is_among us) bs ≡ joined_blocks (λ n. is_among us n || follows_a_term all n) bs
-used_joins us all front [] whole distinct = refl
-used_joins us all front (b ∷ []) whole distinct = refl
-used_joins us all front (b ∷ next ∷ rest) whole distinct =
-    let leads = λ (n : ℕ). is_among us n || follows_a_term all n in
+-- a block that is fallen into leads only where its name is used
+leads_used : (us : List ℕ) (all front : List Block) (b next : Block) (rest : List Block) → all ≡ front ++ b ∷ next ∷ rest → HasDistinctKeys (named all) → is_fall b.term ≡ true → is_among us next.name ≡ (is_among us next.name || follows_a_term all next.name)
+leads_used us all front b next rest whole distinct falls =
     let split : all ≡ (front ++ b ∷ []) ++ next ∷ rest = whole ∙ sym (append_assoc front (b ∷ []) (next ∷ rest)) in
-    let later = used_joins us all (front ++ b ∷ []) (next ∷ rest) split distinct in
     let keyed : HasDistinctKeys (named (front ++ b ∷ []) ++ (next.name, next) ∷ named rest) =
     subst (λ (es : List (ℕ × Block)). HasDistinctKeys es) (ap named split ∙ named-append (front ++ b ∷ []) (next ∷ rest)) distinct in
     let ahead : value_of (named (front ++ b ∷ [])) next.name ≡ None = absent_ahead (named (front ++ b ∷ [])) (named rest) next.name next keyed in
     let none : value_of (named rest) next.name ≡ None = absent_behind (next.name, next) (named rest) (distinct_back (named (front ++ b ∷ [])) ((next.name, next) ∷ named rest) keyed) in
-    let same : is_fall b.term ≡ true → is_among us next.name ≡ (is_among us next.name || follows_a_term all next.name) =
-    λ falls.
     let no : follows_a_term all next.name ≡ false =
     ap (λ bs. follows_a_term bs next.name) whole
     ∙ follows_no_term front b next rest (ahead_left front b next.name ahead) (ahead_right front b next.name ahead) none falls in
-    sym (ap (λ t. is_among us next.name || t) no ∙ or_false (is_among us next.name)) in
-    onto_same (is_among us) leads b next.name (joined_blocks (is_among us) (next ∷ rest)) (head_joined (is_among us) next (joined_blocks (is_among us) rest)) same
-    ∙ ap (joined_onto leads b) later
+    sym (ap (λ t. is_among us next.name || t) no ∙ or_false (is_among us next.name))
   where
     or_false : (a : Bool) → (a || false) ≡ a
     or_false true = refl
@@ -224,3 +216,22 @@ used_joins us all front (b ∷ next ∷ rest) whole distinct =
     ahead_right : (front : List Block) (b : Block) (n : ℕ) → value_of (named (front ++ b ∷ [])) n ≡ None → (b.name == n) ≡ false
     ahead_right [] b n none = head_apart b [] n none
     ahead_right (x ∷ front) b n none = ahead_right front b n (rest_apart x (front ++ b ∷ []) n none)
+
+-- whether a name is used tells where blocks are joined
+pub used_joins : (us : List ℕ) (all front bs : List Block) → all ≡ front ++ bs → HasDistinctKeys (named all) → joined_blocks (is_among us) bs ≡ joined_blocks (λ n. is_among us n || follows_a_term all n) bs
+used_joins us all front [] whole distinct = refl
+used_joins us all front (b ∷ []) whole distinct = refl
+used_joins us all front (b ∷ next ∷ rest) whole distinct =
+    let leads = λ (n : ℕ). is_among us n || follows_a_term all n in
+    let later = used_joins us all (front ++ b ∷ []) (next ∷ rest) (whole ∙ sym (append_assoc front (b ∷ []) (next ∷ rest))) distinct in
+    onto_same (is_among us) leads b next.name (joined_blocks (is_among us) (next ∷ rest)) (head_joined (is_among us) next (joined_blocks (is_among us) rest)) (leads_used us all front b next rest whole distinct)
+    ∙ ap (joined_onto leads b) later
+
+-- and whether blocks fall into leaders
+pub falls_used : (us : List ℕ) (all front bs : List Block) → all ≡ front ++ bs → HasDistinctKeys (named all) → FallsIntoLeaders (λ n. is_among us n || follows_a_term all n) bs → FallsIntoLeaders (is_among us) bs
+falls_used us all front [] whole distinct falls = tt
+falls_used us all front (b ∷ []) whole distinct falls = tt
+falls_used us all front (b ∷ next ∷ rest) whole distinct falls = (
+  λ fall. leads_used us all front b next rest whole distinct fall ∙ falls.0 fall,
+  falls_used us all (front ++ b ∷ []) (next ∷ rest) (whole ∙ sym (append_assoc front (b ∷ []) (next ∷ rest))) distinct falls.1,
+)

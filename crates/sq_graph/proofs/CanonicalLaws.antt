@@ -17,7 +17,7 @@ use Rattle.sq_graph.specs.Rules.{IsGraph, ItemFits, TermFits}
 use Rattle.sq_graph.specs.Words.{term_words, block_words, procedure_words, words_of}
 use Rattle.sq_graph.specs.Renames.{retargeted_item, retargeted_items, retargeted_term, retargeted_block, retargeted_procedure, retargeted_words, retargeted}
 use Rattle.sq_graph.specs.Leaders.{is_fall, is_bare, is_leader, follows_a_term, FallsIntoLeaders, IsCanonical}
-use Rattle.sq_graph.specs.Canonical.{bypassed_each, joined_onto, joined_blocks, joined, canonical_of}
+use Rattle.sq_graph.specs.Canonical.{bypassed_each, joined_onto, joined_blocks, joined_by, joined, canonical_of}
 use Rattle.sq_graph.specs.Bypasses.{kept, passed, all_bypassed}
 use Rattle.sq_graph.proofs.SplitRules.{distinct_by_keys}
 use Rattle.sq_graph.proofs.RetargetRules.{all_items-other, uses-other, other_rules}
@@ -98,13 +98,36 @@ all_bypassed_items g =
     all_items-other (passed g.blocks) (λ b. b.name) (without_bare g) ∙ ap (retargeted_items (passed g.blocks)) (all_items-without g)
 
 -- joining changes no item and no use
+pub all_items-joined_by : (leads : ℕ → Bool) (g : Graph) → all_items (joined_by leads g) ≡ all_items g
+all_items-joined_by leads g = ap (λ is. is ++ items_of_bodies g.procedures) (items_of_blocks-joined leads g.blocks)
+
+pub uses-joined_by : (leads : ℕ → Bool) (g : Graph) → uses (joined_by leads g) ≡ uses g
+uses-joined_by leads g =
+    ap (λ us. g.entry ∷ (code_word_uses g.code_words ++ (us ++ items_uses (all_items (joined_by leads g))))) (terms_uses-joined leads g.blocks)
+    ∙ ap (λ is. g.entry ∷ (code_word_uses g.code_words ++ (terms_uses g.blocks ++ items_uses is))) (all_items-joined_by leads g)
+
+-- where all that is used leads, the rules hold afterwards
+pub joined_by_is_graph : (leads : ℕ → Bool) (g : Graph) → IsGraph g → All (λ x. leads x ≡ true) (uses g) → IsGraph (joined_by leads g)
+joined_by_is_graph leads g rules lead =
+    let items = all_items-joined_by leads g in
+    record {
+      distinct = distinct-joined leads g.blocks rules.distinct;
+      named_all =
+          subst (λ us. All (HasBlock (joined_by leads g)) us) (sym (uses-joined_by leads g))
+          (λ k d below. leader-joined leads g.blocks (get_or (uses g) k d) (lead k d below) (rules.named_all k d below));
+      called_all = subst (λ (is : List Item). All (HasProcedure g) (flat_map item_calls is)) (sym items) rules.called_all;
+      ends = ends-joined leads g.blocks ∙ rules.ends;
+      code_words = rules.code_words;
+      items = subst (λ (is : List Item). All ItemFits is) (sym items) rules.items;
+      terms = terms_fit-joined leads g.blocks rules.terms;
+      procedures = rules.procedures;
+    }
+
 pub all_items-joined : (g : Graph) → all_items (joined g) ≡ all_items g
-all_items-joined g = ap (λ is. is ++ items_of_bodies g.procedures) (items_of_blocks-joined (is_leader g) g.blocks)
+all_items-joined g = all_items-joined_by (is_leader g) g
 
 pub uses-joined : (g : Graph) → uses (joined g) ≡ uses g
-uses-joined g =
-    ap (λ us. g.entry ∷ (code_word_uses g.code_words ++ (us ++ items_uses (all_items (joined g))))) (terms_uses-joined (is_leader g) g.blocks)
-    ∙ ap (λ is. g.entry ∷ (code_word_uses g.code_words ++ (terms_uses g.blocks ++ items_uses is))) (all_items-joined g)
+uses-joined g = uses-joined_by (is_leader g) g
 
 pub is_leader-joined : (g : Graph) (name : ℕ) → is_leader (joined g) name ≡ is_leader g name
 is_leader-joined g name =
@@ -122,23 +145,9 @@ pub used_are_leaders : (g : Graph) → All (λ x. is_leader g x ≡ true) (uses 
 used_are_leaders g = All-weaker (λ x. is_among (uses g) x ≡ true) (λ x. is_leader g x ≡ true) (λ x there. or_left (is_among (uses g) x) (follows_a_term g.blocks x) there) (uses g) (among (uses g))
 
 pub joined_is_graph : (g : Graph) → IsGraph g → IsGraph (joined g)
-joined_is_graph g rules =
-    let leads = is_leader g in
-    let items = all_items-joined g in
-    record {
-      distinct = distinct-joined leads g.blocks rules.distinct;
-      named_all =
-          subst (λ us. All (HasBlock (joined g)) us) (sym (uses-joined g))
-          (λ k d below. leader-joined leads g.blocks (get_or (uses g) k d) (used_are_leaders g k d below) (rules.named_all k d below));
-      called_all = subst (λ (is : List Item). All (HasProcedure g) (flat_map item_calls is)) (sym items) rules.called_all;
-      ends = ends-joined leads g.blocks ∙ rules.ends;
-      code_words = rules.code_words;
-      items = subst (λ (is : List Item). All ItemFits is) (sym items) rules.items;
-      terms = terms_fit-joined leads g.blocks rules.terms;
-      procedures = rules.procedures;
-    }
+joined_is_graph g rules = joined_by_is_graph (is_leader g) g rules (used_are_leaders g)
 
-falls_agree : (leads others : ℕ → Bool) (bs : List Block) → ((name : ℕ) → leads name ≡ true → others name ≡ true) → FallsIntoLeaders leads bs → FallsIntoLeaders others bs
+pub falls_agree : (leads others : ℕ → Bool) (bs : List Block) → ((name : ℕ) → leads name ≡ true → others name ≡ true) → FallsIntoLeaders leads bs → FallsIntoLeaders others bs
 falls_agree leads others [] more falls = tt
 falls_agree leads others (b ∷ []) more falls = tt
 falls_agree leads others (b ∷ next ∷ bs) more falls =
@@ -236,12 +245,12 @@ canonical_length g rules =
     )
 
 -- nothing is bypassed and nothing joined where a graph is canonical
-none_bypassed : (bs : List Block) (g : Graph) → All (λ b. is_bare b ≡ false) bs → bypassed_each bs g ≡ g
+pub none_bypassed : (bs : List Block) (g : Graph) → All (λ b. is_bare b ≡ false) bs → bypassed_each bs g ≡ g
 none_bypassed [] g none = refl
 none_bypassed (b ∷ bs) g none =
     rw (All-head {X = Block} (λ c. is_bare c ≡ false) b bs none) (none_bypassed bs g (All-tail {X = Block} (λ c. is_bare c ≡ false) b bs none))
 
-none_joined : (leads : ℕ → Bool) (bs : List Block) → FallsIntoLeaders leads bs → joined_blocks leads bs ≡ bs
+pub none_joined : (leads : ℕ → Bool) (bs : List Block) → FallsIntoLeaders leads bs → joined_blocks leads bs ≡ bs
 none_joined leads [] falls = refl
 none_joined leads (b ∷ []) falls = refl
 none_joined leads (b ∷ next ∷ bs) falls = ap (joined_onto leads b) (none_joined leads (next ∷ bs) falls.1) ∙ apart (cases_Bool (is_fall b.term))

@@ -47,6 +47,10 @@ pub mod Joining
 pub mod Kept
 pub mod Joined
 pub mod CanonicalLaws
+pub mod JoinedAt
+pub mod JoinShows
+pub mod JoinedBefore
+pub mod FallenOnce
 pub mod CanonicalReach
 pub mod Renamed
 pub mod AlikeGraphs

@@ -28,7 +28,7 @@ use Rattle.sq_graph.proofs.Bypassing.{distinct_without}
 use Rattle.sq_graph.proofs.RulesByBlock.{ItemStands, BlockStands, BodyStands, IsByBlock, by_block, all_called, from_blocks, blocks_stay, bodies_stay, by_stays}
 
 -- the slot behind a block
-next_of-at : (blocks : List Block) (name : ℕ) (at : IsAt blocks name) → next_key (named blocks) name ≡ first_key (named at.back)
+pub next_of-at : (blocks : List Block) (name : ℕ) (at : IsAt blocks name) → next_key (named blocks) name ≡ first_key (named at.back)
 next_of-at blocks name at =
     ap (λ bs. next_key (named bs) name) at.whole
     ∙ ap (λ es. next_key es name) (named-append at.front (at.block ∷ at.back))

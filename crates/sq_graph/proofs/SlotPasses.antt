@@ -12,7 +12,7 @@ use Rattle.sq_graph.specs.Uses.{term_uses}
 use Rattle.sq_graph.specs.Renames.{retargeted_term}
 use Rattle.sq_graph.specs.Leaders.{is_fall}
 use Rattle.sq_graph.specs.Cursor.{slot_uses, retargeted_slots, length_of_slots}
-use Rattle.sq_graph.specs.CanonicalSlots.{is_bare_slot, aim, aimed, start_of, full_slots, joined_slot_onto, joined_slots}
+use Rattle.sq_graph.specs.CanonicalSlots.{is_bare_slot, aim, aimed, start_of, full_slots, both, joined_slot_onto, joined_slots}
 use Rattle.sq_graph.proofs.Eachs.{All-left, All-right}
 use Rattle.sq_graph.proofs.CursorLaws.{distinct-with_value, with_value-split}
 use Rattle.sq_graph.proofs.BackWalks.{IsIn, is_in, IsDoneBehind, IsNext, next_done, next_value, next_written, one_done, one_less, up_to}
@@ -151,7 +151,7 @@ join_is old now new name next new_is =
     ∙ ap (λ es. next.lead ++ joined_slot_onto (name, next.value) es) next.at.behind_is
 
 -- one join
-some_same : (a b : Slot) → Some a ≡ Some b → a ≡ b
+pub some_same : (a b : Slot) → Some a ≡ Some b → a ≡ b
 some_same a b same = cc
 
 pub unjoined : (es : List (ℕ × Slot)) (name : ℕ) (slot : Slot) → value_of es name ≡ Some slot → joined_slot_onto (name, slot) (behind es name) ≡ (name, slot) ∷ behind es name → (other : Slot) → value_of es name ≡ Some other → es ≡ before es name ++ joined_slot_onto (name, other) (behind es name)
@@ -220,17 +220,36 @@ module _ (es left new : List (ℕ × Slot)) (name : ℕ) (slot : Slot) (next : �
   pair_fits =
       omega (arith, ap length_of_slots (split_at_key es name slot found), length_of_slots-append (before es name) ((name, slot) ∷ behind es name), ap length_of_slots pair.behind_is, ap (λ s. s.length) second_is)
 
-  abbrev joined_pair : Slot
-  joined_pair = record slot { length = slot.length + second.length; term = second.term }
-
-  pub pair_joined : is_fall slot.term ≡ true → (second.start == 0) ≡ true → new ≡ with_value left name joined_pair → (other : Slot) → value_of es name ≡ Some other → new ≡ before es name ++ joined_slot_onto (name, other) (behind es name)
-  pair_joined falls unmarked new_is other found' =
-      let onto : joined_slot_onto (name, slot) (behind es name) ≡ (name, joined_pair) ∷ pair.rest =
-      ap (joined_slot_onto (name, slot)) (pair.behind_is ∙ ap (λ s. (next, s) ∷ pair.rest) second_is)
-      ∙ ap (λ b. if b then (name, joined_pair) ∷ pair.rest else (name, slot) ∷ (next, second) ∷ pair.rest) (and_from (is_fall slot.term) (second.start == 0) falls unmarked) in
+  -- the first of the pairs takes over the second
+  pub pair_joined : new ≡ with_value left name (both slot second) → new ≡ before es name ++ (name, both slot second) ∷ behind es next
+  pair_joined new_is =
       new_is
-      ∙ with_value-split left name slot joined_pair left_at.found
-      ∙ ap (λ xs. xs ++ (name, joined_pair) ∷ behind left name) left_at.ahead_is
-      ∙ ap (λ xs. before es name ++ (name, joined_pair) ∷ xs) left_at.behind_is
+      ∙ with_value-split left name slot (both slot second) left_at.found
+      ∙ ap (λ xs. xs ++ (name, both slot second) ∷ behind left name) left_at.ahead_is
+      ∙ ap (λ xs. before es name ++ (name, both slot second) ∷ xs) (left_at.behind_is ∙ sym pair.at.behind_is)
+
+module _ (es new : List (ℕ × Slot)) (name : ℕ) (slot : Slot) (next : ℕ) (second : Slot) (found : value_of es name ≡ Some slot) (pair : IsPair es name slot next) (new_is : new ≡ before es name ++ (name, both slot second) ∷ behind es next) where
+  -- there is one pair less
+  pub pair_less : length new + 1 ≡ length es
+  pair_less =
+      omega (
+        arith,
+        ap (λ xs. length xs) new_is,
+        length-append (before es name) ((name, both slot second) ∷ behind es next),
+        ap (λ xs. length xs) pair.at.behind_is,
+        ap (λ xs. length xs) (split_at_key es name slot found),
+        length-append (before es name) ((name, slot) ∷ behind es name),
+        ap (λ xs. length xs) pair.behind_is,
+      )
+
+  -- so it is joined where the first one falls into the second, which has no mark
+  pub pair_onto : value_of es next ≡ Some second → is_fall slot.term ≡ true → (second.start == 0) ≡ true → (other : Slot) → value_of es name ≡ Some other → new ≡ before es name ++ joined_slot_onto (name, other) (behind es name)
+  pair_onto found_next falls unmarked other found' =
+      let second_is = some_same pair.value second (sym pair.at.found ∙ found_next) in
+      let onto : joined_slot_onto (name, slot) (behind es name) ≡ (name, both slot second) ∷ behind es next =
+      ap (joined_slot_onto (name, slot)) (pair.behind_is ∙ ap (λ s. (next, s) ∷ pair.rest) second_is)
+      ∙ ap (λ b. if b then (name, both slot second) ∷ pair.rest else (name, slot) ∷ (next, second) ∷ pair.rest) (and_from (is_fall slot.term) (second.start == 0) falls unmarked)
+      ∙ ap (λ xs. (name, both slot second) ∷ xs) (sym pair.at.behind_is) in
+      new_is
       ∙ ap (λ xs. before es name ++ xs) (sym onto)
       ∙ ap (λ s. before es name ++ joined_slot_onto (name, s) (behind es name)) (some_same slot other (sym found ∙ found'))

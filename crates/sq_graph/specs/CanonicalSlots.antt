@@ -53,11 +53,15 @@ marked_slot names name slot = record slot { start = if is_among names name then 
 abbrev pub marked : List ℕ → List (ℕ × Slot) → List (ℕ × Slot)
 marked names entries = map (λ e. (e.0, marked_slot names e.0 e.1)) entries
 
+-- the first slot once it has taken over the second
+abbrev pub both : Slot → Slot → Slot
+both first second = record first { length = first.length + second.length; term = second.term }
+
 -- the slot takes over the next one, where it falls into it and that has no mark
 abbrev pub joined_slot_onto : ℕ × Slot → List (ℕ × Slot) → List (ℕ × Slot)
 joined_slot_onto e [] = e ∷ []
 joined_slot_onto e (next ∷ rest) =
-    if is_fall e.1.term && next.1.start == 0 then (e.0, record e.1 { length = e.1.length + next.1.length; term = next.1.term }) ∷ rest
+    if is_fall e.1.term && next.1.start == 0 then (e.0, both e.1 next.1) ∷ rest
     else e ∷ next ∷ rest
 
 abbrev pub joined_slots : List (ℕ × Slot) → List (ℕ × Slot)

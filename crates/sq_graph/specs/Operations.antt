@@ -91,3 +91,16 @@ inserted_after g new name term =
 abbrev pub moved_after : Graph → ℕ → ℕ → ℕ → Graph
 moved_after g first last after =
     record g { blocks = map (λ e. e.1) (move_run_after (named g.blocks) first last after) }
+
+-- the first of these blocks takes over the items and the term of the next one, which goes
+abbrev pub with_next_taken : Block → List Block → List Block
+with_next_taken b [] = b ∷ []
+with_next_taken b (next ∷ rest) = record b { items = b.items ++ next.items; term = next.term } ∷ rest
+
+abbrev pub joined_at : List Block → ℕ → List Block
+joined_at [] name = []
+joined_at (b ∷ rest) name = if b.name == name then with_next_taken b rest else b ∷ joined_at rest name
+
+-- the block takes over the items and the term of the next slot, which goes
+abbrev pub joined_with_next : Graph → ℕ → Graph
+joined_with_next g name = record g { blocks = joined_at g.blocks name }

@@ -1,9 +1,12 @@
 //! The calls that change blocks and keep their items where they lie.
 
-ghost use Rattle.std.specs.Prelude.{◌≡◌, ℕ, ◌+◌, ◌-◌, ◌<◌, ◌≤◌, length};
-ghost use Rattle.sq_graph.specs.Blocks.{HasBlock, items_of};
+ghost use Rattle.std.specs.Prelude.{◌≡◌, ◌≢◌, ℕ, ◌+◌, ◌-◌, ◌<◌, ◌≤◌, length, Some};
+ghost use Rattle.std.specs.List.{All};
+ghost use Rattle.sq_graph.specs.declared.item.Term.TheVariants.{Fall};
+ghost use Rattle.sq_graph.specs.Blocks.{HasBlock, items_of, term_of, next_of};
+ghost use Rattle.sq_graph.specs.Uses.{uses};
 ghost use Rattle.sq_graph.specs.Rules.{IsGraph};
-ghost use Rattle.sq_graph.specs.Operations.{IsNew, with_term, inserted_after, split_at, redirected, redirected_calls};
+ghost use Rattle.sq_graph.specs.Operations.{IsNew, with_term, inserted_after, split_at, joined_with_next, redirected, redirected_calls};
 ghost use Rattle.sq_graph.specs.Words.{words_of};
 
 use crate::gaps::close_gaps;
@@ -72,6 +75,26 @@ impl Graph {
         };
         slots::set(&mut self.slots, block, first);
         name
+    }
+
+    /// Joins the next slot, whose name isn't used, to the block, which falls into it: the block takes over its items and its
+    /// term. Where there are no gaps, it looks at these two alone.
+    pub fn join(&mut self, block: u32)
+        requires falls { term_of self.old.graph block ≡ Some Fall }
+        requires unused { All (λ name. next_of self.old.graph block ≢ Some name) (uses self.old.graph) }
+        ensures graph { self.new.graph ≡ joined_with_next self.old.graph block }
+        ensures spare { self.new.spare ≡ record self.old.spare { blocks = self.old.spare.blocks + 1 } }
+        ensures rules { IsGraph self.new.graph }
+        ensures words { words_of self.new.graph ≡ words_of self.old.graph }
+    {
+        close_gaps(
+            &mut self.slots,
+            &mut self.items,
+            &mut self.blocks_end,
+            &mut self.gaps,
+        );
+        let next = self.slots.next(block).unwrap();
+        slots::take_next(&mut self.slots, block, next);
     }
 
     /// Makes every use of the name `from` one of `to`: in the entry, code words, terms, and Hi and Lo items.

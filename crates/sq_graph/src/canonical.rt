@@ -287,16 +287,5 @@ fn join_next(slots: &mut Arena<Slot>, name: u32)
     if second.start != 0 {
         return;
     }
-    slots.unlink(next);
-    let length = first.length + second.length;
-    let term = second.term;
-    slots::set(
-        slots,
-        name,
-        Slot {
-            length,
-            term,
-            ..first
-        },
-    );
+    slots::take_next(slots, name, next);
 }

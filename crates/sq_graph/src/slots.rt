@@ -2,9 +2,10 @@
 
 ghost use Rattle.std.specs.Prelude.{◌≡◌, ◌+◌, ◌<◌, ◌^◌, ◌∷◌, ◌++◌, Some};
 ghost use Rattle.std.specs.List.{All};
-ghost use Rattle.sq_arena.specs.Entries.{HasDistinctKeys, ContainsKey, value_of, with_value, before, through, behind, without_run, IsRun, move_run_after};
+ghost use Rattle.sq_arena.specs.Entries.{HasDistinctKeys, ContainsKey, value_of, with_value, before, through, behind, next_key, without_run, IsRun, move_run_after};
 ghost use Rattle.sq_graph.specs.Cursor.{IsPlace, ahead_of, rest_from, retargeted_slots, slot_uses, renumbered, length_of_slots};
 ghost use Rattle.sq_graph.specs.Numbered.{IsNumbered, Settles, Exchanges};
+ghost use Rattle.sq_graph.specs.CanonicalSlots.{both};
 
 use crate::rename::{Rename, retarget_term};
 use crate::slot::Slot;
@@ -80,6 +81,31 @@ pub(crate) fn resize(slots: &mut Arena<Slot>, name: u32, slot: Slot, length: u32
         let next = slots.next(name);
         renumber(slots, next, slot.start + length);
     }
+}
+
+/// Joins the next slot to this one, which takes over its items, right behind its own, and its term.
+pub(crate) fn take_next(slots: &mut Arena<Slot>, name: u32, next: u32)
+    requires distinct { HasDistinctKeys slots.old.entries }
+    requires key { ContainsKey slots.old.entries name }
+    requires next { next_key slots.old.entries name ≡ Some next }
+    requires fits { length_of_slots slots.old.entries < 2 ^ 32 }
+    ensures entries { (first second : Slot) → value_of slots.old.entries name ≡ Some first → value_of slots.old.entries next ≡ Some second → slots.new.entries ≡ before slots.old.entries name ++ (name, both first second) ∷ behind slots.old.entries next }
+    ensures spare { slots.new.spare ≡ slots.old.spare + 1 }
+    ensures distinct { HasDistinctKeys slots.new.entries }
+{
+    let first = slot(slots, name);
+    let second = slots.unlink(next);
+    let length = first.length + second.length;
+    let term = second.term;
+    set(
+        slots,
+        name,
+        Slot {
+            length,
+            term,
+            ..first
+        },
+    );
 }
 
 /// Moves the blocks from `first` to `last` right behind `after`, and gives them and those that they pass their

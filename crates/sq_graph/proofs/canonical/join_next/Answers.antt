@@ -1,11 +1,10 @@
-use Rattle.std.proofs.Common.{◌≡◌, ℕ, ◌==◌, true, false, ◌∙◌, ◌+◌, List, ◌∷◌, Some, ap, sym, is_some, arith, length}
+use Rattle.std.proofs.Common.{◌≡◌, ℕ, ◌==◌, true, false, ◌∙◌, List, ◌∷◌, Some, ap, sym, is_some, arith}
 use Rattle.std.proofs.lemmas.Bool.{eq-eqb, ne_eqb}
 use Rattle.sq_graph.specs.declared.slot.Slot.{Slot}
 use Rattle.sq_graph.specs.Leaders.{is_fall}
 use Rattle.sq_arena.specs.Entries.{value_of, behind}
 use Rattle.sq_graph.specs.CanonicalSlots.{joined_slot_onto}
-use Rattle.sq_graph.proofs.CursorLaws.{distinct-with_value, length-with_value}
-use Rattle.sq_graph.proofs.SlotPasses.{unjoined, no_fall_stays, last_stays, marked_stays, pair_of, left_there, pair_fits, pair_joined, length-without}
+use Rattle.sq_graph.proofs.SlotPasses.{unjoined, no_fall_stays, last_stays, marked_stays, pair_of, pair_less, pair_onto}
 use Rattle.sq_graph.proofs.canonical.join_next.Goals as goal
 
 start_of_next : (es : List (ℕ × Slot)) (name : ℕ) (a b : Slot) → value_of es name ≡ Some a → value_of es name ≡ Some b → b.start ≡ a.start
@@ -37,29 +36,23 @@ returns-then-second-ne0-clause-entries c =
     ∙ marked_stays (c.args.name, c.slot-first.result) (c.in-Some.next, pair.value) pair.rest start
     ∙ ap (λ es. (c.args.name, c.slot-first.result) ∷ es) (sym pair.behind_is))
 
-pub overflow_add-length : goal.overflow_add-length
-overflow_add-length c =
-    let pair = pair_of c.args.slots.now.entries c.args.name c.slot-first.result c.in-Some.next c.requires.distinct c.slot-first.ensures (sym c.next.ensures ∙ c.in-Some.is) in
-    omega (arith, c.requires.fits, pair_fits c.args.slots.now.entries c.unlink.new.self.entries c.unlink.new.self.entries c.args.name c.slot-first.result c.in-Some.next c.slot-second.result c.requires.distinct c.slot-first.ensures pair c.slot-second.ensures c.unlink.ensures.entries c.unlink.ensures.distinct)
-
-pub set-requires : goal.set-requires
-set-requires c =
-    let pair = pair_of c.args.slots.now.entries c.args.name c.slot-first.result c.in-Some.next c.requires.distinct c.slot-first.ensures (sym c.next.ensures ∙ c.in-Some.is) in
-    left_there c.args.slots.now.entries c.unlink.new.self.entries c.unlink.new.self.entries c.args.name c.slot-first.result c.in-Some.next c.slot-second.result c.requires.distinct c.slot-first.ensures pair c.slot-second.ensures c.unlink.ensures.entries c.unlink.ensures.distinct
+pub take_next-requires-clause-next : goal.take_next-requires-clause-next
+take_next-requires-clause-next c = sym c.next.ensures ∙ c.in-Some.is
 
 pub returns-clause-entries : goal.returns-clause-entries
 returns-clause-entries c =
     let pair = pair_of c.args.slots.now.entries c.args.name c.slot-first.result c.in-Some.next c.requires.distinct c.slot-first.ensures (sym c.next.ensures ∙ c.in-Some.is) in
     let falls : is_fall c.slot-first.result.term ≡ true = sym c.is_fall.ensures ∙ c.if-not-is_fall.false in
-    pair_joined c.args.slots.now.entries c.unlink.new.self.entries c.set.new.slots.entries c.args.name c.slot-first.result c.in-Some.next c.slot-second.result c.requires.distinct c.slot-first.ensures pair c.slot-second.ensures c.unlink.ensures.entries c.unlink.ensures.distinct
-    falls (eq-eqb c.slot-second.result.start 0 (omega (arith, c.if-second-ne0.false))) c.set.ensures.entries
+    pair_onto c.args.slots.now.entries c.take_next.new.slots.entries c.args.name c.slot-first.result c.in-Some.next c.slot-second.result c.slot-first.ensures pair
+    (c.take_next.ensures.entries c.slot-first.result c.slot-second.result c.slot-first.ensures c.slot-second.ensures)
+    c.slot-second.ensures falls (eq-eqb c.slot-second.result.start 0 (omega (arith, c.if-second-ne0.false)))
 
 pub returns-clause-total : goal.returns-clause-total
 returns-clause-total c =
-    let joined = record c.slot-first.result { length = c.slot-first.result.length + c.slot-second.result.length; term = c.slot-second.result.term } in
-    omega (arith, c.set.ensures.spare, c.unlink.ensures.spare, ap (λ es. length es) c.set.ensures.entries, length-with_value c.unlink.new.self.entries c.args.name joined, ap (λ es. length es) c.unlink.ensures.entries, length-without c.args.slots.now.entries c.in-Some.next c.slot-second.result c.slot-second.ensures)
-
-pub returns-clause-distinct : goal.returns-clause-distinct
-returns-clause-distinct c =
-    let joined = record c.slot-first.result { length = c.slot-first.result.length + c.slot-second.result.length; term = c.slot-second.result.term } in
-    rw c.set.ensures.entries (distinct-with_value c.unlink.new.self.entries c.args.name joined c.unlink.ensures.distinct)
+    let pair = pair_of c.args.slots.now.entries c.args.name c.slot-first.result c.in-Some.next c.requires.distinct c.slot-first.ensures (sym c.next.ensures ∙ c.in-Some.is) in
+    omega (
+      arith,
+      c.take_next.ensures.spare,
+      pair_less c.args.slots.now.entries c.take_next.new.slots.entries c.args.name c.slot-first.result c.in-Some.next c.slot-second.result c.slot-first.ensures pair
+          (c.take_next.ensures.entries c.slot-first.result c.slot-second.result c.slot-first.ensures c.slot-second.ensures),
+    )
