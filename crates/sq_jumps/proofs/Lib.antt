@@ -2,7 +2,6 @@ pub mod Booleans
 pub mod Ruled
 pub mod Totals
 pub mod Addresses
-pub mod Adding
 pub mod Surveying
 pub mod Distances
 pub mod OldSurveys

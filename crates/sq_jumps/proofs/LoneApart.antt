@@ -1,7 +1,7 @@
 -- Lone Jumps of which none leads to another don't disturb one another.
 use Rattle.std.proofs.Common.{Result, Ok, Err, ◌≡◌, ◌≢◌, ◌⊎◌, ℕ, ◌==◌, true, false, ◌||◌, if◌then◌else◌, nat_eq, List, [], ◌∷◌, ◌++◌, map, length, Option, None, Some, is_some, inl, inr, refl, sym, ap, ◌∙◌, subst}
 use Rattle.std.specs.Prelude.{option_map, OnOk}
-use Rattle.std.proofs.lemmas.Bool.{cases_Bool, eqb-true, eqb-false, eq-eqb, ne_eqb, or_left, or_right, or_parts, or_cases}
+use Rattle.std.proofs.lemmas.Bool.{cases_Bool, eqb-true, eq-eqb, ne_eqb, or_left, or_right, or_parts, or_cases}
 use Rattle.std.proofs.lemmas.List.{length-map}
 use Rattle.sq_arena.specs.Entries.{first_key, next_key}
 use Rattle.sq_num.specs.declared.memory.Memory.{Memory}
@@ -37,7 +37,7 @@ use Rattle.sq_jumps.proofs.Blocks.{retargeted_before, gone_block, goes_on-retarg
 use Rattle.sq_jumps.proofs.Distances.{detour_near}
 use Rattle.sq_jumps.proofs.DetourKept.{name_used}
 use Rattle.sq_jumps.proofs.OldSurveys.{without_still}
-use Rattle.sq_jumps.proofs.Adding.{is_listed-append}
+use Rattle.sq_lookup.proofs.Adding.{is_listed-append, among_listed}
 
 -- LONE JUMPS AND SLOTS, ONCE A BLOCK GAVE ITS NAME AND WENT
 
@@ -205,15 +205,6 @@ module _ (row : Row) (g : Graph) (gone : ℕ) (rules : IsGraph g) (d : IsBypassa
     detour_still = record { to = target; leads = record { jump = jump_left; other = p.leads.other; apart = apart }; near = near }
 
 -- LONE JUMPS THAT GO TOGETHER
-
--- a name in a list, by the test of tables
-pub among_listed : (xs : List ℕ) (n : ℕ) → is_among xs n ≡ is_listed xs n
-among_listed [] n = refl
-among_listed (x ∷ xs) n =
-    elim (cases_Bool (x == n)) [
-      | inl here ↦ rw (here, eq-eqb n x (sym (eqb-true x n here))) refl
-      | inr apart ↦ rw (apart, ne_eqb n x (λ same. eqb-false x n apart (sym same))) (among_listed xs n)
-    ]
 
 pub listed_among : (xs : List ℕ) (n : ℕ) → is_listed xs n ≡ true → is_among xs n ≡ true
 listed_among xs n e = among_listed xs n ∙ e

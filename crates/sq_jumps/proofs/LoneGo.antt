@@ -31,7 +31,8 @@ use Rattle.sq_jumps.proofs.DetourApplied.{detour_made, detour_applied}
 use Rattle.sq_jumps.proofs.DetourKept.{without-retargeted, detour_rewritten}
 use Rattle.sq_jumps.proofs.FallApplied.{fall_applied}
 use Rattle.sq_jumps.proofs.LoneFalls.{lone_fall_rewritten}
-use Rattle.sq_jumps.proofs.LoneApart.{among_listed, bypassed_rules, first, aside, term_still, rest_together}
+use Rattle.sq_lookup.proofs.Adding.{among_listed}
+use Rattle.sq_jumps.proofs.LoneApart.{bypassed_rules, first, aside, term_still, rest_together}
 
 jump_term : (row : Row) (g : Graph) (n : ℕ) (d : IsBypassable row g n) → term_of g n ≡ Some (Jump d.to)
 jump_term row g n d = lone_term g n d.to (lone g n d.to d.jump)

@@ -18,7 +18,7 @@ use Rattle.sq_pass.specs.Rewrites.{IsLighter}
 use Rattle.sq_pass.proofs.Rewriting.{lighter_itself, lighter_through}
 use Rattle.sq_jumps.specs.Shorten.{JumpsByDeadPart, shortened_at, shortened_each, AreShortened, AreFirstShortable}
 use Rattle.sq_jumps.proofs.ShortenSwept.{shorten_names, shorten_rules_at, shorten_canonical_at, shorten_lighter, shorten_others, distinct_pushed}
-use Rattle.sq_jumps.proofs.Adding.{is_listed-append}
+use Rattle.sq_lookup.proofs.Adding.{is_listed-append}
 use Rattle.sq_jumps.proofs.UnreachedGo.{contains_listed}
 
 -- NAMES ARE KEPT

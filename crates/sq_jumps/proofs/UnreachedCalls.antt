@@ -20,7 +20,7 @@ use Rattle.sq_graph.proofs.Sizes.{same_room}
 use Rattle.sq_lookup.specs.Names.{is_listed}
 use Rattle.sq_jumps.specs.Unreached.{is_called_in}
 use Rattle.sq_jumps.specs.UnreachedClear.{is_called, without_uncalled}
-use Rattle.sq_jumps.proofs.Adding.{is_listed-append}
+use Rattle.sq_lookup.proofs.Adding.{is_listed-append}
 
 -- the call that was found
 pub call_found : (items : List Item) (k q : ℕ) (item : Item) → k < length items → item ≡ get_or items k item → item ≡ Out q → true ≡ is_listed (flat_map item_calls items) q

@@ -26,7 +26,7 @@ use Rattle.sq_reach.proofs.Blocks.{reached_has}
 use Rattle.sq_lookup.specs.Names.{is_listed}
 use Rattle.sq_jumps.specs.Unreached.{is_called_in, AreUnreached}
 use Rattle.sq_jumps.specs.UnreachedClear.{cleared_each, is_called, without_uncalled, first_listed, AreApart, AreOnce, MayGo}
-use Rattle.sq_jumps.proofs.Adding.{uses_of_blocks, uses_of_bodies}
+use Rattle.sq_lookup.proofs.Adding.{uses_of_blocks, uses_of_bodies}
 use Rattle.sq_jumps.proofs.Ruled.{here}
 use Rattle.sq_jumps.proofs.UnreachedCleared.{emptied, cleared_if, all_cleared, each_cleared}
 use Rattle.sq_jumps.proofs.UnreachedUncalled.{only_held, held_from, uncalled_is}

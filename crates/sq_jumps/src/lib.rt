@@ -15,7 +15,6 @@ mod shorten;
 mod survey;
 mod sweep;
 mod unreached;
-mod uses;
 
 pub use jumps::Jumps;
 pub use proposals::propose;

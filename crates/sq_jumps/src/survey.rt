@@ -12,10 +12,9 @@ ghost use Rattle.sq_lookup.specs.Addresses.{address_at};
 ghost use Rattle.sq_jumps.specs.Surveys.{ReachesBy, GoesInto, IsTooFar, Needs, IsSurvey};
 ghost use Rattle.sq_lookup.specs.Tables.{number_at};
 
-use crate::uses::used_names;
 use sq_graph::{Graph, Term};
 use sq_layout::{distance, reaches};
-use sq_lookup::{Names, Table, address, block_addresses, jump_from};
+use sq_lookup::{Names, Table, address, block_addresses, jump_from, used_names};
 use sq_num::Memory;
 use std::alloc::Global;
 

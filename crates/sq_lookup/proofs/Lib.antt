@@ -3,3 +3,7 @@ pub mod Targets
 pub mod Sizes
 pub mod Reaching
 pub mod Resolving
+pub mod Adding
+pub mod Previous
+pub mod Counting
+pub mod JoiningBefore

@@ -3,8 +3,8 @@ use Rattle.sq_graph.specs.Blocks.{block_items}
 use Rattle.sq_graph.specs.Uses.{items_uses}
 use Rattle.sq_live.proofs.Layouts.{block_at}
 use Rattle.sq_lookup.specs.Names.{Adds}
-use Rattle.sq_jumps.proofs.Adding.{adds_pushed}
-use Rattle.sq_jumps.proofs.uses.use_blocks.Goals as goal
+use Rattle.sq_lookup.proofs.Adding.{adds_pushed}
+use Rattle.sq_lookup.proofs.uses.use_blocks.Goals as goal
 
 pub items-requires : goal.items-requires
 items-requires c =

@@ -6,10 +6,10 @@ ghost use Rattle.sq_graph.specs.Blocks.{items_of_bodies};
 ghost use Rattle.sq_graph.specs.Parts.{names_of};
 ghost use Rattle.sq_graph.specs.Rules.{IsGraph};
 ghost use Rattle.sq_graph.specs.Uses.{item_uses, items_uses, terms_uses, code_word_uses, uses};
-ghost use Rattle.sq_lookup.specs.Names.{Adds};
+ghost use Rattle.sq_lookup.specs.Names.{Adds, held_uses};
 
+use crate::names::Names;
 use sq_graph::{CodeRef, Graph, Item};
-use sq_lookup::Names;
 use sq_num::Memory;
 use std::alloc::Global;
 
@@ -72,17 +72,29 @@ fn use_bodies(used: &mut Names, graph: &Graph) -> Result<(), Memory>
     Ok(())
 }
 
-/// The names that are used: in the entry, code words, terms, and Hi and Lo in blocks and in all procedures.
-pub(crate) fn used_names(alloc: Global, graph: &Graph, names: &[u32]) -> Result<Names, Memory>
+/// The names that are used elsewhere than in terms: in the entry, code words, and Hi and Lo in blocks and in all procedures. It
+/// looks at each item once.
+pub fn held_names(alloc: Global, graph: &Graph, names: &[u32]) -> Result<Names, Memory>
+    requires rules { IsGraph graph.now.graph }
+    requires names { names.now ≡ names_of graph.now.graph }
+    ensures { IfOk result (λ held. Adds (held_uses graph.now.graph) [] held) }
+{
+    let mut held = Names::new(alloc);
+    held.insert(graph.entry())?;
+    use_words(&mut held, graph.code_words())?;
+    use_blocks(&mut held, graph, names)?;
+    use_bodies(&mut held, graph)?;
+    Ok(held)
+}
+
+/// The names that are used: in the entry, code words, terms, and Hi and Lo in blocks and in all procedures. It looks at each
+/// block and each item once.
+pub fn used_names(alloc: Global, graph: &Graph, names: &[u32]) -> Result<Names, Memory>
     requires rules { IsGraph graph.now.graph }
     requires names { names.now ≡ names_of graph.now.graph }
     ensures { IfOk result (λ used. Adds (uses graph.now.graph) [] used) }
 {
-    let mut used = Names::new(alloc);
-    used.insert(graph.entry())?;
-    use_words(&mut used, graph.code_words())?;
+    let mut used = held_names(alloc, graph, names)?;
     use_terms(&mut used, graph, names)?;
-    use_blocks(&mut used, graph, names)?;
-    use_bodies(&mut used, graph)?;
     Ok(used)
 }

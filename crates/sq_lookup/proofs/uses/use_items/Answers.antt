@@ -1,8 +1,8 @@
 use Rattle.std.proofs.Common.{subst}
 use Rattle.sq_graph.specs.Uses.{item_uses}
 use Rattle.sq_lookup.specs.Names.{Adds}
-use Rattle.sq_jumps.proofs.Adding.{adds_more, adds_none}
-use Rattle.sq_jumps.proofs.uses.use_items.Goals as goal
+use Rattle.sq_lookup.proofs.Adding.{adds_more, adds_none}
+use Rattle.sq_lookup.proofs.uses.use_items.Goals as goal
 
 pub loop-item-init : goal.loop-item-init
 loop-item-init c = adds_none c.args.used.now

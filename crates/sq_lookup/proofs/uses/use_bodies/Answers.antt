@@ -2,8 +2,8 @@ use Rattle.std.proofs.Common.{arith, subst}
 use Rattle.sq_graph.specs.Uses.{items_uses}
 use Rattle.sq_layout.proofs.Counts.{procedure_here}
 use Rattle.sq_lookup.specs.Names.{Adds}
-use Rattle.sq_jumps.proofs.Adding.{adds_pushed, procedure_more}
-use Rattle.sq_jumps.proofs.uses.use_bodies.Goals as goal
+use Rattle.sq_lookup.proofs.Adding.{adds_pushed, procedure_more}
+use Rattle.sq_lookup.proofs.uses.use_bodies.Goals as goal
 
 pub loop-procedure-preserved : goal.loop-procedure-preserved
 loop-procedure-preserved c =

@@ -3,8 +3,8 @@ use Rattle.sq_graph.specs.Blocks.{block_term}
 use Rattle.sq_graph.specs.Uses.{term_uses}
 use Rattle.sq_live.proofs.Layouts.{block_at}
 use Rattle.sq_lookup.specs.Names.{Adds}
-use Rattle.sq_jumps.proofs.Adding.{adds_pushed}
-use Rattle.sq_jumps.proofs.uses.use_terms.Goals as goal
+use Rattle.sq_lookup.proofs.Adding.{adds_pushed}
+use Rattle.sq_lookup.proofs.uses.use_terms.Goals as goal
 
 pub term-requires : goal.term-requires
 term-requires c =

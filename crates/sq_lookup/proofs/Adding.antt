@@ -1,18 +1,29 @@
 -- Names that come to a set one after another.
-use Rattle.std.proofs.Common.{◌≡◌, ℕ, ◌+◌, ◌<◌, Bool, true, false, ◌||◌, List, [], ◌∷◌, ◌++◌, length, take, get_or, nat_eq, slice_get, Some, inl, inr, refl, sym, ap, ◌∙◌, subst, arith}
+use Rattle.std.proofs.Common.{◌≡◌, ℕ, ◌+◌, ◌<◌, ◌==◌, Bool, true, false, ◌||◌, List, [], ◌∷◌, ◌++◌, length, take, get_or, nat_eq, slice_get, Some, inl, inr, refl, sym, ap, ◌∙◌, subst, arith}
+use Rattle.std.proofs.lemmas.Bool.{cases_Bool, eqb-true, eqb-false, eq-eqb, ne_eqb}
 use Rattle.std.proofs.lemmas.List.{append-nil, take_more}
 use Rattle.std.proofs.lemmas.List.Concat.{flat_map-append}
 use Rattle.std.proofs.lemmas.List.Folds.{list_any-append}
 use Rattle.std.proofs.lemmas.Option.{slice_get_cases}
 use Rattle.std.specs.List.{flat_map}
 use Rattle.std.proofs.Math.Bool.{or_assoc}
+use Rattle.sq_isa.specs.Registers.{is_among}
 use Rattle.sq_graph.specs.Graph.{Block, Procedure, Graph}
 use Rattle.sq_graph.specs.Blocks.{items_of_blocks, items_of_bodies, all_items}
 use Rattle.sq_graph.specs.Uses.{item_uses, items_uses, terms_uses, code_word_uses, uses}
-use Rattle.sq_lookup.specs.Names.{is_listed, Adds}
+use Rattle.sq_lookup.specs.Names.{is_listed, Adds, held_uses}
 
 pub is_listed-append : (xs ys : List ℕ) (n : ℕ) → is_listed (xs ++ ys) n ≡ (is_listed xs n || is_listed ys n)
 is_listed-append xs ys n = list_any-append (nat_eq n) xs ys
+
+-- a name in a list, by the test of tables
+pub among_listed : (xs : List ℕ) (n : ℕ) → is_among xs n ≡ is_listed xs n
+among_listed [] n = refl
+among_listed (x ∷ xs) n =
+    elim (cases_Bool (x == n)) [
+      | inl here ↦ rw (here, eq-eqb n x (sym (eqb-true x n here))) refl
+      | inr apart ↦ rw (apart, ne_eqb n x (λ same. eqb-false x n apart (sym same))) (among_listed xs n)
+    ]
 
 or_false : (a : Bool) → a ≡ (a || false)
 or_false true = refl
@@ -50,16 +61,41 @@ uses_of_bodies [] = refl
 uses_of_bodies (p ∷ ps) = ap (λ ns. items_uses p.body ++ ns) (uses_of_bodies ps) ∙ sym (flat_map-append item_uses p.body (items_of_bodies ps))
 
 -- the parts of a graph one after another
-pub adds_uses : (g : Graph) (a b c d e f : List ℕ) → Adds (g.entry ∷ []) a b → Adds (code_word_uses g.code_words) b c → Adds (terms_uses g.blocks) c d → Adds (flat_map (λ b. items_uses b.items) g.blocks) d e → Adds (flat_map (λ p. items_uses p.body) g.procedures) e f → Adds (uses g) a f
-adds_uses g a b c d e f entry words terms blocks bodies =
-    let in_blocks : Adds (items_uses (items_of_blocks g.blocks)) d e = subst (λ ns. Adds ns d e) (uses_of_blocks g.blocks) blocks in
-    let in_bodies : Adds (items_uses (items_of_bodies g.procedures)) e f = subst (λ ns. Adds ns e f) (uses_of_bodies g.procedures) bodies in
-    let items : Adds (items_uses (all_items g)) d f =
-    subst (λ ns. Adds ns d f) (sym (flat_map-append item_uses (items_of_blocks g.blocks) (items_of_bodies g.procedures)))
-    (adds_then (items_uses (items_of_blocks g.blocks)) (items_uses (items_of_bodies g.procedures)) d e f in_blocks in_bodies) in
-    adds_then (g.entry ∷ []) (code_word_uses g.code_words ++ (terms_uses g.blocks ++ items_uses (all_items g))) a b f entry
-    (adds_then (code_word_uses g.code_words) (terms_uses g.blocks ++ items_uses (all_items g)) b c f words
-    (adds_then (terms_uses g.blocks) (items_uses (all_items g)) c d f terms items))
+pub adds_held : (g : Graph) (a b c d e : List ℕ) → Adds (g.entry ∷ []) a b → Adds (code_word_uses g.code_words) b c → Adds (flat_map (λ b. items_uses b.items) g.blocks) c d → Adds (flat_map (λ p. items_uses p.body) g.procedures) d e → Adds (held_uses g) a e
+adds_held g a b c d e entry words blocks bodies =
+    let in_blocks : Adds (items_uses (items_of_blocks g.blocks)) c d = subst (λ ns. Adds ns c d) (uses_of_blocks g.blocks) blocks in
+    let in_bodies : Adds (items_uses (items_of_bodies g.procedures)) d e = subst (λ ns. Adds ns d e) (uses_of_bodies g.procedures) bodies in
+    let items : Adds (items_uses (all_items g)) c e =
+    subst (λ ns. Adds ns c e) (sym (flat_map-append item_uses (items_of_blocks g.blocks) (items_of_bodies g.procedures)))
+    (adds_then (items_uses (items_of_blocks g.blocks)) (items_uses (items_of_bodies g.procedures)) c d e in_blocks in_bodies) in
+    adds_then (g.entry ∷ []) (code_word_uses g.code_words ++ items_uses (all_items g)) a b e entry
+    (adds_then (code_word_uses g.code_words) (items_uses (all_items g)) b c e words items)
+
+-- a name is used where it is held, or a term names it
+pub used_or_held : (g : Graph) (n : ℕ) → is_listed (uses g) n ≡ (is_listed (held_uses g) n || is_listed (terms_uses g.blocks) n)
+used_or_held g n =
+    let W = code_word_uses g.code_words in
+    let T = terms_uses g.blocks in
+    let I = items_uses (all_items g) in
+    ap (λ b. nat_eq n g.entry || b) (is_listed-append W (T ++ I) n ∙ ap (λ b. is_listed W n || b) (is_listed-append T I n))
+    ∙ moved (nat_eq n g.entry) (is_listed W n) (is_listed T n) (is_listed I n)
+    ∙ ap (λ b. (nat_eq n g.entry || b) || is_listed T n) (sym (is_listed-append W I n))
+  where
+    moved : (e w t i : Bool) → (e || (w || (t || i))) ≡ ((e || (w || i)) || t)
+    moved true w t i = refl
+    moved false true t i = refl
+    moved false false true true = refl
+    moved false false true false = refl
+    moved false false false true = refl
+    moved false false false false = refl
+
+pub adds_uses : (g : Graph) (a b c : List ℕ) → Adds (held_uses g) a b → Adds (terms_uses g.blocks) b c → Adds (uses g) a c
+adds_uses g a b c held terms = record {
+  each = λ n.
+      terms.each n ∙ ap (λ t. t || is_listed (terms_uses g.blocks) n) (held.each n)
+      ∙ or_assoc (is_listed a n) (is_listed (held_uses g) n) (is_listed (terms_uses g.blocks) n)
+      ∙ ap (λ t. is_listed a n || t) (sym (used_or_held g n));
+}
 
 -- one more procedure
 pub procedure_more : (ps : List Procedure) (k : ℕ) (p : Procedure) → k < length ps → slice_get ps k ≡ Some p → take (k + 1) ps ≡ take k ps ++ p ∷ []

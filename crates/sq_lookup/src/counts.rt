@@ -1,0 +1,142 @@
+//! How often a graph uses names of blocks, kept while it is rewritten.
+
+ghost use Rattle.std.specs.Prelude.{◌≡◌, ◌+◌, ◌≤◌, ◌<◌, ◌==◌, ◌^◌, ℕ, if◌then◌else◌, length, IfOk, OnOk};
+ghost use Rattle.sq_graph.specs.Canonical.{joined_before};
+ghost use Rattle.sq_graph.specs.Graph.{Graph as Parts};
+ghost use Rattle.sq_graph.specs.Leaders.{is_fall};
+ghost use Rattle.sq_graph.specs.Parts.{names_of};
+ghost use Rattle.sq_graph.specs.Rules.{IsGraph};
+ghost use Rattle.sq_graph.specs.Uses.{terms_uses, uses};
+ghost use Rattle.sq_isa.specs.Registers.{is_among};
+ghost use Rattle.sq_lookup.specs.Counts.{count_at, times_named, AreUses, IsCounted};
+
+use crate::blocks::block_before;
+use crate::names::Names;
+use crate::uses::held_names;
+use sq_graph::{Graph, Term};
+use sq_live::block_names;
+use sq_num::Memory;
+use std::alloc::Global;
+
+/// The names that a graph uses elsewhere than in terms, and how many terms name each block.
+#[derive(Drop)]
+pub struct Uses {
+    pub(crate) held: Names,
+    pub(crate) terms: Vec<u32>,
+}
+
+impl Uses {
+    /// Whether a graph that has these uses has one of this name.
+    pub fn has(&self, name: u32) -> bool
+        ensures { (g : Parts) → AreUses g self.now → result ≡ is_among (uses g) name }
+    {
+        self.held.has(name) || count(&self.terms, name) != 0
+    }
+
+    /// Counts one term more that names this block.
+    pub fn add(&mut self, name: u32) -> Result<(), Memory>
+        requires { count_at self.old.terms.items name + 1 < 2 ^ 32 }
+        ensures { OnOk result (IsCounted name self.old self.new) }
+    {
+        add_one(&mut self.terms, name)
+    }
+
+    /// Counts one term less that names this block.
+    pub fn take(&mut self, name: u32)
+        requires { 1 ≤ count_at self.old.terms.items name }
+        ensures { IsCounted name self.new self.old }
+    {
+        take_one(&mut self.terms, name);
+    }
+
+    /// Joins this block to the one before in a graph that has these uses, where that falls into it and the name isn't used.
+    /// They stay its uses.
+    pub fn join_before(&self, graph: &mut Graph, name: u32)
+        requires { AreUses graph.old.graph self.now }
+        ensures graph { graph.new.graph ≡ joined_before graph.old.graph name }
+        ensures uses { AreUses graph.new.graph self.now }
+    {
+        graph.learn();
+        if self.has(name) {
+            return;
+        }
+        let Some(block) = block_before(graph, name) else {
+            return;
+        };
+        if is_fall(graph.term(block)) {
+            graph.join(block);
+        }
+    }
+}
+
+fn is_fall(term: Term) -> bool
+    ensures { result ≡ is_fall term }
+{
+    matches!(term, Term::Fall)
+}
+
+/// The number under a name, and 0 where there is none.
+fn count(counts: &[u32], name: u32) -> u32
+    ensures { result ≡ count_at counts.now name }
+{
+    let name = name as usize;
+    if name < counts.len() { counts[name] } else { 0 }
+}
+
+/// Makes room for a name, and for as many again, so that names in a row take few calls.
+fn grow(counts: &mut Vec<u32>, name: u32) -> Result<(), Memory>
+    ensures within { OnOk result (name < length counts.new.items) }
+    ensures same { (n : ℕ) → count_at counts.new.items n ≡ count_at counts.old.items n }
+{
+    let len = counts.len();
+    if len <= name as usize {
+        let room = len.saturating_mul(2).max(name as usize + 1);
+        counts.resize(room, 0)?;
+    }
+    Ok(())
+}
+
+/// Counts one more under a name.
+fn add_one(counts: &mut Vec<u32>, name: u32) -> Result<(), Memory>
+    requires { count_at counts.old.items name + 1 < 2 ^ 32 }
+    ensures { OnOk result ((n : ℕ) → count_at counts.new.items n ≡ (if name == n then 1 else 0) + count_at counts.old.items n) }
+{
+    grow(counts, name)?;
+    counts[name as usize] += 1;
+    Ok(())
+}
+
+/// Counts one less under a name.
+fn take_one(counts: &mut Vec<u32>, name: u32)
+    requires { 1 ≤ count_at counts.old.items name }
+    ensures { (n : ℕ) → (if name == n then 1 else 0) + count_at counts.new.items n ≡ count_at counts.old.items n }
+{
+    counts[name as usize] -= 1;
+}
+
+/// How many terms name each block.
+fn count_terms(alloc: Global, graph: &Graph, names: &[u32]) -> Result<Vec<u32>, Memory>
+    requires rules { IsGraph graph.now.graph }
+    requires names { names.now ≡ names_of graph.now.graph }
+    ensures { IfOk result (λ counts. (n : ℕ) → count_at counts.items n ≡ times_named (terms_uses graph.now.graph.blocks) n) }
+{
+    graph.learn();
+    let mut counts = Vec::new(alloc);
+    for name in names {
+        if let Some(to) = graph.term(*name).target() {
+            add_one(&mut counts, to)?;
+        }
+    }
+    Ok(counts)
+}
+
+/// The uses of a graph. It looks at each block and each item a few times.
+pub fn uses_of(alloc: Global, graph: &Graph) -> Result<Uses, Memory>
+    ensures { IfOk result (λ they. AreUses graph.now.graph they) }
+{
+    graph.learn();
+    let names = block_names(alloc, graph)?;
+    let held = held_names(alloc, graph, &names)?;
+    let terms = count_terms(alloc, graph, &names)?;
+    Ok(Uses { held, terms })
+}
