@@ -95,15 +95,15 @@ module _ (g : Graph) (from to : ℕ) (rules : IsGraph g) (movable : IsMovable g 
 
   -- HOW MANY FALL
 
-  next_back : IsSome (value_of A from) → next_of g from ≡ first_key (behind A from ++ (R ++ C))
+  pub next_back : IsSome (value_of A from) → next_of g from ≡ first_key (behind A from ++ (R ++ C))
   next_back some = ap (λ (xs : List (ℕ × Block)). first_key (behind xs from)) (whole g from to rules movable) ∙ ap first_key (behind-in A (R ++ C) from some)
 
-  next_ahead : value_of A from ≡ None → next_of g from ≡ first_key (behind C from)
+  pub next_ahead : value_of A from ≡ None → next_of g from ≡ first_key (behind C from)
   next_ahead none =
       ap (λ (xs : List (ℕ × Block)). first_key (behind xs from)) (whole g from to rules movable)
       ∙ ap first_key (behind-out A (R ++ C) from none ∙ behind-out R C from (out_r g from to rules movable))
 
-  next_chain : next_of g last ≡ first_key C
+  pub next_chain : next_of g last ≡ first_key C
   next_chain = ap first_key (behind_chain g from to rules movable)
 
   jump_in_a : IsSome (value_of A from) → value_of A from ≡ Some jump

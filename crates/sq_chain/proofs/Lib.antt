@@ -21,3 +21,7 @@ pub mod Standing
 pub mod Drops
 pub mod Exchanging
 pub mod Distant
+pub mod Seaming
+pub mod Dropping
+pub mod Settling
+pub mod Swept

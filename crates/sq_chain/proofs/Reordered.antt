@@ -185,14 +185,14 @@ ahead_stops g to front (x ∷ y ∷ xs) b rest distinct apart e =
 
 -- BLOCKS UNDER THEIR NAMES
 
-abbrev AreNamed : List (ℕ × Block) → Type 0
+abbrev pub AreNamed : List (ℕ × Block) → Type 0
 AreNamed es = AllByRecursion (λ e. e.0 ≡ e.1.name) es
 
-all_named : (bs : List Block) → AreNamed (named bs)
+pub all_named : (bs : List Block) → AreNamed (named bs)
 all_named [] = tt
 all_named (b ∷ bs) = (refl, all_named bs)
 
-named_parts : (xs ys : List (ℕ × Block)) → AreNamed (xs ++ ys) → AreNamed xs × AreNamed ys
+pub named_parts : (xs ys : List (ℕ × Block)) → AreNamed (xs ++ ys) → AreNamed xs × AreNamed ys
 named_parts [] ys all = (tt, all)
 named_parts (e ∷ xs) ys all = let parts = named_parts xs ys all.1 in ((all.0, parts.0), parts.1)
 

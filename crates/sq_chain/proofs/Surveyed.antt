@@ -20,7 +20,7 @@ use Rattle.sq_lookup.proofs.Targets.{name_listed, has_term}
 use Rattle.sq_live.proofs.Layouts.{IsBlockAt, block_at, length-names}
 use Rattle.sq_chain.specs.declared.survey.Extent.{Extent}
 use Rattle.sq_chain.specs.Moves.{chain_end, IsMovable, fallen_blocks, fallen, carried}
-use Rattle.sq_chain.specs.Surveys.{extent_of, extents_of, IsRoom, IsLaidOut}
+use Rattle.sq_chain.specs.Surveys.{extent_of, extents_of, AreBelow, IsRoom, IsLaidOut}
 use Rattle.sq_chain.proofs.Carried.{carried_words}
 use Rattle.sq_chain.proofs.Fallen.{fallen_keeps}
 use Rattle.sq_chain.proofs.Lighter.{fallen_names}
@@ -137,20 +137,16 @@ module _ (g : Graph) (from to : ℕ) (order : List Extent) (rules : IsGraph g) (
       let past = past_to g from to rules movable i j at_to at_last w.0 at_from (behind w.0 w.2) in
       (w.0, omega (arith, past), w.1, w.2)
 
--- there is room for each where all names are less than there is room for
-pub room_is : (g : Graph) (names : ℕ) (room : List (Option ℕ)) → All (λ (n : ℕ). n < names) (names_of g) → length room ≡ names → ((n : ℕ) → number_at room n ≡ None) → IsRoom g room
-room_is g names room all same none = record {
-  within = λ n has.
-      let w = name_listed g.blocks n has in
-      let below : n < names = subst (λ (m : ℕ). m < names) w.2 (All-get_or (λ (m : ℕ). m < names) (names_of g) w.0 0 w.1 all) in
-      omega (arith, below, same);
-  none = none;
-}
+-- the names of all blocks are less than what is greater than each that is listed
+pub below_is : (g : Graph) (names : ℕ) → All (λ (n : ℕ). n < names) (names_of g) → AreBelow names g
+below_is g names all n has =
+    let w = name_listed g.blocks n has in
+    subst (λ (m : ℕ). m < names) w.2 (All-get_or (λ (m : ℕ). m < names) (names_of g) w.0 0 w.1 all)
 
--- and where there is as much
-pub room_alike : (g : Graph) (old room : List (Option ℕ)) → IsRoom g old → length room ≡ length old → ((n : ℕ) → number_at room n ≡ None) → IsRoom g room
-room_alike g old room is same none = record {
-  within = λ n has. omega (arith, is.within n has, same);
+-- there is room for each where all names are less than there is room for
+pub room_is : (g : Graph) (names : ℕ) (room : List (Option ℕ)) → AreBelow names g → length room ≡ names → ((n : ℕ) → number_at room n ≡ None) → IsRoom g room
+room_is g names room below same none = record {
+  within = λ n has. omega (arith, below n has, same);
   none = none;
 }
 
@@ -185,8 +181,5 @@ module _ (g : Graph) (from to : ℕ) (rules : IsGraph g) (movable : IsMovable g 
     listed = e;
   }
 
-  pub carried_room : (room : List (Option ℕ)) → IsRoom g room → IsRoom (carried g from to) room
-  carried_room room is = record {
-    within = λ n has. is.within n (subst (λ (o : Option Block). IsSome o) ((chain_reordered g from to rules movable).same n) has);
-    none = is.none;
-  }
+  pub carried_below : (names : ℕ) → AreBelow names g → AreBelow names (carried g from to)
+  carried_below names below n has = below n (subst (λ (o : Option Block). IsSome o) ((chain_reordered g from to rules movable).same n) has)

@@ -1,6 +1,7 @@
 -- Row L: a chain that moves behind the Jump to it, where the words are fewer then.
 use Rattle.std.specs.Prelude.{◌≡◌, ℕ, ◌+◌, ◌≤◌, List, [], ◌∷◌}
 use Rattle.sq_graph.specs.Graph.{Graph}
+use Rattle.sq_graph.specs.Canonical.{canonical_of}
 use Rattle.sq_graph.specs.Words.{words_of}
 use Rattle.sq_pass.specs.declared.cut.Cut.{Cut}
 use Rattle.sq_pass.specs.declared.cut.Row.TheVariants.{L}
@@ -41,6 +42,12 @@ pub record HasMoved (old new : Graph) : Type 0 where
   pub from : ℕ
   pub to : ℕ
   pub moved : IsMoved from to old new
+
+-- a chain has moved, and the graph was made canonical
+pub record IsSwept (old new : Graph) : Type 0 where
+  pub mid : Graph
+  pub moved : HasMoved old mid
+  pub is : new ≡ canonical_of mid
 
 -- no move of a chain behind this block saves a word
 abbrev pub IsStillAt : Graph → ℕ → Type 0

@@ -5,3 +5,4 @@ pub mod Surveys
 pub mod Moves
 pub mod Seams
 pub mod Candidates
+pub mod Bare

@@ -1,5 +1,5 @@
 -- Chains of blocks, and their moves.
-use Rattle.std.specs.Prelude.{◌≡◌, ℕ, ◌≤◌, ◌==◌, List, [], ◌∷◌, Option, Some, if◌then◌else◌}
+use Rattle.std.specs.Prelude.{◌≡◌, ℕ, Bool, ◌≤◌, ◌==◌, List, [], ◌∷◌, Option, Some, if◌then◌else◌}
 use Rattle.sq_arena.specs.Entries.{ContainsKey, starting_at, run}
 use Rattle.sq_graph.specs.declared.item.Term.{Term}
 use Rattle.sq_graph.specs.declared.item.Term.TheVariants.{Fall, Jump}
@@ -54,6 +54,17 @@ fallen_blocks (b ∷ next ∷ rest) = record b { term = fallen_term next.name b.
 -- the graph in which each Jump to the next slot is Fall
 abbrev pub fallen : Graph → Graph
 fallen g = record g { blocks = fallen_blocks g.blocks }
+
+-- a Jump to the next slot becomes Fall where the name of that slot is one of these
+abbrev pub fallen_into : (ℕ → Bool) → List Block → List Block
+fallen_into among [] = []
+fallen_into among (b ∷ []) = b ∷ []
+fallen_into among (b ∷ next ∷ rest) =
+    (if among next.name then record b { term = fallen_term next.name b.term } else b) ∷ fallen_into among (next ∷ rest)
+
+-- the graph in which the Jump of the block before this one is Fall, where it is one to this block
+abbrev pub fallen_before : Graph → ℕ → Graph
+fallen_before g name = record g { blocks = fallen_into (λ n. n == name) g.blocks }
 
 -- the graph in which the chain of `to` stands behind `from`
 abbrev pub carried : Graph → ℕ → ℕ → Graph

@@ -16,6 +16,10 @@ extent_of b = record { name = b.name; words = block_words b; term = b.term }
 abbrev pub extents_of : Graph → List Extent
 extents_of g = map extent_of g.blocks
 
+-- the name of each block is less than this number
+abbrev pub AreBelow : ℕ → Graph → Type 0
+AreBelow names g = (n : ℕ) → HasBlock g n → n < names
+
 -- there is room for an address under the name of each block, and none is there yet
 pub record IsRoom (g : Graph) (room : List (Option ℕ)) : Type 0 where
   pub within : (n : ℕ) → HasBlock g n → n < length room
@@ -30,7 +34,7 @@ pub record IsLaidOut (g : Graph) (order : List Extent) : Type 0 where
 -- what the look over a graph's blocks found
 pub record IsSurvey (g : Graph) (survey : Survey) : Type 0 where
   pub extents : survey.extents.items ≡ extents_of g
-  pub room : IsRoom g survey.room.items
+  pub names : AreBelow survey.names g
   pub addresses : (n : ℕ) → number_at survey.addresses.items n ≡ address_by block_words (fallen_blocks g.blocks) 0 n
   pub falls : words_of (fallen g) + survey.falls ≡ words_of g
   pub words : survey.words ≡ words_of g

@@ -10,6 +10,7 @@ mod carry;
 mod chain;
 pub mod laws;
 mod least;
+mod local;
 mod moving;
 mod order;
 mod outlook;

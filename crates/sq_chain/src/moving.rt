@@ -3,13 +3,15 @@
 ghost use Rattle.std.specs.Prelude.{◌≡◌, ℕ, ◌≤◌, true, false, length, None, Ok, IfOk, IfSome, OnErr};
 ghost use Rattle.sq_graph.specs.Leaders.{IsCanonical};
 ghost use Rattle.sq_graph.specs.Parts.{names_of};
+ghost use Rattle.sq_graph.specs.Places.{IsInReach};
 ghost use Rattle.sq_graph.specs.Words.{words_of, most_words};
 ghost use Rattle.sq_pass.specs.Applied.{IsApplied};
 ghost use Rattle.sq_pass.specs.declared.cut.Cut.{Cut as Told};
 ghost use Rattle.sq_pass.specs.Rewrites.{IsRewrite, IsLighter};
-ghost use Rattle.sq_chain.specs.Moves.{IsMovable, moved, IsStill};
+ghost use Rattle.sq_chain.specs.Moves.{IsMovable, fallen, carried, moved, IsStill};
 ghost use Rattle.sq_chain.specs.Candidates.{IsCandidate, described, IsMoved, HasMoved, IsStillAt};
 ghost use Rattle.sq_chain.specs.Surveys.{IsSurvey};
+ghost use Rattle.sq_chain.specs.declared.outlook.Outlook.TheVariants.{Near, Still};
 
 use crate::carry::carry;
 use crate::chain::movable;
@@ -77,8 +79,29 @@ fn move_surveyed(
     ensures same { result ≡ Ok false → graph.new ≡ graph.old }
     ensures kept { OnErr result (graph.new ≡ graph.old) }
 {
+    let outlook = outlook_of(alloc, graph, survey, from, to)?;
+    move_by(alloc, graph, outlook, from, to)
+}
+
+/// The same by what the move comes to.
+pub(crate) fn move_by(
+    alloc: Global,
+    graph: &mut Graph,
+    outlook: Outlook,
+    from: u32,
+    to: u32,
+) -> Result<bool, Memory>
+    requires movable { IsMovable graph.old.graph from to }
+    requires blocks { length graph.old.graph.blocks ≤ 16777216 }
+    requires near { outlook ≡ Near → IsInReach (fallen (carried graph.old.graph from to)) }
+    requires stays { outlook ≡ Still → words_of graph.old.graph ≤ words_of (moved graph.old.graph from to) }
+    ensures moved { result ≡ Ok true → IsMoved from to graph.old.graph graph.new.graph }
+    ensures still { result ≡ Ok false → words_of graph.old.graph ≤ words_of (moved graph.old.graph from to) }
+    ensures same { result ≡ Ok false → graph.new ≡ graph.old }
+    ensures kept { OnErr result (graph.new ≡ graph.old) }
+{
     graph.learn();
-    match outlook_of(alloc, graph, survey, from, to)? {
+    match outlook {
         Outlook::Near => {
             carry(graph, from, to);
             Ok(true)
@@ -89,7 +112,7 @@ fn move_surveyed(
 }
 
 /// The block to which this one jumps, where there is this one and the pair is movable.
-fn movable_target(graph: &Graph, from: u32) -> Option<u32>
+pub(crate) fn movable_target(graph: &Graph, from: u32) -> Option<u32>
     ensures some { IfSome result (λ to. IsMovable graph.now.graph from to) }
     ensures none { result ≡ None → (to : ℕ) → ¬ IsMovable graph.now.graph from to }
 {
@@ -108,12 +131,7 @@ fn movable_target(graph: &Graph, from: u32) -> Option<u32>
 }
 
 /// The same for the block to which this one jumps, where the pair is movable.
-pub(crate) fn move_behind(
-    alloc: Global,
-    graph: &mut Graph,
-    survey: &Survey,
-    from: u32,
-) -> Result<bool, Memory>
+fn move_behind(alloc: Global, graph: &mut Graph, survey: &Survey, from: u32) -> Result<bool, Memory>
     requires blocks { length graph.old.graph.blocks ≤ 16777216 }
     requires survey { IsSurvey graph.old.graph survey.now }
     ensures moved { result ≡ Ok true → HasMoved graph.old.graph graph.new.graph }

@@ -10,7 +10,7 @@ ghost use Rattle.sq_lookup.specs.Tables.{number_at};
 ghost use Rattle.sq_chain.specs.Widening.{size_of};
 ghost use Rattle.sq_chain.specs.Least.{is_short, least_widened};
 ghost use Rattle.sq_chain.specs.Moves.{IsMovable, fallen, carried, moved};
-ghost use Rattle.sq_chain.specs.Surveys.{extent_of, IsRoom, IsLaidOut, IsSurvey};
+ghost use Rattle.sq_chain.specs.Surveys.{extent_of, AreBelow, IsLaidOut, IsSurvey};
 ghost use Rattle.sq_chain.specs.declared.outlook.Outlook.TheVariants.{Near, Still};
 
 use crate::order::carried_extents;
@@ -76,13 +76,14 @@ fn count_short(addresses: &[Option<u64>], order: &[Extent], most: u32) -> u32
 }
 
 /// What it comes to once the blocks stand in this order, each Jump to the next slot is Fall and the least set of Branches is
-/// widened: that set has each Branch that doesn't reach as the graph falls. It looks at each block twice.
-fn ordered_outlook(alloc: Global, room: &[Option<u64>], order: &[Extent]) -> Result<Outlook, Memory>
-    requires { (h : Parts) × IsLaidOut h order.now × IsRoom h room.now }
-    ensures near { result ≡ Ok Near → (h : Parts) → IsLaidOut h order.now → IsRoom h room.now → IsInReach (fallen h) }
-    ensures still { result ≡ Ok Still → (h : Parts) → IsLaidOut h order.now → IsRoom h room.now → words_of h ≤ words_of (least_widened (fallen h)) }
+/// widened: that set has each Branch that doesn't reach as the graph falls. Their names are less than `names`. It looks at each
+/// block twice.
+fn ordered_outlook(alloc: Global, names: usize, order: &[Extent]) -> Result<Outlook, Memory>
+    requires { (h : Parts) × IsLaidOut h order.now × AreBelow names h }
+    ensures near { result ≡ Ok Near → (h : Parts) → IsLaidOut h order.now → AreBelow names h → IsInReach (fallen h) }
+    ensures still { result ≡ Ok Still → (h : Parts) → IsLaidOut h order.now → AreBelow names h → words_of h ≤ words_of (least_widened (fallen h)) }
 {
-    let addresses = room_for(alloc, room.len())?;
+    let addresses = room_for(alloc, names)?;
     let they = fallen_addresses(addresses, order);
     let short = count_short(&they.addresses, order, they.falls);
     if they.falls <= short {
@@ -112,5 +113,5 @@ pub(crate) fn outlook_of(
         return Ok(Outlook::Still);
     }
     let order = carried_extents(alloc, graph, &survey.extents, from, to)?;
-    ordered_outlook(alloc, &survey.room, &order)
+    ordered_outlook(alloc, survey.names, &order)
 }

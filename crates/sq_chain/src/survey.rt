@@ -21,12 +21,12 @@ pub(crate) struct Extent {
     pub term: Term,
 }
 
-/// The blocks of a graph in layout order, room for an address under each of their names, their addresses once each Jump to
+/// The blocks of a graph in layout order, a number that is greater than each of their names, their addresses once each Jump to
 /// the next slot is Fall, how many these are, and how many words the graph takes.
 #[derive(Drop)]
 pub(crate) struct Survey {
     pub extents: Vec<Extent>,
-    pub room: Vec<Option<u64>>,
+    pub names: usize,
     pub addresses: Vec<Option<u64>>,
     pub falls: u32,
     pub words: u32,
@@ -115,12 +115,11 @@ pub(crate) fn survey_of(alloc: Global, graph: &Graph) -> Result<Survey, Memory>
 {
     graph.learn();
     let listing = listing_of(alloc, graph)?;
-    let room = room_for(alloc, listing.names)?;
     let addresses = room_for(alloc, listing.names)?;
     let fallen = fallen_addresses(addresses, &listing.extents);
     Ok(Survey {
         extents: listing.extents,
-        room,
+        names: listing.names,
         addresses: fallen.addresses,
         falls: fallen.falls,
         words: listing.words + words_of_procedures(graph),

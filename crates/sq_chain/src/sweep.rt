@@ -1,18 +1,25 @@
 //! Moves many chains by one look over the blocks.
 
-ghost use Rattle.std.specs.Prelude.{◌≤◌, ◌+◌, IfOk, OnOk};
+ghost use Rattle.std.specs.Prelude.{◌≡◌, ◌≤◌, ◌+◌, true, false, length, Ok, IfOk, OnOk};
 ghost use Rattle.sq_num.specs.Saved.{words_saved};
 ghost use Rattle.sq_graph.specs.Leaders.{IsCanonical};
+ghost use Rattle.sq_graph.specs.Places.{IsInReach};
 ghost use Rattle.sq_graph.specs.Words.{words_of, most_words};
 ghost use Rattle.law_follow.specs.Follows.{Follows};
 ghost use Rattle.sq_pass.specs.Rewrites.{IsRewritten};
-ghost use Rattle.sq_chain.specs.Candidates.{IsCandidate, described};
+ghost use Rattle.sq_chain.specs.Candidates.{IsCandidate, described, IsSwept};
+ghost use Rattle.sq_chain.specs.Moves.{IsMovable, fallen, carried};
 ghost use Rattle.sq_chain.specs.Surveys.{IsSurvey};
+ghost use Rattle.sq_lookup.specs.Counts.{AreUses, AreKnown};
+ghost use Rattle.sq_chain.specs.declared.outlook.Outlook.TheVariants.{Near};
 
-use crate::moving::move_behind;
+use crate::local::carry_joined;
+use crate::moving::{movable_target, move_by};
+use crate::outlook::{Outlook, outlook_of};
 use crate::survey::{Survey, survey_of};
 use sq_graph::Graph;
 use sq_live::block_names;
+use sq_lookup::{Uses, uses_of};
 use sq_num::{Memory, Savings};
 use sq_pass::{Rewrite, Row};
 use std::alloc::Global;
@@ -40,27 +47,112 @@ pub trait Watch {
     ) -> Result<bool, Memory>;
 }
 
-/// Moves the chain to which this block jumps behind it, where that saves words, and makes the graph canonical.
+/// Whether a move that comes to this is made at its seams alone, where so many blocks jump to the next slot before.
+fn is_local(outlook: Outlook, falls: u32) -> bool
+    ensures { result ≡ true → (outlook ≡ Near) × (falls ≡ 0) }
+{
+    match outlook {
+        Outlook::Near => falls == 0,
+        Outlook::Still | Outlook::Unsure => false,
+    }
+}
+
+/// The uses of the graph, which are counted where they aren't known.
+fn known_uses(alloc: Global, graph: &Graph, uses: Option<Uses>) -> Result<Uses, Memory>
+    requires { AreKnown graph.now.graph uses }
+    ensures { IfOk result (λ they. AreUses graph.now.graph they) }
+{
+    match uses {
+        Some(they) => Ok(they),
+        None => uses_of(alloc, graph),
+    }
+}
+
+/// Moves the chain of `to` behind `from` and makes the graph canonical, by a look at the seams of the move alone, or where a
+/// block is empty then by looks at all.
+fn sweep_near(
+    alloc: Global,
+    graph: &mut Graph,
+    uses: &mut Option<Uses>,
+    from: u32,
+    to: u32,
+) -> Result<(), Memory>
+    requires movable { IsMovable graph.old.graph from to }
+    requires canonical { IsCanonical graph.old.graph }
+    requires stays { words_of (fallen graph.old.graph) ≡ words_of graph.old.graph }
+    requires near { IsInReach (fallen (carried graph.old.graph from to)) }
+    requires uses { AreKnown graph.old.graph uses.old }
+    ensures swept { OnOk result (IsSwept graph.old.graph graph.new.graph) }
+    ensures uses { OnOk result (AreKnown graph.new.graph uses.new) }
+    ensures follows { Follows graph.old.graph graph.new.graph }
+{
+    graph.learn();
+    let mut they = known_uses(alloc, graph, uses.take())?;
+    if !carry_joined(graph, &mut they, from, to) {
+        return Ok(());
+    }
+    *uses = Some(they);
+    Ok(())
+}
+
+/// Moves the chain of `to` behind `from`, where that saves words, and makes the graph canonical then. Where each Branch reaches
+/// and no block jumps to its next slot before, it looks at the seams of the move alone.
+fn sweep_chain(
+    alloc: Global,
+    graph: &mut Graph,
+    view: &Survey,
+    uses: &mut Option<Uses>,
+    from: u32,
+    to: u32,
+) -> Result<bool, Memory>
+    requires movable { IsMovable graph.old.graph from to }
+    requires canonical { IsCanonical graph.old.graph }
+    requires blocks { length graph.old.graph.blocks ≤ 16777216 }
+    requires survey { IsSurvey graph.old.graph view.now }
+    requires uses { AreKnown graph.old.graph uses.old }
+    ensures swept { result ≡ Ok true → IsSwept graph.old.graph graph.new.graph }
+    ensures same { result ≡ Ok false → graph.new ≡ graph.old }
+    ensures uses { OnOk result (AreKnown graph.new.graph uses.new) }
+    ensures follows { Follows graph.old.graph graph.new.graph }
+{
+    let outlook = outlook_of(alloc, graph, view, from, to)?;
+    if is_local(outlook, view.falls) {
+        sweep_near(alloc, graph, uses, from, to)?;
+        return Ok(true);
+    }
+    if !move_by(alloc, graph, outlook, from, to)? {
+        return Ok(false);
+    }
+    graph.canonical();
+    *uses = None;
+    Ok(true)
+}
+
+/// The same of the chain to which this block jumps.
 fn sweep_behind(
     alloc: Global,
     graph: &mut Graph,
     view: &mut Survey,
+    uses: &mut Option<Uses>,
     from: u32,
     savings: Savings,
 ) -> Result<Savings, Memory>
     requires canonical { IsCanonical graph.old.graph }
     requires words { words_of graph.old.graph + words_saved savings ≤ most_words }
     requires survey { IsSurvey graph.old.graph view.old }
+    requires uses { AreKnown graph.old.graph uses.old }
     ensures rewritten { IfOk result (λ after. IsRewritten IsCandidate described savings after graph.old.graph graph.new.graph) }
     ensures follows { Follows graph.old.graph graph.new.graph }
     ensures survey { OnOk result (IsSurvey graph.new.graph view.new) }
+    ensures uses { OnOk result (AreKnown graph.new.graph uses.new) }
 {
     graph.learn();
-    if !move_behind(alloc, graph, view, from)? {
+    let Some(to) = movable_target(graph, from) else {
+        return Ok(savings);
+    };
+    if !sweep_chain(alloc, graph, view, uses, from, to)? {
         return Ok(savings);
     }
-    graph.learn();
-    graph.canonical();
     let next = survey_of(alloc, graph)?;
     let done = Rewrite {
         row: Row::L,
@@ -88,13 +180,14 @@ pub fn sweep_moves<W: Watch>(
     graph.learn();
     let names = block_names(alloc, graph)?;
     let mut view = survey_of(alloc, graph)?;
+    let mut uses = None;
     watch.begins(alloc, graph, &view.addresses)?;
     let mut after = savings;
     for name in &names {
         if !watch.wants(graph, *name)? {
             continue;
         }
-        let next = sweep_behind(alloc, graph, &mut view, *name, after)?;
+        let next = sweep_behind(alloc, graph, &mut view, &mut uses, *name, after)?;
         if next.moved != after.moved && watch.ends(alloc, graph, &view.addresses)? {
             return Ok(next);
         }

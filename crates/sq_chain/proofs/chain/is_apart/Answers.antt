@@ -3,7 +3,8 @@ use Rattle.std.proofs.lemmas.Bool.{not-true, not_from_false}
 use Rattle.sq_arena.specs.Entries.{previous_key}
 use Rattle.sq_graph.specs.Blocks.{named}
 use Rattle.sq_graph.proofs.LinkReads.{value_of-links, previous-links}
-use Rattle.sq_chain.proofs.Previous.{none_apart, before_there, stops_apart, apart_stops}
+use Rattle.sq_lookup.proofs.Previous.{before_there}
+use Rattle.sq_chain.proofs.Previous.{none_apart, stops_apart, apart_stops}
 use Rattle.sq_chain.proofs.chain.is_apart.Goals as goal
 
 pub previous-requires : goal.previous-requires

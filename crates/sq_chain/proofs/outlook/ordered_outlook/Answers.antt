@@ -5,17 +5,17 @@ use Rattle.sq_lookup.specs.Tables.{number_at}
 use Rattle.sq_chain.specs.Least.{is_short}
 use Rattle.sq_chain.specs.Widening.{size_of}
 use Rattle.sq_chain.proofs.Lighter.{none_short, short_widened}
-use Rattle.sq_chain.proofs.Surveyed.{room_alike}
+use Rattle.sq_chain.proofs.Surveyed.{room_is}
 use Rattle.sq_chain.proofs.outlook.ordered_outlook.Goals as goal
 
 pub fallen_addresses-they-requires : goal.fallen_addresses-they-requires
 fallen_addresses-they-requires c =
-    let there = room_alike c.requires.0 c.args.room.now c.in_ok-addresses.addresses.items c.requires.2 c.in_ok-addresses.ensures.within c.in_ok-addresses.ensures.none in
+    let there = room_is c.requires.0 c.args.names c.in_ok-addresses.addresses.items c.requires.2 c.in_ok-addresses.ensures.within c.in_ok-addresses.ensures.none in
     (c.requires.0, c.requires.1, there)
 
 pub returns-then-they-short-clause-still : goal.returns-then-they-short-clause-still
-returns-then-they-short-clause-still c = λ e h laid room.
-    let there = room_alike h c.args.room.now c.in_ok-addresses.addresses.items room c.in_ok-addresses.ensures.within c.in_ok-addresses.ensures.none in
+returns-then-they-short-clause-still c = λ e h laid below.
+    let there = room_is h c.args.names c.in_ok-addresses.addresses.items below c.in_ok-addresses.ensures.within c.in_ok-addresses.ensures.none in
     let many = c.if-they-short.true in
     let some = c.count_short-short.ensures.some h laid in
     let same = ap (λ (t : List (Option ℕ)). size_of h (λ n. is_short (address_at (number_at t)) h n (term_of h n))) c.deref.ensures.value in
@@ -24,8 +24,8 @@ returns-then-they-short-clause-still c = λ e h laid room.
     omega (arith, many, some, same, falls, more)
 
 pub returns-then-short-eq0-clause-near : goal.returns-then-short-eq0-clause-near
-returns-then-short-eq0-clause-near c = λ e h laid room.
-    let there = room_alike h c.args.room.now c.in_ok-addresses.addresses.items room c.in_ok-addresses.ensures.within c.in_ok-addresses.ensures.none in
+returns-then-short-eq0-clause-near c = λ e h laid below.
+    let there = room_is h c.args.names c.in_ok-addresses.addresses.items below c.in_ok-addresses.ensures.within c.in_ok-addresses.ensures.none in
     let none = c.if-short-eq0.true in
     let fewer = c.if-they-short.false in
     let all = c.count_short-short.ensures.all h laid (omega (arith, fewer)) in

@@ -1,28 +1,27 @@
-use Rattle.std.proofs.Common.{◌∙◌, ℕ, List, Option, sym, subst, arith}
+use Rattle.std.proofs.Common.{◌∙◌, arith}
 use Rattle.sq_chain.specs.Moves.{carried}
-use Rattle.sq_chain.specs.Surveys.{IsRoom}
 use Rattle.sq_chain.proofs.Carried.{carried_words}
-use Rattle.sq_chain.proofs.Surveyed.{carried_laid, carried_room}
+use Rattle.sq_chain.proofs.Surveyed.{carried_laid, carried_below}
 use Rattle.sq_chain.proofs.outlook.outlook_of.Goals as goal
 
 pub ordered_outlook-requires : goal.ordered_outlook-requires
 ordered_outlook-requires c =
     let g = c.args.graph.now.graph in
-    let laid = carried_laid g c.args.from c.args.to c.learn.ensures.rules c.requires.movable c.deref-3.result.now c.learn.ensures.few (c.deref-3.ensures.value ∙ c.in_ok-order.ensures) in
-    let room = carried_room g c.args.from c.args.to c.learn.ensures.rules c.requires.movable c.deref-2.result.now (subst (λ (r : List (Option ℕ)). IsRoom g r) (sym c.deref-2.ensures.value) c.requires.survey.room) in
-    (carried g c.args.from c.args.to, laid, room)
+    let laid = carried_laid g c.args.from c.args.to c.learn.ensures.rules c.requires.movable c.deref-2.result.now c.learn.ensures.few (c.deref-2.ensures.value ∙ c.in_ok-order.ensures) in
+    let below = carried_below g c.args.from c.args.to c.learn.ensures.rules c.requires.movable c.args.survey.now.names c.requires.survey.names in
+    (carried g c.args.from c.args.to, laid, below)
 
 pub returns-clause-near : goal.returns-clause-near
 returns-clause-near c = λ e.
     let g = c.args.graph.now.graph in
-    let laid = carried_laid g c.args.from c.args.to c.learn.ensures.rules c.requires.movable c.deref-3.result.now c.learn.ensures.few (c.deref-3.ensures.value ∙ c.in_ok-order.ensures) in
-    let room = carried_room g c.args.from c.args.to c.learn.ensures.rules c.requires.movable c.deref-2.result.now (subst (λ (r : List (Option ℕ)). IsRoom g r) (sym c.deref-2.ensures.value) c.requires.survey.room) in
-    c.ordered_outlook.ensures.near e (carried g c.args.from c.args.to) laid room
+    let laid = carried_laid g c.args.from c.args.to c.learn.ensures.rules c.requires.movable c.deref-2.result.now c.learn.ensures.few (c.deref-2.ensures.value ∙ c.in_ok-order.ensures) in
+    let below = carried_below g c.args.from c.args.to c.learn.ensures.rules c.requires.movable c.args.survey.now.names c.requires.survey.names in
+    c.ordered_outlook.ensures.near e (carried g c.args.from c.args.to) laid below
 
 pub returns-clause-still : goal.returns-clause-still
 returns-clause-still c = λ e.
     let g = c.args.graph.now.graph in
-    let laid = carried_laid g c.args.from c.args.to c.learn.ensures.rules c.requires.movable c.deref-3.result.now c.learn.ensures.few (c.deref-3.ensures.value ∙ c.in_ok-order.ensures) in
-    let room = carried_room g c.args.from c.args.to c.learn.ensures.rules c.requires.movable c.deref-2.result.now (subst (λ (r : List (Option ℕ)). IsRoom g r) (sym c.deref-2.ensures.value) c.requires.survey.room) in
-    let few = c.ordered_outlook.ensures.still e (carried g c.args.from c.args.to) laid room in
+    let laid = carried_laid g c.args.from c.args.to c.learn.ensures.rules c.requires.movable c.deref-2.result.now c.learn.ensures.few (c.deref-2.ensures.value ∙ c.in_ok-order.ensures) in
+    let below = carried_below g c.args.from c.args.to c.learn.ensures.rules c.requires.movable c.args.survey.now.names c.requires.survey.names in
+    let few = c.ordered_outlook.ensures.still e (carried g c.args.from c.args.to) laid below in
     omega (arith, few, carried_words g c.args.from c.args.to c.learn.ensures.rules c.requires.movable)

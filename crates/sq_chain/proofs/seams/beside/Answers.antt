@@ -2,7 +2,7 @@ use Rattle.std.proofs.Common.{◌≡◌, ◌∙◌, ℕ, Option, None, Some, sym
 use Rattle.std.specs.Prelude.{IfSome}
 use Rattle.sq_graph.specs.Blocks.{HasBlock}
 use Rattle.sq_graph.proofs.LinkReads.{value_of-links, previous-links}
-use Rattle.sq_chain.proofs.Previous.{before_there, next_there}
+use Rattle.sq_lookup.proofs.Previous.{before_there, next_there}
 use Rattle.sq_chain.proofs.seams.beside.Goals as goal
 
 pub previous-requires : goal.previous-requires

@@ -7,7 +7,7 @@ use Rattle.sq_chain.specs.Moves.{chain_end, JumpsTo}
 use Rattle.sq_chain.proofs.Drops.{drops, drops_words, last_none}
 use Rattle.sq_chain.proofs.Exchanging.{falls_once as falls_at_once, end_drop, before_drop}
 use Rattle.sq_chain.proofs.Orders.{last_has}
-use Rattle.sq_chain.proofs.Previous.{before_there}
+use Rattle.sq_lookup.proofs.Previous.{before_there}
 use Rattle.sq_chain.proofs.Reordered.{to_has}
 use Rattle.sq_chain.proofs.seams.falls_once.Goals as goal
 

@@ -16,6 +16,7 @@ pub loop-name-init : goal.loop-name-init
 loop-name-init g c = record {
   rewritten = rewritten_itself IsCandidate described c.args.savings c.args.graph.now.graph c.requires.canonical;
   survey = c.in_ok-view.ensures;
+  uses = tt;
 }
 
 pub returns-in_err-wants-clause-follows : goal.returns-in_err-wants-clause-follows
@@ -28,6 +29,7 @@ pub loop-name-preserved : goal.loop-name-preserved
 loop-name-preserved g c = record {
   rewritten = rewritten_through IsCandidate described c.args.savings c.loop-name.after c.in_ok-next.next c.args.graph.now.graph c.loop-name.graph.graph c.sweep_behind.new.graph.graph c.loop-name.invariant.rewritten c.in_ok-next.ensures.rewritten;
   survey = c.in_ok-next.ensures.survey;
+  uses = c.in_ok-next.ensures.uses;
 }
 
 pub returns-then-branch-clause-rewritten : goal.returns-then-branch-clause-rewritten

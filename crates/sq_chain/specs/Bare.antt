@@ -1,0 +1,22 @@
+-- Blocks that are empty with Fall.
+use Rattle.std.specs.Prelude.{◌≡◌, ℕ, Bool, true, false, ◌&&◌, not, Option, None, Some}
+use Rattle.std.specs.List.{All}
+use Rattle.sq_graph.specs.Graph.{Block, Graph}
+use Rattle.sq_graph.specs.Blocks.{block_of}
+use Rattle.sq_graph.specs.Leaders.{is_bare}
+use Rattle.sq_graph.specs.Operations.{without_block}
+
+-- the block is there, and empty with Fall
+pub record IsBareAt (g : Graph) (name : ℕ) : Type 0 where
+  pub block : Block
+  pub there : block_of g name ≡ Some block
+  pub bare : is_bare block ≡ true
+
+-- no block is empty with Fall but those that may be
+abbrev pub AreSolidBut : (ℕ → Bool) → Graph → Type 0
+AreSolidBut may g = All (λ b. (not (may b.name) && is_bare b) ≡ false) g.blocks
+
+-- the graph without this block, if it is one
+abbrev pub dropped : Graph → Option ℕ → Graph
+dropped g None = g
+dropped g (Some name) = without_block g name
