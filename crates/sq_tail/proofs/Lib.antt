@@ -22,4 +22,4 @@ pub mod Grown
 pub mod StillDead
 pub mod Uses
 pub mod Halved
-pub mod StillCanonical
+pub mod JoinedWhole

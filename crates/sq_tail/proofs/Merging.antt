@@ -1,5 +1,5 @@
 -- A graph with a Jump in place of the end of a block keeps the rules and stays in reach.
-use Rattle.std.proofs.Common.{◌≡◌, ℕ, ◌+◌, ◌≤◌, ◌==◌, true, List, [], ◌∷◌, take, drop, length, Option, None, Some, inl, inr, refl, sym, ap, ◌∙◌, subst, arith, length-append, length-take, length-drop}
+use Rattle.std.proofs.Common.{◌≡◌, ℕ, ◌+◌, ◌≤◌, ◌==◌, true, List, [], ◌∷◌, take, drop, length, Option, None, Some, IsSome, inl, inr, refl, sym, ap, ◌∙◌, subst, arith, length-append, length-take, length-drop}
 use Rattle.std.specs.Prelude.{option_map}
 use Rattle.std.proofs.lemmas.Bool.{cases_Bool, eqb-true, eqb-false, eq-eqb}
 use Rattle.std.proofs.lemmas.List.Elements.{All-nil, All-cons}
@@ -8,7 +8,7 @@ use Rattle.sq_isa.specs.declared.instructions.Cond.{Cond}
 use Rattle.sq_graph.specs.declared.item.Item.{Item}
 use Rattle.sq_graph.specs.declared.item.Term.TheVariants.{Jump, Branch}
 use Rattle.sq_graph.specs.Graph.{Block, Graph}
-use Rattle.sq_graph.specs.Blocks.{named, HasBlock, HasProcedure, block_of, block_items, block_term, items_of}
+use Rattle.sq_graph.specs.Blocks.{named, HasBlock, HasProcedure, block_of, block_items, block_term, items_of, term_of}
 use Rattle.sq_graph.specs.Operations.{with_blocks, replaced_items, replaced}
 use Rattle.sq_graph.specs.Places.{IsInReach}
 use Rattle.sq_graph.specs.Rules.{IsGraph}
@@ -37,6 +37,17 @@ changed_twice p q (b ∷ bs) name names =
 
 pub merged_blocks : (g : Graph) (dropped at kept : ℕ) → (merged g dropped at kept).blocks ≡ with_blocks (λ b. ended kept at (length (items_of g kept)) b ∷ []) g.blocks dropped
 merged_blocks g dropped at kept = changed_twice (λ b. record b { items = replaced_items b.items at (length (items_of g kept)) [] }) (λ b. record b { term = Jump kept }) g.blocks dropped (λ b. refl)
+
+pub merged_term : (g : Graph) (dropped at kept : ℕ) → HasBlock g dropped → term_of (merged g dropped at kept) dropped ≡ Some (Jump kept)
+merged_term g dropped at kept has =
+    let n = length (items_of g kept) in
+    ap (λ bs. block_term (value_of (named bs) dropped)) (merged_blocks g dropped at kept)
+    ∙ ap block_term (block_of-changed_here (ended kept at n) g.blocks dropped (λ b. refl))
+    ∙ by_block (block_of g dropped) has
+  where
+    by_block : (o : Option Block) → IsSome o → block_term (option_map (ended kept at (length (items_of g kept))) o) ≡ Some (Jump kept)
+    by_block None none = absurd (cc)
+    by_block (Some b) some = refl
 
 -- THE RULES
 

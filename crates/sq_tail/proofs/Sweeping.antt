@@ -19,9 +19,10 @@ use Rattle.sq_graph.specs.Room.{GraphAndRoom, IsSmall, sum_of, count_of, total_o
 use Rattle.sq_graph.specs.Rules.{IsGraph}
 use Rattle.sq_graph.specs.Soundness.{IsSound}
 use Rattle.sq_graph.specs.Words.{block_words, words_of, most_words}
-use Rattle.sq_graph.proofs.CanonicalLaws.{canonical_keeps_words}
+use Rattle.sq_graph.proofs.CanonicalLaws.{canonical_is_canonical, canonical_keeps_words}
 use Rattle.sq_graph.proofs.CanonicalReach.{canonical_in_reach}
 use Rattle.law_follow.specs.Follows.{Follows}
+use Rattle.law_follow.proofs.Following.{graph_follows_through}
 use Rattle.law_patch.proofs.Joining.{canonical_follows, canonical_sound}
 use Rattle.sq_pass.specs.declared.cut.Cut.{Cut}
 use Rattle.sq_pass.specs.declared.cut.Row.TheVariants.{T}
@@ -88,11 +89,23 @@ pair_rewritten g mid new dropped kept n saving before after rules candidate join
     subst (λ s. IsRewritten IsCandidate described before s g new) (sym (counts ∙ ap (counted before T) is))
     (cut_rewritten (tail_cut g dropped kept n) before g mid new candidate (candidate_applied g mid (tail_cut g dropped kept n) dropped kept rules candidate refl join) made canonical words)
 
+pub pair_applied : (g mid : Graph) (dropped kept n : ℕ) → IsGraph g → IsCandidate g (tail_cut g dropped kept n) → IsJoined g dropped kept n mid → IsApplied (tail_cut g dropped kept n).saving (described g (tail_cut g dropped kept n)) g mid
+pair_applied g mid dropped kept n rules candidate join = candidate_applied g mid (tail_cut g dropped kept n) dropped kept rules candidate refl join
+
 -- the same by the graph that they make
-pub whole_rewritten : (g new : Graph) (dropped kept n saving : ℕ) (before after : Savings) → IsGraph g → IsCandidate g (tail_cut g dropped kept n) → IsJoinedWhole g dropped kept n new → IsCanonical new → saving ≡ n - 1 + end_words g dropped → after ≡ counted before T saving → IsRewritten IsCandidate described before after g new
-whole_rewritten g new dropped kept n saving before after rules candidate (mid, (join, made)) canonical is counts =
-    let applied = candidate_applied g mid (tail_cut g dropped kept n) dropped kept rules candidate refl join in
-    pair_rewritten g mid new dropped kept n saving before after rules candidate join made canonical (ap words_of made ∙ canonical_keeps_words mid applied.rules) is counts
+pub whole_follows : (g new : Graph) (dropped kept n : ℕ) → IsGraph g → IsCandidate g (tail_cut g dropped kept n) → IsJoinedWhole g dropped kept n new → Follows g new
+whole_follows g new dropped kept n rules candidate (mid, (join, made)) =
+    let applied = pair_applied g mid dropped kept n rules candidate join in
+    graph_follows_through g mid new applied.follows (subst (Follows mid) (sym made) (canonical_follows mid applied.rules))
+
+pub whole_canonical : (g new : Graph) (dropped kept n : ℕ) → IsGraph g → IsCandidate g (tail_cut g dropped kept n) → IsJoinedWhole g dropped kept n new → IsCanonical new
+whole_canonical g new dropped kept n rules candidate (mid, (join, made)) =
+    subst IsCanonical (sym made) (canonical_is_canonical mid (pair_applied g mid dropped kept n rules candidate join).rules)
+
+pub whole_rewritten : (g new : Graph) (dropped kept n saving : ℕ) (before after : Savings) → IsGraph g → IsCandidate g (tail_cut g dropped kept n) → IsJoinedWhole g dropped kept n new → saving ≡ n - 1 + end_words g dropped → after ≡ counted before T saving → IsRewritten IsCandidate described before after g new
+whole_rewritten g new dropped kept n saving before after rules candidate (mid, (join, made)) is counts =
+    let applied = pair_applied g mid dropped kept n rules candidate join in
+    pair_rewritten g mid new dropped kept n saving before after rules candidate join made (whole_canonical g new dropped kept n rules candidate (mid, (join, made))) (ap words_of made ∙ canonical_keeps_words mid applied.rules) is counts
 
 pub pair_there : (g : Graph) (dropped kept n : ℕ) → IsCandidate g (tail_cut g dropped kept n) → AreTails g dropped kept n
 pair_there g dropped kept n candidate = tails_there g (tail_cut g dropped kept n) dropped kept candidate refl

@@ -1,7 +1,7 @@
--- A graph with a Jump in place of the end of a block is canonical, where the names of that end are used elsewhere.
-use Rattle.std.proofs.Common.{◌≡◌, ◌≢◌, ◌⊎◌, ℕ, ◌+◌, ◌==◌, Bool, true, false, ◌&&◌, ◌||◌, not, if◌then◌else◌, List, [], ◌∷◌, ◌++◌, take, drop, length, Option, Some, inl, inr, refl, sym, ap, ◌∙◌, subst, take-append-drop}
+-- A graph with a Jump in place of the end of a block: which names it uses, and which blocks are fallen into.
+use Rattle.std.proofs.Common.{◌≡◌, ◌≢◌, ◌⊎◌, ℕ, ◌+◌, ◌≤◌, ◌==◌, Bool, true, false, ◌||◌, if◌then◌else◌, List, [], ◌∷◌, ◌++◌, take, drop, length, Option, Some, inl, inr, refl, sym, ap, ◌∙◌, subst, take-append-drop, arith}
 use Rattle.std.specs.List.{All}
-use Rattle.std.proofs.lemmas.Bool.{or_left, or_right, eqb-true, eq-eqb, or_cases}
+use Rattle.std.proofs.lemmas.Bool.{cases_Bool, or_left, or_right, eqb-true, eq-eqb, or_cases}
 use Rattle.std.proofs.lemmas.List.Concat.{flat_map-append}
 use Rattle.std.proofs.lemmas.List.Elements.{All-cons, All-tail, All-append}
 use Rattle.std.proofs.Math.Bool.{and-false}
@@ -9,8 +9,7 @@ use Rattle.sq_arena.specs.Entries.{value_of}
 use Rattle.sq_isa.specs.Registers.{is_among}
 use Rattle.sq_graph.specs.Graph.{Block, Graph}
 use Rattle.sq_graph.specs.Blocks.{named, HasBlock, block_of, block_items, block_term, items_of, term_of, items_of_blocks, items_of_bodies}
-use Rattle.sq_graph.specs.Leaders.{has_no_items, is_fall, is_bare, follows_a_term, is_leader, FallsIntoLeaders, IsCanonical}
-use Rattle.sq_graph.specs.Terms.{goes_on}
+use Rattle.sq_graph.specs.Leaders.{has_no_items, is_fall, is_bare, FallsIntoLeaders}
 use Rattle.sq_graph.specs.Uses.{term_uses, item_uses, items_uses, terms_uses, code_word_uses, uses}
 use Rattle.sq_graph.proofs.Changes.{with_blocks-at}
 use Rattle.sq_graph.proofs.Eachs.{All-left, All-right}
@@ -18,8 +17,11 @@ use Rattle.sq_graph.proofs.Located.{IsAt, located}
 use Rattle.sq_graph.proofs.Marks.{is_among-append}
 use Rattle.sq_graph.proofs.SlotReads.{block_at}
 use Rattle.sq_layout.proofs.Standing.{block_of-changed}
+use Rattle.sq_lookup.specs.Counts.{times_named}
+use Rattle.sq_lookup.specs.Names.{held_uses}
+use Rattle.sq_lookup.proofs.Counting.{times-append, some_times, none_times, times_some, among_uses}
 use Rattle.law_patch.specs.Merges.{merged}
-use Rattle.sq_tail.specs.Names.{end_uses, makes_leader, KeepsNames}
+use Rattle.sq_tail.specs.Names.{end_uses}
 use Rattle.sq_tail.proofs.Merging.{ended, merged_blocks}
 
 -- LISTS OF NAMES
@@ -52,6 +54,15 @@ swapped_part front olds news back k Q moves e =
           ]
     ]
 
+-- two lists with the same names
+same_in : (us vs : List ℕ) (k : ℕ) → (In us k → In vs k) → (In vs k → In us k) → is_among us k ≡ is_among vs k
+same_in us vs k there back = by (is_among us k) (is_among vs k) there back
+  where
+    by : (a b : Bool) → (a ≡ true → b ≡ true) → (b ≡ true → a ≡ true) → a ≡ b
+    by true b there back = sym (there refl)
+    by false true there back = back refl
+    by false false there back = refl
+
 -- THE NAMES OF BLOCKS
 
 terms_parts : (front back : List Block) (b : Block) → terms_uses (front ++ b ∷ back) ≡ terms_uses front ++ (term_uses b.term ++ terms_uses back)
@@ -63,15 +74,6 @@ items_parts front back b =
     ∙ flat_map-append item_uses (items_of_blocks front) (b.items ++ items_of_blocks back)
     ∙ ap (λ (us : List ℕ). items_uses (items_of_blocks front) ++ us) (flat_map-append item_uses b.items (items_of_blocks back))
 
--- those of one block are among those of all
-term_in : (bs : List Block) (m k : ℕ) → In (end_uses (block_term (value_of (named bs) m))) k → In (terms_uses bs) k
-term_in [] m k e = absurd (cc)
-term_in (b ∷ bs) m k e = here (b.name == m) (term_in bs m k) e
-  where
-    here : (t : Bool) → (In (end_uses (block_term (value_of (named bs) m))) k → In (terms_uses bs) k) → In (end_uses (block_term (if t then Some b else value_of (named bs) m))) k → In (terms_uses (b ∷ bs)) k
-    here true later e = in_left (term_uses b.term) (terms_uses bs) k e
-    here false later e = in_right (term_uses b.term) (terms_uses bs) k (later e)
-
 items_in : (bs : List Block) (m k : ℕ) → In (items_uses (block_items (value_of (named bs) m))) k → In (items_uses (items_of_blocks bs)) k
 items_in [] m k e = absurd (cc)
 items_in (b ∷ bs) m k e = subst (λ (us : List ℕ). In us k) (sym (flat_map-append item_uses b.items (items_of_blocks bs))) (here (b.name == m) (items_in bs m k) e)
@@ -80,30 +82,25 @@ items_in (b ∷ bs) m k e = subst (λ (us : List ℕ). In us k) (sym (flat_map-a
     here true later e = in_left (items_uses b.items) (items_uses (items_of_blocks bs)) k e
     here false later e = in_right (items_uses b.items) (items_uses (items_of_blocks bs)) k (later e)
 
--- the names that a graph uses
-pub in_uses : (g h : Graph) (k : ℕ) → g.entry ≡ h.entry → g.code_words ≡ h.code_words → g.procedures ≡ h.procedures → (In (terms_uses g.blocks) k → In (terms_uses h.blocks) k) → (In (items_uses (items_of_blocks g.blocks)) k → In (items_uses (items_of_blocks h.blocks)) k) → In (uses g) k → In (uses h) k
-in_uses g h k entry words bodies terms items e =
+-- the names that a graph uses elsewhere than in terms
+held_in : (g h : Graph) (k : ℕ) → g.entry ≡ h.entry → g.code_words ≡ h.code_words → g.procedures ≡ h.procedures → (In (items_uses (items_of_blocks g.blocks)) k → In (items_uses (items_of_blocks h.blocks)) k) → In (held_uses g) k → In (held_uses h) k
+held_in g h k entry words bodies items e =
     let olds = items_uses (items_of_blocks g.blocks ++ items_of_bodies g.procedures) in
     let news = items_uses (items_of_blocks h.blocks ++ items_of_bodies h.procedures) in
     let told = code_word_uses h.code_words in
-    elim (or_cases (g.entry == k) (is_among (code_word_uses g.code_words ++ (terms_uses g.blocks ++ olds)) k) e) [
-      | inl first ↦ or_left (h.entry == k) (is_among (told ++ (terms_uses h.blocks ++ news)) k) (ap (λ n. n == k) (sym entry) ∙ first)
+    elim (or_cases (g.entry == k) (is_among (code_word_uses g.code_words ++ olds) k) e) [
+      | inl first ↦ or_left (h.entry == k) (is_among (told ++ news) k) (ap (λ n. n == k) (sym entry) ∙ first)
       | inr rest ↦
-          or_right (h.entry == k) (is_among (told ++ (terms_uses h.blocks ++ news)) k)
-          (elim (in_either (code_word_uses g.code_words) (terms_uses g.blocks ++ olds) k rest) [
-            | inl word ↦ in_left told (terms_uses h.blocks ++ news) k (subst (λ ws. In (code_word_uses ws) k) words word)
-            | inr more ↦
-                in_right told (terms_uses h.blocks ++ news) k
-                (elim (in_either (terms_uses g.blocks) olds k more) [
-                  | inl term ↦ in_left (terms_uses h.blocks) news k (terms term)
-                  | inr item ↦
-                      in_right (terms_uses h.blocks) news k
-                      (subst (λ (us : List ℕ). In us k) (sym (flat_map-append item_uses (items_of_blocks h.blocks) (items_of_bodies h.procedures)))
-                      (elim (in_either (items_uses (items_of_blocks g.blocks)) (items_uses (items_of_bodies g.procedures)) k (subst (λ (us : List ℕ). In us k) (flat_map-append item_uses (items_of_blocks g.blocks) (items_of_bodies g.procedures)) item)) [
-                        | inl block ↦ in_left (items_uses (items_of_blocks h.blocks)) (items_uses (items_of_bodies h.procedures)) k (items block)
-                        | inr body ↦ in_right (items_uses (items_of_blocks h.blocks)) (items_uses (items_of_bodies h.procedures)) k (subst (λ ps. In (items_uses (items_of_bodies ps)) k) bodies body)
-                      ]))
-                ])
+          or_right (h.entry == k) (is_among (told ++ news) k)
+          (elim (in_either (code_word_uses g.code_words) olds k rest) [
+            | inl word ↦ in_left told news k (subst (λ ws. In (code_word_uses ws) k) words word)
+            | inr item ↦
+                in_right told news k
+                (subst (λ (us : List ℕ). In us k) (sym (flat_map-append item_uses (items_of_blocks h.blocks) (items_of_bodies h.procedures)))
+                (elim (in_either (items_uses (items_of_blocks g.blocks)) (items_uses (items_of_bodies g.procedures)) k (subst (λ (us : List ℕ). In us k) (flat_map-append item_uses (items_of_blocks g.blocks) (items_of_bodies g.procedures)) item)) [
+                  | inl block ↦ in_left (items_uses (items_of_blocks h.blocks)) (items_uses (items_of_bodies h.procedures)) k (items block)
+                  | inr body ↦ in_right (items_uses (items_of_blocks h.blocks)) (items_uses (items_of_bodies h.procedures)) k (subst (λ ps. In (items_uses (items_of_bodies ps)) k) bodies body)
+                ]))
           ])
     ]
 
@@ -122,14 +119,6 @@ module _ (leads others : ℕ → Bool) (more : (k : ℕ) → leads k ≡ true �
   falls_changed (x ∷ []) back b c name ends falls = (λ fall. subst (λ n. others n ≡ true) (sym name) (more b.name (falls.0 fall)), falls_changed [] back b c name ends falls.1)
   falls_changed (x ∷ y ∷ front) back b c name ends falls = (λ fall. more y.name (falls.0 fall), falls_changed (y ∷ front) back b c name ends falls.1)
 
-follows_changed : (front back : List Block) (b c : Block) (k : ℕ) → c.name ≡ b.name → (goes_on b.term && not (is_fall b.term)) ≡ false → (goes_on c.term && not (is_fall c.term)) ≡ false → follows_a_term (front ++ b ∷ back) k ≡ follows_a_term (front ++ c ∷ back) k
-follows_changed [] [] b c k name quiet still = refl
-follows_changed [] (d ∷ back) b c k name quiet still = ap (λ t. t && d.name == k || follows_a_term (d ∷ back) k) (quiet ∙ sym still)
-follows_changed (x ∷ []) back b c k name quiet still =
-    ap (λ n. goes_on x.term && not (is_fall x.term) && n == k || follows_a_term (b ∷ back) k) (sym name)
-    ∙ ap (λ t. goes_on x.term && not (is_fall x.term) && c.name == k || t) (follows_changed [] back b c k name quiet still)
-follows_changed (x ∷ y ∷ front) back b c k name quiet still = ap (λ t. goes_on x.term && not (is_fall x.term) && y.name == k || t) (follows_changed (y ∷ front) back b c k name quiet still)
-
 -- THE END OF A BLOCK BECOMES A JUMP
 
 module _ (s : Graph) (dropped at to : ℕ) where
@@ -137,10 +126,8 @@ module _ (s : Graph) (dropped at to : ℕ) where
     pub has : HasBlock s dropped
     pub apart : to ≢ dropped
     pub same : (k : ℕ) → In (items_uses (drop at (items_of s dropped))) k → In (items_uses (items_of s to)) k
-    pub quiet : makes_leader (term_of s dropped) ≡ false
-    pub names : KeepsNames s dropped
     pub solid : All (λ b. is_bare b ≡ false) s.blocks
-    pub falls : FallsIntoLeaders (λ n. is_leader s n || n == to) s.blocks
+    pub falls : FallsIntoLeaders (λ n. is_among (uses s) n || n == to) s.blocks
 
   module _ (c : CanEnd) where
     abbrev n : ℕ
@@ -164,16 +151,6 @@ module _ (s : Graph) (dropped at to : ℕ) where
     still : (m : ℕ) → m ≢ dropped → block_of h m ≡ block_of s m
     still m other = ap (λ (bs : List Block). value_of (named bs) m) (merged_blocks s dropped at to) ∙ block_of-changed (ended to at n) s.blocks dropped m (λ b. refl) other
 
-    terms_still : (k : ℕ) → In (terms_uses s.blocks) k → In (terms_uses h.blocks) k
-    terms_still k e =
-        let olds : In (terms_uses spot.front ++ (term_uses spot.block.term ++ terms_uses spot.back)) k = subst (λ (us : List ℕ). In us k) (ap terms_uses spot.whole ∙ terms_parts spot.front spot.back spot.block) e in
-        elim (swapped_part (terms_uses spot.front) (term_uses spot.block.term) (to ∷ []) (terms_uses spot.back) k (In (term_uses spot.block.term) k) (λ here. inr here) olds) [
-          | inl left ↦ subst (λ (us : List ℕ). In us k) (sym (ap terms_uses now ∙ terms_parts spot.front spot.back new_block)) left
-          | inr here ↦
-              let elsewhere = c.names k (subst (λ (o : Option Block). In (end_uses (block_term o)) k) (sym found) here) in
-              term_in h.blocks elsewhere.0 k (subst (λ (o : Option Block). In (end_uses (block_term o)) k) (sym (still elsewhere.0 elsewhere.1.0)) elsewhere.1.1)
-        ]
-
     items_kept : (k : ℕ) → In (items_uses spot.block.items) k → In (items_uses new_block.items) k ⊎ In (items_uses (drop at spot.block.items)) k
     items_kept k e =
         let is = spot.block.items in
@@ -196,45 +173,94 @@ module _ (s : Graph) (dropped at to : ℕ) where
               items_in h.blocks to k (subst (λ (o : Option Block). In (items_uses (block_items o)) k) (sym (still to c.apart)) there)
         ]
 
+    items_fewer : (k : ℕ) → In (items_uses new_block.items) k → In (items_uses spot.block.items) k
+    items_fewer k e =
+        let is = spot.block.items in
+        let parted = λ (m : ℕ). sym (flat_map-append item_uses (take m is) (drop m is)) ∙ ap items_uses (take-append-drop m is) in
+        elim (in_either (items_uses (take at is)) (items_uses (drop (at + n) is)) k (subst (λ (us : List ℕ). In us k) (flat_map-append item_uses (take at is) (drop (at + n) is)) e)) [
+          | inl front ↦ subst (λ (us : List ℕ). In us k) (parted at) (in_left (items_uses (take at is)) (items_uses (drop at is)) k front)
+          | inr back ↦ subst (λ (us : List ℕ). In us k) (parted (at + n)) (in_right (items_uses (take (at + n) is)) (items_uses (drop (at + n) is)) k back)
+        ]
+
+    items_back : (k : ℕ) → In (items_uses (items_of_blocks h.blocks)) k → In (items_uses (items_of_blocks s.blocks)) k
+    items_back k e =
+        let front = items_uses (items_of_blocks spot.front) in
+        let back = items_uses (items_of_blocks spot.back) in
+        let news : In (items_uses (items_of_blocks spot.front) ++ (items_uses new_block.items ++ items_uses (items_of_blocks spot.back))) k =
+        subst (λ (us : List ℕ). In us k) (ap (λ (bs : List Block). items_uses (items_of_blocks bs)) now ∙ items_parts spot.front spot.back new_block) e in
+        elim (swapped_part front (items_uses new_block.items) (items_uses spot.block.items) back k ⊥ (λ here. inl (items_fewer k here)) news) [
+          | inl left ↦ subst (λ (us : List ℕ). In us k) (sym (ap (λ (bs : List Block). items_uses (items_of_blocks bs)) spot.whole ∙ items_parts spot.front spot.back spot.block)) left
+          | inr gone ↦ absurd gone
+        ]
+
+    -- what is held stays
+    pub ended_held : (k : ℕ) → is_among (held_uses (merged s dropped at to)) k ≡ is_among (held_uses s) k
+    ended_held k =
+        same_in (held_uses h) (held_uses s) k (held_in h s k refl refl refl (items_back k)) (held_in s h k refl refl refl (items_still k))
+
+    end_is : end_uses (term_of s dropped) ≡ term_uses spot.block.term
+    end_is = ap (λ (o : Option Block). end_uses (block_term o)) found
+
+    -- and one term names another block
+    pub ended_terms : (k : ℕ) → times_named (terms_uses (merged s dropped at to).blocks) k + times_named (end_uses (term_of s dropped)) k ≡ times_named (to ∷ []) k + times_named (terms_uses s.blocks) k
+    ended_terms k =
+        let front = terms_uses spot.front in
+        let back = terms_uses spot.back in
+        let own = term_uses spot.block.term in
+        omega (
+          arith,
+          ap (λ us. times_named us k) (ap terms_uses now ∙ terms_parts spot.front spot.back new_block),
+          ap (λ us. times_named us k) (ap terms_uses spot.whole ∙ terms_parts spot.front spot.back spot.block),
+          ap (λ us. times_named us k) end_is,
+          times-append front ((to ∷ []) ++ back) k,
+          times-append (to ∷ []) back k,
+          times-append front (own ++ back) k,
+          times-append own back k,
+        )
+
     jump_in : In (uses h) to
     jump_in =
-        let terms : In (terms_uses h.blocks) to =
-        subst (λ (us : List ℕ). In us to) (sym (ap terms_uses now ∙ terms_parts spot.front spot.back new_block))
-        (in_right (terms_uses spot.front) (to ∷ terms_uses spot.back) to (or_left (to == to) (is_among (terms_uses spot.back) to) (eq-eqb to to refl))) in
-        or_right (h.entry == to) (is_among (code_word_uses h.code_words ++ (terms_uses h.blocks ++ items_uses (items_of_blocks h.blocks ++ items_of_bodies h.procedures))) to)
-        (in_right (code_word_uses h.code_words) (terms_uses h.blocks ++ items_uses (items_of_blocks h.blocks ++ items_of_bodies h.procedures)) to
-        (in_left (terms_uses h.blocks) (items_uses (items_of_blocks h.blocks ++ items_of_bodies h.procedures)) to terms))
+        let one : 1 ≤ times_named (to ∷ []) to = some_times (to ∷ []) to (or_left (to == to) false (eq-eqb to to refl)) in
+        let few : times_named (end_uses (term_of s dropped)) to ≤ times_named (terms_uses s.blocks) to =
+        omega (
+          arith,
+          ap (λ us. times_named us to) end_is,
+          ap (λ us. times_named us to) (ap terms_uses spot.whole ∙ terms_parts spot.front spot.back spot.block),
+          times-append (terms_uses spot.front) (term_uses spot.block.term ++ terms_uses spot.back) to,
+          times-append (term_uses spot.block.term) (terms_uses spot.back) to,
+        ) in
+        among_uses h to ∙ or_right (is_among (held_uses h) to) (is_among (terms_uses h.blocks) to) (times_some (terms_uses h.blocks) to (omega (arith, one, few, ended_terms to)))
 
-    follows_still : (k : ℕ) → follows_a_term s.blocks k ≡ follows_a_term h.blocks k
-    follows_still k =
-        let quiet : (goes_on spot.block.term && not (is_fall spot.block.term)) ≡ false = sym (ap (λ (o : Option Block). makes_leader (block_term o)) found) ∙ c.quiet in
-        ap (λ (bs : List Block). follows_a_term bs k) spot.whole
-        ∙ follows_changed spot.front spot.back spot.block new_block k refl quiet refl
-        ∙ ap (λ (bs : List Block). follows_a_term bs k) (sym now)
-
-    leads_still : (k : ℕ) → (is_leader s k || k == to) ≡ true → is_leader h k ≡ true
+    -- a name that was used is used still, or the dropped end used it
+    leads_still : (k : ℕ) → (is_among (uses s) k || k == to) ≡ true → (is_among (end_uses (term_of s dropped)) k || is_among (uses h) k) ≡ true
     leads_still k e =
-        let used = is_among (uses h) k in
-        let follows = follows_a_term h.blocks k in
-        elim (or_cases (is_leader s k) (k == to) e) [
-          | inr this ↦ or_left used follows (subst (λ m. In (uses h) m) (sym (eqb-true k to this)) jump_in)
-          | inl led ↦
-              elim (or_cases (is_among (uses s) k) (follows_a_term s.blocks k) led) [
-                | inl named_it ↦ or_left used follows (in_uses s h k refl refl refl (terms_still k) (items_still k) named_it)
-                | inr behind ↦ or_right used follows (sym (follows_still k) ∙ behind)
+        let own = is_among (end_uses (term_of s dropped)) k in
+        elim (or_cases (is_among (uses s) k) (k == to) e) [
+          | inr this ↦ or_right own (is_among (uses h) k) (subst (λ m. In (uses h) m) (sym (eqb-true k to this)) jump_in)
+          | inl used ↦
+              elim (cases_Bool (is_among (end_uses (term_of s dropped)) k)) [
+                | inl here ↦ or_left own (is_among (uses h) k) here
+                | inr other ↦
+                    or_right own (is_among (uses h) k)
+                    (among_uses h k
+                    ∙ elim (or_cases (is_among (held_uses s) k) (is_among (terms_uses s.blocks) k) (sym (among_uses s k) ∙ used)) [
+                      | inl held ↦ or_left (is_among (held_uses h) k) (is_among (terms_uses h.blocks) k) (ended_held k ∙ held)
+                      | inr term ↦
+                          or_right (is_among (held_uses h) k) (is_among (terms_uses h.blocks) k)
+                          (times_some (terms_uses h.blocks) k (omega (arith, some_times (terms_uses s.blocks) k term, none_times (end_uses (term_of s dropped)) k other, ended_terms k)))
+                    ])
               ]
         ]
 
-    pub ended_canonical : IsCanonical (merged s dropped at to)
-    ended_canonical =
+    pub ended_solid : All (λ b. is_bare b ≡ false) (merged s dropped at to).blocks
+    ended_solid =
         let P : Block → Type 0 = λ b. is_bare b ≡ false in
-        record {
-          no_bare =
-              subst (λ (bs : List Block). All (λ b. is_bare b ≡ false) bs) (sym now)
-              (All-append P spot.front (new_block ∷ spot.back) (All-left P spot.front (spot.block ∷ spot.back) (subst (λ (bs : List Block). All (λ b. is_bare b ≡ false) bs) spot.whole c.solid))
-              (All-cons P new_block spot.back (and-false (has_no_items new_block.items)) (All-tail P spot.block spot.back (All-right P spot.front (spot.block ∷ spot.back) (subst (λ (bs : List Block). All (λ b. is_bare b ≡ false) bs) spot.whole c.solid)))));
-          leaders =
-              subst (λ (bs : List Block). FallsIntoLeaders (is_leader h) bs) (sym now)
-              (falls_changed (λ k. is_leader s k || k == to) (is_leader h) leads_still spot.front spot.back spot.block new_block refl refl
-              (subst (λ (bs : List Block). FallsIntoLeaders (λ k. is_leader s k || k == to) bs) spot.whole c.falls));
-        }
+        subst (λ (bs : List Block). All (λ b. is_bare b ≡ false) bs) (sym now)
+        (All-append P spot.front (new_block ∷ spot.back) (All-left P spot.front (spot.block ∷ spot.back) (subst (λ (bs : List Block). All (λ b. is_bare b ≡ false) bs) spot.whole c.solid))
+        (All-cons P new_block spot.back (and-false (has_no_items new_block.items)) (All-tail P spot.block spot.back (All-right P spot.front (spot.block ∷ spot.back) (subst (λ (bs : List Block). All (λ b. is_bare b ≡ false) bs) spot.whole c.solid)))))
+
+    pub ended_falls : FallsIntoLeaders (λ k. is_among (end_uses (term_of s dropped)) k || is_among (uses (merged s dropped at to)) k) (merged s dropped at to).blocks
+    ended_falls =
+        subst (λ (bs : List Block). FallsIntoLeaders (λ k. is_among (end_uses (term_of s dropped)) k || is_among (uses h) k) bs) (sym now)
+        (falls_changed (λ k. is_among (uses s) k || k == to) (λ k. is_among (end_uses (term_of s dropped)) k || is_among (uses h) k) leads_still spot.front spot.back spot.block new_block refl refl
+        (subst (λ (bs : List Block). FallsIntoLeaders (λ k. is_among (uses s) k || k == to) bs) spot.whole c.falls))

@@ -1,6 +1,6 @@
 //! Drops many blocks whose whole bodies match others, by one look at the graph.
 
-ghost use Rattle.std.specs.Prelude.{◌≡◌, ◌≢◌, ◌≤◌, ◌<◌, ◌+◌, ℕ, IsTrue, length, slice_index, IfOk, IfSome};
+ghost use Rattle.std.specs.Prelude.{◌≡◌, ◌≢◌, ◌≤◌, ◌<◌, ◌+◌, ℕ, IsTrue, length, slice_index, IfOk, IfSome, OnOk};
 ghost use Rattle.std.specs.List.{All};
 ghost use Rattle.sq_num.specs.Saved.{words_saved};
 ghost use Rattle.sq_graph.specs.Blocks.{HasBlock, items_of};
@@ -9,6 +9,7 @@ ghost use Rattle.sq_graph.specs.Parts.{names_of};
 ghost use Rattle.sq_graph.specs.Words.{words_of, most_words};
 ghost use Rattle.law_follow.specs.Follows.{Follows};
 ghost use Rattle.sq_live.specs.Liveness.{IsLivenessOf};
+ghost use Rattle.sq_lookup.specs.Counts.{AreUses};
 ghost use Rattle.sq_pass.specs.Rewrites.{IsRewritten};
 ghost use Rattle.sq_tail.specs.Bodies.{IsBodyPair, MayDrop};
 ghost use Rattle.sq_tail.specs.Candidates.{IsCandidate, described};
@@ -19,7 +20,7 @@ use crate::bodies::{equal_ahead, go_on_alike, may_drop};
 use sq_graph::Graph;
 use sq_isa::RegSet;
 use sq_live::{Liveness, block_names, live};
-use sq_lookup::is_block;
+use sq_lookup::{Uses, is_block};
 use sq_num::{Memory, Savings};
 use sq_rename::{dead_registers, match_items};
 use std::alloc::Global;
@@ -140,6 +141,7 @@ fn kept_near(
 /// other blocks.
 fn drop_one(
     graph: &mut Graph,
+    uses: &mut Uses,
     names: &[u32],
     earlier: &[Option<usize>],
     place: usize,
@@ -150,7 +152,9 @@ fn drop_one(
     requires words { words_of graph.old.graph + words_saved savings ≤ most_words }
     requires place { place < length names.now }
     requires dead { IsStillDead graph.old.graph (slice_index names.now place) behind.items behind.dead }
+    requires uses { AreUses graph.old.graph uses.old }
     ensures rewritten { IfOk result (λ after. IsRewritten IsCandidate described savings after graph.old.graph graph.new.graph) }
+    ensures uses { OnOk result (AreUses graph.new.graph uses.new) }
     ensures follows { Follows graph.old.graph graph.new.graph }
     ensures dead { IfOk result (λ after. KeepsDeadElsewhere graph.old.graph graph.new.graph (slice_index names.now place)) }
 {
@@ -165,12 +169,13 @@ fn drop_one(
     };
     graph.learn();
     let length = graph.items(kept).len() as u32;
-    rewrite_pair(graph, dropped, kept, length, savings)
+    rewrite_pair(graph, uses, dropped, kept, length, savings)
 }
 
 /// The same for each of these blocks, from the last to the first: the kept one may itself be dropped later.
 fn drop_each(
     graph: &mut Graph,
+    uses: &mut Uses,
     names: &[u32],
     earlier: &[Option<usize>],
     told: &[Option<Behind>],
@@ -180,14 +185,16 @@ fn drop_each(
     requires words { words_of graph.old.graph + words_saved savings ≤ most_words }
     requires names { names.now ≡ names_of graph.old.graph }
     requires told { AreStillDead graph.old.graph names.now told.now (length names.now) }
+    requires uses { AreUses graph.old.graph uses.old }
     ensures rewritten { IfOk result (λ after. IsRewritten IsCandidate described savings after graph.old.graph graph.new.graph) }
+    ensures uses { OnOk result (AreUses graph.new.graph uses.new) }
     ensures follows { Follows graph.old.graph graph.new.graph }
 {
     graph.learn();
     let mut after = savings;
     for place in (0..names.len()).rev() {
         if let Some(behind) = told[place] {
-            after = drop_one(graph, names, earlier, place, behind, after)?;
+            after = drop_one(graph, uses, names, earlier, place, behind, after)?;
         }
     }
     Ok(after)
@@ -198,16 +205,19 @@ fn drop_each(
 pub(crate) fn sweep_bodies(
     alloc: Global,
     graph: &mut Graph,
+    uses: &mut Uses,
     savings: Savings,
 ) -> Result<Savings, Memory>
     requires canonical { IsCanonical graph.old.graph }
     requires words { words_of graph.old.graph + words_saved savings ≤ most_words }
+    requires uses { AreUses graph.old.graph uses.old }
     ensures rewritten { IfOk result (λ after. IsRewritten IsCandidate described savings after graph.old.graph graph.new.graph) }
+    ensures uses { OnOk result (AreUses graph.new.graph uses.new) }
     ensures follows { Follows graph.old.graph graph.new.graph }
 {
     graph.learn();
     let names = block_names(alloc, graph)?;
     let earlier = equal_ahead(alloc, graph, &names)?;
     let told = look_behind(alloc, graph, &names, &earlier)?;
-    drop_each(graph, &names, &earlier, &told, savings)
+    drop_each(graph, uses, &names, &earlier, &told, savings)
 }

@@ -1,11 +1,12 @@
 //! Joins the equal ends of many blocks by one look at the graph.
 
-ghost use Rattle.std.specs.Prelude.{◌≡◌, ◌≤◌, ◌+◌, IfOk, IfSome};
+ghost use Rattle.std.specs.Prelude.{◌≡◌, ◌≤◌, ◌+◌, IfOk, IfSome, OnOk};
 ghost use Rattle.sq_num.specs.Saved.{words_saved};
 ghost use Rattle.sq_graph.specs.Leaders.{IsCanonical};
 ghost use Rattle.sq_graph.specs.Parts.{names_of};
 ghost use Rattle.sq_graph.specs.Words.{words_of, most_words};
 ghost use Rattle.law_follow.specs.Follows.{Follows};
+ghost use Rattle.sq_lookup.specs.Counts.{AreUses};
 ghost use Rattle.sq_pass.specs.Rewrites.{IsRewritten};
 ghost use Rattle.sq_tail.specs.Candidates.{IsCandidate, described};
 ghost use Rattle.sq_tail.specs.Tails.{tail_cut};
@@ -16,7 +17,7 @@ use crate::ends::{common_items, end_words};
 use crate::numbers::{number_longer, number_terms};
 use sq_graph::Graph;
 use sq_live::block_names;
-use sq_lookup::is_block;
+use sq_lookup::{Uses, is_block};
 use sq_num::{Memory, Savings};
 use std::alloc::Global;
 use std::collections::HashMap;
@@ -42,19 +43,22 @@ pub(crate) fn joinable(graph: &Graph, dropped: u32, kept: u32) -> Option<u32>
 /// Joins the ends of two blocks, where these are there still and joinable still.
 fn join_ends(
     graph: &mut Graph,
+    uses: &mut Uses,
     dropped: u32,
     kept: u32,
     savings: Savings,
 ) -> Result<Savings, Memory>
     requires canonical { IsCanonical graph.old.graph }
     requires words { words_of graph.old.graph + words_saved savings ≤ most_words }
+    requires uses { AreUses graph.old.graph uses.old }
     ensures rewritten { IfOk result (λ after. IsRewritten IsCandidate described savings after graph.old.graph graph.new.graph) }
+    ensures uses { OnOk result (AreUses graph.new.graph uses.new) }
     ensures follows { Follows graph.old.graph graph.new.graph }
 {
     let Some(length) = joinable(graph, dropped, kept) else {
         return Ok(savings);
     };
-    rewrite_pair(graph, dropped, kept, length, savings)
+    rewrite_pair(graph, uses, dropped, kept, length, savings)
 }
 
 /// The target of the block's term, where the block is there.
@@ -70,6 +74,7 @@ fn target_of(graph: &Graph, block: u32) -> Option<u32> {
 /// they stand now. Of two blocks it keeps the one that falls into the next.
 fn join_places(
     graph: &mut Graph,
+    uses: &mut Uses,
     ends: &mut [u32],
     other: usize,
     place: usize,
@@ -77,7 +82,9 @@ fn join_places(
 ) -> Result<Savings, Memory>
     requires canonical { IsCanonical graph.old.graph }
     requires words { words_of graph.old.graph + words_saved savings ≤ most_words }
+    requires uses { AreUses graph.old.graph uses.old }
     ensures rewritten { IfOk result (λ after. IsRewritten IsCandidate described savings after graph.old.graph graph.new.graph) }
+    ensures uses { OnOk result (AreUses graph.new.graph uses.new) }
     ensures follows { Follows graph.old.graph graph.new.graph }
 {
     if other >= ends.len() || place >= ends.len() {
@@ -90,7 +97,7 @@ fn join_places(
     } else {
         (second, first)
     };
-    let after = join_ends(graph, dropped, kept, savings)?;
+    let after = join_ends(graph, uses, dropped, kept, savings)?;
     if after.t != savings.t {
         let end = target_of(graph, dropped).unwrap_or(kept);
         ends[other] = end;
@@ -103,13 +110,16 @@ fn join_places(
 fn join_each(
     alloc: Global,
     graph: &mut Graph,
+    uses: &mut Uses,
     ends: &mut [u32],
     numbers: &[Option<u32>],
     savings: Savings,
 ) -> Result<Savings, Memory>
     requires canonical { IsCanonical graph.old.graph }
     requires words { words_of graph.old.graph + words_saved savings ≤ most_words }
+    requires uses { AreUses graph.old.graph uses.old }
     ensures rewritten { IfOk result (λ after. IsRewritten IsCandidate described savings after graph.old.graph graph.new.graph) }
+    ensures uses { OnOk result (AreUses graph.new.graph uses.new) }
     ensures follows { Follows graph.old.graph graph.new.graph }
 {
     let mut last = HashMap::new(alloc);
@@ -119,7 +129,7 @@ fn join_each(
         let Some(other) = last.insert(number, place)? else {
             continue;
         };
-        after = join_places(graph, ends, other, place, after)?;
+        after = join_places(graph, uses, ends, other, place, after)?;
     }
     Ok(after)
 }
@@ -145,18 +155,21 @@ pub(crate) fn end_numbers(
 fn join_all(
     alloc: Global,
     graph: &mut Graph,
+    uses: &mut Uses,
     ends: &mut [u32],
     all: &[Vec<Option<u32>>],
     savings: Savings,
 ) -> Result<Savings, Memory>
     requires canonical { IsCanonical graph.old.graph }
     requires words { words_of graph.old.graph + words_saved savings ≤ most_words }
+    requires uses { AreUses graph.old.graph uses.old }
     ensures rewritten { IfOk result (λ after. IsRewritten IsCandidate described savings after graph.old.graph graph.new.graph) }
+    ensures uses { OnOk result (AreUses graph.new.graph uses.new) }
     ensures follows { Follows graph.old.graph graph.new.graph }
 {
     let mut after = savings;
     for place in (0..all.len()).rev() {
-        after = join_each(alloc, graph, ends, &all[place], after)?;
+        after = join_each(alloc, graph, uses, ends, &all[place], after)?;
     }
     Ok(after)
 }
@@ -166,15 +179,18 @@ fn join_all(
 pub(crate) fn sweep_ends(
     alloc: Global,
     graph: &mut Graph,
+    uses: &mut Uses,
     savings: Savings,
 ) -> Result<Savings, Memory>
     requires canonical { IsCanonical graph.old.graph }
     requires words { words_of graph.old.graph + words_saved savings ≤ most_words }
+    requires uses { AreUses graph.old.graph uses.old }
     ensures rewritten { IfOk result (λ after. IsRewritten IsCandidate described savings after graph.old.graph graph.new.graph) }
+    ensures uses { OnOk result (AreUses graph.new.graph uses.new) }
     ensures follows { Follows graph.old.graph graph.new.graph }
 {
     graph.learn();
     let mut ends = block_names(alloc, graph)?;
     let numbers = end_numbers(alloc, graph, &ends)?;
-    join_all(alloc, graph, &mut ends, &numbers, savings)
+    join_all(alloc, graph, uses, &mut ends, &numbers, savings)
 }

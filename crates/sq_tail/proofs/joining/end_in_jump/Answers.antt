@@ -1,11 +1,11 @@
-use Rattle.std.proofs.Common.{[], length, sym, ap, subst, arith}
-use Rattle.sq_graph.specs.Blocks.{HasBlock}
+use Rattle.std.proofs.Common.{[], length, sym, ap, ◌∙◌, subst, arith}
+use Rattle.sq_graph.specs.Blocks.{HasBlock, term_of}
 use Rattle.sq_graph.specs.Graph.{Graph}
 use Rattle.sq_graph.specs.Operations.{with_term, replaced}
 use Rattle.sq_graph.specs.Rules.{IsGraph}
 use Rattle.sq_graph.specs.declared.item.Term.TheVariants.{Jump}
 use Rattle.sq_tail.proofs.Sizes.{few_items}
-use Rattle.sq_tail.proofs.Merging.{cut_rules, cut_there, jump_rules}
+use Rattle.sq_tail.proofs.Merging.{cut_rules, cut_there, jump_rules, merged_term}
 use Rattle.sq_tail.proofs.Totals.{total_by, total_through, term_total, cut_total}
 use Rattle.sq_tail.proofs.joining.end_in_jump.Goals as goal
 
@@ -28,6 +28,12 @@ set_term-requires-clause-rules c =
     subst (λ (h : Graph). IsGraph (with_term h c.args.block (Jump c.args.to))) (sym c.replace.ensures.graph)
     (jump_rules (replaced g c.args.block c.args.at (length c.items.result.now) []) c.args.block c.args.to (cut_rules g c.args.block c.args.at n c.learn.ensures.rules c.requires.block) (cut_there g c.args.block c.args.at n c.args.block c.requires.block)
     (cut_there g c.args.block c.args.at n c.args.to c.requires.target))
+
+pub returns-clause-jump : goal.returns-clause-jump
+returns-clause-jump c =
+    let g = c.args.graph.now.graph in
+    ap (λ h. term_of h c.args.block) (c.set_term.ensures.graph ∙ ap (λ h. with_term h c.args.block (Jump c.args.to)) (c.replace.ensures.graph ∙ ap (λ n. replaced g c.args.block c.args.at n []) (ap length c.items.ensures)))
+    ∙ merged_term g c.args.block c.args.at c.args.to c.requires.block
 
 pub returns-clause-total : goal.returns-clause-total
 returns-clause-total c =

@@ -1,6 +1,9 @@
-use Rattle.law_follow.proofs.Following.{graph_follows_through}
+use Rattle.law_follow.proofs.Following.{graph_follows_itself, graph_follows_through}
 use Rattle.sq_tail.proofs.Sweeping.{swept_on}
 use Rattle.sq_tail.proofs.sweep.sweep.Goals as goal
+
+pub returns-in_err-uses-clause-follows : goal.returns-in_err-uses-clause-follows
+returns-in_err-uses-clause-follows c = graph_follows_itself c.args.graph.now.graph
 
 pub returns-clause-rewritten : goal.returns-clause-rewritten
 returns-clause-rewritten c =

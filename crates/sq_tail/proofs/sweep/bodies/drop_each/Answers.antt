@@ -10,6 +10,7 @@ pub loop-place-init : goal.loop-place-init
 loop-place-init c = record {
   within = omega arith;
   rewritten = rewritten_itself IsCandidate described c.args.savings c.args.graph.now.graph c.requires.canonical;
+  uses = c.requires.uses;
   dead = c.requires.told;
 }
 
@@ -27,5 +28,6 @@ loop-place-preserved-in-Some c =
     record {
       within = omega (arith, c.loop-place.invariant.within);
       rewritten = rewritten_through IsCandidate described c.args.savings c.loop-place.after c.in_ok-after.after c.args.graph.now.graph g h c.loop-place.invariant.rewritten c.in_ok-after.ensures.rewritten;
+      uses = c.in_ok-after.ensures.uses;
       dead = still_dead_ahead g h c.args.graph.now.graph names told (c.loop-place.place - 1) c.learn.ensures.rules c.requires.names (omega (arith, c.loop-place-test.true, c.loop-place.invariant.within)) dead c.in_ok-after.ensures.dead;
     }

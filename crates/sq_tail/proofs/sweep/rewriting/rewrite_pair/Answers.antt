@@ -18,8 +18,8 @@ count-requires c =
 
 pub returns-clause-rewritten : goal.returns-clause-rewritten
 returns-clause-rewritten c =
-    let joined = subst (λ g. IsJoinedWhole g c.args.dropped c.args.kept c.args.length c.join_whole.new.graph.graph) c.reserve.ensures.graph c.join_whole.ensures.joined in
-    whole_rewritten c.args.graph.now.graph c.join_whole.new.graph.graph c.args.dropped c.args.kept c.args.length (c.args.length - 1 + c.end_words.result) c.args.savings c.count.result c.learn.ensures.rules c.requires.candidate joined c.join_whole.ensures.canonical
+    let joined = subst (λ g. IsJoinedWhole g c.args.dropped c.args.kept c.args.length c.join_whole.new.graph.graph) c.reserve.ensures.graph c.in_ok-join_whole.ensures.joined in
+    whole_rewritten c.args.graph.now.graph c.join_whole.new.graph.graph c.args.dropped c.args.kept c.args.length (c.args.length - 1 + c.end_words.result) c.args.savings c.count.result c.learn.ensures.rules c.requires.candidate joined
     (ap (λ w. c.args.length - 1 + w) c.end_words.ensures) c.count.ensures.value
 
 pub returns-clause-follows : goal.returns-clause-follows

@@ -1,0 +1,187 @@
+-- Where the ends of two blocks are joined: which names the graph uses then, and what makes it canonical.
+use Rattle.std.proofs.Common.{◌≡◌, ◌≢◌, ℕ, ◌+◌, ◌-◌, ◌<◌, ◌≤◌, ◌==◌, false, ◌||◌, if◌then◌else◌, List, [], ◌∷◌, ◌++◌, drop, length, Option, None, Some, IsSome, option_to_list, inl, inr, refl, sym, ap, ◌∙◌, subst, arith}
+use Rattle.std.specs.List.{All}
+use Rattle.std.proofs.lemmas.Bool.{cases_Bool, eqb-true, eqb-false, or_left, eq-eqb}
+use Rattle.sq_isa.specs.Registers.{is_among}
+use Rattle.sq_graph.specs.declared.item.Item.{Item}
+use Rattle.sq_graph.specs.declared.item.Item.TheVariants.{Op, Hi, Lo, Out}
+use Rattle.sq_graph.specs.declared.item.Term.{Term}
+use Rattle.sq_graph.specs.declared.item.Term.TheVariants.{Jump}
+use Rattle.sq_graph.specs.Graph.{Block, Graph}
+use Rattle.sq_graph.specs.Blocks.{HasBlock, block_items, block_term, items_of, term_of}
+use Rattle.sq_graph.specs.Canonical.{canonical_of}
+use Rattle.sq_graph.specs.Leaders.{is_bare, FallsIntoLeaders, IsCanonical}
+use Rattle.sq_graph.specs.Matches.{IsSameForm, AreSameForms}
+use Rattle.sq_graph.specs.Operations.{split_at}
+use Rattle.sq_graph.specs.Rules.{IsGraph}
+use Rattle.sq_graph.specs.Uses.{item_uses, items_uses, terms_uses, uses}
+use Rattle.sq_graph.proofs.BlockPasses.{falls_used}
+use Rattle.sq_graph.proofs.JoinedBefore.{joined_before_each, canonical_before}
+use Rattle.sq_lookup.specs.Counts.{count_at, times_named, AreUses, IsCounted}
+use Rattle.sq_lookup.specs.Names.{is_listed, held_uses}
+use Rattle.sq_lookup.specs.declared.counts.Uses.{Uses}
+use Rattle.sq_lookup.proofs.Adding.{among_listed}
+use Rattle.law_patch.specs.Merges.{merged, tailed}
+use Rattle.sq_tail.specs.Admitted.{CanJoin}
+use Rattle.sq_tail.specs.Candidates.{IsCandidate}
+use Rattle.sq_tail.specs.Ends.{last_items}
+use Rattle.sq_tail.specs.Names.{end_uses}
+use Rattle.sq_tail.specs.Tails.{tail_cut, IsJoined}
+use Rattle.sq_tail.proofs.Admitting.{joinable, one_pair}
+use Rattle.sq_tail.proofs.Applying.{body_ends}
+use Rattle.sq_tail.proofs.Merging.{merged_term}
+use Rattle.sq_tail.proofs.Naming.{apart_from_new}
+use Rattle.sq_tail.proofs.Splitting.{second_items, other_block}
+use Rattle.sq_tail.proofs.Sweeping.{pair_there}
+use Rattle.sq_tail.proofs.Uses.{In, falls_more, CanEnd, ended_held, ended_terms, ended_solid, ended_falls}
+use Rattle.sq_tail.proofs.Halved.{terms_same, held_same, split_falls, split_solid}
+
+-- THE NAMES OF EQUAL ENDS
+
+form_uses : (item other : Item) → IsSameForm item other → item_uses item ≡ item_uses other
+form_uses (Op insn) (Op other) same = refl
+form_uses (Op insn) (Hi rd to) same = absurd same
+form_uses (Op insn) (Lo rd rs to) same = absurd same
+form_uses (Op insn) (Out procedure) same = absurd same
+form_uses (Hi rd to) (Op insn) same = absurd same
+form_uses (Hi rd to) (Hi rd' to') same = ap (λ n. n ∷ []) (sym same)
+form_uses (Hi rd to) (Lo rd' rs' to') same = absurd same
+form_uses (Hi rd to) (Out procedure) same = absurd same
+form_uses (Lo rd rs to) (Op insn) same = absurd same
+form_uses (Lo rd rs to) (Hi rd' to') same = absurd same
+form_uses (Lo rd rs to) (Lo rd' rs' to') same = ap (λ n. n ∷ []) (sym same)
+form_uses (Lo rd rs to) (Out procedure) same = absurd same
+form_uses (Out procedure) (Op insn) same = absurd same
+form_uses (Out procedure) (Hi rd to) same = absurd same
+form_uses (Out procedure) (Lo rd rs to) same = absurd same
+form_uses (Out procedure) (Out procedure') same = refl
+
+forms_uses : (items others : List Item) → AreSameForms items others → items_uses items ≡ items_uses others
+forms_uses [] [] same = refl
+forms_uses [] (other ∷ others) same = absurd same
+forms_uses (item ∷ items) [] same = absurd same
+forms_uses (item ∷ items) (other ∷ others) same = λ i. form_uses item other same.0 i ++ forms_uses items others same.1 i
+
+ends_uses : (g : Graph) (dropped kept n : ℕ) → CanJoin g dropped kept n → items_uses (last_items n (items_of g dropped)) ≡ items_uses (last_items n (items_of g kept))
+ends_uses g dropped kept n (inl end) = ap items_uses end.items.same
+ends_uses g dropped kept n (inr (whole, pair)) =
+    let ends = body_ends g dropped kept pair.bodies in
+    let first : length (items_of g dropped) - n ≡ 0 = omega (arith, ends.first, whole) in
+    let second : length (items_of g kept) - n ≡ 0 = omega (arith, whole) in
+    ap (λ k. items_uses (drop k (items_of g dropped))) first
+    ∙ forms_uses (items_of g dropped) (items_of g kept) pair.bodies.match.forms
+    ∙ sym (ap (λ k. items_uses (drop k (items_of g kept))) second)
+
+cut_uses : (g : Graph) (dropped kept n : ℕ) → IsCandidate g (tail_cut g dropped kept n) → items_uses (last_items n (items_of g dropped)) ≡ items_uses (last_items n (items_of g kept))
+cut_uses g dropped kept n candidate =
+    let j = joinable g (tail_cut g dropped kept n) candidate in
+    let same = one_pair (tail_cut g dropped kept n) j.dropped j.kept dropped kept j.two (record { row = refl; blocks = refl; procedure = refl; other = refl }) in
+    ends_uses g dropped kept n (subst (λ k. CanJoin g dropped k n) same.1 (subst (λ d. CanJoin g d j.kept n) same.0 j.can))
+
+-- THE JOINED GRAPH
+
+-- in it one term names a block that didn't, in place of what the dropped end named
+pub record IsEnded (g mid : Graph) (dropped to : ℕ) : Type 0 where
+  pub held : (k : ℕ) → is_among (held_uses mid) k ≡ is_among (held_uses g) k
+  pub terms : (k : ℕ) → times_named (terms_uses mid.blocks) k + times_named (end_uses (term_of g dropped)) k ≡ times_named (to ∷ []) k + times_named (terms_uses g.blocks) k
+  pub solid : All (λ b. is_bare b ≡ false) mid.blocks
+  pub falls : FallsIntoLeaders (λ k. is_among (end_uses (term_of g dropped)) k || is_among (uses mid) k) mid.blocks
+
+same_target : (o : Option Term) (a b : ℕ) → o ≡ Some (Jump a) → o ≡ Some (Jump b) → a ≡ b
+same_target o a b first second = let both : Some (Jump a) ≡ Some (Jump b) = sym first ∙ second in cc
+
+pub joined_ended : (g mid : Graph) (dropped kept n to : ℕ) → IsGraph g → IsCanonical g → IsCandidate g (tail_cut g dropped kept n) → IsJoined g dropped kept n mid → term_of mid dropped ≡ Some (Jump to) → IsEnded g mid dropped to
+joined_ended g mid dropped kept n to rules canonical candidate (new, (unused, is)) jump =
+    let tails = pair_there g dropped kept n candidate in
+    let alike = cut_uses g dropped kept n candidate in
+    let at = length (items_of g dropped) - n in
+    let from = length (items_of g kept) - n in
+    let led = falls_used (uses g) g.blocks [] g.blocks refl rules.distinct canonical.leaders in
+    elim (cases_Bool (n == length (items_of g kept))) [
+      | inl whole ↦
+          let made : mid ≡ merged g dropped (length (items_of g dropped) - n) kept = is ∙ rw whole refl in
+          let none : length (items_of g kept) - n ≡ 0 = omega (arith, eqb-true n (length (items_of g kept)) whole) in
+          let target : kept ≡ to = same_target (term_of mid dropped) kept to (ap (λ h. term_of h dropped) made ∙ merged_term g dropped at kept tails.dropped_there) jump in
+          let can : CanEnd g dropped (length (items_of g dropped) - n) kept = record {
+            has = tails.dropped_there;
+            apart = tails.other;
+            same = λ k e. subst (λ (us : List ℕ). In us k) (alike ∙ ap (λ m. items_uses (drop m (items_of g kept))) none) e;
+            solid = canonical.no_bare;
+            falls = falls_more (is_among (uses g)) (λ m. is_among (uses g) m || m == kept) (λ k e. or_left (is_among (uses g) k) (k == kept) e) g.blocks led;
+          } in
+          subst (IsEnded g mid dropped) target
+          (subst (λ h. IsEnded g h dropped kept) (sym made)
+          (record { held = ended_held g dropped at kept can; terms = ended_terms g dropped at kept can; solid = ended_solid g dropped at kept can; falls = ended_falls g dropped at kept can }))
+      | inr part ↦
+          let made : mid ≡ tailed g new dropped (length (items_of g dropped) - n) kept (length (items_of g kept) - n) = is ∙ rw part refl in
+          let s = split_at g new kept from in
+          let fewer = eqb-false n (length (items_of g kept)) part in
+          let within : n ≤ length (items_of g kept) = tails.kept_items in
+          let one : 1 ≤ n = tails.some in
+          let some : 1 ≤ length (items_of g kept) - n = by_size n (length (items_of g kept)) fewer within in
+          let below : length (items_of g kept) - n < length (items_of g kept) = omega (arith, one, within) in
+          let same = other_block g new kept from dropped (apart_from_new g new dropped unused tails.dropped_there) (λ e. tails.other (sym e)) in
+          let second = second_items g new kept from unused tails.kept_there in
+          let there : HasBlock (split_at g new kept (length (items_of g kept) - n)) dropped = subst IsSome (sym same) tails.dropped_there in
+          let target : new ≡ to = same_target (term_of mid dropped) new to (ap (λ h. term_of h dropped) made ∙ merged_term s dropped at new there) jump in
+          let end : end_uses (term_of (split_at g new kept (length (items_of g kept) - n)) dropped) ≡ end_uses (term_of g dropped) = ap (λ (o : Option Block). end_uses (block_term o)) same in
+          let can : CanEnd (split_at g new kept (length (items_of g kept) - n)) dropped (length (items_of g dropped) - n) new = record {
+            has = there;
+            apart = λ e. apart_from_new g new dropped unused tails.dropped_there (sym e);
+            same = λ k e. subst (λ (us : List ℕ). In us k) (ap (λ (o : Option Block). items_uses (drop at (block_items o))) same ∙ alike ∙ sym (ap items_uses second)) e;
+            solid = split_solid g new kept from unused tails.kept_there some below canonical.no_bare led;
+            falls = split_falls g new kept from unused tails.kept_there some below canonical.no_bare led;
+          } in
+          let terms = terms_same g new kept from unused tails.kept_there some below canonical.no_bare led in
+          let held = held_same g new kept from unused tails.kept_there some below canonical.no_bare led in
+          subst (IsEnded g mid dropped) target
+          (subst (λ h. IsEnded g h dropped new) (sym made)
+          (record {
+            held = λ k. ended_held s dropped at new can k ∙ ap (λ us. is_among us k) held;
+            terms = λ k. omega (arith, ended_terms s dropped at new can k, ap (λ us. times_named us k) end, ap (λ us. times_named us k) terms);
+            solid = ended_solid s dropped at new can;
+            falls = subst (λ us. FallsIntoLeaders (λ k. is_among us k || is_among (uses (tailed g new dropped (length (items_of g dropped) - n) kept (length (items_of g kept) - n))) k) (tailed g new dropped (length (items_of g dropped) - n) kept (length (items_of g kept) - n)).blocks) end (ended_falls s dropped at new can);
+          }))
+    ]
+  where
+    by_size : (a b : ℕ) → a ≢ b → a ≤ b → 1 ≤ b - a
+    by_size a b apart within = grind (arith, apart)
+
+-- ITS USES
+
+module _ (g mid : Graph) (dropped to : ℕ) (ended : IsEnded g mid dropped to) (named : Option ℕ) (names : end_uses (term_of g dropped) ≡ option_to_list named) where
+  listed : (old : Uses) → AreUses g old → (k : ℕ) → is_listed old.held k ≡ is_listed (held_uses mid) k
+  listed old are k =
+      are.held k ∙ sym (among_listed (held_uses g) k) ∙ sym (ended.held k) ∙ among_listed (held_uses mid) k
+
+  -- where the dropped end named no block
+  pub uses_more : (old new : Uses) → AreUses g old → named ≡ None → IsCounted to old new → AreUses mid new
+  uses_more old new are none more = record {
+    held = λ k. ap (λ ns. is_listed ns k) more.held ∙ listed old are k;
+    terms = λ k.
+        let gone : times_named (end_uses (term_of g dropped)) k ≡ 0 = ap (λ us. times_named us k) (names ∙ ap option_to_list none) in
+        omega (arith, more.terms k, are.terms k, ended.terms k, gone);
+  }
+
+  -- and where it named one
+  module _ (name : ℕ) (some : named ≡ Some name) where
+    gone_is : (k : ℕ) → times_named (end_uses (term_of g dropped)) k ≡ times_named (name ∷ []) k
+    gone_is k = ap (λ us. times_named us k) (names ∙ ap option_to_list some)
+
+    pub counted_still : (old more : Uses) → AreUses g old → IsCounted to old more → 1 ≤ count_at more.terms.items name
+    counted_still old more are one =
+        let own : ◌≡◌ {A = ℕ} (if name == name then 1 else 0) 1 = ap (λ t. if t then 1 else 0) (eq-eqb name name refl) in
+        omega (arith, one.terms name, are.terms name, ended.terms name, gone_is name, own)
+
+    pub uses_moved : (old more new : Uses) → AreUses g old → IsCounted to old more → IsCounted name new more → AreUses mid new
+    uses_moved old more new are one less = record {
+      held = λ k. ap (λ ns. is_listed ns k) (sym less.held ∙ one.held) ∙ listed old are k;
+      terms = λ k. omega (arith, less.terms k, one.terms k, are.terms k, ended.terms k, gone_is k);
+    }
+
+  -- WHAT MAKES IT CANONICAL
+
+  pub whole_ended : IsGraph mid → canonical_of mid ≡ joined_before_each (option_to_list named) mid
+  whole_ended rules =
+      canonical_before (option_to_list named) mid rules ended.solid
+      (subst (λ us. FallsIntoLeaders (λ k. is_among us k || is_among (uses mid) k) mid.blocks) names ended.falls)
