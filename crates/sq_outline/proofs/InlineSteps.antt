@@ -1,6 +1,7 @@
 -- The steps by which the body of a procedure takes the place of its calls.
 use Rattle.std.proofs.Common.{◌≡◌, ◌<◌, ◌≤◌, ℕ, zero, suc, ◌+◌, ◌-◌, ◌*◌, ◌==◌, true, false, if◌then◌else◌, List, [], ◌∷◌, ◌++◌, map, take, drop, length, Option, None, Some, IsSome, slice_get, get_or, refl, sym, ap, ◌∙◌, subst, inl, inr, arith}
 use Rattle.std.specs.Prelude.{option_map}
+use Rattle.std.specs.List.{list_any}
 use Rattle.std.proofs.Math.Nat.{mul-le-mul_left}
 use Rattle.std.proofs.lemmas.Bool.{cases_Bool, eqb-true}
 use Rattle.std.proofs.lemmas.Option.{slice_get-get_or}
@@ -17,7 +18,7 @@ use Rattle.sq_graph.specs.Cursor.{IsPlace}
 use Rattle.sq_layout.proofs.Walks.{blocks_from, here}
 use Rattle.sq_outline.specs.Inlined.{is_call, call_count, spread, spread_block, spread_all}
 use Rattle.sq_outline.specs.InlineSteps.{is_some_call, inlined_if, spread_at, HasRoom}
-use Rattle.sq_outline.proofs.Spreading.{calls_in, calls_in_blocks-cons, spread_none, none_left, bodies_call_none, IsCall, inlined_body, inlined_fewer}
+use Rattle.sq_outline.proofs.Spreading.{calls_in, calls_in_blocks-cons, spread_none, none_calls, none_left, bodies_call_none, IsCall, inlined_body, inlined_fewer}
 
 -- ONE BLOCK BECOMES ANOTHER
 
@@ -222,6 +223,13 @@ calls_changed p f (c ∷ bs) n b is =
             calls_changed p f bs n b (rw apart at is),
           ))
     ]
+
+-- a block without calls stays
+pub spread_at_none : (g : Graph) (p block : ℕ) → list_any (is_call p) (items_of g block) ≡ false → spread_at g p block ≡ g
+spread_at_none g p block none =
+    ap (λ bs. record g { blocks = bs })
+    (no_change (spread_block p (body_of g p)) g.blocks block
+    (λ b is. ap (λ (items : List Item). record b { items = items }) (spread_none p (body_of g p) b.items (none_calls p b.items (ap (λ (o : Option Block). list_any (is_call p) (block_items o)) (sym is) ∙ none)))))
 
 -- spreading one block first changes nothing
 spread_sooner_in : (p : ℕ) (body : List Item) → calls_in p body ≡ 0 → (bs : List Block) (n : ℕ) → map (spread_block p body) (with_blocks (λ b. spread_block p body b ∷ []) bs n) ≡ map (spread_block p body) bs

@@ -1,7 +1,7 @@
 -- Bodies in place of calls, one after another.
 use Rattle.std.proofs.Common.{◌≡◌, ◌<◌, ℕ, zero, suc, ◌+◌, ◌==◌, Bool, true, false, if◌then◌else◌, List, [], ◌∷◌, ◌++◌, map, take, drop, Option, None, Some, slice_get, refl, sym, ap, ◌∙◌, subst, inl, inr, arith}
-use Rattle.std.specs.List.{All, count_by}
-use Rattle.std.proofs.lemmas.Bool.{cases_Bool, eq-eqb, eqb-true}
+use Rattle.std.specs.List.{All, count_by, list_any}
+use Rattle.std.proofs.lemmas.Bool.{cases_Bool, or_parts, eq-eqb, eqb-true}
 use Rattle.std.proofs.lemmas.List.Concat.{flat_map-append}
 use Rattle.std.proofs.lemmas.List.Elements.{All-head, All-tail}
 use Rattle.std.proofs.lemmas.List.Sums.{sum_by-cons, sum_by-append}
@@ -46,6 +46,13 @@ spread_none p body (x ∷ items) none =
       | inl own ↦ absurd (let n : is_one p x ≡ 1 = rw own refl in omega (arith, calls_in-cons p x items, none, n))
       | inr other ↦ rw other (ap (λ is. x ∷ is) (spread_none p body items (omega (arith, calls_in-cons p x items, none))))
     ]
+
+pub none_calls : (p : ℕ) (items : List Item) → list_any (is_call p) items ≡ false → calls_in p items ≡ 0
+none_calls p [] none = refl
+none_calls p (x ∷ items) none =
+    let parts = or_parts (is_call p x) (list_any (is_call p) items) none in
+    let n : is_one p x ≡ 0 = rw parts.0 refl in
+    omega (arith, calls_in-cons p x items, n, none_calls p items parts.1)
 
 module _ (p : ℕ) (body : List Item) (plain : calls_in p body ≡ 0) where
   -- what is spread has no calls

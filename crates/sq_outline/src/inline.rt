@@ -6,7 +6,7 @@
 mod sweep;
 
 ghost use Rattle.std.specs.Prelude.{◌≡◌, ◌↔◌, ℕ, ◌+◌, ◌*◌, ◌≤◌, ◌<◌, ◌^◌, IsTrue, length, None, Ok, IfOk, IfSome, OnOk};
-ghost use Rattle.std.specs.List.{count_by};
+ghost use Rattle.std.specs.List.{count_by, list_any};
 ghost use Rattle.sq_graph.specs.Blocks.{HasBlock, HasProcedure, items_of, body_of};
 ghost use Rattle.sq_graph.specs.Places.{IsInReach};
 ghost use Rattle.sq_graph.specs.Room.{KeepsTotal};
@@ -36,6 +36,13 @@ fn is_call(item: &Item, number: u32) -> bool
     }
 }
 
+// Whether one of the items calls the procedure.
+fn has_call(items: &[Item], number: u32) -> bool
+    ensures { result ≡ list_any (is_call number) items.now }
+{
+    items.iter().any(|item| is_call(item, number))
+}
+
 // Puts the body of the procedure in place of an item, if that calls it.
 fn inline_at(graph: &mut Graph, procedure: u32, block: u32, at: u32)
     requires block { HasBlock graph.old.graph block }
@@ -60,6 +67,9 @@ fn inline_block(graph: &mut Graph, procedure: u32, block: u32)
     ensures total { KeepsTotal graph.old graph.new }
 {
     graph.learn();
+    if !has_call(graph.items(block), procedure) {
+        return;
+    }
     let count = graph.items(block).len() as u32;
     for at in (0..count).rev() {
         inline_at(graph, procedure, block, at);
