@@ -4,7 +4,7 @@ ghost use Rattle.std.specs.Prelude.{◌≡◌, ◌+◌, ◌*◌, ◌≤◌, ◌<
 ghost use Rattle.std.specs.HashMap.{get};
 ghost use Rattle.std.specs.List.{All};
 ghost use Rattle.sq_isa.specs.Forms.{first_of, second_of};
-ghost use Rattle.sq_graph.specs.Blocks.{HasBlock};
+ghost use Rattle.sq_graph.specs.Blocks.{HasBlock, HasProcedure, body_of};
 ghost use Rattle.sq_graph.specs.Parts.{names_of};
 ghost use Rattle.sq_graph.specs.Rules.{ItemFits};
 ghost use Rattle.sq_rename.specs.Shapes.{shape_of};
@@ -103,6 +103,15 @@ pub(crate) fn block_print(graph: &Graph, block: u32) -> u64
     print(graph.items(block))
 }
 
+/// The print of a procedure's body.
+pub(crate) fn body_print(graph: &Graph, procedure: u32) -> u64
+    requires { HasProcedure graph.now.graph procedure }
+    ensures { result ≡ print_of_items (body_of graph.now.graph procedure) }
+{
+    graph.learn();
+    print(graph.body(procedure))
+}
+
 /// The spans of the prints that procedures' bodies have.
 pub(crate) fn procedure_prints(alloc: Global, graph: &Graph) -> Result<HashMap<u64, Span>, Memory>
     ensures { IfOk result (λ prints. HasPrints graph.now.graph (get nat_eq prints)) }
@@ -110,7 +119,7 @@ pub(crate) fn procedure_prints(alloc: Global, graph: &Graph) -> Result<HashMap<u
     graph.learn();
     let mut prints = HashMap::new(alloc);
     for procedure in 0..graph.procedures() {
-        note(&mut prints, print(graph.body(procedure)), procedure)?;
+        note(&mut prints, body_print(graph, procedure), procedure)?;
     }
     Ok(prints)
 }

@@ -9,6 +9,7 @@
 mod call;
 mod callers;
 mod ends;
+mod filed;
 mod groups;
 mod inline;
 mod link;

@@ -5,15 +5,9 @@ ghost use Rattle.sq_graph.specs.Blocks.{HasBlock};
 ghost use Rattle.sq_graph.specs.Parts.{names_of};
 
 use sq_graph::{Graph, Term};
-use sq_layout::block_words;
 use sq_lookup::{Names, Table, address, block_addresses, is_block, jump_from};
 use sq_num::Memory;
 use std::alloc::Global;
-
-/// The most slots along which a Branch's new target is looked for again, and the bytes behind which it counts as far then.
-const SLOTS: u32 = 1400;
-
-const FAR: u64 = 5120;
 
 /// A block that ends in a Branch, a lone Jump to which or over which that leads, and where the Jump leads.
 #[derive(Clone, Copy, Debug)]
@@ -21,8 +15,6 @@ struct Way {
     from: u32,
     over: u32,
     to: u32,
-    // How many bytes have to go in all before it is worth while to look whether the Branch reaches.
-    rest: u64,
 }
 
 /// The block before this one, if there is one.
@@ -30,63 +22,6 @@ pub(crate) fn previous(graph: &Graph, block: u32) -> Option<u32>
     requires { HasBlock graph.now.graph block }
 {
     graph.links().previous(block)
-}
-
-/// The bytes from the Branch of the way to the start of a block that stands behind it, once the lone Jump is gone.
-fn bytes_ahead(graph: &Graph, way: Way) -> Option<u64> {
-    graph.learn();
-    if !is_block(graph, way.from) {
-        return None;
-    }
-    let mut bytes: u64 = 4;
-    let mut at = graph.next(way.from)?;
-    for _slot in 0..SLOTS {
-        if at == way.to {
-            return Some(bytes);
-        }
-        if bytes > FAR || !is_block(graph, at) {
-            return None;
-        }
-        if at != way.over {
-            bytes = bytes.saturating_add(4 * u64::from(block_words(graph, at)));
-        }
-        at = graph.next(at)?;
-    }
-    None
-}
-
-/// The bytes from the start of a block that stands before it, or is its own, to the Branch.
-fn bytes_back(graph: &Graph, way: Way) -> Option<u64> {
-    graph.learn();
-    if !is_block(graph, way.from) {
-        return None;
-    }
-    let mut bytes = 4 * graph.items(way.from).len() as u64;
-    let mut at = way.from;
-    for _slot in 0..SLOTS {
-        if at == way.to {
-            return Some(bytes);
-        }
-        if bytes > FAR || !is_block(graph, at) {
-            return None;
-        }
-        at = previous(graph, at)?;
-        if at != way.over && is_block(graph, at) {
-            bytes = bytes.saturating_add(4 * u64::from(block_words(graph, at)));
-        }
-    }
-    None
-}
-
-/// By how many bytes the Branch misses where the Jump leads: 0 where it reaches, and at most some hundred.
-fn missing(graph: &Graph, way: Way) -> u64 {
-    if let Some(bytes) = bytes_ahead(graph, way) {
-        return bytes.saturating_sub(4094);
-    }
-    match bytes_back(graph, way) {
-        Some(bytes) => bytes.saturating_sub(4096),
-        None => FAR - 4096,
-    }
 }
 
 /// Whether another block goes on into this one.
@@ -109,12 +44,7 @@ fn detour(graph: &Graph, from: u32, over: u32) -> Option<Way> {
     if to == over || is_entered(graph, over) {
         return None;
     }
-    Some(Way {
-        from,
-        over,
-        to,
-        rest: 0,
-    })
+    Some(Way { from, over, to })
 }
 
 /// The way by the lone Jump over which a Branch leads to a block.
@@ -130,12 +60,7 @@ fn inversion(graph: &Graph, from: u32, behind: u32) -> Option<Way>
     if graph.next(over) != Some(behind) {
         return None;
     }
-    Some(Way {
-        from,
-        over,
-        to,
-        rest: 0,
-    })
+    Some(Way { from, over, to })
 }
 
 /// The ways by which row J2 and row J3 would lead the block's Branch elsewhere.
@@ -173,7 +98,7 @@ fn lifted(word: u64, at: u64) -> u64 {
 fn missing_between(graph: &Graph, way: Way, ends: Ends) -> u64 {
     graph.learn();
     if !is_block(graph, way.from) {
-        return FAR;
+        return u64::MAX;
     }
     let start = lifted(ends.over, ends.from);
     let at = start.saturating_add(4 * graph.items(way.from).len() as u64);
@@ -183,25 +108,55 @@ fn missing_between(graph: &Graph, way: Way, ends: Ends) -> u64 {
         .max(at.saturating_sub(to).saturating_sub(4096))
 }
 
-/// By how many bytes less than all the way is worth a look again.
-fn nearness(way: &Way) -> u64 {
-    u64::MAX - way.rest
+/// A way whose Branch doesn't reach.
+#[derive(Clone, Copy, Debug)]
+struct FarWay {
+    over: u32,
+    // Between the Branch and where the Jump leads stand the items of the blocks from the first address up to the end.
+    first: u64,
+    end: u64,
+    // By how many bytes the Branch misses.
+    missing: u64,
 }
 
-/// Branches that don't reach where rows J2 and J3 would lead them, those last for which fewest bytes have to go.
+/// The way as one that is far, where its Branch doesn't reach. Behind the Branch the block's own items don't stand.
+fn far_way(graph: &Graph, addresses: &Table, way: Way) -> Option<FarWay> {
+    let ends = addresses_of(addresses, way);
+    let missing = missing_between(graph, way, ends);
+    if missing == 0 {
+        return None;
+    }
+    let behind = ends.from.saturating_add(1);
+    let (first, end) = if ends.from < ends.to {
+        (behind, ends.to)
+    } else {
+        (ends.to, behind)
+    };
+    Some(FarWay {
+        over: way.over,
+        first,
+        end,
+        missing,
+    })
+}
+
+/// Branches that don't reach where rows J2 and J3 would lead them, while blocks lose words and stay in their slots.
 #[derive(Drop)]
 pub(crate) struct FarWays {
-    ways: Vec<Way>,
+    ways: Vec<FarWay>,
+    // Where the blocks stood when the ways were looked for.
+    addresses: Table,
+    // The lone Jumps past which Branches came to reach since it was asked last.
+    near: Vec<u32>,
 }
 
 impl FarWays {
     /// Adds a way whose Branch doesn't reach.
-    fn push(&mut self, graph: &Graph, addresses: &Table, found: Option<Way>) -> Result<(), Memory> {
-        if let Some(way) = found {
-            let rest = missing_between(graph, way, addresses_of(addresses, way));
-            if rest > 0 {
-                self.ways.push(Way { rest, ..way })?;
-            }
+    fn push(&mut self, graph: &Graph, found: Option<Way>) -> Result<(), Memory> {
+        if let Some(way) = found
+            && let Some(far) = far_way(graph, &self.addresses, way)
+        {
+            self.ways.push(far)?;
         }
         Ok(())
     }
@@ -211,52 +166,58 @@ impl FarWays {
         requires { names.now ≡ names_of graph.now.graph }
     {
         graph.learn();
-        let addresses = block_addresses(alloc, graph, names)?;
         let mut far = FarWays {
             ways: Vec::new(alloc),
+            addresses: block_addresses(alloc, graph, names)?,
+            near: Vec::new(alloc),
         };
         for name in names {
             if is_block(graph, *name) {
                 let (by_target, by_slot) = ways_of(graph, *name);
-                far.push(graph, &addresses, by_target)?;
-                far.push(graph, &addresses, by_slot)?;
+                far.push(graph, by_target)?;
+                far.push(graph, by_slot)?;
             }
         }
-        far.ways.sort_by_key(nearness)?;
         Ok(far)
     }
 
-    /// Takes out a way along which it is worth while to look again, since so many bytes went in all.
-    fn next_within(&mut self, gone: u64) -> Option<Way> {
-        if self.ways.last()?.rest > gone {
-            return None;
+    /// Takes out the ways whose Branches reach.
+    fn take_reached(&mut self) -> Result<(), Memory> {
+        for way in &self.ways {
+            if way.missing == 0 {
+                self.near.push(way.over)?;
+            }
         }
-        self.ways.pop()
-    }
-
-    /// Puts a way back for which so many bytes have to go in all.
-    fn put_back(&mut self, way: Way, rest: u64) -> Result<(), Memory> {
-        let place = self.ways.partition_point(|other| other.rest > rest);
-        self.ways.insert(place, Way { rest, ..way })?;
+        self.ways.retain(|way| way.missing > 0);
         Ok(())
     }
 
-    /// Whether a lone Jump can go, since so many bytes went in all. It looks again along the ways for which enough of them
-    /// did.
-    pub(crate) fn has_near(&mut self, graph: &Graph, gone: u64) -> Result<bool, Memory> {
-        let mut found = false;
-        for _way in 0..self.ways.len() {
-            let Some(way) = self.next_within(gone) else {
-                return Ok(found);
-            };
-            let missing = missing(graph, way);
-            if missing > 0 {
-                self.put_back(way, gone.saturating_add(missing))?;
-            } else if !self.ways.iter().any(|other| other.over == way.over) {
-                found = true;
+    /// Takes note that so many items of a block became a call. It looks at each way.
+    pub(crate) fn shorten(&mut self, block: u32, items: u64) -> Result<(), Memory> {
+        let at = address(&self.addresses, block);
+        let bytes = items.saturating_sub(1).saturating_mul(4);
+        let mut reaches = false;
+        for way in &mut self.ways {
+            if way.first <= at && at < way.end {
+                way.missing = way.missing.saturating_sub(bytes);
+                reaches |= way.missing == 0;
             }
         }
-        Ok(found)
+        if reaches {
+            self.take_reached()?;
+        }
+        Ok(())
+    }
+
+    /// Whether a lone Jump can go since it was asked last: a Branch came to reach past it, and no other one by it is far.
+    pub(crate) fn take_near(&mut self) -> bool {
+        let ways = &self.ways;
+        let found = self
+            .near
+            .iter()
+            .any(|over| !ways.iter().any(|way| way.over == *over));
+        self.near.clear();
+        found
     }
 }
 

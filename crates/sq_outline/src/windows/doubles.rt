@@ -3,6 +3,8 @@
 ghost use Rattle.sq_graph.specs.Blocks.{HasBlock, HasProcedure};
 ghost use Rattle.sq_outline.specs.WindowsPast.{IsPast};
 
+use crate::filed::{Filed, file};
+use crate::groups::{block_print, body_print};
 use crate::plain::are_plain;
 use crate::windows::past::{Shift, dead_behind};
 use sq_graph::Graph;
@@ -12,43 +14,46 @@ use sq_lookup::is_block;
 use sq_num::Memory;
 use sq_rename::match_items;
 use std::alloc::Global;
+use std::collections::HashMap;
 
-/// A block of which each item may go into a procedure, and how many these are.
-#[derive(Clone, Copy, Debug)]
-pub(crate) struct Body {
-    block: u32,
-    count: u32,
-}
-
-/// Those of these blocks that have as many items as a window may.
+/// Those of these blocks, by their prints, of which each item may go into a procedure, and that have as many as a window may.
 pub(crate) fn plain_bodies(
     alloc: Global,
     graph: &Graph,
     names: &[u32],
-) -> Result<Vec<Body>, Memory> {
+) -> Result<Filed<u64>, Memory> {
     graph.learn();
-    let mut bodies = Vec::new(alloc);
+    let mut bodies = HashMap::new(alloc);
     for name in names {
         if is_block(graph, *name) {
             let items = graph.items(*name);
             if 3 <= items.len() && items.len() <= 16 && are_plain(items) {
-                bodies.push(Body {
-                    block: *name,
-                    count: items.len() as u32,
-                })?;
+                file(alloc, &mut bodies, block_print(graph, *name), *name)?;
             }
         }
     }
     Ok(bodies)
 }
 
-/// Whether a procedure with a lower number has the link and the body of this one.
-pub(crate) fn is_double(graph: &Graph, procedure: u32) -> bool
+/// The procedures by the prints of their bodies.
+pub(crate) fn procedure_bodies(alloc: Global, graph: &Graph) -> Result<Filed<u64>, Memory> {
+    graph.learn();
+    let mut bodies = HashMap::new(alloc);
+    for procedure in 0..graph.procedures() {
+        file(alloc, &mut bodies, body_print(graph, procedure), procedure)?;
+    }
+    Ok(bodies)
+}
+
+/// Whether one of these procedures has a lower number than this one, and its link and body.
+pub(crate) fn is_double(graph: &Graph, procedure: u32, others: &[u32]) -> bool
     requires { HasProcedure graph.now.graph procedure }
 {
-    for other in 0..procedure {
-        if graph.link(other).number() == graph.link(procedure).number()
-            && graph.body(other) == graph.body(procedure)
+    graph.learn();
+    for other in others {
+        if *other < procedure
+            && graph.link(*other).number() == graph.link(procedure).number()
+            && graph.body(*other) == graph.body(procedure)
         {
             return true;
         }
@@ -81,23 +86,19 @@ fn may_stand_for(
     dead.has(graph.link(procedure)) && match_items(graph, items, body, dead).is_some()
 }
 
-/// Whether a call of the procedure may stand for one of these bodies.
+/// Whether a call of the procedure may stand for the body of one of these blocks.
 pub(crate) fn stands_for_one(
     graph: &Graph,
     before: &Liveness,
     shifts: &[Shift],
     procedure: u32,
-    bodies: &[Body],
+    blocks: &[u32],
 ) -> bool
     requires past { IsPast graph.now.graph before.now shifts.now }
     requires procedure { HasProcedure graph.now.graph procedure }
 {
-    let count = graph.body(procedure).len();
-    for body in bodies {
-        if body.count as usize == count
-            && is_block(graph, body.block)
-            && may_stand_for(graph, before, shifts, body.block, procedure)
-        {
+    for block in blocks {
+        if is_block(graph, *block) && may_stand_for(graph, before, shifts, *block, procedure) {
             return true;
         }
     }

@@ -7,10 +7,13 @@
 
 ghost use Rattle.sq_outline.specs.WindowsPast.{IsPast};
 
+use crate::filed::{Filed, file, filed};
+use crate::groups::body_print;
 use crate::inline::{any_would_save, find_inline};
+use crate::sites::Site;
 use crate::unmoved::News;
 use crate::ways::FarWays;
-use crate::windows::doubles::{Body, is_double, plain_bodies, stands_for_one};
+use crate::windows::doubles::{is_double, plain_bodies, procedure_bodies, stands_for_one};
 use crate::windows::joins::{callers_of, may_join_one};
 use crate::windows::past::Shift;
 use sq_finger::WindowAt;
@@ -23,10 +26,10 @@ use std::alloc::Global;
 #[derive(Drop)]
 pub(crate) struct Earlier {
     far: FarWays,
-    // The bytes that went since they were looked for.
-    gone: u64,
     inlines: bool,
-    bodies: Vec<Body>,
+    // Blocks of which a procedure may have the body, and procedures, by the prints of their bodies.
+    bodies: Filed<u64>,
+    procedures: Filed<u64>,
     callers: Vec<u32>,
     news: News,
 }
@@ -38,9 +41,9 @@ impl Earlier {
         let names = block_names(alloc, graph)?;
         Ok(Earlier {
             far: FarWays::look(alloc, graph, &names)?,
-            gone: 0,
             inlines: any_would_save(alloc, graph)?,
             bodies: plain_bodies(alloc, graph, &names)?,
+            procedures: procedure_bodies(alloc, graph)?,
             callers: callers_of(alloc, graph, &names)?,
             news: News::Nothing,
         })
@@ -56,46 +59,62 @@ impl Earlier {
         self.news
     }
 
-    /// What may be new since so many words more went from blocks, and since items came by which there may be more or not.
-    fn news_of(
-        &mut self,
-        alloc: Global,
-        graph: &Graph,
-        words: u64,
-        more: bool,
-    ) -> Result<News, Memory> {
-        self.gone = self.gone.saturating_add(words.saturating_mul(4));
-        let reaches = self.far.has_near(graph, self.gone)?;
+    /// What may be new since blocks lost words, and since items came by which there may be more or not.
+    fn news_of(&mut self, alloc: Global, graph: &Graph, more: bool) -> Result<News, Memory> {
+        let reaches = self.far.take_near();
         if more || self.inlines && find_inline(alloc, graph)?.is_some() {
             return Ok(News::Items);
         }
         Ok(if reaches { News::Reach } else { News::Nothing })
     }
 
-    /// Looks at what may be new since the last procedure came and so many words went from blocks, by registers that were dead
-    /// before these calls came.
+    /// Whether the last procedure, by registers that were dead before these calls came, may stand for the body of a block, or
+    /// equals another one.
+    fn has_likeness(
+        &mut self,
+        alloc: Global,
+        graph: &Graph,
+        before: &Liveness,
+        shifts: &[Shift],
+    ) -> Result<bool, Memory>
+        requires past { IsPast graph.now.graph before.now shifts.now }
+    {
+        graph.learn();
+        if graph.procedures() == 0 {
+            return Ok(false);
+        }
+        let new = graph.procedures() - 1;
+        let key = body_print(graph, new);
+        file(alloc, &mut self.procedures, key, new)?;
+        Ok(
+            is_double(graph, new, filed(&self.procedures, &key))
+                || stands_for_one(graph, before, shifts, new, filed(&self.bodies, &key)),
+        )
+    }
+
+    /// Looks at what may be new since the last procedure came, which is called at these places for so many items, by registers
+    /// that were dead before these calls came.
     pub(crate) fn look_at_procedure(
         &mut self,
         alloc: Global,
         graph: &Graph,
         before: &Liveness,
         shifts: &[Shift],
-        words: u64,
+        sites: &[Site],
+        n: u64,
     ) -> Result<(), Memory>
         requires past { IsPast graph.now.graph before.now shifts.now }
     {
-        if graph.procedures() == 0 {
-            return Ok(());
+        for site in sites {
+            self.far.shorten(site.block, n)?;
         }
-        let new = graph.procedures() - 1;
-        let more = is_double(graph, new)
-            || stands_for_one(graph, before, shifts, new, &self.bodies);
-        self.news = self.news_of(alloc, graph, words, more)?;
+        let more = self.has_likeness(alloc, graph, before, shifts)?;
+        self.news = self.news_of(alloc, graph, more)?;
         Ok(())
     }
 
-    /// Looks at what may be new since a call came at a place and at most so many words went, by registers that were dead before
-    /// these calls came.
+    /// Looks at what may be new since a call came at a place for so many items, by registers that were dead before these calls
+    /// came.
     pub(crate) fn look_at_call(
         &mut self,
         alloc: Global,
@@ -103,12 +122,13 @@ impl Earlier {
         before: &Liveness,
         shifts: &[Shift],
         place: WindowAt,
-        words: u64,
+        n: u64,
     ) -> Result<(), Memory>
         requires past { IsPast graph.now.graph before.now shifts.now }
     {
+        self.far.shorten(place.block, n)?;
         let more = may_join_one(graph, before, shifts, place, &self.callers);
-        self.news = self.news_of(alloc, graph, words, more)?;
+        self.news = self.news_of(alloc, graph, more)?;
         self.callers.push(place.block)?;
         Ok(())
     }

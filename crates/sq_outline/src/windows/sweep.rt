@@ -116,9 +116,9 @@ fn call_if_may(
     if earlier.asks() || !may_call_still(graph, before, shifts, place, procedure) {
         return Ok(savings);
     }
-    let words = graph.body(procedure).len() as u64;
+    let n = graph.body(procedure).len() as u64;
     let after = rewrite_inside(graph, shifts, place, procedure, savings)?;
-    earlier.look_at_call(alloc, graph, before, shifts, place, words)?;
+    earlier.look_at_call(alloc, graph, before, shifts, place, n)?;
     Ok(after)
 }
 
@@ -273,10 +273,8 @@ fn make_if_may(
         windows.put_back(window, part)?;
         return Ok(savings);
     }
-    // The procedure's own words went from blocks, too.
-    let words = u64::from(found.saving) + u64::from(n) + 1;
     let after = rewrite_window(graph, shifts, n, found, &sites, savings)?;
-    earlier.look_at_procedure(alloc, graph, before, shifts, words)?;
+    earlier.look_at_procedure(alloc, graph, before, shifts, &sites, u64::from(n))?;
     Ok(after)
 }
 
