@@ -1,7 +1,7 @@
 //! Whether rows J2 and J3 may have given another row a candidate, where Branches came to reach and no row had one before.
 
 use crate::inline::{any_would_save, find_inline};
-use crate::windows::may_end_alike;
+use crate::windows::Endings;
 use sq_graph::{Graph, Term};
 use sq_live::block_names;
 use sq_lookup::is_block;
@@ -67,11 +67,12 @@ impl Ends {
 
     /// Whether a block that ends otherwise now ends as another one does.
     fn end_alike(&self, alloc: Global, graph: &Graph) -> Result<bool, Memory> {
+        let mut endings = Endings::new(alloc);
         for was in &self.blocks {
             let block = was.block;
             if is_block(graph, block)
                 && graph.term(block) != was.term
-                && may_end_alike(alloc, graph, block)?
+                && endings.has_alike(alloc, graph, block)?
             {
                 return Ok(true);
             }
@@ -81,7 +82,7 @@ impl Ends {
 
     /// Whether no other row can have a candidate since rows J2 and J3 saved so many words, each a lone Jump: no block became one
     /// with another, none jumps to the next slot, none ends as another one does that didn't, and no body may come in place of its
-    /// calls. It looks at each block twice, and for each that ends otherwise once more.
+    /// calls. It looks at each block a few times.
     pub fn are_quiet(&self, alloc: Global, graph: &Graph, words: u64) -> Result<bool, Memory> {
         if self.gone(graph) != words
             || self

@@ -7,7 +7,7 @@ use crate::groups::{block_print, procedure_prints};
 use crate::inline::{any_would_save, find_inline};
 use crate::seams::may_pay_at;
 use crate::ways::{Reaching, near_jumps, previous};
-use crate::windows::may_end_alike;
+use crate::windows::Endings;
 use sq_graph::{Graph, Term};
 use sq_live::block_names;
 use sq_lookup::{Names, is_block};
@@ -42,13 +42,16 @@ struct Sides {
 /// What there was before a chain moved.
 #[derive(Drop)]
 pub struct Unmoved {
-    // The blocks at the three seams that the move makes.
+    // How many blocks there were.
+    blocks: u32,
+    // The blocks at the three seams that the move makes, each once.
     seams: Vec<Was>,
     // The blocks on both sides of the three seams that it closes and makes.
     sides: Vec<Sides>,
     // The lone Jumps that stay though each Branch that leads by them reaches where they lead.
     near: Names,
     reaching: Reaching,
+    endings: Endings,
     // Whether a procedure waits for Branches to reach.
     inlines: bool,
 }
@@ -131,6 +134,18 @@ fn is_entered_at(graph: &Graph, block: u32) -> bool {
     }
 }
 
+/// How a block ends since the move that jumped before it and has as many items as then, if it doesn't jump now.
+fn new_end(graph: &Graph, was: Was) -> Option<Term> {
+    graph.learn();
+    if !was.jumped || !is_block(graph, was.block) || graph.items(was.block).len() != was.count {
+        return None;
+    }
+    match graph.term(was.block) {
+        Term::Jump { .. } | Term::Fall => None,
+        term => Some(term),
+    }
+}
+
 /// A set of these names.
 fn set_of(alloc: Global, names: &[u32]) -> Result<Names, Memory> {
     let mut set = Names::new(alloc);
@@ -144,10 +159,12 @@ impl Unmoved {
     /// What there is before any look.
     pub fn new(alloc: Global) -> Unmoved {
         Unmoved {
+            blocks: 0,
             seams: Vec::new(alloc),
             sides: Vec::new(alloc),
             near: Names::new(alloc),
             reaching: Reaching::new(alloc),
+            endings: Endings::new(alloc),
             inlines: false,
         }
     }
@@ -159,17 +176,19 @@ impl Unmoved {
         addresses: &[Option<u64>],
     ) -> Result<Unmoved, Memory> {
         Ok(Unmoved {
+            blocks: 0,
             seams: Vec::new(alloc),
             sides: Vec::new(alloc),
             near: set_of(alloc, &near_jumps(alloc, graph, addresses)?)?,
             reaching: Reaching::look(alloc, graph, addresses)?,
+            endings: Endings::new(alloc),
             inlines: any_would_save(alloc, graph)?,
         })
     }
 
-    /// Takes note of a block, if there is this one.
+    /// Takes note of a block, if there is this one and it isn't noted.
     fn note(&mut self, graph: &Graph, block: u32) -> Result<(), Memory> {
-        if is_block(graph, block) {
+        if is_block(graph, block) && !self.seams.iter().any(|was| was.block == block) {
             self.seams.push(was_of(graph, block))?;
         }
         Ok(())
@@ -193,6 +212,7 @@ impl Unmoved {
     /// Takes note of the blocks at the seams that a chain leaves and makes if it moves behind this block: whether that jumps to one.
     /// It looks at the chain.
     pub fn begin(&mut self, graph: &Graph, from: u32) -> Result<bool, Memory> {
+        self.blocks = graph.links().len();
         self.seams.clear();
         self.sides.clear();
         let Some(to) = jump_target(graph, from) else {
@@ -202,6 +222,7 @@ impl Unmoved {
             return Ok(false);
         }
         let end = end_of_chain(graph, to);
+        self.note(graph, to)?;
         self.note_seam(graph, from)?;
         self.note_seam(graph, end)?;
         if let Some(block) = before(graph, to) {
@@ -259,24 +280,13 @@ impl Unmoved {
         Ok(false)
     }
 
-    /// Whether a block has other items or another end than before the move, and a row may have a candidate in it since.
+    /// Whether a block has other items than before the move, and a row may have a candidate in it since.
     fn has_more_at(&self, alloc: Global, graph: &Graph, was: Was) -> Result<bool, Memory> {
-        let block = was.block;
-        if !is_block(graph, block) {
-            return Ok(false);
-        }
         graph.learn();
-        if graph.items(block).len() != was.count {
-            return self.may_pay(alloc, graph, block, was.count);
-        }
-        if !was.jumped {
+        if !is_block(graph, was.block) || graph.items(was.block).len() == was.count {
             return Ok(false);
         }
-        match graph.term(block) {
-            Term::Jump { .. } | Term::Fall => Ok(false),
-            Term::PartJump { .. } => Ok(true),
-            _ => may_end_alike(alloc, graph, block),
-        }
+        self.may_pay(alloc, graph, was.block, was.count)
     }
 
     /// Whether it is new that a Branch reaches, as far from the seams as one reaches.
@@ -314,10 +324,40 @@ impl Unmoved {
         Ok(more)
     }
 
-    /// Whether a row may have a candidate in one of the blocks at the seams since the move.
-    fn has_more_in_one(&self, alloc: Global, graph: &Graph) -> Result<bool, Memory> {
+    /// Whether items came into one of the blocks at the seams by the move, and a row may have a candidate there since.
+    fn has_more_items(&self, alloc: Global, graph: &Graph) -> Result<bool, Memory> {
         for was in &self.seams {
             if self.has_more_at(alloc, graph, *was)? {
+                return Ok(true);
+            }
+        }
+        Ok(false)
+    }
+
+    /// Takes note of how the blocks at the seams end now. Where others came or went, as where a Branch is wide now, all are to be
+    /// looked at anew.
+    fn note_ends(&mut self, alloc: Global, graph: &Graph) -> Result<(), Memory> {
+        let mut blocks = graph.links().len();
+        for was in &self.seams {
+            if is_block(graph, was.block) {
+                self.endings.note(alloc, graph, was.block)?;
+            } else {
+                blocks = blocks.saturating_add(1);
+            }
+        }
+        if blocks != self.blocks {
+            self.endings = Endings::new(alloc);
+        }
+        Ok(())
+    }
+
+    /// Whether one of them ends otherwise by the move, and a row may have a candidate there since.
+    fn has_more_ends(&mut self, alloc: Global, graph: &Graph) -> Result<bool, Memory> {
+        for was in &self.seams {
+            if let Some(term) = new_end(graph, *was)
+                && (matches!(term, Term::PartJump { .. })
+                    || self.endings.has_alike(alloc, graph, was.block)?)
+            {
                 return Ok(true);
             }
         }
@@ -333,8 +373,10 @@ impl Unmoved {
         addresses: &[Option<u64>],
     ) -> Result<News, Memory> {
         let reaches = self.has_more_near(alloc, graph, addresses)?;
+        self.note_ends(alloc, graph)?;
         if self.inlines && find_inline(alloc, graph)?.is_some()
-            || self.has_more_in_one(alloc, graph)?
+            || self.has_more_items(alloc, graph)?
+            || self.has_more_ends(alloc, graph)?
         {
             return Ok(News::Items);
         }

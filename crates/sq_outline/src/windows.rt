@@ -2,6 +2,7 @@
 
 mod doubles;
 mod earlier;
+mod endings;
 mod found;
 mod heads;
 mod inside;
@@ -17,7 +18,7 @@ mod stands;
 mod sweep;
 mod window;
 
-pub(crate) use joins::may_end_alike;
+pub(crate) use endings::Endings;
 pub use left::FoundWindows;
 pub use pass::Windows;
 pub use proposals::propose_windows;

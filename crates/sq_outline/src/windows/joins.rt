@@ -4,64 +4,16 @@
 ghost use Rattle.sq_graph.specs.Blocks.{HasBlock};
 ghost use Rattle.sq_outline.specs.WindowsPast.{IsPast};
 
+use crate::windows::endings::end_of;
 use crate::windows::past::{Shift, dead_behind};
 use sq_finger::WindowAt;
-use sq_graph::{Graph, Item, Term};
+use sq_graph::{Graph, Item};
 use sq_isa::RegSet;
-use sq_live::{Liveness, block_names};
-use sq_lookup::{is_block, resolve};
+use sq_live::Liveness;
+use sq_lookup::is_block;
 use sq_num::Memory;
 use sq_rename::match_items;
 use std::alloc::Global;
-
-/// Where a block leads by its end, with lone Jumps followed: its term without the target, the target, and where it goes on.
-#[derive(Clone, Copy, Debug, PartialEq, Eq)]
-struct End {
-    term: Term,
-    to: Option<u32>,
-    next: Option<u32>,
-}
-
-/// The term without its target. A Fall is a Jump.
-fn without_target(term: Term) -> Term {
-    match term {
-        Term::Fall | Term::Jump { .. } => Term::Jump { to: 0 },
-        Term::Branch { cond, a, b, .. } => Term::Branch { cond, a, b, to: 0 },
-        Term::Call { link, .. } => Term::Call { link, to: 0 },
-        _ => term,
-    }
-}
-
-/// The block to which lone Jumps lead from this one, if there is this one.
-fn reached(graph: &Graph, block: Option<u32>) -> Option<u32> {
-    let at = block?;
-    if is_block(graph, at) {
-        Some(resolve(graph, at))
-    } else {
-        None
-    }
-}
-
-/// The end of a block.
-fn end_of(graph: &Graph, block: u32) -> End
-    requires { HasBlock graph.now.graph block }
-{
-    graph.learn();
-    let term = graph.term(block);
-    let next = reached(graph, graph.next(block));
-    if term == Term::Fall {
-        return End {
-            term: without_target(term),
-            to: next,
-            next: None,
-        };
-    }
-    End {
-        term: without_target(term),
-        to: reached(graph, term.target()),
-        next: if term.goes_on() { next } else { None },
-    }
-}
 
 /// Whether the body of a block matches that of another one, by registers that were dead before calls came.
 fn match_still(graph: &Graph, before: &Liveness, shifts: &[Shift], block: u32, other: u32) -> bool
@@ -140,27 +92,4 @@ pub(crate) fn may_join_one(
         }
     }
     false
-}
-
-/// Whether another block ends as this one does, behind an equal item. It looks at the end of each block.
-pub(crate) fn may_end_alike(alloc: Global, graph: &Graph, block: u32) -> Result<bool, Memory>
-    requires { HasBlock graph.now.graph block }
-{
-    graph.learn();
-    let end = end_of(graph, block);
-    let names = block_names(alloc, graph)?;
-    let Some(last) = graph.items(block).last() else {
-        return Ok(false);
-    };
-    for name in &names {
-        if *name != block
-            && is_block(graph, *name)
-            && graph.items(*name).last() == Some(last)
-            && without_target(graph.term(*name)) == end.term
-            && end_of(graph, *name) == end
-        {
-            return Ok(true);
-        }
-    }
-    Ok(false)
 }
