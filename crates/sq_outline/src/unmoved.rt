@@ -289,20 +289,40 @@ impl Unmoved {
         self.may_pay(alloc, graph, was.block, was.count)
     }
 
-    /// Whether it is new that a Branch reaches, as far from the seams as one reaches.
-    fn reaches_more(&mut self, graph: &Graph, addresses: &[Option<u64>]) -> Result<bool, Memory> {
-        let mut more = false;
-        for at in 0..self.sides.len() {
-            let Sides { first, second } = self.sides[at];
-            let side = if is_block(graph, first) {
-                Some(first)
+    /// The blocks at the seams, from which Branches are looked for.
+    fn starts(&self, alloc: Global, graph: &Graph) -> Result<Vec<u32>, Memory> {
+        let mut starts = Vec::new(alloc);
+        for Sides { first, second } in &self.sides {
+            let side = if is_block(graph, *first) {
+                Some(*first)
             } else {
-                second
+                *second
             };
-            if let Some(block) = side {
-                more |= self.reaching.grows(graph, addresses, block, true)?;
-                more |= self.reaching.grows(graph, addresses, block, false)?;
+            if let Some(block) = side
+                && !starts.contains(&block)
+            {
+                starts.push(block)?;
             }
+        }
+        Ok(starts)
+    }
+
+    /// Whether it is new that a Branch reaches, as far from the seams as one reaches.
+    fn reaches_more(
+        &mut self,
+        alloc: Global,
+        graph: &Graph,
+        addresses: &[Option<u64>],
+    ) -> Result<bool, Memory> {
+        let starts = self.starts(alloc, graph)?;
+        let mut more = false;
+        for start in &starts {
+            more |= self
+                .reaching
+                .grows(graph, addresses, &starts, *start, true)?;
+            more |= self
+                .reaching
+                .grows(graph, addresses, &starts, *start, false)?;
         }
         Ok(more)
     }
@@ -314,7 +334,7 @@ impl Unmoved {
         graph: &Graph,
         addresses: &[Option<u64>],
     ) -> Result<bool, Memory> {
-        if !self.reaches_more(graph, addresses)? {
+        if !self.reaches_more(alloc, graph, addresses)? {
             return Ok(false);
         }
         let near = near_jumps(alloc, graph, addresses)?;

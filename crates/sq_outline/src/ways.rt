@@ -311,32 +311,33 @@ impl Reaching {
     ) -> Result<Reaching, Memory> {
         let mut reaching = Reaching::new(alloc);
         for name in 0..u32::try_from(addresses.len()).unwrap_or(u32::MAX) {
-            reaching.note(graph, addresses, name)?;
+            if is_block(graph, name) {
+                reaching.note(graph, addresses, name)?;
+            }
         }
         Ok(reaching)
     }
 
-    /// Takes note of the block's Branch, if there is this block. Whether it is new that it reaches.
-    fn note(
-        &mut self,
-        graph: &Graph,
-        addresses: &[Option<u64>],
-        block: u32,
-    ) -> Result<bool, Memory> {
-        let new = is_block(graph, block)
-            && reaches_past(graph, addresses, block)
-            && !self.blocks.has(block);
+    /// Takes note of the block's Branch, if it ends in one. Whether it is new that it reaches.
+    fn note(&mut self, graph: &Graph, addresses: &[Option<u64>], block: u32) -> Result<bool, Memory>
+        requires { HasBlock graph.now.graph block }
+    {
+        let new = matches!(graph.term(block), Term::Branch { .. })
+            && !self.blocks.has(block)
+            && reaches_past(graph, addresses, block);
         if new {
             self.blocks.insert(block)?;
         }
         Ok(new)
     }
 
-    /// Whether it is new that a Branch reaches, from this block on, ahead or back, as far as one reaches.
+    /// Whether it is new that a Branch reaches, from one of these blocks on, ahead or back, as far as one reaches, or up to another
+    /// one of them, from which it is asked, too.
     pub(crate) fn grows(
         &mut self,
         graph: &Graph,
         addresses: &[Option<u64>],
+        starts: &[u32],
         from: u32,
         ahead: bool,
     ) -> Result<bool, Memory> {
@@ -347,7 +348,10 @@ impl Reaching {
             let Some(at) = place else {
                 return Ok(new);
             };
-            if address_in(addresses, at).abs_diff(start) > NEAR {
+            if !is_block(graph, at)
+                || address_in(addresses, at).abs_diff(start) > NEAR
+                || at != from && starts.contains(&at)
+            {
                 return Ok(new);
             }
             new |= self.note(graph, addresses, at)?;
@@ -357,11 +361,10 @@ impl Reaching {
     }
 }
 
-/// The block in the slot behind this one, or in the slot before it, if there are both.
-fn beside(graph: &Graph, block: u32, ahead: bool) -> Option<u32> {
-    if !is_block(graph, block) {
-        return None;
-    }
+/// The block in the slot behind this one, or in the slot before it.
+fn beside(graph: &Graph, block: u32, ahead: bool) -> Option<u32>
+    requires { HasBlock graph.now.graph block }
+{
     if ahead {
         graph.next(block)
     } else {
