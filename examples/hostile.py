@@ -22,22 +22,28 @@ KIND is one of:
     nearinvert COUNT branches over a lone jump, whose target comes near only once others' words went
     once       COUNT procedures that a note lists, each called once: row O4 puts their bodies in place
     doubles    COUNT procedures that a note lists, with equal bodies, each called twice: row O3 leaves one of them
+    rows       COUNT groups, each with a candidate of every row of the cost rule
 
 The text has at most 262,144 words, or Squeeze refuses it. Each kind ends with an exit, which every way through it reaches.
 """
 
+import itertools
 import random
 import struct
 import sys
 
 BASE, DATA = 0x10000, 0x200000
 WORD, BRANCH, JAL, CALL = 1, 16, 17, 19  # types of relocations
-A0, A1, A2, A7, RA, T0 = 10, 11, 12, 17, 1, 5
+A0, A1, A2, A7, RA, T0, T1, T2 = 10, 11, 12, 17, 1, 5, 6, 7
 NOTE, VERSION = 0x80515A31, 0x325A5153  # of a note: the type of its section, and its first word
 
 
 def addi(rd, rs, number):
     return number << 20 | rs << 15 | rd << 7 | 0x13
+
+
+def lui(rd, number):
+    return number << 12 | rd << 7 | 0x37
 
 
 def jump_bits(distance):
@@ -71,6 +77,12 @@ class Program:
         """beq a0, a1, NAME"""
         self.jumps.append((len(self.text), BRANCH, name))
         self.text.append(A1 << 20 | A0 << 15 | 0x63)
+
+    def procedure(self, name, items):
+        """A procedure that a note lists, behind what doesn't go on."""
+        self.mark(name)
+        self.items(*items, T0 << 15 | 0x67)
+        self.procedures.append((name, T0, len(items)))
 
     def far_call(self, name):
         """auipc ra and jalr ra, ra"""
@@ -316,10 +328,7 @@ def procedures(p, count, calls, body):
             p.jump(("procedure", number), T0)
     p.jump("exit")
     for number in range(count):
-        p.mark(("procedure", number))
-        items = body(number)
-        p.items(*items, T0 << 15 | 0x67)
-        p.procedures.append((("procedure", number), T0, len(items)))
+        p.procedure(("procedure", number), body(number))
 
 
 def once(p, count):
@@ -328,6 +337,85 @@ def once(p, count):
 
 def doubles(p, count):
     procedures(p, count, 2, lambda _: [addi(A2, A2, 1), addi(A1, A1, 1), addi(A2, A2, 3), addi(A1, A1, 5)])
+
+
+class Group:
+    """Names of places and items that no other group of kind `rows` has."""
+
+    def __init__(self, number):
+        self.number, self.uppers = number, itertools.count(32 * number)
+        self.tail, self.called, self.doubled, self.once = map(self.new, (1, 2, 2, 1))
+        self.body, self.window, self.renamed = self.new(4), self.new(4), next(self.uppers)
+
+    def place(self, name):
+        return name, self.number
+
+    def new(self, count=1):
+        """So many items that stand nowhere else."""
+        return [lui(T1, next(self.uppers)) for _ in range(count)]
+
+
+def through(p, g):
+    """The way through a group, from which Branches lead to its arms."""
+    for name in ["called", "called", "doubled", "doubled", "double", "once"]:  # O3, O4
+        p.jump(g.place(name), T0)
+    p.branch(g.place("before"))
+    p.items(*g.called)  # O2
+    p.branch(g.place("lone"))  # J2
+    p.items(*g.body)  # O1
+    p.branch(g.place("body"))
+    p.items(*g.new())
+    p.jump(g.place("next"))  # J1
+    p.mark(g.place("next"))
+    p.far_call("function")  # C
+    p.branch(g.place("over"))  # J3
+    p.jump(g.place("end"))
+    p.mark(g.place("over"))
+    p.items(*g.new(), *g.window, *g.new(), *g.called, *g.new(), *g.window, *g.new())  # W, V
+    for name in ["renamed", "matched", "tail"]:  # T
+        p.branch(g.place(name))
+    tail(p, g)
+
+
+def tail(p, g):
+    """One of two equal tails. Where row T takes it, row U takes the Jump behind it."""
+    p.items(*g.new(), *g.tail)
+    p.branch(g.place("behind"))
+    p.jump(g.place("end"))
+
+
+def arms(p, g):
+    """What stands behind the way through, up to the end of the group."""
+    p.mark(g.place("tail"))
+    tail(p, g)
+    p.mark(g.place("lone"))
+    p.jump(g.place("end"))
+    p.items(*g.new())  # nothing reaches it
+    p.mark(g.place("before"))
+    p.items(*g.new())
+    p.jump(g.place("behind"))  # L
+    for name, register in [("renamed", T1), ("matched", T2)]:
+        p.mark(g.place(name))
+        p.items(lui(register, g.renamed), addi(A2, register, 1))
+        p.jump(g.place("end"))
+    p.mark(g.place("behind"))
+    p.items(*g.new())
+    p.jump(g.place("end"))
+    p.mark(g.place("body"))
+    p.items(*g.body)
+    p.mark(g.place("end"))
+
+
+def rows(p, count):
+    """Groups that have nothing in common but their function. Behind each part stands the row that it is for."""
+    groups = [Group(number) for number in range(count)]
+    for group in groups:
+        through(p, group)
+        arms(p, group)
+    function(p)
+    for g in groups:
+        for name, items in [("called", g.called), ("doubled", g.doubled), ("double", g.doubled), ("once", g.once)]:
+            p.procedure(g.place(name), items)
 
 
 # what makes each kind, and how many words of text one of COUNT has
@@ -350,6 +438,7 @@ KINDS = {
     "nearinvert": (nearinvert, 8),
     "once": (once, 4),
     "doubles": (doubles, 7),
+    "rows": (rows, 73),
 }
 
 
