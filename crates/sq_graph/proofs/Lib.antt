@@ -50,7 +50,6 @@ pub mod CanonicalLaws
 pub mod JoinedAt
 pub mod JoinShows
 pub mod JoinedBefore
-pub mod FallenOnce
 pub mod CanonicalReach
 pub mod Renamed
 pub mod AlikeGraphs
@@ -62,3 +61,4 @@ pub mod RenamedLives
 pub mod RenamedReach
 pub mod RenamedSound
 pub mod FewWords
+pub mod Settling

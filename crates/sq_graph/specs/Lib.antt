@@ -7,6 +7,7 @@ pub mod Room
 pub mod Renames
 pub mod Alike
 pub mod Operations
+pub mod Fates
 pub mod Trimmed
 pub mod Words
 pub mod Leaders

@@ -10,6 +10,7 @@ mod blocks;
 mod build;
 mod canonical;
 mod edits;
+mod fates;
 mod gaps;
 mod graph;
 mod item;
@@ -25,6 +26,7 @@ mod slots;
 mod trim;
 mod vectors;
 
+pub use fates::Fate;
 pub use graph::Graph;
 pub use item::{Item, Term};
 pub use parts::{BlockPart, CodeRef, Parts, ProcedurePart, Room};
