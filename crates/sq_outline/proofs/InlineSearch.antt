@@ -34,16 +34,18 @@ pub or_0 : (o : Option ℕ) → unwrap_or o 0 ≡ number_or_0 o
 or_0 None = refl
 or_0 (Some n) = refl
 
+-- there are no more items than words
+pub items_few : (g : Graph) → length (all_items g) ≤ words_of g
+items_few g = omega (arith, blocks_few g.blocks, bodies_few g.procedures, length-append (items_of_blocks g.blocks) (items_of_bodies g.procedures))
+
 -- a copy has room
 pub still_small : (v : GraphAndRoom) (p : ℕ) → HasProcedure v.graph p → IsSmall (total_of v) → words_of v.graph < 2 ^ 28 → IsSmall (sum_of (count_of v.graph) (inline_room v.graph p))
 still_small v p there small few =
-    let g = v.graph in
     let blocks = small.blocks in
     let procedures = small.procedures in
-    let items : length (all_items v.graph) ≤ words_of v.graph = omega (arith, blocks_few g.blocks, bodies_few g.procedures, length-append (items_of_blocks g.blocks) (items_of_bodies g.procedures)) in
     record {
       blocks = omega (arith, blocks);
-      items = omega (arith, items, few, body_words g p there);
+      items = omega (arith, items_few v.graph, few, body_words v.graph p there);
       procedures = omega (arith, procedures);
     }
 

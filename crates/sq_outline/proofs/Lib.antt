@@ -21,6 +21,8 @@ pub mod Kept
 pub mod Undone
 pub mod Still
 pub mod Sweeping
+pub mod Ranks
+pub mod SettledOnce
 pub mod SweepingRecalls
 pub mod SweepingInlines
 pub mod WindowsStanding

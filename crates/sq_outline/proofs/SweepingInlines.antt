@@ -1,18 +1,20 @@
 -- A sweep of row O4: bodies in place of calls, with one look at reach in the end.
-use Rattle.std.proofs.Common.{◌≡◌, ◌≢◌, ◌≤◌, ◌<◌, ℕ, ◌+◌, ◌-◌, ◌==◌, true, false, nat_lt, List, [], ◌∷◌, map, remove, length, inl, inr, refl, sym, ap, ◌∙◌, subst, arith, length-append}
-use Rattle.std.proofs.lemmas.Bool.{cases_Bool, eqb-true, ne_eqb, ltb-true}
-use Rattle.std.proofs.lemmas.List.{length-map}
-use Rattle.std.proofs.lemmas.List.Edits.{length-remove}
+use Rattle.std.proofs.Common.{◌≡◌, ◌≤◌, ◌<◌, ℕ, ◌+◌, ◌==◌, false, List, [], ◌∷◌, map, length, slice_set, replicate, Some, inl, inr, ⊎_elim, refl, sym, ap, ◌∙◌, subst, arith, length-append}
+use Rattle.std.specs.List.{slice_get}
+use Rattle.std.proofs.lemmas.Bool.{cases_Bool, cases_eq}
+use Rattle.std.proofs.lemmas.List.{length-map, length-replicate}
 use Rattle.sq_arena.specs.Entries.{value_of}
+use Rattle.sq_graph.specs.declared.fates.Fate.{Fate}
+use Rattle.sq_graph.specs.declared.fates.Fate.TheVariants.{Stays, Joins, Inlined}
+use Rattle.sq_graph.specs.Fates.{number_among, settled}
 use Rattle.sq_num.specs.declared.packed.Savings.{Savings}
 use Rattle.sq_num.specs.Saved.{words_saved}
 use Rattle.sq_graph.specs.declared.item.Item.{Item}
-use Rattle.sq_graph.specs.declared.item.Item.TheVariants.{Op, Hi, Lo, Out}
 use Rattle.sq_graph.specs.Graph.{Block, Graph}
-use Rattle.sq_graph.specs.Blocks.{named, HasProcedure, items_of_blocks, block_term, body_of}
+use Rattle.sq_graph.specs.Blocks.{named, HasProcedure, block_term, body_of}
 use Rattle.sq_graph.specs.Leaders.{has_no_items, IsCanonical}
 use Rattle.sq_graph.specs.Places.{IsInReach}
-use Rattle.sq_graph.specs.Renames.{recalled_item, recalled_items, recalled_block, recalled_procedure, lowered}
+use Rattle.sq_graph.specs.Renames.{recalled_item, recalled_items, recalled_block, lowered}
 use Rattle.sq_graph.specs.Rules.{IsGraph}
 use Rattle.sq_graph.specs.Words.{words_of}
 use Rattle.sq_layout.specs.Shrinks.{IsShrunk, Shrinks, nothing, kept}
@@ -22,84 +24,12 @@ use Rattle.sq_pass.specs.Counted.{counted}
 use Rattle.sq_pass.proofs.Rewriting.{rewritten_itself, rewritten_through}
 use Rattle.sq_outline.specs.Candidates.{IsCandidate, described}
 use Rattle.sq_outline.specs.Inlined.{is_call, spread, spread_block, inlined_all, WouldSave, IsInlinable, inline_cut}
-use Rattle.sq_outline.specs.InlineSweeps.{IsTried, KeepsBelow}
+use Rattle.sq_outline.specs.InlineSweeps.{IsTried}
 use Rattle.sq_outline.proofs.Inlining.{inlined_all_rules, inline_applied, inline_words}
-use Rattle.sq_outline.proofs.Spreading.{calls_in, is_one, one_if, calls_in-append, calls_in-cons, calls_in_blocks-cons, bodies_call_none}
+use Rattle.sq_outline.proofs.Ranks.{got_fate, set_here, set_apart, length_set, all_stay, none_joins}
+use Rattle.sq_outline.proofs.SettledOnce.{IsNext, settled_none, rank_there, body_same, inlined_once, count_same}
 use Rattle.sq_outline.proofs.Sweeping.{applied_rewritten}
 use Rattle.sq_outline.proofs.Undone.{with_items, inlined_canonical}
-
--- CALLS OF PROCEDURES BELOW
-
--- a procedure that goes leaves the numbers below it
-lowered_same : (p q r : ℕ) → q < p → (lowered p r == q) ≡ (r == q)
-lowered_same p q r below =
-    elim (cases_Bool (nat_lt p r)) [
-      | inl above ↦
-          let over = ltb-true p r above in
-          rw above (ne_eqb (r - 1) q (λ e. absurd (omega (arith, over, below, e))) ∙ sym (ne_eqb r q (λ e. absurd (omega (arith, over, below, e)))))
-      | inr other ↦ rw other refl
-    ]
-
-call_lowered : (p q : ℕ) → q < p → (x : Item) → is_call q (recalled_item (lowered p) x) ≡ is_call q x
-call_lowered p q below (Op insn) = refl
-call_lowered p q below (Hi rd to) = refl
-call_lowered p q below (Lo rd rs to) = refl
-call_lowered p q below (Out r) = lowered_same p q r below
-
-calls_lowered : (p q : ℕ) → q < p → (items : List Item) → calls_in q (recalled_items (lowered p) items) ≡ calls_in q items
-calls_lowered p q below [] = refl
-calls_lowered p q below (x ∷ items) =
-    let one : is_one q (recalled_item (lowered p) x) ≡ is_one q x = ap one_if (call_lowered p q below x) in
-    omega (
-      arith,
-      one,
-      calls_lowered p q below items,
-      calls_in-cons q x items,
-      calls_in-cons q (recalled_item (lowered p) x) (recalled_items (lowered p) items),
-    )
-
-one_callee : (p q : ℕ) → q ≢ p → (x : Item) → is_call p x ≡ true → is_call q x ≡ false
-one_callee p q apart (Op insn) own = absurd (cc)
-one_callee p q apart (Hi rd to) own = absurd (cc)
-one_callee p q apart (Lo rd rs to) own = absurd (cc)
-one_callee p q apart (Out r) own = let is : r ≡ p = eqb-true r p own in ne_eqb r q (λ e. apart (sym e ∙ is))
-
-calls_spread : (p q : ℕ) (body : List Item) → q ≢ p → calls_in q body ≡ 0 → (items : List Item) → calls_in q (spread p body items) ≡ calls_in q items
-calls_spread p q body apart plain [] = refl
-calls_spread p q body apart plain (x ∷ items) =
-    let rest = calls_spread p q body apart plain items in
-    elim (cases_Bool (is_call p x)) [
-      | inl own ↦
-          let none : is_one q x ≡ 0 = ap one_if (one_callee p q apart x own) in
-          rw own (omega (arith, calls_in-append q body (spread p body items), plain, rest, calls_in-cons q x items, none))
-      | inr other ↦ rw other (omega (arith, calls_in-cons q x (spread p body items), calls_in-cons q x items, rest))
-    ]
-
-calls_below : (p q : ℕ) (body : List Item) → q < p → calls_in q body ≡ 0 → (bs : List Block) → calls_in q (items_of_blocks (map (recalled_block (lowered p)) (map (spread_block p body) bs))) ≡ calls_in q (items_of_blocks bs)
-calls_below p q body below plain [] = refl
-calls_below p q body below plain (b ∷ bs) =
-    let apart : q ≢ p = omega (arith, below) in
-    omega (
-      arith,
-      calls_in_blocks-cons q (recalled_block (lowered p) (spread_block p body b)) (map (recalled_block (lowered p)) (map (spread_block p body) bs)),
-      calls_in_blocks-cons q b bs,
-      calls_lowered p q below (spread p body b.items),
-      calls_spread p q body apart plain b.items,
-      calls_below p q body below plain bs,
-    )
-
-pub keeps_itself : (number : ℕ) (g : Graph) → number ≤ length g.procedures → KeepsBelow number g g
-keeps_itself number g there = record { there = there; calls = λ p below. refl }
-
-pub keeps_below : (g : Graph) (p : ℕ) → IsGraph g → HasProcedure g p → KeepsBelow p g (inlined_all g p)
-keeps_below g p rules there = record {
-  there = omega (arith, there, length-remove g.procedures p there, length-map (remove g.procedures p) (recalled_procedure (lowered p)));
-  calls = λ q below. calls_below p q (body_of g p) below (bodies_call_none g q p rules) g.blocks;
-}
-
-pub keeps_through : (most least : ℕ) (old mid new : Graph) → least ≤ most → KeepsBelow most old mid → KeepsBelow least mid new → KeepsBelow least old new
-keeps_through most least old mid new within a b =
-    record { there = b.there; calls = λ p below. b.calls p below ∙ a.calls p (omega (arith, within, below)) }
 
 -- BLOCKS THAT GREW
 
@@ -163,9 +93,6 @@ inlinable : (g : Graph) (p saving : ℕ) → WouldSave g p saving → IsInReach 
 inlinable g p saving would reach = record { there = would.there; called = would.called; saved = would.saved; some = would.some; near = reach }
 
 module _ (g : Graph) (p saving : ℕ) (rules : IsGraph g) (would : WouldSave g p saving) where
-  pub few_saved : saving ≤ words_of g
-  few_saved = omega (arith, inline_words g p saving rules would)
-
   -- a body of some items takes the place of its calls
   pub tried_once : (h : Graph) (before after : Savings) → h ≡ inlined_all g p → 0 < length (body_of g p) → IsCanonical g → after ≡ counted before O4 saving → IsTried before after g h
   tried_once h before after is some canonical counts =
@@ -183,3 +110,72 @@ module _ (g : Graph) (p saving : ℕ) (rules : IsGraph g) (would : WouldSave g p
             (record { procedure = p; saving = saving; inlinable = inlinable g p saving would reach; is = refl })
             (inline_applied g p saving rules (inlinable g p saving would reach)) still counts;
       })
+
+-- MANY
+
+-- the procedures below p have their fates
+pub record Tries (g : Graph) (p : ℕ) (fates : List Fate) (before after : Savings) : Type 0 where
+  pub many : length fates ≡ length g.procedures
+  pub later : (q : ℕ) → p ≤ q → q < length fates → slice_get fates q ≡ Some Stays
+  pub none : (q o : ℕ) → ¬ (slice_get fates q ≡ Some (Joins o))
+  pub rules : IsGraph (settled fates g)
+  pub tried : IsTried before after g (settled fates g)
+
+pub tries_none : (g : Graph) (savings : Savings) → IsGraph g → IsCanonical g → Tries g 0 (replicate (length g.procedures) Stays) savings savings
+tries_none g savings rules canonical =
+    let same = settled_none g rules in
+    record {
+      many = length-replicate (length g.procedures) Stays;
+      later = λ q above below. all_stay (length g.procedures) q (omega (arith, below, length-replicate (length g.procedures) Stays));
+      none = none_joins (length g.procedures);
+      rules = subst IsGraph (sym same) rules;
+      tried = subst (IsTried savings savings g) (sym same) (tried_itself savings g canonical);
+    }
+
+module _ (g : Graph) (p : ℕ) (fates : List Fate) (before after : Savings) (tries : Tries g p fates before after) where
+  pub tries_skip : Tries g (p + 1) fates before after
+  tries_skip = record {
+    many = tries.many;
+    later = λ q above below. tries.later q (omega (arith, above)) below;
+    none = tries.none;
+    rules = tries.rules;
+    tried = tries.tried;
+  }
+
+  module _ (saving : ℕ) (rules : IsGraph g) (would : WouldSave g p saving) (some : 0 < length (body_of g p)) where
+    next : IsNext g fates p
+    next = record {
+      many = tries.many;
+      here = tries.later p (omega arith) (omega (arith, would.there, tries.many));
+      joined = λ q o is. absurd (tries.none q o is);
+    }
+
+    still_would : WouldSave (settled fates g) (number_among fates p) saving
+    still_would =
+        let count = count_same g rules fates p next in
+        let body = body_same g rules fates p next p next.here in
+        record {
+          there = rank_there g rules fates p next p next.here;
+          called = omega (arith, would.called, count);
+          saved = rw (count, body) would.saved;
+          some = would.some;
+        }
+
+    pub tries_inline : (after' : Savings) → after' ≡ counted after O4 saving → Tries g (p + 1) (slice_set fates p Inlined) before after'
+    tries_inline after' counts =
+        let is = inlined_once g rules fates p next in
+        let body = body_same g rules fates p next p next.here in
+        record {
+          many = length_set fates p Inlined ∙ tries.many;
+          later = λ q above below. set_apart fates p q Inlined (omega (arith, above)) ∙ tries.later q (omega (arith, above)) (omega (arith, below, length_set fates p Inlined));
+          none = λ q o joins. ⊎_elim (λ same. set_inlined q o same joins) (λ other. tries.none q o (sym (set_apart fates p q Inlined other) ∙ joins)) (cases_eq q p);
+          rules = subst IsGraph (sym is) (inlined_all_rules (settled fates g) (number_among fates p) tries.rules still_would.there);
+          tried =
+              tried_through before after after' g (settled fates g) (settled (slice_set fates p Inlined) g) tries.tried
+              (tried_once (settled fates g) (number_among fates p) saving tries.rules still_would (settled (slice_set fates p Inlined) g) after after' is (omega (arith, some, ap (λ (items : List Item). length items) body)) tries.tried.canonical counts);
+        }
+      where
+        set_inlined : (q o : ℕ) → q ≡ p → slice_get (slice_set fates p Inlined) q ≡ Some (Joins o) → ⊥
+        set_inlined q o same joins =
+            let mine : Inlined ≡ Joins o = sym (set_here fates p Inlined (omega (arith, would.there, tries.many))) ∙ got_fate (slice_set fates p Inlined) p (Joins o) (ap (slice_get (slice_set fates p Inlined)) (sym same) ∙ joins) in
+            cc

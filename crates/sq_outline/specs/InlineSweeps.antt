@@ -1,5 +1,5 @@
 -- A sweep of row O4, which looks only in the end whether each Branch reaches.
-use Rattle.std.specs.Prelude.{◌≡◌, ◌≤◌, ◌<◌, ℕ, ◌+◌, length}
+use Rattle.std.specs.Prelude.{◌≡◌, ◌≤◌, ◌+◌}
 use Rattle.sq_num.specs.declared.packed.Savings.{Savings}
 use Rattle.sq_num.specs.Saved.{words_saved}
 use Rattle.sq_graph.specs.Graph.{Graph}
@@ -8,7 +8,6 @@ use Rattle.sq_graph.specs.Places.{IsInReach}
 use Rattle.sq_graph.specs.Words.{words_of}
 use Rattle.sq_pass.specs.Rewrites.{IsRewritten}
 use Rattle.sq_outline.specs.Candidates.{IsCandidate, described}
-use Rattle.sq_outline.specs.Inlined.{call_count}
 
 -- The graph became another, by rewrites of the pass if each Branch reaches in the end. Where it does then, it did before.
 pub record IsTried (before after : Savings) (old new : Graph) : Type 0 where
@@ -17,8 +16,3 @@ pub record IsTried (before after : Savings) (old new : Graph) : Type 0 where
   pub words : words_of new + words_saved after ≡ words_of old + words_saved before
   pub near : IsInReach new → IsInReach old
   pub rewritten : IsInReach new → IsRewritten IsCandidate described before after old new
-
--- the procedures below a number are there still, and are called as often
-pub record KeepsBelow (number : ℕ) (old new : Graph) : Type 0 where
-  pub there : number ≤ length new.procedures
-  pub calls : (p : ℕ) → p < number → call_count new p ≡ call_count old p

@@ -9,6 +9,7 @@ ghost use Rattle.std.specs.List.{All};
 ghost use Rattle.indexmap.specs.IndexSet.{index_set_len};
 ghost use Rattle.sq_num.specs.Saved.{words_saved};
 ghost use Rattle.sq_graph.specs.Blocks.{HasProcedure, body_of};
+ghost use Rattle.sq_graph.specs.Fates.{AreFates, settled};
 ghost use Rattle.sq_graph.specs.Leaders.{IsCanonical};
 ghost use Rattle.sq_graph.specs.Room.{KeepsTotal};
 ghost use Rattle.sq_graph.specs.Rules.{IsGraph, ItemFits};
@@ -26,7 +27,7 @@ ghost use Rattle.sq_outline.specs.RecalledNumbers.{IsNumberOf, HasGrown, StandOn
 
 use indexmap::IndexSet;
 use sq_finger::{ItemKey, first_double, item_key};
-use sq_graph::{Graph, Item};
+use sq_graph::{Fate, Graph, Item};
 use sq_isa::Reg;
 use sq_num::{Memory, Savings};
 use sq_pass::{Blocks, Cut, Rewrite, Row};
@@ -152,53 +153,44 @@ pub(crate) fn apply_recall(graph: &mut Graph, stays: u32, goes: u32)
     graph.remove_procedure(goes);
 }
 
-// Two procedures of one number.
-#[derive(Clone, Copy, Debug)]
-struct Double {
-    first: u32,
-    later: u32,
-}
-
-// The procedures whose number an earlier one has, each with the first that has it. It looks at each item of procedures once.
-fn doubles(alloc: Global, graph: &Graph) -> Result<Vec<Double>, Memory> {
+// The fates of procedures of which, where bodies and links are equal, the first stays, and the savings then.
+fn recall_fates(
+    alloc: Global,
+    graph: &Graph,
+    savings: Savings,
+) -> Result<(Vec<Fate>, Savings), Memory>
+    requires canonical { IsCanonical graph.now.graph }
+    requires words { words_of graph.now.graph + words_saved savings ≤ most_words }
+    ensures fates { IfOk result (λ made. AreFates made.0.items graph.now.graph) }
+    ensures rules { IfOk result (λ made. IsGraph (settled made.0.items graph.now.graph)) }
+    ensures rewritten { IfOk result (λ made. IsRewritten IsCandidate described savings made.1 graph.now.graph (settled made.0.items graph.now.graph)) }
+{
     graph.learn();
     let numbers = body_numbers(alloc, graph)?;
     let mut firsts = HashMap::new(alloc);
-    let mut doubles = Vec::new(alloc);
-    for later in 0..graph.procedures() {
-        let number = numbers[later as usize];
-        match firsts.get(&number).copied() {
-            Some(first) => doubles.push(Double { first, later })?,
-            None => {
-                firsts.insert(number, later)?;
-            }
-        }
+    let mut fates = vec![in alloc; Fate::Stays; numbers.len()]?;
+    let mut after = savings;
+    for procedure in 0..graph.procedures() {
+        let Some(number) = numbers[procedure as usize] else {
+            continue;
+        };
+        let Some(first) = firsts.get(&number).copied() else {
+            firsts.insert(number, procedure)?;
+            continue;
+        };
+        fates[procedure as usize] = Fate::Joins(first);
+        let done = Rewrite {
+            row: Row::O3,
+            saving: graph.body(procedure).len() as u32 + 1,
+        };
+        after = done.count(after);
     }
-    Ok(doubles)
+    Ok((fates, after))
 }
 
-// Rewrites the graph by row O3, which leaves it canonical.
-fn rewrite_recalled(graph: &mut Graph, stays: u32, goes: u32, savings: Savings) -> Savings
-    requires canonical { IsCanonical graph.old.graph }
-    requires words { words_of graph.old.graph + words_saved savings ≤ most_words }
-    requires doubles { AreDoubles graph.old.graph stays goes }
-    ensures { IsRewritten IsCandidate described savings result graph.old.graph graph.new.graph }
-{
-    graph.learn();
-    let saving = graph.body(goes).len() as u32 + 1;
-    apply_recall(graph, stays, goes);
-    let done = Rewrite {
-        row: Row::O3,
-        saving,
-    };
-    done.count(savings)
-}
-
-/// Of procedures with equal bodies and equal links leaves the first. It looks at each item of procedures once, and for each
-/// procedure that goes at all items twice.
-///
-/// The last one goes first, so that those that are still to go keep their numbers.
-#[tactic(auto, using(law_follow::proofs::Following::graph_follows_through))]
+/// Of procedures with equal bodies and equal links leaves the first. It looks at each item of procedures once, and where one
+/// goes once at all items.
+#[tactic(auto, using(law_follow::proofs::Following::graph_follows_itself, sq_pass::proofs::Rewriting::rewritten_itself))]
 pub(crate) fn sweep_recalls(
     alloc: Global,
     graph: &mut Graph,
@@ -209,14 +201,10 @@ pub(crate) fn sweep_recalls(
     ensures rewritten { IfOk result (λ after. IsRewritten IsCandidate described savings after graph.old.graph graph.new.graph) }
     ensures follows { Follows graph.old.graph graph.new.graph }
 {
-    let doubles = doubles(alloc, graph)?;
-    let mut after = savings;
-    for at in (0..doubles.len()).rev() {
-        let double = doubles[at];
-        if !are_doubles(graph, double.first, double.later) {
-            continue;
-        }
-        after = rewrite_recalled(graph, double.first, double.later, after);
+    let (fates, after) = recall_fates(alloc, graph, savings)?;
+    if after == savings {
+        return Ok(savings);
     }
+    *graph = graph.settled(alloc, &fates)?;
     Ok(after)
 }
