@@ -20,7 +20,7 @@ use Rattle.sq_chain.specs.Surveys.{IsSurvey}
 use Rattle.sq_chain.specs.declared.survey.Survey.{Survey}
 use Rattle.sq_chain.proofs.Carried.{carried_words}
 use Rattle.sq_chain.proofs.Reordered.{chain_moved_rules}
-use Rattle.sq_lookup.specs.Tables.{number_at}
+use Rattle.sq_chain.specs.Places.{placed_at}
 use Rattle.sq_chain.specs.Widening.{size_of}
 use Rattle.sq_chain.specs.declared.seams.Seams.{Seams}
 use Rattle.sq_chain.proofs.Lighter.{fallen_light, fallen_most, count_none, short_widened}
@@ -118,7 +118,7 @@ saves_none h n rules once has short =
     some_or_zero (suc k) = inl (omega arith)
 
 -- by the survey of a graph in which none falls
-pub addresses_stay : (g : Graph) (survey : Survey) → IsSurvey g survey → survey.falls ≡ 0 → (n : ℕ) → number_at survey.addresses.items n ≡ address_by block_words g.blocks 0 n
+pub addresses_stay : (g : Graph) (survey : Survey) → IsSurvey g survey → survey.falls ≡ 0 → (n : ℕ) → placed_at survey.places.addresses.items n ≡ address_by block_words g.blocks 0 n
 addresses_stay g survey s none n = s.addresses n ∙ ap (λ (bs : List Block). address_by block_words bs 0 n) (stays g (omega (arith, s.falls, none)))
 
 -- so the move saves nothing

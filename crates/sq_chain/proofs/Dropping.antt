@@ -33,6 +33,7 @@ use Rattle.sq_graph.proofs.SplitRules.{flat_map-at, flat_map-changed}
 use Rattle.sq_lookup.specs.Counts.{times_named, AreUses}
 use Rattle.sq_lookup.specs.declared.counts.Uses.{Uses}
 use Rattle.sq_lookup.proofs.Counting.{uses_keep}
+use Rattle.sq_lookup.proofs.JoiningBefore.{fall_is}
 use Rattle.sq_chain.specs.Bare.{IsBareAt, AreSolidBut}
 
 -- NAMES THAT STAY
@@ -164,15 +165,6 @@ module _ (n : ℕ) where
               | inr other ↦ rw other (led.0, (rw other at later))
             ])
       ]
-
-fall_is : (t : Term) → is_fall t ≡ true → t ≡ Fall
-fall_is Fall fall = refl
-fall_is (Jump to) fall = absurd (cc)
-fall_is (Branch c x y to) fall = absurd (cc)
-fall_is (Call link to) fall = absurd (cc)
-fall_is (PartJump link part to) fall = absurd (cc)
-fall_is (Indirect link at offset) fall = absurd (cc)
-fall_is (Stop word) fall = absurd (cc)
 
 module _ (g : Graph) (n : ℕ) (rules : IsGraph g) (bare : IsBareAt g n) where
   pub bare_there : HasBlock g n

@@ -31,7 +31,7 @@ ends_listed g rules front lead rest n b e =
     let none = absent_ahead (front ++ lead) rest n b (subst (λ (es : List (ℕ × Block)). HasDistinctKeys es) is rules.distinct) in
     ap (λ (es : List (ℕ × Block)). value_of es n) is ∙ value_of-at (front ++ lead) rest n b none
 
-term_is : (g : Graph) (n : ℕ) (b : Block) (t : Term) → block_of g n ≡ Some b → term_of g n ≡ Some t → b.term ≡ t
+pub term_is : (g : Graph) (n : ℕ) (b : Block) (t : Term) → block_of g n ≡ Some b → term_of g n ≡ Some t → b.term ≡ t
 term_is g n b t found is = let e : Some b.term ≡ Some t = sym (ap block_term found) ∙ is in cc
 
 -- where a block starts, and where it ends

@@ -109,7 +109,7 @@ jumped_falls b (n ∷ rest) to jump first =
     let falls : fallen_term n.name b.term ≡ Fall = ap (fallen_term n.name) jump ∙ ap (λ t. if t then Fall else Jump to) (eq-eqb to n.name (sym same)) in
     ap (λ t. record b { term = t } ∷ fallen_blocks (n ∷ rest)) falls
 
-other_stays : (n : ℕ) (t : Term) → ((to : ℕ) → t ≡ Jump to → n ≢ to) → fallen_term n t ≡ t
+pub other_stays : (n : ℕ) (t : Term) → ((to : ℕ) → t ≡ Jump to → n ≢ to) → fallen_term n t ≡ t
 other_stays n Fall apart = refl
 other_stays n (Jump to) apart =
     let other : (to == n) ≡ false = ne_eqb to n (λ same. apart to refl (sym same)) in
@@ -120,7 +120,7 @@ other_stays n (PartJump link part to) apart = refl
 other_stays n (Indirect link x offset) apart = refl
 other_stays n (Stop word) apart = refl
 
-others_stay : (b : Block) (rest : List Block) → ((to : ℕ) → b.term ≡ Jump to → first_key (named rest) ≡ Some to → ⊥) → fallen_blocks (b ∷ rest) ≡ b ∷ fallen_blocks rest
+pub others_stay : (b : Block) (rest : List Block) → ((to : ℕ) → b.term ≡ Jump to → first_key (named rest) ≡ Some to → ⊥) → fallen_blocks (b ∷ rest) ≡ b ∷ fallen_blocks rest
 others_stay b [] apart = refl
 others_stay b (n ∷ rest) apart =
     let stays : fallen_term n.name b.term ≡ b.term = other_stays n.name b.term (λ to jump same. apart to jump (ap Some same)) in

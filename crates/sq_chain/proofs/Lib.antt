@@ -22,6 +22,12 @@ pub mod Drops
 pub mod Exchanging
 pub mod Distant
 pub mod Seaming
+pub mod Ahead
+pub mod Seen
+pub mod FallenNear
 pub mod Dropping
 pub mod Settling
 pub mod Swept
+pub mod Resurveyed
+pub mod Tabled
+pub mod Replaced

@@ -101,11 +101,11 @@ term_falls n (Indirect link x offset) = inl (record { same = refl; other = λ to
 term_falls n (Stop word) = inl (record { same = refl; other = λ to e. absurd (cc) })
 
 -- a block that stays, or falls
-record Stays (bs : List Block) (n : ℕ) : Type 0 where
+pub record Stays (bs : List Block) (n : ℕ) : Type 0 where
   pub same : value_of (named (fallen_blocks bs)) n ≡ value_of (named bs) n
   pub other : (to : ℕ) → block_term (value_of (named bs) n) ≡ Some (Jump to) → next_key (named bs) n ≡ Some to → ⊥
 
-record Falls (bs : List Block) (n : ℕ) : Type 0 where
+pub record Falls (bs : List Block) (n : ℕ) : Type 0 where
   pub block : Block
   pub to : ℕ
   pub was : value_of (named bs) n ≡ Some block
@@ -113,7 +113,7 @@ record Falls (bs : List Block) (n : ℕ) : Type 0 where
   pub slot : next_key (named bs) n ≡ Some to
   pub is : value_of (named (fallen_blocks bs)) n ≡ Some (record block { term = Fall })
 
-block_falls : (bs : List Block) (n : ℕ) → Stays bs n ⊎ Falls bs n
+pub block_falls : (bs : List Block) (n : ℕ) → Stays bs n ⊎ Falls bs n
 block_falls [] n = inl (record { same = refl; other = λ to jump slot. absurd (cc) })
 block_falls (b ∷ []) n = inl (record {
   same = refl;

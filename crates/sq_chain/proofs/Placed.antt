@@ -59,7 +59,7 @@ module _ (weight : Block → ℕ) where
   }
 
   -- an address is no further than the end
-  most : (bs : List Block) (at n x : ℕ) → address_by weight bs at n ≡ Some x → x ≤ at + 4 * sum_by weight bs
+  pub most : (bs : List Block) (at n x : ℕ) → address_by weight bs at n ≡ Some x → x ≤ at + 4 * sum_by weight bs
   most [] at n x e = absurd (cc)
   most (b ∷ bs) at n x e =
       elim (cases_Bool (b.name == n)) [

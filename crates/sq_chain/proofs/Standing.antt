@@ -28,7 +28,7 @@ pub stands_named : (bs : List Block) (at n : ℕ) → address_by block_words bs 
 stands_named [] at n = refl
 stands_named (b ∷ bs) at n = ap (λ (o : Option ℕ). if b.name == n then Some at else o) (stands_named bs (at + 4 * block_words b) n)
 
-size_one : (e : ℕ × Block) (es : List (ℕ × Block)) → size (e ∷ es) ≡ block_words e.1 + size es
+pub size_one : (e : ℕ × Block) (es : List (ℕ × Block)) → size (e ∷ es) ≡ block_words e.1 + size es
 size_one e es = sum_by-cons (λ (f : ℕ × Block). block_words f.1) e es
 
 pub size_named : (bs : List Block) → size (named bs) ≡ sum_by block_words bs
@@ -48,7 +48,7 @@ past (e ∷ xs) ys at n none =
       | inr apart ↦ rw apart (past xs ys (at + 4 * block_words e.1) n (rw apart at none) ∙ ap (λ k. stands ys k n) (omega (arith, size_one e xs)))
     ]
 
-inside : (xs ys : List (ℕ × Block)) (at n : ℕ) → IsSome (value_of xs n) → stands (xs ++ ys) at n ≡ stands xs at n
+pub inside : (xs ys : List (ℕ × Block)) (at n : ℕ) → IsSome (value_of xs n) → stands (xs ++ ys) at n ≡ stands xs at n
 inside [] ys at n some = absurd (cc)
 inside (e ∷ xs) ys at n some =
     elim (cases_Bool (e.0 == n)) [
@@ -65,7 +65,7 @@ elsewhere (e ∷ xs) at to n x y found same =
       | inr apart ↦ rw apart (elsewhere xs (at + 4 * block_words e.1) (to + 4 * block_words e.1) n x y (rw apart at found) (omega (arith, same)))
     ]
 
-from_start : (xs : List (ℕ × Block)) (at n x : ℕ) → stands xs at n ≡ Some x → at ≤ x
+pub from_start : (xs : List (ℕ × Block)) (at n x : ℕ) → stands xs at n ≡ Some x → at ≤ x
 from_start [] at n x found = absurd (cc)
 from_start (e ∷ xs) at n x found =
     elim (cases_Bool (e.0 == n)) [

@@ -15,7 +15,7 @@ use Rattle.sq_graph.specs.Slots.{slots_of, without_starts}
 use Rattle.sq_graph.specs.Words.{term_words, words_of}
 use Rattle.std.specs.List.{All}
 use Rattle.std.proofs.lemmas.List.Elements.{All-get_or}
-use Rattle.sq_lookup.specs.Tables.{number_at}
+use Rattle.sq_chain.specs.Places.{placed_at}
 use Rattle.sq_lookup.proofs.Targets.{name_listed, has_term}
 use Rattle.sq_live.proofs.Layouts.{IsBlockAt, block_at, length-names}
 use Rattle.sq_chain.specs.declared.survey.Extent.{Extent}
@@ -144,7 +144,7 @@ below_is g names all n has =
     subst (λ (m : ℕ). m < names) w.2 (All-get_or (λ (m : ℕ). m < names) (names_of g) w.0 0 w.1 all)
 
 -- there is room for each where all names are less than there is room for
-pub room_is : (g : Graph) (names : ℕ) (room : List (Option ℕ)) → AreBelow names g → length room ≡ names → ((n : ℕ) → number_at room n ≡ None) → IsRoom g room
+pub room_is : (g : Graph) (names : ℕ) (room : List ℕ) → AreBelow names g → length room ≡ names → ((n : ℕ) → placed_at room n ≡ None) → IsRoom g room
 room_is g names room below same none = record {
   within = λ n has. omega (arith, below n has, same);
   none = none;

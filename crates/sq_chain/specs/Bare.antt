@@ -1,8 +1,10 @@
 -- Blocks that are empty with Fall.
-use Rattle.std.specs.Prelude.{◌≡◌, ℕ, Bool, true, false, ◌&&◌, not, Option, None, Some}
+use Rattle.std.specs.Prelude.{◌≡◌, ◌≢◌, ℕ, Bool, true, false, ◌&&◌, not, List, Option, None, Some}
 use Rattle.std.specs.List.{All}
+use Rattle.sq_arena.specs.Entries.{value_of, next_key}
+use Rattle.sq_graph.specs.declared.item.Term.TheVariants.{Jump}
 use Rattle.sq_graph.specs.Graph.{Block, Graph}
-use Rattle.sq_graph.specs.Blocks.{block_of}
+use Rattle.sq_graph.specs.Blocks.{named, block_of, block_term}
 use Rattle.sq_graph.specs.Leaders.{is_bare}
 use Rattle.sq_graph.specs.Operations.{without_block}
 
@@ -15,6 +17,10 @@ pub record IsBareAt (g : Graph) (name : ℕ) : Type 0 where
 -- no block is empty with Fall but those that may be
 abbrev pub AreSolidBut : (ℕ → Bool) → Graph → Type 0
 AreSolidBut may g = All (λ b. (not (may b.name) && is_bare b) ≡ false) g.blocks
+
+-- the block before this one doesn't jump to the one behind it
+abbrev pub IsSpanned : ℕ → List Block → Type 0
+IsSpanned m bs = (p s : ℕ) → next_key (named bs) p ≡ Some m → next_key (named bs) m ≡ Some s → block_term (value_of (named bs) p) ≢ Some (Jump s)
 
 -- the graph without this block, if it is one
 abbrev pub dropped : Graph → Option ℕ → Graph

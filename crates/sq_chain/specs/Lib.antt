@@ -4,5 +4,8 @@ pub mod Laws
 pub mod Surveys
 pub mod Moves
 pub mod Seams
+pub mod Shifts
+pub mod Places
+pub mod Around
 pub mod Candidates
 pub mod Bare

@@ -1,13 +1,15 @@
 -- What decides where the blocks of a graph stand.
-use Rattle.std.specs.Prelude.{◌≡◌, ℕ, ◌+◌, ◌<◌, ◌^◌, List, map, length, Option, None}
+use Rattle.std.specs.Prelude.{◌≡◌, ℕ, ◌+◌, ◌<◌, ◌^◌, true, List, map, length, None}
 use Rattle.sq_graph.specs.Graph.{Block, Graph}
 use Rattle.sq_graph.specs.Blocks.{HasBlock}
+use Rattle.sq_graph.specs.Places.{IsInReach}
 use Rattle.sq_graph.specs.Rules.{IsGraph}
 use Rattle.sq_graph.specs.Words.{block_words, words_of}
 use Rattle.sq_layout.specs.Weights.{address_by}
-use Rattle.sq_lookup.specs.Tables.{number_at}
+use Rattle.sq_chain.specs.Places.{placed_at}
 use Rattle.sq_chain.specs.Moves.{fallen_blocks, fallen}
 use Rattle.sq_chain.specs.declared.survey.Extent.{Extent}
+use Rattle.sq_chain.specs.declared.survey.Places.{Places}
 use Rattle.sq_chain.specs.declared.survey.Survey.{Survey}
 
 abbrev pub extent_of : Block → Extent
@@ -21,9 +23,9 @@ abbrev pub AreBelow : ℕ → Graph → Type 0
 AreBelow names g = (n : ℕ) → HasBlock g n → n < names
 
 -- there is room for an address under the name of each block, and none is there yet
-pub record IsRoom (g : Graph) (room : List (Option ℕ)) : Type 0 where
+pub record IsRoom (g : Graph) (room : List ℕ) : Type 0 where
   pub within : (n : ℕ) → HasBlock g n → n < length room
-  pub none : (n : ℕ) → number_at room n ≡ None
+  pub none : (n : ℕ) → placed_at room n ≡ None
 
 -- the blocks of a graph that isn't large are these in layout order
 pub record IsLaidOut (g : Graph) (order : List Extent) : Type 0 where
@@ -31,10 +33,19 @@ pub record IsLaidOut (g : Graph) (order : List Extent) : Type 0 where
   pub few : words_of g < 2 ^ 31
   pub listed : order ≡ extents_of g
 
--- what the look over a graph's blocks found
+-- What the look over a graph's blocks found: `near` only where each Branch reaches once each Jump to the next slot is Fall.
 pub record IsSurvey (g : Graph) (survey : Survey) : Type 0 where
-  pub extents : survey.extents.items ≡ extents_of g
   pub names : AreBelow survey.names g
-  pub addresses : (n : ℕ) → number_at survey.addresses.items n ≡ address_by block_words (fallen_blocks g.blocks) 0 n
+  pub addresses : (n : ℕ) → placed_at survey.places.addresses.items n ≡ address_by block_words (fallen_blocks g.blocks) 0 n
   pub falls : words_of (fallen g) + survey.falls ≡ words_of g
-  pub words : survey.words ≡ words_of g
+  pub near : survey.near ≡ true → IsInReach (fallen g)
+  pub words : survey.places.words ≡ words_of g
+
+-- These are the addresses of its blocks, and so many words it takes.
+pub record IsPlaced (g : Graph) (places : Places) : Type 0 where
+  pub addresses : (n : ℕ) → placed_at places.addresses.items n ≡ address_by block_words g.blocks 0 n
+  pub words : places.words ≡ words_of g
+
+-- no block jumps to the next slot
+abbrev pub NoneFalls : Graph → Type 0
+NoneFalls g = fallen_blocks g.blocks ≡ g.blocks

@@ -6,6 +6,7 @@
 //! left follows the graph before, is in reach, and sound where that was; the names of the new blocks don't matter.
 #![tactic(auto)]
 
+mod around;
 mod carry;
 mod chain;
 pub mod laws;

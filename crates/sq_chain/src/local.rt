@@ -2,25 +2,30 @@
 
 ghost use Rattle.std.specs.Prelude.{◌≡◌, ℕ, Bool, true, false, IfSome};
 ghost use Rattle.sq_isa.specs.Registers.{is_among};
-ghost use Rattle.sq_graph.specs.Canonical.{canonical_of};
+ghost use Rattle.sq_graph.specs.Blocks.{HasBlock};
+ghost use Rattle.sq_graph.specs.Canonical.{joined_before, canonical_of};
 ghost use Rattle.sq_graph.specs.Leaders.{IsCanonical};
 ghost use Rattle.sq_graph.specs.Uses.{uses as uses_in};
-ghost use Rattle.sq_graph.specs.Words.{words_of};
 ghost use Rattle.sq_chain.specs.Moves.{IsMovable, fallen, fallen_before, carried};
-ghost use Rattle.sq_chain.specs.Bare.{IsBareAt, AreSolidBut, dropped};
+ghost use Rattle.sq_chain.specs.Bare.{IsBareAt, IsSpanned, AreSolidBut, dropped};
+ghost use Rattle.sq_chain.specs.Surveys.{IsPlaced, NoneFalls};
 ghost use Rattle.sq_lookup.specs.Counts.{AreUses};
 
 use crate::chain::end_of_chain;
-use crate::placing::jumps_to;
+use crate::placing::{exchange, forget, jumps_to, lower_behind, words_before};
+use crate::seams::seams_of;
+use crate::survey::Places;
 use sq_graph::{Graph, Term};
-use sq_lookup::{Uses, block_before};
+use sq_lookup::{Uses, block_before, is_block};
 
 /// Makes the Jump of the block before this one Fall, where it is one to this block. The answer is the block before, where it is
 /// empty then.
-fn fall_before(graph: &mut Graph, uses: &mut Uses, name: u32) -> Option<u32>
-    requires { AreUses graph.old.graph uses.old }
+fn fall_before(graph: &mut Graph, uses: &mut Uses, places: &mut Places, name: u32) -> Option<u32>
+    requires uses { AreUses graph.old.graph uses.old }
+    requires placed { IsPlaced graph.old.graph places.old }
     ensures graph { graph.new.graph ≡ fallen_before graph.old.graph name }
     ensures uses { AreUses graph.new.graph uses.new }
+    ensures placed { IsPlaced graph.new.graph places.new }
     ensures bare { IfSome result (IsBareAt graph.new.graph) }
     ensures solid { (may : ℕ → Bool) → IfSome result (λ block. may block ≡ true) → AreSolidBut may graph.old.graph → AreSolidBut may graph.new.graph }
 {
@@ -33,6 +38,9 @@ fn fall_before(graph: &mut Graph, uses: &mut Uses, name: u32) -> Option<u32>
     }
     graph.set_term(block, Term::Fall);
     uses.take(name);
+    let start = words_before(&places.addresses, block);
+    lower_behind(&mut places.addresses, start);
+    places.words -= 1;
     if graph.items(block).is_empty() {
         Some(block)
     } else {
@@ -40,36 +48,78 @@ fn fall_before(graph: &mut Graph, uses: &mut Uses, name: u32) -> Option<u32>
     }
 }
 
+/// Whether the block before this one jumps to the one behind it.
+fn jumps_over(graph: &Graph, block: u32) -> bool
+    requires { HasBlock graph.now.graph block }
+    ensures { result ≡ false → IsSpanned block graph.now.graph.blocks }
+{
+    graph.learn();
+    match block_before(graph, block) {
+        Some(before) => jumps_to(graph.term(before), graph.next(block)),
+        None => false,
+    }
+}
+
 /// Takes out this block, if there is one, which is empty with Fall. Where its name is used it leaves it, and answers false.
-fn drop_bare(graph: &mut Graph, uses: &Uses, bare: Option<u32>) -> bool
+fn drop_bare(graph: &mut Graph, uses: &Uses, places: &mut Places, bare: Option<u32>) -> bool
     requires uses { AreUses graph.old.graph uses.now }
+    requires placed { IsPlaced graph.old.graph places.old }
     requires bare { IfSome bare (IsBareAt graph.old.graph) }
     ensures graph { result ≡ true → graph.new.graph ≡ dropped graph.old.graph bare }
     ensures same { result ≡ false → graph.new.graph ≡ graph.old.graph }
     ensures unused { result ≡ true → IfSome bare (λ block. is_among (uses_in graph.old.graph) block ≡ false) }
     ensures uses { AreUses graph.new.graph uses.now }
+    ensures placed { result ≡ true → IsPlaced graph.new.graph places.new }
+    ensures falls { result ≡ true → NoneFalls graph.old.graph → NoneFalls graph.new.graph }
 {
     graph.learn();
     let Some(block) = bare else {
         return true;
     };
-    if uses.has(block) {
+    if uses.has(block) || jumps_over(graph, block) {
         return false;
     }
     graph.remove(block);
+    forget(&mut places.addresses, block);
     true
+}
+
+/// Joins this block to the one before, where that falls into it and its name isn't used.
+fn join_before(graph: &mut Graph, uses: &Uses, places: &mut Places, name: u32)
+    requires uses { AreUses graph.old.graph uses.now }
+    requires placed { IsPlaced graph.old.graph places.old }
+    ensures graph { graph.new.graph ≡ joined_before graph.old.graph name }
+    ensures uses { AreUses graph.new.graph uses.now }
+    ensures placed { IsPlaced graph.new.graph places.new }
+    ensures falls { NoneFalls graph.old.graph → NoneFalls graph.new.graph }
+{
+    graph.learn();
+    uses.join_before(graph, name);
+    if !is_block(graph, name) {
+        forget(&mut places.addresses, name);
+    }
 }
 
 /// Moves the chain of `to` behind `from`, makes each Jump to the next slot Fall, and makes the graph canonical, where no block
 /// jumps to its next slot before. It looks at the three seams alone, but where more than `from` is empty then, or its name is
-/// used. Whether the uses are still those of the graph: they are where it looks at the seams alone.
-pub(crate) fn carry_joined(graph: &mut Graph, uses: &mut Uses, from: u32, to: u32) -> bool
+/// used, or the block before it jumps to `to`. Whether uses and places are still those of the graph, in which no block jumps to
+/// its next slot then: they are where it looks at the seams alone.
+pub(crate) fn carry_joined(
+    graph: &mut Graph,
+    uses: &mut Uses,
+    places: &mut Places,
+    from: u32,
+    to: u32,
+) -> bool
     requires movable { IsMovable graph.old.graph from to }
     requires canonical { IsCanonical graph.old.graph }
-    requires stays { words_of (fallen graph.old.graph) ≡ words_of graph.old.graph }
+    requires placed { IsPlaced graph.old.graph places.old }
+    requires falls { NoneFalls graph.old.graph }
     requires uses { AreUses graph.old.graph uses.old }
     ensures graph { graph.new.graph ≡ canonical_of (fallen (carried graph.old.graph from to)) }
     ensures uses { result ≡ true → AreUses graph.new.graph uses.new }
+    ensures placed { result ≡ true → IsPlaced graph.new.graph places.new }
+    ensures falls { result ≡ true → NoneFalls graph.new.graph }
 {
     graph.learn();
     let Some(end) = end_of_chain(graph, to, from) else {
@@ -78,20 +128,22 @@ pub(crate) fn carry_joined(graph: &mut Graph, uses: &mut Uses, from: u32, to: u3
     // A seam that isn't there counts as that of `to`.
     let after = graph.next(from).unwrap_or(to);
     let behind = graph.next(end).unwrap_or(to);
+    let seams = seams_of(graph, &places.addresses, from, to, end);
     graph.move_after(to, end, from);
-    let second = fall_before(graph, uses, after);
-    let third = fall_before(graph, uses, behind);
-    let first = fall_before(graph, uses, to);
+    exchange(&mut places.addresses, seams);
+    let second = fall_before(graph, uses, places, after);
+    let third = fall_before(graph, uses, places, behind);
+    let first = fall_before(graph, uses, places, to);
     if second.is_some() || third.is_some() {
         graph.canonical();
         return false;
     }
-    if !drop_bare(graph, uses, first) {
+    if !drop_bare(graph, uses, places, first) {
         graph.canonical();
         return false;
     }
-    uses.join_before(graph, after);
-    uses.join_before(graph, behind);
-    uses.join_before(graph, to);
+    join_before(graph, uses, places, after);
+    join_before(graph, uses, places, behind);
+    join_before(graph, uses, places, to);
     true
 }

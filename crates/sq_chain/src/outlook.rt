@@ -6,7 +6,7 @@ ghost use Rattle.sq_graph.specs.Blocks.{block_of, term_of};
 ghost use Rattle.sq_graph.specs.Places.{IsInReach};
 ghost use Rattle.sq_graph.specs.Words.{words_of};
 ghost use Rattle.sq_lookup.specs.Addresses.{address_at};
-ghost use Rattle.sq_lookup.specs.Tables.{number_at};
+ghost use Rattle.sq_chain.specs.Places.{placed_at};
 ghost use Rattle.sq_chain.specs.Widening.{size_of};
 ghost use Rattle.sq_chain.specs.Least.{is_short, least_widened};
 ghost use Rattle.sq_chain.specs.Moves.{IsMovable, fallen, carried, moved};
@@ -15,8 +15,8 @@ ghost use Rattle.sq_chain.specs.declared.outlook.Outlook.TheVariants.{Near, Stil
 
 use crate::order::carried_extents;
 use crate::placing::{address, fallen_addresses};
-use crate::seams::saves_nothing;
-use crate::survey::{Extent, Survey, room_for};
+use crate::seams::outlook_at_seams;
+use crate::survey::{Extent, Survey, listing_of, room_for};
 use sq_graph::{Graph, Term};
 use sq_layout::{distance, reaches};
 use sq_num::Memory;
@@ -34,10 +34,10 @@ pub(crate) enum Outlook {
 }
 
 /// Whether the block ends in a Branch that doesn't reach by these addresses.
-fn falls_short(addresses: &[Option<u64>], extent: Extent) -> bool
+fn falls_short(addresses: &[u32], extent: Extent) -> bool
     requires block { (b : Block) × (extent_of b ≡ extent) }
-    requires small { (n : ℕ) → address_at (number_at addresses.now) n < 2 ^ 34 }
-    ensures { (h : Parts) (b : Block) → extent_of b ≡ extent → block_of h b.name ≡ Some b → result ≡ is_short (address_at (number_at addresses.now)) h b.name (term_of h b.name) }
+    requires small { (n : ℕ) → address_at (placed_at addresses.now) n < 2 ^ 34 }
+    ensures { (h : Parts) (b : Block) → extent_of b ≡ extent → block_of h b.name ≡ Some b → result ≡ is_short (address_at (placed_at addresses.now)) h b.name (term_of h b.name) }
 {
     let Term::Branch { to, .. } = extent.term else {
         return false;
@@ -48,22 +48,22 @@ fn falls_short(addresses: &[Option<u64>], extent: Extent) -> bool
 }
 
 /// 1 for a block that ends in a Branch that doesn't reach by these addresses, and 0 for another one.
-fn one_if_short(addresses: &[Option<u64>], extent: Extent) -> u32
+fn one_if_short(addresses: &[u32], extent: Extent) -> u32
     requires block { (b : Block) × (extent_of b ≡ extent) }
-    requires small { (n : ℕ) → address_at (number_at addresses.now) n < 2 ^ 34 }
+    requires small { (n : ℕ) → address_at (placed_at addresses.now) n < 2 ^ 34 }
     ensures few { result ≤ 1 }
-    ensures value { (h : Parts) (b : Block) → extent_of b ≡ extent → block_of h b.name ≡ Some b → result ≡ (if is_short (address_at (number_at addresses.now)) h b.name (term_of h b.name) then 1 else 0) }
+    ensures value { (h : Parts) (b : Block) → extent_of b ≡ extent → block_of h b.name ≡ Some b → result ≡ (if is_short (address_at (placed_at addresses.now)) h b.name (term_of h b.name) then 1 else 0) }
 {
     if falls_short(addresses, extent) { 1 } else { 0 }
 }
 
 /// How many of these blocks end in a Branch that doesn't reach by these addresses, or `most` where they are more.
-fn count_short(addresses: &[Option<u64>], order: &[Extent], most: u32) -> u32
+pub(crate) fn count_short(addresses: &[u32], order: &[Extent], most: u32) -> u32
     requires order { (h : Parts) × IsLaidOut h order.now }
-    requires small { (n : ℕ) → address_at (number_at addresses.now) n < 2 ^ 34 }
+    requires small { (n : ℕ) → address_at (placed_at addresses.now) n < 2 ^ 34 }
     ensures most { result ≤ most }
-    ensures some { (h : Parts) → IsLaidOut h order.now → result ≤ size_of h (λ n. is_short (address_at (number_at addresses.now)) h n (term_of h n)) }
-    ensures all { (h : Parts) → IsLaidOut h order.now → result < most → result ≡ size_of h (λ n. is_short (address_at (number_at addresses.now)) h n (term_of h n)) }
+    ensures some { (h : Parts) → IsLaidOut h order.now → result ≤ size_of h (λ n. is_short (address_at (placed_at addresses.now)) h n (term_of h n)) }
+    ensures all { (h : Parts) → IsLaidOut h order.now → result < most → result ≡ size_of h (λ n. is_short (address_at (placed_at addresses.now)) h n (term_of h n)) }
 {
     let mut short = 0;
     for extent in order {
@@ -109,9 +109,11 @@ pub(crate) fn outlook_of(
     ensures still { result ≡ Ok Still → words_of graph.now.graph ≤ words_of (moved graph.now.graph from to) }
 {
     graph.learn();
-    if saves_nothing(graph, survey, from, to) {
-        return Ok(Outlook::Still);
+    let seen = outlook_at_seams(graph, survey, from, to);
+    if seen != Outlook::Unsure {
+        return Ok(seen);
     }
-    let order = carried_extents(alloc, graph, &survey.extents, from, to)?;
+    let listing = listing_of(alloc, graph)?;
+    let order = carried_extents(alloc, graph, &listing.extents, from, to)?;
     ordered_outlook(alloc, survey.names, &order)
 }

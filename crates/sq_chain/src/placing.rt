@@ -1,23 +1,25 @@
 //! Where the blocks stand once each Jump to the next slot is Fall.
 
-ghost use Rattle.std.specs.Prelude.{◌≡◌, ◌↔◌, ℕ, ◌+◌, ◌<◌, ◌^◌, Some, IsTrue, length, option_map, slice_get, nat_eq};
+ghost use Rattle.std.specs.Prelude.{◌≡◌, ◌↔◌, ℕ, ◌+◌, ◌*◌, ◌≤◌, ◌<◌, ◌^◌, ◌==◌, if◌then◌else◌, None, Some, IsTrue, length, option_map, get_or, slice_get, nat_eq};
 ghost use Rattle.std.specs.Map.{update};
 ghost use Rattle.sq_graph.specs.Graph.{Block, Graph as Parts};
 ghost use Rattle.sq_graph.specs.Blocks.{block_of, next_of};
 ghost use Rattle.sq_graph.specs.Words.{block_words as words_in, words_of};
 ghost use Rattle.sq_layout.specs.Weights.{address_by};
 ghost use Rattle.sq_lookup.specs.Addresses.{address_at};
-ghost use Rattle.sq_lookup.specs.Tables.{number_at};
+ghost use Rattle.sq_chain.specs.Places.{nowhere, placed_at};
 ghost use Rattle.sq_chain.specs.Moves.{JumpsTo, fallen_blocks, fallen};
+ghost use Rattle.sq_chain.specs.Shifts.{AreWhole, exchanged_to, lowered_to, lowered_word};
 ghost use Rattle.sq_chain.specs.Surveys.{extent_of, IsRoom, IsLaidOut};
 
+use crate::seams::Seams;
 use crate::survey::Extent;
 use sq_graph::Term;
 
 /// Where blocks stand once each Jump to the next slot is Fall, and how many words that saves.
 #[derive(Drop)]
 pub(crate) struct Fallen {
-    pub addresses: Vec<Option<u64>>,
+    pub addresses: Vec<u32>,
     pub falls: u32,
 }
 
@@ -49,20 +51,24 @@ fn fall_of(extent: Extent, next: Option<u32>) -> u32
     if jumps_to(extent.term, next) { 1 } else { 0 }
 }
 
-/// Puts an address under a name for which there is room.
-fn put(addresses: &mut Vec<Option<u64>>, name: u32, at: u64)
-    requires { name < length addresses.old.items }
+/// What stands in a table of places under a name of no block.
+pub(crate) const NOWHERE: u32 = u32::MAX;
+
+/// Puts a block under a name for which there is room, with so many words before it.
+fn put(addresses: &mut Vec<u32>, name: u32, words: u32)
+    requires within { name < length addresses.old.items }
+    requires there { words < nowhere }
     ensures length { length addresses.new.items ≡ length addresses.old.items }
-    ensures value { (n : ℕ) → number_at addresses.new.items n ≡ update nat_eq (number_at addresses.old.items) name (Some at) n }
+    ensures value { (n : ℕ) → placed_at addresses.new.items n ≡ update nat_eq (placed_at addresses.old.items) name (Some (4 * words)) n }
 {
-    addresses[name as usize] = Some(at);
+    addresses[name as usize] = words;
 }
 
 /// Where the blocks stand in this order once each Jump to the next slot is Fall. The addresses fill the room for them.
-pub(crate) fn fallen_addresses(room: Vec<Option<u64>>, order: &[Extent]) -> Fallen
+pub(crate) fn fallen_addresses(room: Vec<u32>, order: &[Extent]) -> Fallen
     requires { (h : Parts) × IsLaidOut h order.now × IsRoom h room.items }
-    ensures addresses { (h : Parts) → IsLaidOut h order.now → IsRoom h room.items → (n : ℕ) → number_at result.addresses.items n ≡ address_by words_in (fallen_blocks h.blocks) 0 n }
-    ensures small { (n : ℕ) → address_at (number_at result.addresses.items) n < 2 ^ 34 }
+    ensures addresses { (h : Parts) → IsLaidOut h order.now → IsRoom h room.items → (n : ℕ) → placed_at result.addresses.items n ≡ address_by words_in (fallen_blocks h.blocks) 0 n }
+    ensures small { (n : ℕ) → address_at (placed_at result.addresses.items) n < 2 ^ 34 }
     ensures falls { (h : Parts) → IsLaidOut h order.now → IsRoom h room.items → words_of (fallen h) + result.falls ≡ words_of h }
 {
     let mut addresses = room;
@@ -75,19 +81,92 @@ pub(crate) fn fallen_addresses(room: Vec<Option<u64>>, order: &[Extent]) -> Fall
         let next = name_at(order, i + 1);
         let fall = fall_of(extent, next);
         falls += fall;
-        at += 4 * u64::from(words - fall);
+        at += words - fall;
     }
     Fallen { addresses, falls }
 }
 
-/// The address under this name.
-pub(crate) fn address(addresses: &[Option<u64>], name: u32) -> u64
-    ensures { result ≡ address_at (number_at addresses.now) name }
+/// How many words are before the block of this name.
+pub(crate) fn words_before(addresses: &[u32], name: u32) -> u32
+    ensures { result ≡ get_or addresses.now name nowhere }
 {
     let name = name as usize;
     if name < addresses.len() {
-        addresses[name].unwrap_or(0)
+        addresses[name]
     } else {
+        NOWHERE
+    }
+}
+
+/// The address of the block of this name.
+pub(crate) fn address(addresses: &[u32], name: u32) -> u64
+    ensures { result ≡ address_at (placed_at addresses.now) name }
+{
+    let words = words_before(addresses, name);
+    if words == NOWHERE {
         0
+    } else {
+        4 * u64::from(words)
+    }
+}
+
+/// How many words are before what so many are before, once two pieces are exchanged.
+fn exchanged(at: u32, first: u32, second: u32, end: u32) -> u32
+    requires first { first ≤ second }
+    requires second { second ≤ end }
+    ensures { result ≡ exchanged_to (record { first = first; second = second; end = end }) at }
+{
+    if at < first || end <= at {
+        at
+    } else if at < second {
+        at + (end - second)
+    } else {
+        at - (second - first)
+    }
+}
+
+/// Moves each address to where the exchange of two pieces puts what stands there.
+pub(crate) fn exchange(addresses: &mut Vec<u32>, seams: Seams)
+    requires first { seams.first ≤ seams.second }
+    requires second { seams.second ≤ seams.end }
+    requires few { seams.end < 2 ^ 34 }
+    requires whole { AreWhole seams }
+    ensures { (n : ℕ) → placed_at addresses.new.items n ≡ option_map (exchanged_to seams) (placed_at addresses.old.items n) }
+{
+    let first = (seams.first / 4) as u32;
+    let second = (seams.second / 4) as u32;
+    let end = (seams.end / 4) as u32;
+    for place in addresses.iter_mut() {
+        *place = exchanged(*place, first, second, end);
+    }
+}
+
+/// How many words are before what so many are before, once the word goes that is behind `start` of them.
+fn lowered(at: u32, start: u32) -> u32
+    ensures { result ≡ lowered_word start at }
+{
+    if at == NOWHERE || at <= start {
+        at
+    } else {
+        at - 1
+    }
+}
+
+/// Lowers each address behind this word by one.
+pub(crate) fn lower_behind(addresses: &mut Vec<u32>, start: u32)
+    ensures { (n : ℕ) → placed_at addresses.new.items n ≡ option_map (lowered_to (4 * start)) (placed_at addresses.old.items n) }
+{
+    for place in addresses.iter_mut() {
+        *place = lowered(*place, start);
+    }
+}
+
+/// Takes out the address under a name.
+pub(crate) fn forget(addresses: &mut Vec<u32>, name: u32)
+    ensures { (n : ℕ) → placed_at addresses.new.items n ≡ (if name == n then None else placed_at addresses.old.items n) }
+{
+    let name = name as usize;
+    if name < addresses.len() {
+        addresses[name] = NOWHERE;
     }
 }

@@ -5,10 +5,11 @@ ghost use Rattle.std.specs.List.{All};
 ghost use Rattle.sq_graph.specs.Blocks.{HasBlock, block_of};
 ghost use Rattle.sq_graph.specs.Parts.{names_of};
 ghost use Rattle.sq_graph.specs.Words.{block_words, procedure_words, words_of};
-ghost use Rattle.sq_lookup.specs.Tables.{number_at};
+ghost use Rattle.sq_chain.specs.Places.{placed_at};
 ghost use Rattle.sq_chain.specs.Surveys.{extent_of, extents_of, IsSurvey};
 
-use crate::placing::fallen_addresses;
+use crate::outlook::count_short;
+use crate::placing::{NOWHERE, fallen_addresses};
 use sq_graph::{Graph, Term};
 use sq_num::Memory;
 use std::alloc::Global;
@@ -21,23 +22,29 @@ pub(crate) struct Extent {
     pub term: Term,
 }
 
-/// The blocks of a graph in layout order, a number that is greater than each of their names, their addresses once each Jump to
-/// the next slot is Fall, how many these are, and how many words the graph takes.
+/// Where the blocks of a graph stand, by their names, and how many words the graph takes.
+#[derive(Drop)]
+pub(crate) struct Places {
+    pub addresses: Vec<u32>,
+    pub words: u32,
+}
+
+/// What is known of a graph: a number that is greater than each name of a block, where the blocks stand once each Jump to the
+/// next slot is Fall, how many these are, and whether each Branch surely reaches then.
 #[derive(Drop)]
 pub(crate) struct Survey {
-    pub extents: Vec<Extent>,
     pub names: usize,
-    pub addresses: Vec<Option<u64>>,
+    pub places: Places,
     pub falls: u32,
-    pub words: u32,
+    pub near: bool,
 }
 
 /// The blocks of a graph in layout order, how many words they take, and a number that is greater than each of their names.
 #[derive(Drop)]
-struct Listing {
-    extents: Vec<Extent>,
-    words: u32,
-    names: usize,
+pub(crate) struct Listing {
+    pub extents: Vec<Extent>,
+    pub words: u32,
+    pub names: usize,
 }
 
 /// The block of this name, by its slot alone: the length there is that of its items.
@@ -62,7 +69,7 @@ fn extent_of(graph: &Graph, block: u32) -> Extent
 }
 
 /// The listing of the blocks, by one walk over them.
-fn listing_of(alloc: Global, graph: &Graph) -> Result<Listing, Memory>
+pub(crate) fn listing_of(alloc: Global, graph: &Graph) -> Result<Listing, Memory>
     ensures extents { IfOk result (λ they. they.extents.items ≡ extents_of graph.now.graph) }
     ensures words { IfOk result (λ they. they.words ≡ sum_by block_words graph.now.graph.blocks) }
     ensures names { IfOk result (λ they. All (λ name. name < they.names) (names_of graph.now.graph)) }
@@ -100,28 +107,31 @@ fn words_of_procedures(graph: &Graph) -> u32
 }
 
 /// Room for an address under each name below this number.
-pub(crate) fn room_for(alloc: Global, names: usize) -> Result<Vec<Option<u64>>, Memory>
+pub(crate) fn room_for(alloc: Global, names: usize) -> Result<Vec<u32>, Memory>
     ensures within { IfOk result (λ room. length room.items ≡ names) }
-    ensures none { IfOk result (λ room. (n : ℕ) → number_at room.items n ≡ None) }
+    ensures none { IfOk result (λ room. (n : ℕ) → placed_at room.items n ≡ None) }
 {
     let mut room = Vec::new(alloc);
-    room.resize(names, None)?;
+    room.resize(names, NOWHERE)?;
     Ok(room)
 }
 
-/// The survey of a graph, by one walk over the blocks and one look at their listing.
+/// The survey of a graph, by one walk over the blocks and two looks at their listing.
 pub(crate) fn survey_of(alloc: Global, graph: &Graph) -> Result<Survey, Memory>
     ensures { IfOk result (λ survey. IsSurvey graph.now.graph survey) }
 {
     graph.learn();
     let listing = listing_of(alloc, graph)?;
-    let addresses = room_for(alloc, listing.names)?;
-    let fallen = fallen_addresses(addresses, &listing.extents);
+    let room = room_for(alloc, listing.names)?;
+    let fallen = fallen_addresses(room, &listing.extents);
+    let near = count_short(&fallen.addresses, &listing.extents, 1) == 0;
     Ok(Survey {
-        extents: listing.extents,
         names: listing.names,
-        addresses: fallen.addresses,
+        places: Places {
+            addresses: fallen.addresses,
+            words: listing.words + words_of_procedures(graph),
+        },
         falls: fallen.falls,
-        words: listing.words + words_of_procedures(graph),
+        near,
     })
 }

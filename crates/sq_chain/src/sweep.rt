@@ -25,26 +25,16 @@ use sq_pass::{Rewrite, Row};
 use std::alloc::Global;
 
 /// Who is asked behind each move of a sweep whether it is to end there. Where blocks stand is told by their names, as it is once
-/// each Jump to the next slot is Fall.
+/// each Jump to the next slot is Fall: how many words are before each, and `u32::MAX` under a name of none.
 pub trait Watch {
     /// Looks at the graph with which the sweep begins.
-    fn begins(
-        &mut self,
-        alloc: Global,
-        graph: &Graph,
-        addresses: &[Option<u64>],
-    ) -> Result<(), Memory>;
+    fn begins(&mut self, alloc: Global, graph: &Graph, addresses: &[u32]) -> Result<(), Memory>;
 
     /// Whether the sweep tries to move a chain behind this block. It may look at the graph as it is before that.
     fn wants(&mut self, graph: &Graph, from: u32) -> Result<bool, Memory>;
 
     /// Whether the sweep ends at this graph, in which a chain has just moved.
-    fn ends(
-        &mut self,
-        alloc: Global,
-        graph: &Graph,
-        addresses: &[Option<u64>],
-    ) -> Result<bool, Memory>;
+    fn ends(&mut self, alloc: Global, graph: &Graph, addresses: &[u32]) -> Result<bool, Memory>;
 }
 
 /// Whether a move that comes to this is made at its seams alone, where so many blocks jump to the next slot before.
@@ -73,25 +63,30 @@ fn known_uses(alloc: Global, graph: &Graph, uses: Option<Uses>) -> Result<Uses, 
 fn sweep_near(
     alloc: Global,
     graph: &mut Graph,
+    view: &mut Survey,
     uses: &mut Option<Uses>,
     from: u32,
     to: u32,
 ) -> Result<(), Memory>
     requires movable { IsMovable graph.old.graph from to }
     requires canonical { IsCanonical graph.old.graph }
-    requires stays { words_of (fallen graph.old.graph) ≡ words_of graph.old.graph }
     requires near { IsInReach (fallen (carried graph.old.graph from to)) }
+    requires survey { IsSurvey graph.old.graph view.old }
+    requires stays { view.old.falls ≡ 0 }
     requires uses { AreKnown graph.old.graph uses.old }
     ensures swept { OnOk result (IsSwept graph.old.graph graph.new.graph) }
+    ensures survey { OnOk result (IsSurvey graph.new.graph view.new) }
     ensures uses { OnOk result (AreKnown graph.new.graph uses.new) }
     ensures follows { Follows graph.old.graph graph.new.graph }
 {
     graph.learn();
     let mut they = known_uses(alloc, graph, uses.take())?;
-    if !carry_joined(graph, &mut they, from, to) {
-        return Ok(());
+    if carry_joined(graph, &mut they, &mut view.places, from, to) {
+        *uses = Some(they);
+        view.near = true;
+    } else {
+        *view = survey_of(alloc, graph)?;
     }
-    *uses = Some(they);
     Ok(())
 }
 
@@ -100,7 +95,7 @@ fn sweep_near(
 fn sweep_chain(
     alloc: Global,
     graph: &mut Graph,
-    view: &Survey,
+    view: &mut Survey,
     uses: &mut Option<Uses>,
     from: u32,
     to: u32,
@@ -108,16 +103,17 @@ fn sweep_chain(
     requires movable { IsMovable graph.old.graph from to }
     requires canonical { IsCanonical graph.old.graph }
     requires blocks { length graph.old.graph.blocks ≤ 16777216 }
-    requires survey { IsSurvey graph.old.graph view.now }
+    requires survey { IsSurvey graph.old.graph view.old }
     requires uses { AreKnown graph.old.graph uses.old }
     ensures swept { result ≡ Ok true → IsSwept graph.old.graph graph.new.graph }
     ensures same { result ≡ Ok false → graph.new ≡ graph.old }
+    ensures survey { OnOk result (IsSurvey graph.new.graph view.new) }
     ensures uses { OnOk result (AreKnown graph.new.graph uses.new) }
     ensures follows { Follows graph.old.graph graph.new.graph }
 {
     let outlook = outlook_of(alloc, graph, view, from, to)?;
     if is_local(outlook, view.falls) {
-        sweep_near(alloc, graph, uses, from, to)?;
+        sweep_near(alloc, graph, view, uses, from, to)?;
         return Ok(true);
     }
     if !move_by(alloc, graph, outlook, from, to)? {
@@ -125,6 +121,7 @@ fn sweep_chain(
     }
     graph.canonical();
     *uses = None;
+    *view = survey_of(alloc, graph)?;
     Ok(true)
 }
 
@@ -150,15 +147,14 @@ fn sweep_behind(
     let Some(to) = movable_target(graph, from) else {
         return Ok(savings);
     };
+    let before = view.places.words;
     if !sweep_chain(alloc, graph, view, uses, from, to)? {
         return Ok(savings);
     }
-    let next = survey_of(alloc, graph)?;
     let done = Rewrite {
         row: Row::L,
-        saving: view.words - next.words,
+        saving: before - view.places.words,
     };
-    *view = next;
     Ok(done.count(savings))
 }
 
@@ -181,14 +177,14 @@ pub fn sweep_moves<W: Watch>(
     let names = block_names(alloc, graph)?;
     let mut view = survey_of(alloc, graph)?;
     let mut uses = None;
-    watch.begins(alloc, graph, &view.addresses)?;
+    watch.begins(alloc, graph, &view.places.addresses)?;
     let mut after = savings;
     for name in &names {
         if !watch.wants(graph, *name)? {
             continue;
         }
         let next = sweep_behind(alloc, graph, &mut view, &mut uses, *name, after)?;
-        if next.moved != after.moved && watch.ends(alloc, graph, &view.addresses)? {
+        if next.moved != after.moved && watch.ends(alloc, graph, &view.places.addresses)? {
             return Ok(next);
         }
         after = next;

@@ -68,12 +68,7 @@ struct RowWatch {
 }
 
 impl Watch for RowWatch {
-    fn begins(
-        &mut self,
-        alloc: Global,
-        graph: &Graph,
-        addresses: &[Option<u64>],
-    ) -> Result<(), Memory> {
+    fn begins(&mut self, alloc: Global, graph: &Graph, addresses: &[u32]) -> Result<(), Memory> {
         self.unmoved = Unmoved::look(alloc, graph, addresses)?;
         Ok(())
     }
@@ -88,12 +83,7 @@ impl Watch for RowWatch {
 
     /// It ends where a Branch came to reach, or where blocks became one and a look at the whole graph finds a candidate of a pass,
     /// of which none had one before the move.
-    fn ends(
-        &mut self,
-        alloc: Global,
-        graph: &Graph,
-        addresses: &[Option<u64>],
-    ) -> Result<bool, Memory> {
+    fn ends(&mut self, alloc: Global, graph: &Graph, addresses: &[u32]) -> Result<bool, Memory> {
         self.news = self.unmoved.news(alloc, graph, addresses)?;
         self.ended = match self.news {
             News::Nothing => false,

@@ -170,11 +170,7 @@ impl Unmoved {
     }
 
     /// One look at each block of a graph in which no row has a candidate, whose blocks stand at these addresses, by their names.
-    pub fn look(
-        alloc: Global,
-        graph: &Graph,
-        addresses: &[Option<u64>],
-    ) -> Result<Unmoved, Memory> {
+    pub fn look(alloc: Global, graph: &Graph, addresses: &[u32]) -> Result<Unmoved, Memory> {
         Ok(Unmoved {
             blocks: 0,
             seams: Vec::new(alloc),
@@ -312,7 +308,7 @@ impl Unmoved {
         &mut self,
         alloc: Global,
         graph: &Graph,
-        addresses: &[Option<u64>],
+        addresses: &[u32],
     ) -> Result<bool, Memory> {
         let starts = self.starts(alloc, graph)?;
         let mut more = false;
@@ -332,7 +328,7 @@ impl Unmoved {
         &mut self,
         alloc: Global,
         graph: &Graph,
-        addresses: &[Option<u64>],
+        addresses: &[u32],
     ) -> Result<bool, Memory> {
         if !self.reaches_more(alloc, graph, addresses)? {
             return Ok(false);
@@ -390,7 +386,7 @@ impl Unmoved {
         &mut self,
         alloc: Global,
         graph: &Graph,
-        addresses: &[Option<u64>],
+        addresses: &[u32],
     ) -> Result<News, Memory> {
         let reaches = self.has_more_near(alloc, graph, addresses)?;
         self.note_ends(alloc, graph)?;

@@ -221,9 +221,12 @@ impl FarWays {
     }
 }
 
-/// The address under this name.
-fn address_in(addresses: &[Option<u64>], name: u32) -> u64 {
-    addresses.get(name as usize).copied().flatten().unwrap_or(0)
+/// The address of the block of this name, by how many words are before each, and `u32::MAX` under a name of none.
+fn address_in(addresses: &[u32], name: u32) -> u64 {
+    match addresses.get(name as usize).copied() {
+        Some(words) if words != u32::MAX => 4 * u64::from(words),
+        _ => 0,
+    }
 }
 
 /// How many slots a look for Branches around a seam goes along at most, and how many bytes.
@@ -232,7 +235,7 @@ const NEAR_SLOTS: u32 = 1200;
 const NEAR: u64 = 4200;
 
 /// Whether the Branch of a way reaches where the lone Jump leads once that is gone, by these addresses.
-fn is_near(graph: &Graph, addresses: &[Option<u64>], way: Way) -> bool {
+fn is_near(graph: &Graph, addresses: &[u32], way: Way) -> bool {
     let ends = Ends {
         from: address_in(addresses, way.from),
         over: address_in(addresses, way.over),
@@ -244,7 +247,7 @@ fn is_near(graph: &Graph, addresses: &[Option<u64>], way: Way) -> bool {
 /// Puts the lone Jump of a way with those whose Branches reach, or with those of which one doesn't.
 fn note(
     graph: &Graph,
-    addresses: &[Option<u64>],
+    addresses: &[u32],
     found: Option<Way>,
     near: &mut Vec<u32>,
     far: &mut Names,
@@ -264,7 +267,7 @@ fn note(
 pub(crate) fn near_jumps(
     alloc: Global,
     graph: &Graph,
-    addresses: &[Option<u64>],
+    addresses: &[u32],
 ) -> Result<Vec<u32>, Memory> {
     graph.learn();
     let mut far = Names::new(alloc);
@@ -281,7 +284,7 @@ pub(crate) fn near_jumps(
 }
 
 /// Whether the block's Branch reaches where a lone Jump leads, to which or over which it leads.
-fn reaches_past(graph: &Graph, addresses: &[Option<u64>], block: u32) -> bool
+fn reaches_past(graph: &Graph, addresses: &[u32], block: u32) -> bool
     requires { HasBlock graph.now.graph block }
 {
     let (by_target, by_slot) = ways_of(graph, block);
@@ -307,7 +310,7 @@ impl Reaching {
     pub(crate) fn look(
         alloc: Global,
         graph: &Graph,
-        addresses: &[Option<u64>],
+        addresses: &[u32],
     ) -> Result<Reaching, Memory> {
         let mut reaching = Reaching::new(alloc);
         for name in 0..u32::try_from(addresses.len()).unwrap_or(u32::MAX) {
@@ -319,7 +322,7 @@ impl Reaching {
     }
 
     /// Takes note of the block's Branch, if it ends in one. Whether it is new that it reaches.
-    fn note(&mut self, graph: &Graph, addresses: &[Option<u64>], block: u32) -> Result<bool, Memory>
+    fn note(&mut self, graph: &Graph, addresses: &[u32], block: u32) -> Result<bool, Memory>
         requires { HasBlock graph.now.graph block }
     {
         let new = matches!(graph.term(block), Term::Branch { .. })
@@ -336,7 +339,7 @@ impl Reaching {
     pub(crate) fn grows(
         &mut self,
         graph: &Graph,
-        addresses: &[Option<u64>],
+        addresses: &[u32],
         starts: &[u32],
         from: u32,
         ahead: bool,

@@ -42,7 +42,8 @@ use Rattle.law_patch.proofs.Standing.{own_calls, own_called_block, stands_at, di
 use Rattle.law_patch.proofs.Used.{contains_first, from_all, from_slice, not_new}
 use Rattle.sq_quotient.specs.Folding.{falls_away, lands_at, landed, stayed, folded_blocks, folded_by, Merges, AreNewNames}
 use Rattle.sq_quotient.specs.Laws.{FoldFollows, FoldIsSound}
-use Rattle.sq_quotient.proofs.Refilled.{items_again, terms_again, falls_or_jumps, fall_is, both_go}
+use Rattle.sq_quotient.proofs.Refilled.{items_again, terms_again, falls_or_jumps, both_go}
+use Rattle.sq_lookup.proofs.JoiningBefore.{fall_is}
 
 some_same : {X : Type 0} {x y : X} → Some x ≡ Some y → x ≡ y
 some_same e = cc

@@ -79,15 +79,6 @@ falls_or_jumps (PartJump link part to) e = absurd (cc)
 falls_or_jumps (Indirect link at offset) e = absurd (cc)
 falls_or_jumps (Stop word) e = absurd (cc)
 
-pub fall_is : (t : Term) → is_fall t ≡ true → t ≡ Fall
-fall_is Fall e = refl
-fall_is (Jump to) e = absurd (cc)
-fall_is (Branch c a b to) e = absurd (cc)
-fall_is (Call link to) e = absurd (cc)
-fall_is (PartJump link part to) e = absurd (cc)
-fall_is (Indirect link at offset) e = absurd (cc)
-fall_is (Stop word) e = absurd (cc)
-
 -- where neither is a Fall, the two go on alike
 bare_goes : (t : Term) → is_fall t ≡ false → goes_on (bare_term t) ≡ goes_on t
 bare_goes Fall e = absurd (true≢false e)

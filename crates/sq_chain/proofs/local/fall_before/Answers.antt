@@ -1,4 +1,4 @@
-use Rattle.std.proofs.Common.{◌≡◌, false, Some, sym, ap, ◌∙◌, subst}
+use Rattle.std.proofs.Common.{◌≡◌, ◌-◌, arith, false, get_or, Some, sym, ap, ◌∙◌, subst}
 use Rattle.sq_graph.specs.declared.item.Term.TheVariants.{Fall, Jump}
 use Rattle.sq_graph.specs.Graph.{Graph}
 use Rattle.sq_graph.specs.Blocks.{HasBlock, term_of, items_of}
@@ -6,8 +6,13 @@ use Rattle.sq_graph.specs.Leaders.{has_no_items}
 use Rattle.sq_graph.specs.Operations.{with_term}
 use Rattle.sq_lookup.proofs.Targets.{has_term}
 use Rattle.sq_lookup.specs.Counts.{AreUses}
+use Rattle.sq_chain.specs.Places.{nowhere}
 use Rattle.sq_chain.specs.Bare.{IsBareAt, AreSolidBut}
+use Rattle.sq_chain.specs.Surveys.{IsPlaced}
+use Rattle.sq_chain.specs.declared.survey.Places.{Places}
 use Rattle.sq_chain.proofs.Fallen.{fall_keeps}
+use Rattle.sq_chain.proofs.Replaced.{placed_fell}
+use Rattle.sq_chain.proofs.Resurveyed.{fell_words}
 use Rattle.sq_lookup.proofs.Previous.{next_has, one_before}
 use Rattle.sq_chain.proofs.Settling.{fallen_stays, fell_term, fell, uses_fell, counted, fell_bare, solid_fell, jump_here, jumps_here, filled, emptied}
 use Rattle.sq_chain.proofs.local.fall_before.Goals as goal
@@ -44,7 +49,7 @@ take-requires c =
     let g = c.args.graph.now.graph in
     let next = c.block_before.ensures.some c.in-Some.block c.in-Some.is in
     let jump = jump_here g c.in-Some.block c.args.name c.term.result c.term.ensures (c.jumps_to.ensures.0 c.if-not-jumps_to.false) in
-    counted g c.in-Some.block c.args.name c.learn.ensures.rules next jump c.args.uses.now c.requires
+    counted g c.in-Some.block c.args.name c.learn.ensures.rules next jump c.args.uses.now c.requires.uses
 
 pub items-requires : goal.items-requires
 items-requires c =
@@ -67,7 +72,7 @@ returns-then-is_empty-clause-uses c =
     let next = c.block_before.ensures.some c.in-Some.block c.in-Some.is in
     let jump = jump_here g c.in-Some.block c.args.name c.term.result c.term.ensures (c.jumps_to.ensures.0 c.if-not-jumps_to.false) in
     subst (λ (k : Graph). AreUses k c.take.new.self) (sym c.set_term.ensures.graph)
-    (uses_fell g c.in-Some.block c.args.name c.learn.ensures.rules next jump c.args.uses.now c.take.new.self c.requires c.take.ensures)
+    (uses_fell g c.in-Some.block c.args.name c.learn.ensures.rules next jump c.args.uses.now c.take.new.self c.requires.uses c.take.ensures)
 
 pub returns-else-is_empty-clause-graph : goal.returns-else-is_empty-clause-graph
 returns-else-is_empty-clause-graph c =
@@ -82,7 +87,7 @@ returns-else-is_empty-clause-uses c =
     let next = c.block_before.ensures.some c.in-Some.block c.in-Some.is in
     let jump = jump_here g c.in-Some.block c.args.name c.term.result c.term.ensures (c.jumps_to.ensures.0 c.if-not-jumps_to.false) in
     subst (λ (k : Graph). AreUses k c.take.new.self) (sym c.set_term.ensures.graph)
-    (uses_fell g c.in-Some.block c.args.name c.learn.ensures.rules next jump c.args.uses.now c.take.new.self c.requires c.take.ensures)
+    (uses_fell g c.in-Some.block c.args.name c.learn.ensures.rules next jump c.args.uses.now c.take.new.self c.requires.uses c.take.ensures)
 
 pub returns-then-is_empty-clause-bare : goal.returns-then-is_empty-clause-bare
 returns-then-is_empty-clause-bare c =
@@ -108,3 +113,31 @@ returns-else-is_empty-clause-solid c = λ may bare solid.
     let full : has_no_items (items_of (with_term c.args.graph.now.graph c.in-Some.block Fall) c.in-Some.block) ≡ false = ap (λ (k : Graph). has_no_items (items_of k c.in-Some.block)) (sym c.set_term.ensures.graph) ∙ ap has_no_items (sym c.items.ensures) ∙ filled c.items.result.now (sym c.is_empty.ensures ∙ c.if-is_empty.false) in
     subst (λ (k : Graph). AreSolidBut may k) (sym c.set_term.ensures.graph)
     (solid_fell g c.in-Some.block c.args.name c.learn.ensures.rules next jump may (λ empty. absurd (cc (full, empty))) solid)
+
+pub overflow_sub-places : goal.overflow_sub-places
+overflow_sub-places c =
+    let g = c.args.graph.now.graph in
+    let next = c.block_before.ensures.some c.in-Some.block c.in-Some.is in
+    let jump = jump_here g c.in-Some.block c.args.name c.term.result c.term.ensures (c.jumps_to.ensures.0 c.if-not-jumps_to.false) in
+    let fewer = fell_words g.blocks c.in-Some.block c.args.name jump in
+    omega (arith, fewer, c.requires.placed.words)
+
+pub returns-then-is_empty-clause-placed : goal.returns-then-is_empty-clause-placed
+returns-then-is_empty-clause-placed c =
+    let g = c.args.graph.now.graph in
+    let next = c.block_before.ensures.some c.in-Some.block c.in-Some.is in
+    let jump = jump_here g c.in-Some.block c.args.name c.term.result c.term.ensures (c.jumps_to.ensures.0 c.if-not-jumps_to.false) in
+    let fewer = fell_words g.blocks c.in-Some.block c.args.name jump in
+    let new : Places = record { addresses = c.lower_behind.new.addresses; words = c.args.places.now.words - 1 } in
+    subst (λ (k : Graph). IsPlaced k new) (sym c.set_term.ensures.graph)
+    (placed_fell g c.in-Some.block c.args.name c.words_before-start.result c.args.places.now new jump c.requires.placed (c.words_before-start.ensures ∙ ap (λ t. get_or t c.in-Some.block nowhere) c.deref.ensures.value) c.lower_behind.ensures (omega (arith, fewer, c.requires.placed.words)))
+
+pub returns-else-is_empty-clause-placed : goal.returns-else-is_empty-clause-placed
+returns-else-is_empty-clause-placed c =
+    let g = c.args.graph.now.graph in
+    let next = c.block_before.ensures.some c.in-Some.block c.in-Some.is in
+    let jump = jump_here g c.in-Some.block c.args.name c.term.result c.term.ensures (c.jumps_to.ensures.0 c.if-not-jumps_to.false) in
+    let fewer = fell_words g.blocks c.in-Some.block c.args.name jump in
+    let new : Places = record { addresses = c.lower_behind.new.addresses; words = c.args.places.now.words - 1 } in
+    subst (λ (k : Graph). IsPlaced k new) (sym c.set_term.ensures.graph)
+    (placed_fell g c.in-Some.block c.args.name c.words_before-start.result c.args.places.now new jump c.requires.placed (c.words_before-start.ensures ∙ ap (λ t. get_or t c.in-Some.block nowhere) c.deref.ensures.value) c.lower_behind.ensures (omega (arith, fewer, c.requires.placed.words)))

@@ -5,7 +5,7 @@ use Rattle.sq_graph.specs.Graph.{Block}
 use Rattle.sq_graph.specs.Blocks.{term_of}
 use Rattle.sq_live.proofs.Layouts.{IsBlockAt}
 use Rattle.sq_lookup.specs.Addresses.{address_at}
-use Rattle.sq_lookup.specs.Tables.{number_at}
+use Rattle.sq_chain.specs.Places.{placed_at}
 use Rattle.sq_chain.specs.Least.{is_short}
 use Rattle.sq_chain.proofs.Rounds.{count_of}
 use Rattle.sq_chain.proofs.Widens.{came_one}
@@ -25,7 +25,7 @@ pub loop-extent-preserved : goal.loop-extent-preserved
 loop-extent-preserved c = record {
   most = omega (arith, c.loop-extent.invariant.most, c.if-short-most.false, c.one_if_short-short.ensures.few);
   count = λ h laid.
-      let S : ℕ → Bool = λ n. is_short (address_at (number_at c.args.addresses.now)) h n (term_of h n) in
+      let S : ℕ → Bool = λ n. is_short (address_at (placed_at c.args.addresses.now)) h n (term_of h n) in
       let e = extent_at h c.args.order.now c.loop-extent.extent-index c.extent-item.result laid.rules laid.listed c.loop-extent-test.true c.extent-item.is in
       let one = came_one S h laid.rules c.loop-extent.extent-index e.at.block.name (subst (IsBlockAt h c.loop-extent.extent-index) (sym e.at.has_name) e.at) in
       let now = c.loop-extent.invariant.count h laid in
@@ -35,15 +35,15 @@ loop-extent-preserved c = record {
 
 pub returns-then-short-most-clause-some : goal.returns-then-short-most-clause-some
 returns-then-short-most-clause-some c = λ h laid.
-    let S : ℕ → Bool = λ n. is_short (address_at (number_at c.args.addresses.now)) h n (term_of h n) in
+    let S : ℕ → Bool = λ n. is_short (address_at (placed_at c.args.addresses.now)) h n (term_of h n) in
     omega (arith, c.loop-extent.invariant.count h laid, sum_by-take-le (λ (x : Block). if S x.name then 1 else 0) h.blocks c.loop-extent.extent-index)
 
 pub returns-clause-some : goal.returns-clause-some
 returns-clause-some c = λ h laid.
-    let S : ℕ → Bool = λ n. is_short (address_at (number_at c.args.addresses.now)) h n (term_of h n) in
+    let S : ℕ → Bool = λ n. is_short (address_at (placed_at c.args.addresses.now)) h n (term_of h n) in
     omega (arith, c.loop-extent.invariant.count h laid, sum_by-take-le (λ (x : Block). if S x.name then 1 else 0) h.blocks c.loop-extent.extent-index)
 
 pub returns-clause-all : goal.returns-clause-all
 returns-clause-all c = λ h laid less.
-    let S : ℕ → Bool = λ n. is_short (address_at (number_at c.args.addresses.now)) h n (term_of h n) in
+    let S : ℕ → Bool = λ n. is_short (address_at (placed_at c.args.addresses.now)) h n (term_of h n) in
     c.loop-extent.invariant.count h laid ∙ ap (count_of S) (take_all c.loop-extent.extent-index h.blocks (omega (arith, extents_length h c.args.order.now laid.listed)))

@@ -1,7 +1,7 @@
-use Rattle.std.proofs.Common.{ℕ, List, Option, ap, arith}
+use Rattle.std.proofs.Common.{ℕ, List, ap, arith}
 use Rattle.sq_graph.specs.Blocks.{term_of}
 use Rattle.sq_lookup.specs.Addresses.{address_at}
-use Rattle.sq_lookup.specs.Tables.{number_at}
+use Rattle.sq_chain.specs.Places.{placed_at}
 use Rattle.sq_chain.specs.Least.{is_short}
 use Rattle.sq_chain.specs.Widening.{size_of}
 use Rattle.sq_chain.proofs.Lighter.{none_short, short_widened}
@@ -18,9 +18,9 @@ returns-then-they-short-clause-still c = λ e h laid below.
     let there = room_is h c.args.names c.in_ok-addresses.addresses.items below c.in_ok-addresses.ensures.within c.in_ok-addresses.ensures.none in
     let many = c.if-they-short.true in
     let some = c.count_short-short.ensures.some h laid in
-    let same = ap (λ (t : List (Option ℕ)). size_of h (λ n. is_short (address_at (number_at t)) h n (term_of h n))) c.deref.ensures.value in
+    let same = ap (λ (t : List ℕ). size_of h (λ n. is_short (address_at (placed_at t)) h n (term_of h n))) c.deref.ensures.value in
     let falls = c.fallen_addresses-they.ensures.falls h laid there in
-    let more = short_widened h laid.rules (number_at c.fallen_addresses-they.result.addresses.items) (c.fallen_addresses-they.ensures.addresses h laid there) in
+    let more = short_widened h laid.rules (placed_at c.fallen_addresses-they.result.addresses.items) (c.fallen_addresses-they.ensures.addresses h laid there) in
     omega (arith, many, some, same, falls, more)
 
 pub returns-then-short-eq0-clause-near : goal.returns-then-short-eq0-clause-near
@@ -29,5 +29,5 @@ returns-then-short-eq0-clause-near c = λ e h laid below.
     let none = c.if-short-eq0.true in
     let fewer = c.if-they-short.false in
     let all = c.count_short-short.ensures.all h laid (omega (arith, fewer)) in
-    let same = ap (λ (t : List (Option ℕ)). size_of h (λ n. is_short (address_at (number_at t)) h n (term_of h n))) c.deref.ensures.value in
-    none_short h laid.rules (number_at c.fallen_addresses-they.result.addresses.items) (c.fallen_addresses-they.ensures.addresses h laid there) (omega (arith, none, all, same))
+    let same = ap (λ (t : List ℕ). size_of h (λ n. is_short (address_at (placed_at t)) h n (term_of h n))) c.deref.ensures.value in
+    none_short h laid.rules (placed_at c.fallen_addresses-they.result.addresses.items) (c.fallen_addresses-they.ensures.addresses h laid there) (omega (arith, none, all, same))

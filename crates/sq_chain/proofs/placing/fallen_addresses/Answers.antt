@@ -1,10 +1,10 @@
-use Rattle.std.proofs.Common.{◌≡◌, ◌∙◌, ◌+◌, ◌*◌, List, [], ◌∷◌, length, drop, sum_by, refl, ap, is_some, subst, sym, arith}
+use Rattle.std.proofs.Common.{◌≡◌, ◌∙◌, ◌+◌, ◌-◌, ◌*◌, List, [], ◌∷◌, length, drop, sum_by, refl, ap, is_some, subst, sym, arith}
 use Rattle.std.proofs.lemmas.List.{drop_all}
 use Rattle.std.proofs.lemmas.List.Sums.{sum_by-cons}
 use Rattle.sq_graph.specs.Graph.{Block}
 use Rattle.sq_graph.specs.Words.{block_words}
 use Rattle.sq_layout.proofs.Weighing.{by_words}
-use Rattle.sq_lookup.specs.Tables.{number_at}
+use Rattle.sq_chain.specs.Places.{placed_at}
 use Rattle.sq_lookup.proofs.Sizes.{drop_distinct, addresses_small}
 use Rattle.sq_chain.specs.declared.survey.Extent.{Extent}
 use Rattle.sq_chain.specs.Moves.{fallen_blocks, fallen}
@@ -19,7 +19,10 @@ put-requires c =
     let f = falling_at c.requires.0 c.args.order.now c.loop-i.i c.index-order-i.result laid.rules laid.listed (omega (arith, c.loop-i-test.true)) c.index-order-i.is in
     let has = ap is_some f.here.found in
     let within = c.requires.2.within f.here.at.block.name has in
-    omega (arith, c.loop-i.invariant.room, within, f.here.named)
+    let rest = ap (λ (bs : List Block). sum_by block_words bs) f.here.at.rest in
+    let sum = sum_by-cons block_words f.here.at.block (drop (c.loop-i.i + 1) c.requires.0.blocks) in
+    let falls = c.loop-i.invariant.falls c.requires.0 laid in
+    record { within = omega (arith, c.loop-i.invariant.room, within, f.here.named); there = omega (arith, falls, laid.few) }
 
 pub overflow_add-falls : goal.overflow_add-falls
 overflow_add-falls c =
@@ -32,25 +35,6 @@ overflow_add-falls c =
     let falls = c.loop-i.invariant.falls h laid in
     omega (arith, fall, rest, sum, falls, laid.few)
 
-pub overflow_sub-words : goal.overflow_sub-words
-overflow_sub-words c =
-    let h = c.requires.0 in
-    let laid = c.requires.1 in
-    let f = falling_at c.requires.0 c.args.order.now c.loop-i.i c.index-order-i.result laid.rules laid.listed (omega (arith, c.loop-i-test.true)) c.index-order-i.is in
-    let fall = c.fall_of-fall.ensures h f.here.at.block f.block f.here.is (f.here.next ∙ sym c.name_at-next.ensures) f.here.found f.found in
-    omega (arith, fall, ap (λ (x : Extent). x.words) f.here.is)
-
-pub overflow_mul-at : goal.overflow_mul-at
-overflow_mul-at c =
-    let h = c.requires.0 in
-    let laid = c.requires.1 in
-    let f = falling_at c.requires.0 c.args.order.now c.loop-i.i c.index-order-i.result laid.rules laid.listed (omega (arith, c.loop-i-test.true)) c.index-order-i.is in
-    let words = ap (λ (x : Extent). x.words) f.here.is in
-    let rest = ap (λ (bs : List Block). sum_by block_words bs) f.here.at.rest in
-    let sum = sum_by-cons block_words f.here.at.block (drop (c.loop-i.i + 1) h.blocks) in
-    let falls = c.loop-i.invariant.falls h laid in
-    omega (arith, words, rest, sum, falls, laid.few, c.from.ensures)
-
 pub overflow_add-at : goal.overflow_add-at
 overflow_add-at c =
     let h = c.requires.0 in
@@ -60,12 +44,20 @@ overflow_add-at c =
     let rest = ap (λ (bs : List Block). sum_by block_words bs) f.here.at.rest in
     let sum = sum_by-cons block_words f.here.at.block (drop (c.loop-i.i + 1) h.blocks) in
     let falls = c.loop-i.invariant.falls h laid in
-    omega (arith, words, rest, sum, falls, laid.few, c.from.ensures)
+    omega (arith, words, rest, sum, falls, laid.few)
+
+pub overflow_sub-at : goal.overflow_sub-at
+overflow_sub-at c =
+    let h = c.requires.0 in
+    let laid = c.requires.1 in
+    let f = falling_at c.requires.0 c.args.order.now c.loop-i.i c.index-order-i.result laid.rules laid.listed (omega (arith, c.loop-i-test.true)) c.index-order-i.is in
+    let fall = c.fall_of-fall.ensures h f.here.at.block f.block f.here.is (f.here.next ∙ sym c.name_at-next.ensures) f.here.found f.found in
+    omega (arith, fall, ap (λ (x : Extent). x.words) f.here.is)
 
 pub loop-i-init : goal.loop-i-init
 loop-i-init c = record {
   room = refl;
-  placed = λ h laid room. none_placed_by block_words (fallen_blocks h.blocks) (number_at c.args.room.items) room.none;
+  placed = λ h laid room. none_placed_by block_words (fallen_blocks h.blocks) (placed_at c.args.room.items) room.none;
   falls = λ h laid. omega arith;
 }
 
@@ -76,19 +68,18 @@ loop-i-preserved c = record {
       let f = falling_at h c.args.order.now c.loop-i.i c.index-order-i.result laid.rules laid.listed (omega (arith, c.loop-i-test.true)) c.index-order-i.is in
       let fall = c.fall_of-fall.ensures h f.here.at.block f.block f.here.is (f.here.next ∙ sym c.name_at-next.ensures) f.here.found f.found in
       let rules = (fallen_keeps h laid.rules).rules in
-      let size : c.from.result ≡ block_words f.block = omega (arith, fall, ap (λ (x : Extent). x.words) f.here.is, c.from.ensures) in
-      let placed = subst (λ bs. IsPlacedBy block_words (fallen_blocks h.blocks) (number_at c.loop-i.addresses.items) bs c.loop-i.at) f.rest (c.loop-i.invariant.placed h laid room) in
-      subst (λ n. IsPlacedBy block_words (fallen_blocks h.blocks) (number_at c.put.new.addresses.items) (drop (c.loop-i.i + 1) (fallen_blocks h.blocks)) (c.loop-i.at + 4 * n)) (sym size)
-      (one_placed_by block_words (fallen_blocks h.blocks) c.loop-i.at (number_at c.loop-i.addresses.items) (number_at c.put.new.addresses.items) f.block (drop (c.loop-i.i + 1) (fallen_blocks h.blocks)) placed
+      let size : 4 * (c.loop-i.at + (c.index-order-i.result.words - c.fall_of-fall.result)) ≡ 4 * c.loop-i.at + 4 * block_words f.block = omega (arith, fall, ap (λ (x : Extent). x.words) f.here.is) in
+      let placed = subst (λ bs. IsPlacedBy block_words (fallen_blocks h.blocks) (placed_at c.loop-i.addresses.items) bs (4 * c.loop-i.at)) f.rest (c.loop-i.invariant.placed h laid room) in
+      subst (λ n. IsPlacedBy block_words (fallen_blocks h.blocks) (placed_at c.put.new.addresses.items) (drop (c.loop-i.i + 1) (fallen_blocks h.blocks)) n) (sym size)
+      (one_placed_by block_words (fallen_blocks h.blocks) (4 * c.loop-i.at) (placed_at c.loop-i.addresses.items) (placed_at c.put.new.addresses.items) f.block (drop (c.loop-i.i + 1) (fallen_blocks h.blocks)) placed
       (drop_distinct (fallen h) c.loop-i.i f.block (drop (c.loop-i.i + 1) (fallen_blocks h.blocks)) rules f.rest) (λ n. rw f.named (c.put.ensures.value n)));
   falls = λ h laid.
       let f = falling_at h c.args.order.now c.loop-i.i c.index-order-i.result laid.rules laid.listed (omega (arith, c.loop-i-test.true)) c.index-order-i.is in
       let fall = c.fall_of-fall.ensures h f.here.at.block f.block f.here.is (f.here.next ∙ sym c.name_at-next.ensures) f.here.found f.found in
-      let size : c.from.result ≡ block_words f.block = omega (arith, fall, ap (λ (x : Extent). x.words) f.here.is, c.from.ensures) in
       let rest = ap (λ (bs : List Block). sum_by block_words bs) f.here.at.rest in
       let sum = sum_by-cons block_words f.here.at.block (drop (c.loop-i.i + 1) h.blocks) in
       let falls = c.loop-i.invariant.falls h laid in
-      omega (arith, fall, rest, sum, falls, size);
+      omega (arith, fall, rest, sum, falls, ap (λ (x : Extent). x.words) f.here.is);
 }
 
 fallen_length : (bs : List Block) → length (fallen_blocks bs) ≡ length bs
@@ -99,8 +90,8 @@ fallen_length (b ∷ next ∷ rest) = omega (arith, fallen_length (next ∷ rest
 pub returns-clause-addresses : goal.returns-clause-addresses
 returns-clause-addresses c = λ h laid room.
     let all = drop_all c.loop-i.i (fallen_blocks h.blocks) (omega (arith, c.loop-i-test.false, extents_length h c.args.order.now laid.listed, fallen_length h.blocks)) in
-    all_placed_by block_words (fallen_blocks h.blocks) c.loop-i.at (number_at c.loop-i.addresses.items)
-    (subst (λ bs. IsPlacedBy block_words (fallen_blocks h.blocks) (number_at c.loop-i.addresses.items) bs c.loop-i.at) all (c.loop-i.invariant.placed h laid room))
+    all_placed_by block_words (fallen_blocks h.blocks) (4 * c.loop-i.at) (placed_at c.loop-i.addresses.items)
+    (subst (λ bs. IsPlacedBy block_words (fallen_blocks h.blocks) (placed_at c.loop-i.addresses.items) bs (4 * c.loop-i.at)) all (c.loop-i.invariant.placed h laid room))
 
 pub returns-clause-falls : goal.returns-clause-falls
 returns-clause-falls c = λ h laid room.
@@ -116,4 +107,4 @@ returns-clause-small c =
     let laid = c.requires.1 in
     let are = returns-clause-addresses c h laid c.requires.2 in
     let falls = returns-clause-falls c h laid c.requires.2 in
-    addresses_small (number_at c.loop-i.addresses.items) (fallen h) (λ n. are n ∙ by_words (fallen_blocks h.blocks) 0 n) (omega (arith, falls, laid.few))
+    addresses_small (placed_at c.loop-i.addresses.items) (fallen h) (λ n. are n ∙ by_words (fallen_blocks h.blocks) 0 n) (omega (arith, falls, laid.few))

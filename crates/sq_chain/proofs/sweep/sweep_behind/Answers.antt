@@ -6,9 +6,8 @@ use Rattle.law_follow.proofs.Following.{graph_follows_itself}
 use Rattle.sq_pass.specs.Rewrites.{IsRewritten}
 use Rattle.sq_pass.proofs.Rewriting.{rewritten_itself}
 use Rattle.sq_chain.specs.Candidates.{IsCandidate, described}
-use Rattle.sq_chain.specs.Surveys.{IsSurvey}
 use Rattle.sq_chain.proofs.Moved.{canonical_few}
-use Rattle.sq_chain.proofs.Swept.{swept_fewer, swept_follows, swept_rewritten}
+use Rattle.sq_chain.proofs.Swept.{swept_fewer, swept_rewritten}
 use Rattle.sq_chain.proofs.sweep.sweep_behind.Goals as goal
 
 pub returns-in_default-clause-rewritten : goal.returns-in_default-clause-rewritten
@@ -35,24 +34,18 @@ pub returns-then-not-branch-clause-follows : goal.returns-then-not-branch-clause
 returns-then-not-branch-clause-follows c =
     subst (λ (v : GraphAndRoom). Follows c.args.graph.now.graph v.graph) (sym (c.in_ok-sweep_chain.ensures.same (cc))) (graph_follows_itself c.args.graph.now.graph)
 
-pub returns-then-not-branch-clause-survey : goal.returns-then-not-branch-clause-survey
-returns-then-not-branch-clause-survey c =
-    subst (λ (v : GraphAndRoom). IsSurvey v.graph c.args.view.now) (sym (c.in_ok-sweep_chain.ensures.same (cc))) c.requires.survey
-
-pub returns-in_err-next-clause-follows : goal.returns-in_err-next-clause-follows
-returns-in_err-next-clause-follows c = swept_follows c.args.graph.now.graph c.sweep_chain.new.graph.graph (c.in_ok-sweep_chain.ensures.swept (cc))
-
 pub overflow_sub-done : goal.overflow_sub-done
 overflow_sub-done c =
-    omega (arith, c.requires.survey.words, c.in_ok-next.ensures.words, swept_fewer c.args.graph.now.graph c.sweep_chain.new.graph.graph (c.in_ok-sweep_chain.ensures.swept (cc)))
+    omega (arith, c.requires.survey.words, c.in_ok-sweep_chain.ensures.survey.words, swept_fewer c.args.graph.now.graph c.sweep_chain.new.graph.graph (c.in_ok-sweep_chain.ensures.swept (cc)))
 
 pub returns-clause-rewritten : goal.returns-clause-rewritten
 returns-clause-rewritten c =
     let g = c.args.graph.now.graph in
-    let is : c.args.view.now.words - c.in_ok-next.next.words ≡ words_of g - words_of c.sweep_chain.new.graph.graph =
-    ap (λ n. n - c.in_ok-next.next.words) c.requires.survey.words ∙ ap (λ n. words_of g - n) c.in_ok-next.ensures.words
+    let words = c.in_ok-sweep_chain.ensures.survey.words in
+    let is : c.args.view.now.places.words - c.sweep_chain.new.view.places.words ≡ words_of g - words_of c.sweep_chain.new.graph.graph =
+    ap (λ n. n - c.sweep_chain.new.view.places.words) c.requires.survey.words ∙ ap (λ n. words_of g - n) words
     in
-    swept_rewritten g c.sweep_chain.new.graph.graph (c.in_ok-sweep_chain.ensures.swept (cc)) (c.args.view.now.words - c.in_ok-next.next.words) c.args.savings c.count.result is c.count.ensures.value
+    swept_rewritten g c.sweep_chain.new.graph.graph (c.in_ok-sweep_chain.ensures.swept (cc)) (c.args.view.now.places.words - c.sweep_chain.new.view.places.words) c.args.savings c.count.result is c.count.ensures.value
 
 pub returns-clause-follows : goal.returns-clause-follows
 returns-clause-follows c = (returns-clause-rewritten c).lighter.follows

@@ -55,3 +55,12 @@ returns-clause-follows c =
       moved = record { from = c.args.from; to = c.args.to; moved = c.in_ok-move_by.ensures.moved (cc) };
       is = c.canonical.ensures.graph;
     })
+
+pub returns-in_err-view-clause-follows : goal.returns-in_err-view-clause-follows
+returns-in_err-view-clause-follows c =
+    swept_follows c.args.graph.now.graph c.canonical.new.self.graph
+    (record {
+      mid = c.move_by.new.graph.graph;
+      moved = record { from = c.args.from; to = c.args.to; moved = c.in_ok-move_by.ensures.moved (cc) };
+      is = c.canonical.ensures.graph;
+    })

@@ -1,0 +1,144 @@
+-- Tables of where blocks stand: one more is put there, one goes, and all are moved.
+use Rattle.std.proofs.Common.{◌≡◌, ◌≢◌, ℕ, zero, suc, ◌*◌, ◌≤◌, ◌<◌, ◌==◌, nat_eq, true, false, if◌then◌else◌, List, [], ◌∷◌, map, length, get_or, set, None, Some, inl, inr, refl, sym, ap, ◌∙◌, arith}
+use Rattle.std.specs.Prelude.{option_map, nat_lt}
+use Rattle.std.specs.Map.{update}
+use Rattle.std.proofs.lemmas.Bool.{cases_Bool, lt-ltb, le-ltb, ltb-true, ltb-false, eqb-true, eqb-false}
+use Rattle.sq_chain.specs.Places.{nowhere, address_behind, placed_at}
+use Rattle.sq_chain.specs.Shifts.{exchanged_to, lowered_to, lowered_word}
+use Rattle.sq_chain.specs.declared.seams.Seams.{Seams}
+
+-- an address is that behind so many words
+pub behind_is : (words at : ℕ) → address_behind words ≡ Some at → 4 * words ≡ at
+behind_is words at is =
+    elim (cases_Bool (nat_lt words nowhere)) [
+      | inl there ↦ let some : Some (4 * words) ≡ Some at = rw there at is in cc
+      | inr none ↦ absurd (cc (rw none at is))
+    ]
+
+pub behind_there : (words : ℕ) → words < nowhere → address_behind words ≡ Some (4 * words)
+behind_there words less = let is = lt-ltb words nowhere less in rw is refl
+
+-- ONE PLACE
+
+read_here : (t : List ℕ) (name w : ℕ) → name < length t → get_or (set t name w) name nowhere ≡ w
+read_here [] name w within = absurd (omega (arith, within))
+read_here (x ∷ t) zero w within = refl
+read_here (x ∷ t) (suc name) w within = read_here t name w (omega (arith, within))
+
+read_apart : (t : List ℕ) (name n w : ℕ) → name ≢ n → get_or (set t name w) n nowhere ≡ get_or t n nowhere
+read_apart [] name n w apart = refl
+read_apart (x ∷ t) zero zero w apart = absurd (apart refl)
+read_apart (x ∷ t) zero (suc n) w apart = refl
+read_apart (x ∷ t) (suc name) zero w apart = refl
+read_apart (x ∷ t) (suc name) (suc n) w apart = read_apart t name n w (λ same. apart (ap suc same))
+
+pub put_at : (t : List ℕ) (name words n : ℕ) → name < length t → words < nowhere → placed_at (set t name words) n ≡ update nat_eq (placed_at t) name (Some (4 * words)) n
+put_at t name words n within there =
+    elim (cases_Bool (nat_eq name n)) [
+      | inl here ↦
+          let same = eqb-true name n here in
+          rw here (ap (λ k. address_behind (get_or (set t name words) k nowhere)) (sym same) ∙ ap address_behind (read_here t name words within) ∙ behind_there words there)
+      | inr apart ↦ rw apart (ap address_behind (read_apart t name n words (eqb-false name n apart)))
+    ]
+
+read_past : (t : List ℕ) (name : ℕ) → length t ≤ name → get_or t name nowhere ≡ nowhere
+read_past [] name far = refl
+read_past (x ∷ t) zero far = absurd (omega (arith, far))
+read_past (x ∷ t) (suc name) far = read_past t name (omega (arith, far))
+
+pub forgotten : (t : List ℕ) (name n : ℕ) → name < length t → placed_at (set t name nowhere) n ≡ (if name == n then None else placed_at t n)
+forgotten t name n within =
+    elim (cases_Bool (name == n)) [
+      | inl here ↦ rw here (ap (λ k. address_behind (get_or (set t name nowhere) k nowhere)) (sym (eqb-true name n here)) ∙ ap address_behind (read_here t name nowhere within))
+      | inr apart ↦ rw apart (ap address_behind (read_apart t name n nowhere (eqb-false name n apart)))
+    ]
+
+pub never_known : (t : List ℕ) (name n : ℕ) → length t ≤ name → placed_at t n ≡ (if name == n then None else placed_at t n)
+never_known t name n far =
+    elim (cases_Bool (name == n)) [
+      | inl here ↦ rw here (ap (λ k. address_behind (get_or t k nowhere)) (sym (eqb-true name n here)) ∙ ap address_behind (read_past t name far))
+      | inr apart ↦ rw apart refl
+    ]
+
+-- ALL PLACES
+
+mapped_read : (f : ℕ → ℕ) (t : List ℕ) (n : ℕ) → f nowhere ≡ nowhere → get_or (map f t) n nowhere ≡ f (get_or t n nowhere)
+mapped_read f [] n stays = sym stays
+mapped_read f (x ∷ t) zero stays = refl
+mapped_read f (x ∷ t) (suc n) stays = mapped_read f t n stays
+
+-- a shift of words is one of addresses
+module _ (f to : ℕ → ℕ) (stays : (w : ℕ) → nowhere ≤ w → f w ≡ w) (scaled : (w : ℕ) → w < nowhere → (f w < nowhere) × (4 * f w ≡ to (4 * w))) where
+  by_words : (w : ℕ) → address_behind (f w) ≡ option_map to (address_behind w)
+  by_words w =
+      elim (cases_Bool (nat_lt w nowhere)) [
+        | inl there ↦
+            let both = scaled w (ltb-true w nowhere there) in
+            rw there (behind_there (f w) both.0 ∙ ap Some both.1)
+        | inr none ↦ rw none (ap address_behind (stays w (ltb-false w nowhere none)) ∙ rw none refl)
+      ]
+
+  pub mapped_at : (t : List ℕ) (n : ℕ) → placed_at (map f t) n ≡ option_map to (placed_at t n)
+  mapped_at t n = ap address_behind (mapped_read f t n (stays nowhere (omega arith))) ∙ by_words (get_or t n nowhere)
+
+-- A FALL
+
+pub lowered_at : (start : ℕ) (t : List ℕ) (n : ℕ) → placed_at (map (lowered_word start) t) n ≡ option_map (lowered_to (4 * start)) (placed_at t n)
+lowered_at start t n = mapped_at (lowered_word start) (lowered_to (4 * start)) stays scaled t n
+  where
+    stays : (w : ℕ) → nowhere ≤ w → lowered_word start w ≡ w
+    stays w far = let none = le-ltb w nowhere far in rw none refl
+
+    scaled : (w : ℕ) → w < nowhere → (lowered_word start w < nowhere) × (4 * lowered_word start w ≡ lowered_to (4 * start) (4 * w))
+    scaled w there =
+        let here = lt-ltb w nowhere there in
+        elim (cases_Bool (nat_lt start w)) [
+          | inl less ↦
+              let before = ltb-true start w less in
+              let before' : nat_lt (4 * start) (4 * w) ≡ true = lt-ltb (4 * start) (4 * w) (omega (arith, before)) in
+              rw (here, less, before') (omega (arith, there), omega (arith, before))
+          | inr after ↦
+              let after' : nat_lt (4 * start) (4 * w) ≡ false = le-ltb (4 * start) (4 * w) (let more = ltb-false start w after in omega (arith, more)) in
+              rw (here, after, after') (there, refl)
+        ]
+
+-- AN EXCHANGE
+
+pub exchanged_at : (words seams : Seams) → 4 * words.first ≡ seams.first → 4 * words.second ≡ seams.second → 4 * words.end ≡ seams.end → words.first ≤ words.second → words.second ≤ words.end → words.end ≤ nowhere → (t : List ℕ) (n : ℕ) → placed_at (map (exchanged_to words) t) n ≡ option_map (exchanged_to seams) (placed_at t n)
+exchanged_at words seams first second end one two few t n = mapped_at (exchanged_to words) (exchanged_to seams) stays scaled t n
+  where
+    stays : (w : ℕ) → nowhere ≤ w → exchanged_to words w ≡ w
+    stays w far =
+        let a = le-ltb w words.first (omega (arith, far, one, two, few)) in
+        let b = le-ltb w words.second (omega (arith, far, two, few)) in
+        let d = le-ltb w words.end (omega (arith, far, few)) in
+        rw (a, b, d) refl
+
+    scaled : (w : ℕ) → w < nowhere → (exchanged_to words w < nowhere) × (4 * exchanged_to words w ≡ exchanged_to seams (4 * w))
+    scaled w there =
+        elim (cases_Bool (nat_lt w words.first)) [
+          | inl less ↦
+              let a : nat_lt (4 * w) seams.first ≡ true = lt-ltb (4 * w) seams.first (let l = ltb-true w words.first less in omega (arith, l, first)) in
+              rw (less, a) (there, refl)
+          | inr past ↦
+              let past' = ltb-false w words.first past in
+              let a : nat_lt (4 * w) seams.first ≡ false = le-ltb (4 * w) seams.first (omega (arith, past', first)) in
+              elim (cases_Bool (nat_lt w words.second)) [
+                | inl less ↦
+                    let less' = ltb-true w words.second less in
+                    let b : nat_lt (4 * w) seams.second ≡ true = lt-ltb (4 * w) seams.second (omega (arith, less', second)) in
+                    rw (past, less, a, b) (omega (arith, less', two, few), omega (arith, two, second, end))
+                | inr later ↦
+                    let later' = ltb-false w words.second later in
+                    let b : nat_lt (4 * w) seams.second ≡ false = le-ltb (4 * w) seams.second (omega (arith, later', second)) in
+                    elim (cases_Bool (nat_lt w words.end)) [
+                      | inl less ↦
+                          let less' = ltb-true w words.end less in
+                          let d : nat_lt (4 * w) seams.end ≡ true = lt-ltb (4 * w) seams.end (omega (arith, less', end)) in
+                          rw (past, later, less, a, b, d) (omega (arith, there), omega (arith, first, second, one, later'))
+                      | inr behind ↦
+                          let d : nat_lt (4 * w) seams.end ≡ false = le-ltb (4 * w) seams.end (let more = ltb-false w words.end behind in omega (arith, more, end)) in
+                          rw (past, later, behind, a, b, d) (there, refl)
+                    ]
+              ]
+        ]
