@@ -150,5 +150,41 @@ if [ -e /dev/full ]; then
     holds out smallest
 fi
 
+# What is no plain file, and names that are too long
+mkdir folder
+check 2 "" "desk load" pack folder out
+mkfifo pipe
+cat meter > pipe &
+check 0 "text 820 -> 668, loaded 1044 -> 892" "" pack pipe out
+wait
+check 3 "" "refused 1" pack /dev/zero out
+long=$(printf 'a%.0s' $(seq 1 4096))
+check 2 "" "desk load" pack "$long" out
+check 2 "" "desk store" pack meter "$long"
+
+# Printing into a pipe that nobody reads, and onto nothing; what was stored before that is whole
+(sleep 1; "$SQUEEZE" pack meter again 2> complained; echo $? > status) | true
+if [ "$(cat status)" = 2 ] && [ "$(cat complained)" = "desk print" ]; then passed=$((passed + 1)); else failed=$((failed + 1)); echo "a closed pipe: $(cat complained)"; fi
+holds again out
+"$SQUEEZE" pack meter again 2> complained >&-
+if [ $? = 2 ] && [ "$(cat complained)" = "desk print" ]; then passed=$((passed + 1)); else failed=$((failed + 1)); echo "no output: $(cat complained)"; fi
+
+# A file that grows while it is read: what was read of it is packed
+cp meter grown
+(for _ in $(seq 1 300); do printf 'x' >> grown; done) &
+check 0 "text 820 -> 668, loaded 1044 -> 892" "" pack grown again
+wait
+holds again out
+
+# Storing to a full disk, where one can be made: IN stays
+mkdir full
+if mount -t tmpfs -o size=4k tmpfs full 2> complained; then
+    cp meter kept
+    head -c 4096 /dev/zero > full/all
+    check 2 "" "desk store" pack meter full/out
+    holds meter kept
+    umount full
+fi
+
 echo "$passed passed, $failed failed"
 [ "$failed" = 0 ]
