@@ -1,3 +1,6 @@
+pub mod Spans
+pub mod CallWrites
+pub mod Copying
 pub mod Located
 pub mod SlotReads
 pub mod BodyReads

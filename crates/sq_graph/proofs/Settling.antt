@@ -6,23 +6,22 @@ use Rattle.std.proofs.lemmas.List.{append-nil, drop_more, length-map}
 use Rattle.std.proofs.lemmas.List.Concat.{flat_map-append}
 use Rattle.std.proofs.lemmas.List.Sums.{count_by_more_yes, count_by_more_no}
 use Rattle.std.proofs.lemmas.Option.{slice_get_within, get_or_from_slice_get}
-use Rattle.sq_arena.specs.Entries.{HasDistinctKeys, value_of, with_value, before, behind, first_key, next_key}
-use Rattle.sq_arena.proofs.EntriesLaws.{absent_ahead, before-append, behind-append}
+use Rattle.sq_arena.specs.Entries.{HasDistinctKeys, value_of, with_value, first_key, next_key}
 use Rattle.sq_graph.specs.declared.fates.Fate.{Fate}
 use Rattle.sq_graph.specs.declared.item.Item.{Item}
 use Rattle.sq_graph.specs.declared.slot.Slot.{Slot}
 use Rattle.sq_graph.specs.declared.slot.Body.{Body}
 use Rattle.sq_graph.specs.Graph.{Block, Procedure, Graph}
-use Rattle.sq_graph.specs.Blocks.{named, block_of, block_items, HasProcedure, items_of, procedure_link, items_of_blocks, items_of_bodies, all_items}
+use Rattle.sq_graph.specs.Blocks.{block_of, HasProcedure, items_of, procedure_link, items_of_blocks, items_of_bodies, all_items}
 use Rattle.sq_graph.specs.Uses.{item_calls, calls}
 use Rattle.sq_graph.specs.Rules.{IsGraph}
-use Rattle.sq_graph.specs.Slots.{slot_of, slots_from, slots_of, bodies_from, without_starts}
+use Rattle.sq_graph.specs.Slots.{slots_from, slots_of, bodies_from, without_starts}
 use Rattle.sq_graph.specs.Fates.{stays, number_among, settled_items, settled_block, staying, settled}
 use Rattle.sq_graph.specs.declared.graph.Graph.TheInside.{Inside}
+use Rattle.sq_graph.proofs.Copying.{names, Copies, CopiesAt, Copied, copies_first, copies_at, copies_step, copies_all, slot_there, block_there, items_there, length-slots_from}
 use Rattle.sq_graph.proofs.Held.{Shows, shows, length-bodies_from}
 use Rattle.sq_graph.proofs.Eachs.{All-left, All-right}
-use Rattle.sq_graph.proofs.Located.{named-append, items_of_blocks-append, slots_from-append, value_of-slots-none, value_of-at}
-use Rattle.sq_graph.proofs.CursorLaws.{with_value-split, distinct-with_value}
+use Rattle.sq_graph.proofs.Located.{items_of_blocks-append}
 
 get_ahead : {X : Type 0} (xs ys : List X) (i : ℕ) (x : X) → slice_get xs i ≡ Some x → slice_get (xs ++ ys) i ≡ Some x
 get_ahead [] ys i x found = absurd (cc)
@@ -78,186 +77,81 @@ numbers_go i number d fates numbers numbers' first inside go is =
 -- BLOCKS
 
 module _ (g : Graph) (fates : List Fate) where
-  -- the first blocks have their new items and slots, and the others are as they were
+  pub settled_names : (bs : List Block) → names (map (settled_block g fates) bs) ≡ names bs
+  settled_names [] = refl
+  settled_names (b ∷ bs) = ap (λ ns. b.name ∷ ns) (settled_names bs)
+
+  settled_more : (front : List Block) (b : Block) → map (settled_block g fates) (front ++ b ∷ []) ≡ map (settled_block g fates) front ++ settled_block g fates b ∷ []
+  settled_more [] b = refl
+  settled_more (c ∷ front) b = ap (λ bs. settled_block g fates c ∷ bs) (settled_more front b)
+
+  more_items : (front : List Block) (b : Block) (back : List Block) → items_of_blocks (map (settled_block g fates) (front ++ b ∷ back)) ≡ items_of_blocks (map (settled_block g fates) front) ++ (settled_items g fates b.items ++ items_of_blocks (map (settled_block g fates) back))
+  more_items [] b back = refl
+  more_items (c ∷ front) b back =
+      ap (λ is. settled_items g fates c.items ++ is) (more_items front b back)
+      ∙ sym (append_assoc (settled_items g fates c.items) (items_of_blocks (map (settled_block g fates) front)) (settled_items g fates b.items ++ items_of_blocks (map (settled_block g fates) back)))
+
+  -- the first blocks have met the fates
   pub record Settles (now : List (ℕ × Slot)) (place : Option ℕ) (items : List Item) : Type 0 where
     pub front : List Block
-    pub back : List Block
-    pub rest : List (ℕ × Slot)
-    pub whole : g.blocks ≡ front ++ back
-    pub distinct : HasDistinctKeys now
-    pub entries : now ≡ slots_from 0 (map (settled_block g fates) front) ++ rest
-    pub links : without_starts rest ≡ slots_of back
-    pub place_is : place ≡ first_key rest
-    pub items_are : items ≡ items_of_blocks (map (settled_block g fates) front)
+    pub walk : Copies g (map (settled_block g fates)) settled_names now place items front
 
   pub settles_first : (now : List (ℕ × Slot)) (place : Option ℕ) → HasDistinctKeys now → without_starts now ≡ slots_of g.blocks → place ≡ first_key now → Settles now place []
-  settles_first now place distinct links is =
-      record { front = []; back = g.blocks; rest = now; whole = refl; distinct = distinct; entries = refl; links = links; place_is = is; items_are = refl }
+  settles_first now place distinct links is = record { front = []; walk = copies_first g (map (settled_block g fates)) settled_names now place refl distinct links is }
 
-  -- the same with the block at the place
-  pub record SettlesAt (now : List (ℕ × Slot)) (name : ℕ) (items : List Item) : Type 0 where
-    pub front : List Block
-    pub block : Block
-    pub back : List Block
-    pub slot : Slot
-    pub rest : List (ℕ × Slot)
-    pub whole : g.blocks ≡ front ++ block ∷ back
-    pub has_name : block.name ≡ name
-    pub distinct : HasDistinctKeys now
-    pub entries : now ≡ slots_from 0 (map (settled_block g fates) front) ++ (name, slot) ∷ rest
-    pub term : slot.term ≡ block.term
-    pub links : without_starts rest ≡ slots_of back
-    pub items_are : items ≡ items_of_blocks (map (settled_block g fates) front)
+  module _ (now : List (ℕ × Slot)) (name : ℕ) (items : List Item) (rules : IsGraph g) (s : Settles now (Some name) items) where
+    pub at : CopiesAt g (map (settled_block g fates)) settled_names now name items s.front
+    at = copies_at g (map (settled_block g fates)) settled_names now name items s.front s.walk
 
-  abbrev first_of_list : ℕ × Slot → List (ℕ × Slot) → ℕ × Slot
-  first_of_list e [] = e
-  first_of_list e (x ∷ xs) = x
+    pub slot_is : value_of now name ≡ Some at.slot
+    slot_is = slot_there g (map (settled_block g fates)) settled_names now name items s.front rules at
 
-  at_of : (now : List (ℕ × Slot)) (name : ℕ) (items : List Item) (front back : List Block) (rest : List (ℕ × Slot)) → g.blocks ≡ front ++ back → HasDistinctKeys now → now ≡ slots_from 0 (map (settled_block g fates) front) ++ rest → without_starts rest ≡ slots_of back → Some name ≡ first_key rest
-      → items ≡ items_of_blocks (map (settled_block g fates) front) → SettlesAt now name items
-  at_of now name items front back [] whole distinct entries links place are = absurd (cc)
-  at_of now name items front [] (e ∷ rest) whole distinct entries links place are = absurd (cc)
-  at_of now name items front (b ∷ back) (e ∷ rest) whole distinct entries links place are =
-      let key : name ≡ e.0 = cc in
-      let pair : without_starts (e ∷ []) ≡ slots_of (b ∷ []) = cc in
-      let same : e.0 ≡ b.name = ap (λ xs. (first_of_list e xs).0) pair in
-      record {
-        front = front;
-        block = b;
-        back = back;
-        slot = e.1;
-        rest = rest;
-        whole = whole;
-        has_name = sym (key ∙ same);
-        distinct = distinct;
-        entries = entries ∙ ap (λ k. slots_from 0 (map (settled_block g fates) front) ++ (k, e.1) ∷ rest) (sym key);
-        term = ap (λ xs. (first_of_list e xs).1.term) pair;
-        links = cc;
-        items_are = are;
-      }
+    pub block_is : block_of g name ≡ Some at.block
+    block_is = block_there g (map (settled_block g fates)) settled_names now name items s.front rules at
 
-  pub settles_at : (now : List (ℕ × Slot)) (name : ℕ) (items : List Item) → Settles now (Some name) items → SettlesAt now name items
-  settles_at now name items s = at_of now name items s.front s.back s.rest s.whole s.distinct s.entries s.links s.place_is s.items_are
-
-  parts_named : (front back : List Block) (b : Block) (name : ℕ) → g.blocks ≡ front ++ b ∷ back → b.name ≡ name → named g.blocks ≡ named front ++ (name, b) ∷ named back
-  parts_named front back b name whole same =
-      ap named whole ∙ named-append front (b ∷ back) ∙ ap (λ k. named front ++ (k, b) ∷ named back) same
-
-  absent_settled : (bs : List Block) (name : ℕ) → value_of (named bs) name ≡ None → value_of (named (map (settled_block g fates) bs)) name ≡ None
-  absent_settled [] name none = refl
-  absent_settled (b ∷ bs) name none =
-      elim (cases_Bool (b.name == name)) [
-        | inl here ↦ absurd (cc (rw here at none))
-        | inr apart ↦ rw apart (absent_settled bs name (rw apart at none))
-      ]
-
-  module _ (now : List (ℕ × Slot)) (name : ℕ) (items : List Item) (rules : IsGraph g) (at : SettlesAt now name items) where
-    ahead_none : value_of (named at.front) name ≡ None
-    ahead_none = absent_ahead (named at.front) (named at.back) name at.block (subst HasDistinctKeys (parts_named at.front at.back at.block name at.whole at.has_name) rules.distinct)
-
-    slots_none : value_of (slots_from 0 (map (settled_block g fates) at.front)) name ≡ None
-    slots_none = value_of-slots-none 0 (map (settled_block g fates) at.front) name (absent_settled at.front name ahead_none)
-
-    pub slot_there : value_of now name ≡ Some at.slot
-    slot_there = ap (λ es. value_of es name) at.entries ∙ value_of-at (slots_from 0 (map (settled_block g fates) at.front)) at.rest name at.slot slots_none
-
-    pub block_there : block_of g name ≡ Some at.block
-    block_there = ap (λ es. value_of es name) (parts_named at.front at.back at.block name at.whole at.has_name) ∙ value_of-at (named at.front) (named at.back) name at.block ahead_none
-
-    pub items_there : items_of g name ≡ at.block.items
-    items_there = ap block_items block_there
+    items_are : items_of g name ≡ at.block.items
+    items_are = items_there g (map (settled_block g fates)) settled_names now name items s.front rules at
 
     pub called_there : All (HasProcedure g) (flat_map item_calls (items_of g name))
     called_there =
-        let blocks : items_of_blocks g.blocks ≡ items_of_blocks at.front ++ (at.block.items ++ items_of_blocks at.back) = ap items_of_blocks at.whole ∙ items_of_blocks-append at.front (at.block ∷ at.back) in
+        let blocks : items_of_blocks g.blocks ≡ items_of_blocks s.front ++ (at.block.items ++ items_of_blocks at.back) = ap items_of_blocks at.whole ∙ items_of_blocks-append s.front (at.block ∷ at.back) in
         let split : calls g ≡ flat_map item_calls (items_of_blocks g.blocks) ++ flat_map item_calls (items_of_bodies g.procedures) = flat_map-append item_calls (items_of_blocks g.blocks) (items_of_bodies g.procedures) in
         let first = All-left (HasProcedure g) (flat_map item_calls (items_of_blocks g.blocks)) (flat_map item_calls (items_of_bodies g.procedures)) (subst (λ cs. All (HasProcedure g) cs) split rules.called_all) in
-        let parts : flat_map item_calls (items_of_blocks g.blocks) ≡ flat_map item_calls (items_of_blocks at.front) ++ (flat_map item_calls at.block.items ++ flat_map item_calls (items_of_blocks at.back)) =
-        ap (flat_map item_calls) blocks ∙ flat_map-append item_calls (items_of_blocks at.front) (at.block.items ++ items_of_blocks at.back)
-        ∙ ap (λ cs. flat_map item_calls (items_of_blocks at.front) ++ cs) (flat_map-append item_calls at.block.items (items_of_blocks at.back)) in
-        let second = All-right (HasProcedure g) (flat_map item_calls (items_of_blocks at.front)) (flat_map item_calls at.block.items ++ flat_map item_calls (items_of_blocks at.back)) (subst (λ cs. All (HasProcedure g) cs) parts first) in
-        subst (λ is. All (HasProcedure g) (flat_map item_calls is)) (sym items_there) (All-left (HasProcedure g) (flat_map item_calls at.block.items) (flat_map item_calls (items_of_blocks at.back)) second)
-
-    more_items : (front : List Block) (b : Block) (back : List Block) → items_of_blocks (map (settled_block g fates) (front ++ b ∷ back)) ≡ items_of_blocks (map (settled_block g fates) front) ++ (settled_items g fates b.items ++ items_of_blocks (map (settled_block g fates) back))
-    more_items [] b back = refl
-    more_items (c ∷ front) b back =
-        ap (λ is. settled_items g fates c.items ++ is) (more_items front b back)
-        ∙ sym (append_assoc (settled_items g fates c.items) (items_of_blocks (map (settled_block g fates) front)) (settled_items g fates b.items ++ items_of_blocks (map (settled_block g fates) back)))
+        let parts : flat_map item_calls (items_of_blocks g.blocks) ≡ flat_map item_calls (items_of_blocks s.front) ++ (flat_map item_calls at.block.items ++ flat_map item_calls (items_of_blocks at.back)) =
+        ap (flat_map item_calls) blocks ∙ flat_map-append item_calls (items_of_blocks s.front) (at.block.items ++ items_of_blocks at.back)
+        ∙ ap (λ cs. flat_map item_calls (items_of_blocks s.front) ++ cs) (flat_map-append item_calls at.block.items (items_of_blocks at.back)) in
+        let second = All-right (HasProcedure g) (flat_map item_calls (items_of_blocks s.front)) (flat_map item_calls at.block.items ++ flat_map item_calls (items_of_blocks at.back)) (subst (λ cs. All (HasProcedure g) cs) parts first) in
+        subst (λ is. All (HasProcedure g) (flat_map item_calls is)) (sym items_are) (All-left (HasProcedure g) (flat_map item_calls at.block.items) (flat_map item_calls (items_of_blocks at.back)) second)
 
     -- the items so far and those of the block are no more than all
     pub settles_fit : (items' : List Item) → items' ≡ items ++ settled_items g fates (items_of g name) → length items' ≤ length (items_of_blocks (settled fates g).blocks)
     settles_fit items' is =
-        let mine : items' ≡ items_of_blocks (map (settled_block g fates) at.front) ++ settled_items g fates at.block.items = is ∙ ap (λ xs. xs ++ settled_items g fates (items_of g name)) at.items_are ∙ ap (λ xs. items_of_blocks (map (settled_block g fates) at.front) ++ settled_items g fates xs) items_there in
-        let all : items_of_blocks (settled fates g).blocks ≡ items_of_blocks (map (settled_block g fates) at.front) ++ (settled_items g fates at.block.items ++ items_of_blocks (map (settled_block g fates) at.back)) =
-        ap (λ bs. items_of_blocks (map (settled_block g fates) bs)) at.whole ∙ more_items at.front at.block at.back in
+        let mine : items' ≡ items_of_blocks (map (settled_block g fates) s.front) ++ settled_items g fates at.block.items = is ∙ ap (λ xs. xs ++ settled_items g fates (items_of g name)) at.items_are ∙ ap (λ xs. items_of_blocks (map (settled_block g fates) s.front) ++ settled_items g fates xs) items_are in
+        let all : items_of_blocks (settled fates g).blocks ≡ items_of_blocks (map (settled_block g fates) s.front) ++ (settled_items g fates at.block.items ++ items_of_blocks (map (settled_block g fates) at.back)) =
+        ap (λ bs. items_of_blocks (map (settled_block g fates) bs)) at.whole ∙ more_items s.front at.block at.back in
         omega (
           arith,
           ap (λ xs. length xs) mine,
           ap (λ xs. length xs) all,
-          length-append (items_of_blocks (map (settled_block g fates) at.front)) (settled_items g fates at.block.items),
-          length-append (items_of_blocks (map (settled_block g fates) at.front)) (settled_items g fates at.block.items ++ items_of_blocks (map (settled_block g fates) at.back)),
+          length-append (items_of_blocks (map (settled_block g fates) s.front)) (settled_items g fates at.block.items),
+          length-append (items_of_blocks (map (settled_block g fates) s.front)) (settled_items g fates at.block.items ++ items_of_blocks (map (settled_block g fates) at.back)),
           length-append (settled_items g fates at.block.items) (items_of_blocks (map (settled_block g fates) at.back)),
         )
 
-    map_more : (front : List Block) (b : Block) → map (settled_block g fates) (front ++ b ∷ []) ≡ map (settled_block g fates) front ++ settled_block g fates b ∷ []
-    map_more [] b = refl
-    map_more (c ∷ front) b = ap (λ bs. settled_block g fates c ∷ bs) (map_more front b)
-
     pub settles_step : (v v' : Slot) (start count : ℕ) (items' : List Item) → value_of now name ≡ Some v → start ≡ length items → items' ≡ items ++ settled_items g fates (items_of g name) → count + start ≡ length items' → v' ≡ record v { start = start; length = count }
         → Settles (with_value now name v') (next_key (with_value now name v') name) items'
-    settles_step v v' start count items' found start_is is count_is slot_is =
-        let F = map (settled_block g fates) at.front in
-        let value : at.slot ≡ v = cc (sym slot_there ∙ found) in
-        let mine : settled_items g fates (items_of g name) ≡ settled_items g fates at.block.items = ap (settled_items g fates) items_there in
-        let here : length items ≡ length (items_of_blocks (map (settled_block g fates) at.front)) = ap (λ xs. length xs) at.items_are in
-        let size : count ≡ length (settled_items g fates at.block.items) = omega (arith, count_is, start_is, ap (λ xs. length xs) is, length-append items (settled_items g fates (items_of g name)), ap (λ xs. length xs) mine) in
-        let made : v' ≡ slot_of (0 + length (items_of_blocks (map (settled_block g fates) at.front))) (settled_block g fates at.block) =
-        slot_is ∙ ap (λ (s : Slot). record s { start = start; length = count }) (sym value) ∙ ap (λ t. record { start = start; length = count; term = t }) at.term ∙ ap (λ n. record { start = start; length = n; term = at.block.term }) size
-        ∙ ap (λ n. record { start = n; length = length (settled_items g fates at.block.items); term = at.block.term }) (omega (arith, start_is, here)) in
-        let old : before now name ≡ slots_from 0 (map (settled_block g fates) at.front) = ap (λ es. before es name) at.entries ∙ before-append (slots_from 0 (map (settled_block g fates) at.front)) at.rest name at.slot slots_none in
-        let later : behind now name ≡ at.rest = ap (λ es. behind es name) at.entries ∙ behind-append (slots_from 0 (map (settled_block g fates) at.front)) at.rest name at.slot slots_none in
-        let parts : with_value now name v' ≡ slots_from 0 (map (settled_block g fates) at.front) ++ (name, v') ∷ at.rest =
-        with_value-split now name v v' found ∙ ap (λ es. es ++ (name, v') ∷ behind now name) old ∙ ap (λ es. slots_from 0 (map (settled_block g fates) at.front) ++ (name, v') ∷ es) later in
+    settles_step v v' start count items' found start_is is count_is made =
+        let new : settled_items g fates (items_of g name) ≡ settled_items g fates at.block.items = ap (settled_items g fates) items_are in
+        let size : count ≡ length (settled_items g fates at.block.items) = omega (arith, count_is, start_is, ap (λ xs. length xs) is, length-append items (settled_items g fates (items_of g name)), ap (λ xs. length xs) new) in
         record {
-          front = at.front ++ at.block ∷ [];
-          back = at.back;
-          rest = at.rest;
-          whole = at.whole ∙ sym (append_assoc at.front (at.block ∷ []) at.back);
-          distinct = distinct-with_value now name v' at.distinct;
-          entries =
-              parts
-              ∙ sym (append_assoc (slots_from 0 (map (settled_block g fates) at.front)) ((name, v') ∷ []) at.rest)
-              ∙ ap (λ s. (slots_from 0 (map (settled_block g fates) at.front) ++ (name, s) ∷ []) ++ at.rest) made
-              ∙ ap (λ k. (slots_from 0 (map (settled_block g fates) at.front) ++ (k, slot_of (0 + length (items_of_blocks (map (settled_block g fates) at.front))) (settled_block g fates at.block)) ∷ []) ++ at.rest) (sym at.has_name)
-              ∙ ap (λ es. es ++ at.rest) (sym (slots_from-append 0 (map (settled_block g fates) at.front) (settled_block g fates at.block ∷ [])))
-              ∙ ap (λ bs. slots_from 0 bs ++ at.rest) (sym (map_more at.front at.block));
-          links = at.links;
-          place_is =
-              ap (λ es. next_key es name) parts ∙ ap (λ es. first_key es) (behind-append (slots_from 0 (map (settled_block g fates) at.front)) at.rest name v' slots_none);
-          items_are =
-              is ∙ ap (λ xs. items ++ xs) mine ∙ ap (λ xs. xs ++ settled_items g fates at.block.items) at.items_are
-              ∙ ap (λ xs. items_of_blocks (map (settled_block g fates) at.front) ++ xs) (sym (append-nil (settled_items g fates at.block.items)))
-              ∙ sym (items_of_blocks-append (map (settled_block g fates) at.front) (settled_block g fates at.block ∷ []))
-              ∙ ap (λ bs. items_of_blocks bs) (sym (map_more at.front at.block));
+          front = s.front ++ at.block ∷ [];
+          walk =
+              copies_step g (map (settled_block g fates)) settled_names now name items s.front rules at v v' start count (settled_items g fates at.block.items) items' (settled_more s.front at.block) found start_is
+              (is ∙ ap (λ xs. items ++ xs) new) size made;
         }
 
-  pub record Settled (now : List (ℕ × Slot)) (items : List Item) : Type 0 where
-    pub entries : now ≡ slots_from 0 (settled fates g).blocks
-    pub items_are : items ≡ items_of_blocks (settled fates g).blocks
-
-  settled_of : (now : List (ℕ × Slot)) (items : List Item) (front back : List Block) (rest : List (ℕ × Slot)) → g.blocks ≡ front ++ back → now ≡ slots_from 0 (map (settled_block g fates) front) ++ rest → without_starts rest ≡ slots_of back → None ≡ first_key rest
-      → items ≡ items_of_blocks (map (settled_block g fates) front) → Settled now items
-  settled_of now items front back (e ∷ rest) whole entries links place are = absurd (cc)
-  settled_of now items front (b ∷ back) [] whole entries links place are = absurd (cc)
-  settled_of now items front [] [] whole entries links place are =
-      let all : front ≡ g.blocks = sym (append-nil front) ∙ sym whole in
-      record {
-        entries = entries ∙ append-nil (slots_from 0 (map (settled_block g fates) front)) ∙ ap (λ bs. slots_from 0 (map (settled_block g fates) bs)) all;
-        items_are = are ∙ ap (λ bs. items_of_blocks (map (settled_block g fates) bs)) all;
-      }
-
-  pub settles_all : (now : List (ℕ × Slot)) (items : List Item) → Settles now None items → Settled now items
-  settles_all now items s = settled_of now items s.front s.back s.rest s.whole s.entries s.links s.place_is s.items_are
+  pub settles_all : (now : List (ℕ × Slot)) (items : List Item) → Settles now None items → Copied g (map (settled_block g fates)) settled_names now items
+  settles_all now items s = copies_all g (map (settled_block g fates)) settled_names now items s.front s.walk
 
 -- BODIES
 
@@ -376,10 +270,6 @@ length-staying (f ∷ fates) (p ∷ ps) =
 
 pub length-bodies : (fates : List Fate) (ps : List Procedure) (bodies : List Body) → bodies ≡ bodies_from 0 (staying fates ps) → length bodies ≤ length ps
 length-bodies fates ps bodies is = omega (arith, ap (λ bs. length bs) is, length-bodies_from 0 (staying fates ps), length-staying fates ps)
-
-length-slots_from : (n : ℕ) (bs : List Block) → length (slots_from n bs) ≡ length bs
-length-slots_from n [] = refl
-length-slots_from n (b ∷ bs) = ap suc (length-slots_from (n + length b.items) bs)
 
 pub settled_shows : (new : Inside) (fates : List Fate) (g : Graph) (front : List Item)
     → IsGraph (settled fates g) → length (all_items (settled fates g)) < 2 ^ 29 → length g.blocks + new.slots.spare < 2 ^ 29 → length g.procedures < 2 ^ 29

@@ -1,3 +1,4 @@
+pub mod Calls
 pub mod Graph
 pub mod Terms
 pub mod Blocks

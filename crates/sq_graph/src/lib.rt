@@ -8,6 +8,7 @@
 
 mod blocks;
 mod build;
+mod calls;
 mod canonical;
 mod edits;
 mod fates;
@@ -26,6 +27,7 @@ mod slots;
 mod trim;
 mod vectors;
 
+pub use calls::ItemFate;
 pub use fates::Fate;
 pub use graph::Graph;
 pub use item::{Item, Term};
