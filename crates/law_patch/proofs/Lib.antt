@@ -48,3 +48,4 @@ pub mod Bypassing
 pub mod Joining
 pub mod Renaming
 pub mod StayingDead
+pub mod StayingLive

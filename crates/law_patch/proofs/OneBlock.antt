@@ -8,7 +8,7 @@ use Rattle.sq_graph.specs.declared.item.Item.{Item}
 use Rattle.sq_graph.specs.declared.item.Item.TheVariants.{Op, Hi, Lo, Out}
 use Rattle.sq_graph.specs.declared.item.Term.TheVariants.{Fall, Jump, PartJump}
 use Rattle.sq_graph.specs.Graph.{Block, Procedure, Graph}
-use Rattle.sq_graph.specs.Blocks.{named, HasBlock, block_of, block_items, items_of, block_term, term_of, next_of, procedure_body, body_of}
+use Rattle.sq_graph.specs.Blocks.{named, HasBlock, block_of, block_items, items_of, block_term, term_of, next_of, procedure_body, body_of, procedure_link, link_of}
 use Rattle.sq_graph.specs.Terms.{links}
 use Rattle.sq_graph.specs.Uses.{uses, item_calls}
 use Rattle.sq_graph.specs.Rules.{IsGraph, mentions, ProcedureFits}
@@ -259,7 +259,8 @@ die_at g (x ∷ items) (suc at) q rest e die p f =
     let more : suc at + 1 ≡ suc (at + 1) = omega arith in
     rw more (die_at g items at q rest e (items_rest g (x ∷ []) (map line_of items ++ rest) die) p f)
 
-module _ (g : Graph) (block at q : ℕ) (rules : IsGraph g) (there : slice_get (items_of g block) at ≡ Some (Out q)) where
+-- the link is dead behind the call
+module _ (g : Graph) (block at q : ℕ) (rules : IsGraph g) (there : slice_get (items_of g block) at ≡ Some (Out q)) (Given : Type 0) (dies : Given → (link : ℕ) → link_of g q ≡ Some link → ¬ IsLive g link (place_lines g block (at + 1))) where
   inline_there : HasBlock g block
   inline_there = there_by_item (block_of g block) at (Out q) there
 
@@ -270,16 +271,16 @@ module _ (g : Graph) (block at q : ℕ) (rules : IsGraph g) (there : slice_get (
   ih = inlined g block at
 
   abbrev IC : Change
-  IC = replacing NoMode no_stands (live g) (IsSound g) g ih rules refl refl
+  IC = replacing NoMode no_stands (live g) Given g ih rules refl refl
 
   abbrev ispot : IsAt g.blocks block
-  ispot = place NoMode no_stands (live g) (IsSound g) g (live_carrier g) rules block at 1 by inline_there
+  ispot = place NoMode no_stands (live g) Given g (live_carrier g) rules block at 1 by inline_there
 
   abbrev ilater : List Line
-  ilater = behind NoMode no_stands (live g) (IsSound g) g (live_carrier g) rules block at 1 by inline_there
+  ilater = behind NoMode no_stands (live g) Given g (live_carrier g) rules block at 1 by inline_there
 
   abbrev ibefore : List Item
-  ibefore = out NoMode no_stands (live g) (IsSound g) g (live_carrier g) rules block at 1 by inline_there
+  ibefore = out NoMode no_stands (live g) Given g (live_carrier g) rules block at 1 by inline_there
 
   out_there : slice_get ispot.block.items at ≡ Some (Out q)
   out_there = subst (λ items. slice_get items at ≡ Some (Out q)) (items_at_block g rules block ispot) there
@@ -305,21 +306,21 @@ module _ (g : Graph) (block at q : ℕ) (rules : IsGraph g) (there : slice_get (
   calls_none : (item : Item) → Contains p.body item → item_calls item ≡ []
   calls_none item c = from_all (λ item. item_calls item ≡ []) p.body item fits.no_calls c
 
-  -- in a sound graph the link is dead behind the call, and so where the body begins
-  link_dead : IsSound g → ¬ IsLive g p.link (inside p ilater)
-  link_dead sound =
-      let die = die_in g ispot.front ispot.block ispot.back (subst (λ blocks. LinksDieIn g (lines_of blocks)) (sym (stood g rules block ispot)) sound.links_die) in
-      items_dead g p.body p.link (Return p.link ∷ ilater) calls_none (λ item c. from_all (λ item. mentions item p.link ≡ false) p.body item fits.no_mention c)
-      (return_dead g p.link p.link ilater (die_at g ispot.block.items at q (term_lines ispot.block.term (lines_of ispot.back)) out_there die p found.1))
+  -- and so where the body begins
+  link_dead : Given → ¬ IsLive g p.link (inside p ilater)
+  link_dead given =
+      let dead : ¬ IsLive g p.link ilater =
+      subst (λ lines. ¬ IsLive g p.link lines) (behind_at g rules block ispot (at + 1) (item_within ispot.block.items at (Out q) out_there)) (dies given p.link (ap procedure_link found.1)) in
+      items_dead g p.body p.link (Return p.link ∷ ilater) calls_none (λ item c. from_all (λ item. mentions item p.link ≡ false) p.body item fits.no_mention c) (return_dead g p.link p.link ilater dead)
 
   inlines : (b : Bool) → Alike IC b None ilater ilater → Alike IC b None (map line_of ibefore ++ ilater) (map line_of by ++ ilater)
   inlines b k =
-      let each = bodies_stay every (live g) (IsSound g) g ih rules (λ n c. tt) refl refl (λ n c. tt) p here in
+      let each = bodies_stay every (live g) Given g ih rules (λ n c. tt) refl refl (λ n c. tt) p here in
       let inner : Alike IC b None (inside p ilater) (map line_of p.body ++ ilater) =
       subst (λ items. Alike IC b None (inside p ilater) (map line_of items ++ ilater)) (own_items p.body) (carry_items IC own p.body (Return p.link ∷ ilater) ilater each (return_before tt k)) in
       subst (λ items. Alike IC b None (map line_of items ++ ilater) (map line_of by ++ ilater)) (sym (one_item ispot.block.items at (Out q) out_there))
       (subst (λ items. Alike IC b None (Enter q ∷ ilater) (map line_of items ++ ilater)) (sym by_is)
-      (enter_before {m = None} {m' = None} tt p found.1 (λ r t x n z. n) (λ sound r l. is_other g p.link r (inside p ilater) (link_dead sound) l) inner))
+      (enter_before {m = None} {m' = None} tt p found.1 (λ r t x n z. n) (λ given r l. is_other g p.link r (inside p ilater) (link_dead given) l) inner))
 
   -- a body calls nothing
   body_dies : (items : List Item) (lines : List Line) → ((item : Item) → Contains items item → item_calls item ≡ []) → LinksDieIn ih lines → LinksDieIn ih (map line_of items ++ lines)
@@ -335,24 +336,53 @@ module _ (g : Graph) (block at q : ℕ) (rules : IsGraph g) (there : slice_get (
   by_dies : Backs IC own → Alike IC true None ilater ilater → LinksDieIn g (map line_of ibefore ++ ilater) → LinksDieIn ih ilater → LinksDieIn ih (map line_of by ++ ilater)
   by_dies backs k die die' = subst (λ (items : List Item). LinksDieIn ih (map line_of items ++ ilater)) (sym by_is) (body_dies p.body ilater calls_none die')
 
-  pub inline_follows : Follows g ih
-  inline_follows = replaced_follows NoMode no_stands (live g) (IsSound g) g (live_carrier g) rules block at 1 by inline_there inlines by_lowers by_dies
+  pub inline_follows_by : Follows g ih
+  inline_follows_by = replaced_follows NoMode no_stands (live g) Given g (live_carrier g) rules block at 1 by inline_there inlines by_lowers by_dies
 
   -- no more is live in other blocks, and in this one up to the call
-  pub inline_live : IsSound g → (other spot r : ℕ) → HasBlock g other → spot ≤ length (items_of g other) → (other ≡ block → spot ≤ at) → IsLive ih r (place_lines ih other spot) → IsLive g r (place_lines g other spot)
-  inline_live sound other spot r has l ahead_of lives =
+  pub inline_live_by : Given → (other spot r : ℕ) → HasBlock g other → spot ≤ length (items_of g other) → (other ≡ block → spot ≤ at) → IsLive ih r (place_lines ih other spot) → IsLive g r (place_lines g other spot)
+  inline_live_by given other spot r has l ahead_of lives =
       let within = item_within ispot.block.items at (Out q) out_there in
-      replaced_live NoMode no_stands (live g) (IsSound g) g (live_carrier g) rules block at 1 by inline_there inlines by_lowers by_dies (λ xs r l. l) sound (omega (arith, within)) other spot r has l ahead_of lives
+      replaced_live NoMode no_stands (live g) Given g (live_carrier g) rules block at 1 by inline_there inlines by_lowers by_dies (λ xs r l. l) given (omega (arith, within)) other spot r has l ahead_of lives
 
   -- nor behind it
-  pub inline_moves : IsSound g → (spot r : ℕ) → (at + 1) + spot ≤ length (items_of g block) → IsLive ih r (place_lines ih block ((at + length (body_of g q)) + spot)) → IsLive g r (place_lines g block ((at + 1) + spot))
-  inline_moves sound spot r l lives =
+  pub inline_moves_by : Given → (spot r : ℕ) → (at + 1) + spot ≤ length (items_of g block) → IsLive ih r (place_lines ih block ((at + length (body_of g q)) + spot)) → IsLive g r (place_lines g block ((at + 1) + spot))
+  inline_moves_by given spot r l lives =
       let many : length (body_of g q) ≡ length by = ap length (ap procedure_body found.1 ∙ sym by_is) in
-      replaced_moves NoMode no_stands (live g) (IsSound g) g (live_carrier g) rules block at 1 by inline_there inlines by_lowers by_dies (λ xs r l. l) sound (item_within ispot.block.items at (Out q) out_there) spot r l
+      replaced_moves NoMode no_stands (live g) Given g (live_carrier g) rules block at 1 by inline_there inlines by_lowers by_dies (λ xs r l. l) given (item_within ispot.block.items at (Out q) out_there) spot r l
       (subst (λ k. IsLive ih r (place_lines ih block ((at + k) + spot))) many lives)
 
-  pub inline_sound : IsSound g → IsSound ih
-  inline_sound sound = replaced_sound NoMode no_stands (live g) (IsSound g) g (live_carrier g) rules block at 1 by inline_there inlines by_lowers by_dies (λ xs r l. l) sound sound
+  pub inline_sound_by : Given → IsSound g → IsSound ih
+  inline_sound_by given sound = replaced_sound NoMode no_stands (live g) Given g (live_carrier g) rules block at 1 by inline_there inlines by_lowers by_dies (λ xs r l. l) given sound
+
+-- in a sound graph the link is dead behind each call
+module _ (g : Graph) (block at q : ℕ) (rules : IsGraph g) (there : slice_get (items_of g block) at ≡ Some (Out q)) where
+  abbrev spot_there : IsAt g.blocks block
+  spot_there = place NoMode no_stands (live g) (IsSound g) g (live_carrier g) rules block at 1 [] (there_by_item (block_of g block) at (Out q) there)
+
+  sound_dies : IsSound g → (link : ℕ) → link_of g q ≡ Some link → ¬ IsLive g link (place_lines g block (at + 1))
+  sound_dies sound link is =
+      let own : slice_get spot_there.block.items at ≡ Some (Out q) = subst (λ items. slice_get items at ≡ Some (Out q)) (items_at_block g rules block spot_there) there in
+      let p = linked (slice_get g.procedures q) is in
+      let die = die_in g spot_there.front spot_there.block spot_there.back (subst (λ blocks. LinksDieIn g (lines_of blocks)) (sym (stood g rules block spot_there)) sound.links_die) in
+      subst (λ lines. ¬ IsLive g link lines) (sym (behind_at g rules block spot_there (at + 1) (item_within spot_there.block.items at (Out q) own)))
+      (subst (λ r. ¬ IsLive g r (map line_of (drop (at + 1) spot_there.block.items) ++ term_lines spot_there.block.term (lines_of spot_there.back))) p.2 (die_at g spot_there.block.items at q (term_lines spot_there.block.term (lines_of spot_there.back)) own die p.0 p.1))
+    where
+      linked : (o : Option Procedure) {link : ℕ} → procedure_link o ≡ Some link → (p : Procedure) × (o ≡ Some p) × (p.link ≡ link)
+      linked None e = absurd (cc)
+      linked (Some p) {link} e = (p, refl, same_some p.link link e)
+
+  pub inline_follows : Follows g (inlined g block at)
+  inline_follows = inline_follows_by g block at q rules there (IsSound g) sound_dies
+
+  pub inline_live : IsSound g → (other spot r : ℕ) → HasBlock g other → spot ≤ length (items_of g other) → (other ≡ block → spot ≤ at) → IsLive (inlined g block at) r (place_lines (inlined g block at) other spot) → IsLive g r (place_lines g other spot)
+  inline_live = inline_live_by g block at q rules there (IsSound g) sound_dies
+
+  pub inline_moves : IsSound g → (spot r : ℕ) → (at + 1) + spot ≤ length (items_of g block) → IsLive (inlined g block at) r (place_lines (inlined g block at) block ((at + length (body_of g q)) + spot)) → IsLive g r (place_lines g block ((at + 1) + spot))
+  inline_moves = inline_moves_by g block at q rules there (IsSound g) sound_dies
+
+  pub inline_sound : IsSound g → IsSound (inlined g block at)
+  inline_sound sound = inline_sound_by g block at q rules there (IsSound g) sound_dies sound sound
 
 module _ (g : Graph) (new block at : ℕ) (rules : IsGraph g) (fresh : IsNew g new) where
   abbrev sh : Graph
