@@ -1,15 +1,17 @@
 -- Which blocks are in slots before another one, and where these stand.
-use Rattle.std.proofs.Common.{◌≡◌, ◌⊎◌, ℕ, ◌+◌, ◌*◌, ◌≤◌, ◌==◌, List, [], ◌∷◌, ◌++◌, length, Option, None, Some, inl, inr, refl, sym, ap, ◌∙◌, subst, arith, append_assoc}
+use Rattle.std.proofs.Common.{◌≡◌, ◌⊎◌, ℕ, ◌+◌, ◌*◌, ◌≤◌, ◌==◌, List, [], ◌∷◌, ◌++◌, length, Option, None, Some, inl, inr, refl, sym, ap, ◌∙◌, subst, arith}
 use Rattle.std.specs.Prelude.{unwrap_or}
 use Rattle.std.proofs.lemmas.Bool.{cases_Bool, eqb-true}
-use Rattle.sq_arena.specs.Entries.{HasDistinctKeys, ContainsKey, value_of, before, behind, first_key, last_key, previous_key}
-use Rattle.sq_arena.proofs.EntriesLaws.{or_value, value_of-append, absent_ahead, before-append}
-use Rattle.sq_arena.proofs.EntriesLemmas.{split_at, some_value}
+use Rattle.sq_arena.specs.Entries.{HasDistinctKeys, ContainsKey, value_of, before, through, behind, first_key, last_key, previous_key}
+use Rattle.sq_arena.proofs.EntriesLaws.{or_value, value_of-append}
+use Rattle.sq_arena.proofs.EntriesLemmas.{split_at, some_value, through-before}
 use Rattle.sq_graph.specs.declared.item.Term.TheVariants.{Branch}
+use Rattle.sq_graph.specs.Cursor.{ahead_of}
 use Rattle.sq_graph.specs.Graph.{Block, Graph}
 use Rattle.sq_graph.specs.Blocks.{named, HasBlock, block_of, block_items, items_of, next_of}
 use Rattle.sq_graph.specs.Rules.{IsGraph}
 use Rattle.sq_graph.specs.Words.{term_words, block_words}
+use Rattle.sq_graph.proofs.CursorLaws.{behind_parts}
 use Rattle.sq_layout.specs.Weights.{address_by}
 use Rattle.sq_chain.specs.Least.{stands_at}
 use Rattle.sq_chain.specs.Widening.{EndsInBranch}
@@ -27,10 +29,6 @@ in_front (x ∷ xs) c b n some =
       | inr apart ↦ elim (in_front xs c b n (rw apart at some)) [ inl there ↦ inl (rw apart there) | inr same ↦ inr same ]
     ]
 
-first_pair : (xs : List (ℕ × Block)) (d : ℕ) → first_key xs ≡ Some d → (b : Block) × ((rest : List (ℕ × Block)) × (xs ≡ (d, b) ∷ rest))
-first_pair [] d first = absurd (cc)
-first_pair (x ∷ xs) d first = (x.1, (xs, let same : x.0 ≡ d = cc in ap (λ k. (k, x.1) ∷ xs) same))
-
 no_first : (xs : List (ℕ × Block)) → first_key xs ≡ None → xs ≡ []
 no_first [] none = refl
 no_first (x ∷ xs) none = absurd (cc)
@@ -41,7 +39,7 @@ no_last (x ∷ []) none = absurd (cc)
 no_last (x ∷ y ∷ xs) none = absurd (let more : y ∷ xs ≡ [] = no_last (y ∷ xs) none in cc)
 
 -- a block stands within its list
-fits : (xs : List (ℕ × Block)) (at n : ℕ) (b : Block) → value_of xs n ≡ Some b → (x : ℕ) × ((stands xs at n ≡ Some x) × (x + 4 * block_words b ≤ at + 4 * size xs))
+pub fits : (xs : List (ℕ × Block)) (at n : ℕ) (b : Block) → value_of xs n ≡ Some b → (x : ℕ) × ((stands xs at n ≡ Some x) × (x + 4 * block_words b ≤ at + 4 * size xs))
 fits [] at n b found = absurd (cc)
 fits (e ∷ xs) at n b found =
     elim (cases_Bool (e.0 == n)) [
@@ -70,15 +68,15 @@ module _ (g : Graph) (rules : IsGraph g) (c : ℕ) (has : HasBlock g c) where
   none_first none n some = let empty : before es c ≡ [] = no_last (before es c) none in absurd (cc (ap (λ (xs : List (ℕ × Block)). value_of xs n) empty, some))
 
   -- before the next one
+  pub before_next : (d : ℕ) → next_of g c ≡ Some d → before es d ≡ through es c
+  before_next d next =
+      let parts = behind_parts (before es c) (behind es c) (c, block.0) (subst (λ (xs : List (ℕ × Block)). HasDistinctKeys xs) split rules.distinct) in
+      ap (λ (o : Option ℕ). ahead_of es o) (sym next)
+      ∙ ap (λ (xs : List (ℕ × Block)). ahead_of xs (next_of g c)) split ∙ parts.ahead ∙ sym (through-before es c block.0 block.1)
+
   pub next_ahead : (d n : ℕ) → next_of g c ≡ Some d → ContainsKey (before es d) n → ContainsKey (before es c) n ⊎ (c ≡ n)
   next_ahead d n next some =
-      let first = first_pair (behind es c) d next in
-      let one : List (ℕ × Block) = (c, block.0) ∷ [] in
-      let is : es ≡ (before es c ++ one) ++ (d, first.0) ∷ first.1.0 =
-      split ∙ ap (λ (xs : List (ℕ × Block)). before es c ++ (c, block.0) ∷ xs) first.1.1 ∙ sym (append_assoc (before es c) one ((d, first.0) ∷ first.1.0)) in
-      let none = absent_ahead (before es c ++ one) first.1.0 d first.0 (subst (λ (xs : List (ℕ × Block)). HasDistinctKeys xs) is rules.distinct) in
-      let front : before es d ≡ before es c ++ one = ap (λ (xs : List (ℕ × Block)). before xs d) is ∙ before-append (before es c ++ one) first.1.0 d first.0 none in
-      in_front (before es c) c block.0 n (subst (λ (xs : List (ℕ × Block)). ContainsKey xs n) front some)
+      in_front (before es c) c block.0 n (subst (λ (xs : List (ℕ × Block)). ContainsKey xs n) (before_next d next ∙ through-before es c block.0 block.1) some)
 
   -- before the last one
   pub last_ahead : (n : ℕ) → next_of g c ≡ None → HasBlock g n → ContainsKey (before es c) n ⊎ (c ≡ n)

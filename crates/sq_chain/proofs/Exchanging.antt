@@ -205,10 +205,10 @@ module _ (g : Graph) (from to : ℕ) (rules : IsGraph g) (movable : IsMovable g 
   a_size : size A ≡ size (through A from) + size (behind A from)
   a_size = ap size (sym (through-behind A from)) ∙ size_append (through A from) (behind A from)
 
-  c_size : value_of A from ≡ None → size (through es from) ≡ size A + size R + size (through C from)
+  pub c_size : value_of A from ≡ None → size (through es from) ≡ size A + size R + size (through C from)
   c_size out = omega (arith, ap size (through_c out), size_append A (R ++ through C from), size_append R (through C from))
 
-  jump_size : value_of A from ≡ None → 1 ≤ size (through C from)
+  pub jump_size : value_of A from ≡ None → 1 ≤ size (through C from)
   jump_size out =
       omega (
         arith,

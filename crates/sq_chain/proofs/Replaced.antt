@@ -60,7 +60,7 @@ exchanged_is seams at to first second is =
           ]
     ]
 
-shifted_is : (seams : Seams) (at : ℕ) → seams.first ≤ seams.second → seams.second ≤ seams.end → IsShifted seams at (exchanged_to seams at)
+pub shifted_is : (seams : Seams) (at : ℕ) → seams.first ≤ seams.second → seams.second ≤ seams.end → IsShifted seams at (exchanged_to seams at)
 shifted_is seams at first second = record {
   before = λ less. before less;
   first = λ more less. middle more less;

@@ -87,7 +87,7 @@ stop_size : (e : ℕ × Block) (es : List (ℕ × Block)) → Stops (e ∷ es) �
 stop_size e [] stops = omega (arith, stop_words e.1.term stops, size_one e [])
 stop_size e (f ∷ es) stops = omega (arith, stop_size f es stops, size_one e (f ∷ es))
 
-to_end : (xs : List (ℕ × Block)) (at n x : ℕ) → Stops xs → stands xs at n ≡ Some x → x < at + 4 * size xs
+pub to_end : (xs : List (ℕ × Block)) (at n x : ℕ) → Stops xs → stands xs at n ≡ Some x → x < at + 4 * size xs
 to_end [] at n x stops found = absurd (cc)
 to_end (e ∷ []) at n x stops found =
     elim (cases_Bool (e.0 == n)) [

@@ -4,8 +4,7 @@ use Rattle.std.specs.Prelude.{option_map, nat_lt}
 use Rattle.std.specs.Map.{update}
 use Rattle.std.proofs.lemmas.Bool.{cases_Bool, lt-ltb, le-ltb, ltb-true, ltb-false, eqb-true, eqb-false}
 use Rattle.sq_chain.specs.Places.{nowhere, address_behind, placed_at}
-use Rattle.sq_chain.specs.Shifts.{exchanged_to, lowered_to, lowered_word}
-use Rattle.sq_chain.specs.declared.seams.Seams.{Seams}
+use Rattle.sq_chain.specs.Shifts.{lowered_to, lowered_word}
 
 -- an address is that behind so many words
 pub behind_is : (words at : ℕ) → address_behind words ≡ Some at → 4 * words ≡ at
@@ -45,6 +44,13 @@ read_past : (t : List ℕ) (name : ℕ) → length t ≤ name → get_or t name 
 read_past [] name far = refl
 read_past (x ∷ t) zero far = absurd (omega (arith, far))
 read_past (x ∷ t) (suc name) far = read_past t name (omega (arith, far))
+
+pub placed_within : (t : List ℕ) (name at : ℕ) → placed_at t name ≡ Some at → name < length t
+placed_within t name at is =
+    elim (cases_Bool (nat_lt name (length t))) [
+      | inl within ↦ ltb-true name (length t) within
+      | inr past ↦ absurd (cc (ap address_behind (read_past t name (ltb-false name (length t) past)), is))
+    ]
 
 pub forgotten : (t : List ℕ) (name n : ℕ) → name < length t → placed_at (set t name nowhere) n ≡ (if name == n then None else placed_at t n)
 forgotten t name n within =
@@ -100,45 +106,4 @@ lowered_at start t n = mapped_at (lowered_word start) (lowered_to (4 * start)) s
           | inr after ↦
               let after' : nat_lt (4 * start) (4 * w) ≡ false = le-ltb (4 * start) (4 * w) (let more = ltb-false start w after in omega (arith, more)) in
               rw (here, after, after') (there, refl)
-        ]
-
--- AN EXCHANGE
-
-pub exchanged_at : (words seams : Seams) → 4 * words.first ≡ seams.first → 4 * words.second ≡ seams.second → 4 * words.end ≡ seams.end → words.first ≤ words.second → words.second ≤ words.end → words.end ≤ nowhere → (t : List ℕ) (n : ℕ) → placed_at (map (exchanged_to words) t) n ≡ option_map (exchanged_to seams) (placed_at t n)
-exchanged_at words seams first second end one two few t n = mapped_at (exchanged_to words) (exchanged_to seams) stays scaled t n
-  where
-    stays : (w : ℕ) → nowhere ≤ w → exchanged_to words w ≡ w
-    stays w far =
-        let a = le-ltb w words.first (omega (arith, far, one, two, few)) in
-        let b = le-ltb w words.second (omega (arith, far, two, few)) in
-        let d = le-ltb w words.end (omega (arith, far, few)) in
-        rw (a, b, d) refl
-
-    scaled : (w : ℕ) → w < nowhere → (exchanged_to words w < nowhere) × (4 * exchanged_to words w ≡ exchanged_to seams (4 * w))
-    scaled w there =
-        elim (cases_Bool (nat_lt w words.first)) [
-          | inl less ↦
-              let a : nat_lt (4 * w) seams.first ≡ true = lt-ltb (4 * w) seams.first (let l = ltb-true w words.first less in omega (arith, l, first)) in
-              rw (less, a) (there, refl)
-          | inr past ↦
-              let past' = ltb-false w words.first past in
-              let a : nat_lt (4 * w) seams.first ≡ false = le-ltb (4 * w) seams.first (omega (arith, past', first)) in
-              elim (cases_Bool (nat_lt w words.second)) [
-                | inl less ↦
-                    let less' = ltb-true w words.second less in
-                    let b : nat_lt (4 * w) seams.second ≡ true = lt-ltb (4 * w) seams.second (omega (arith, less', second)) in
-                    rw (past, less, a, b) (omega (arith, less', two, few), omega (arith, two, second, end))
-                | inr later ↦
-                    let later' = ltb-false w words.second later in
-                    let b : nat_lt (4 * w) seams.second ≡ false = le-ltb (4 * w) seams.second (omega (arith, later', second)) in
-                    elim (cases_Bool (nat_lt w words.end)) [
-                      | inl less ↦
-                          let less' = ltb-true w words.end less in
-                          let d : nat_lt (4 * w) seams.end ≡ true = lt-ltb (4 * w) seams.end (omega (arith, less', end)) in
-                          rw (past, later, less, a, b, d) (omega (arith, there), omega (arith, first, second, one, later'))
-                      | inr behind ↦
-                          let d : nat_lt (4 * w) seams.end ≡ false = le-ltb (4 * w) seams.end (let more = ltb-false w words.end behind in omega (arith, more, end)) in
-                          rw (past, later, behind, a, b, d) (there, refl)
-                    ]
-              ]
         ]

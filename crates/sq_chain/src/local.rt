@@ -129,8 +129,8 @@ pub(crate) fn carry_joined(
     let after = graph.next(from).unwrap_or(to);
     let behind = graph.next(end).unwrap_or(to);
     let seams = seams_of(graph, &places.addresses, from, to, end);
+    exchange(graph, &mut places.addresses, seams);
     graph.move_after(to, end, from);
-    exchange(&mut places.addresses, seams);
     let second = fall_before(graph, uses, places, after);
     let third = fall_before(graph, uses, places, behind);
     let first = fall_before(graph, uses, places, to);

@@ -9,12 +9,13 @@ ghost use Rattle.sq_layout.specs.Weights.{address_by};
 ghost use Rattle.sq_lookup.specs.Addresses.{address_at};
 ghost use Rattle.sq_chain.specs.Places.{nowhere, placed_at};
 ghost use Rattle.sq_chain.specs.Moves.{JumpsTo, fallen_blocks, fallen};
+ghost use Rattle.sq_chain.specs.Seams.{Begins};
 ghost use Rattle.sq_chain.specs.Shifts.{AreWhole, exchanged_to, lowered_to, lowered_word};
 ghost use Rattle.sq_chain.specs.Surveys.{extent_of, IsRoom, IsLaidOut};
 
 use crate::seams::Seams;
 use crate::survey::Extent;
-use sq_graph::Term;
+use sq_graph::{Graph, Term};
 
 /// Where blocks stand once each Jump to the next slot is Fall, and how many words that saves.
 #[derive(Drop)]
@@ -110,34 +111,25 @@ pub(crate) fn address(addresses: &[u32], name: u32) -> u64
     }
 }
 
-/// How many words are before what so many are before, once two pieces are exchanged.
-fn exchanged(at: u32, first: u32, second: u32, end: u32) -> u32
-    requires first { first ≤ second }
-    requires second { second ≤ end }
-    ensures { result ≡ exchanged_to (record { first = first; second = second; end = end }) at }
-{
-    if at < first || end <= at {
-        at
-    } else if at < second {
-        at + (end - second)
-    } else {
-        at - (second - first)
-    }
-}
-
-/// Moves each address to where the exchange of two pieces puts what stands there.
-pub(crate) fn exchange(addresses: &mut Vec<u32>, seams: Seams)
+/// Moves the addresses of the blocks between the seams to where the exchange puts them.
+pub(crate) fn exchange(graph: &Graph, addresses: &mut Vec<u32>, seams: Seams)
+    requires addresses { (n : ℕ) → placed_at addresses.old.items n ≡ address_by words_in graph.now.graph.blocks 0 n }
+    requires begins { Begins graph.now.graph seams }
     requires first { seams.first ≤ seams.second }
     requires second { seams.second ≤ seams.end }
     requires few { seams.end < 2 ^ 34 }
     requires whole { AreWhole seams }
     ensures { (n : ℕ) → placed_at addresses.new.items n ≡ option_map (exchanged_to seams) (placed_at addresses.old.items n) }
 {
-    let first = (seams.first / 4) as u32;
-    let second = (seams.second / 4) as u32;
-    let end = (seams.end / 4) as u32;
-    for place in addresses.iter_mut() {
-        *place = exchanged(*place, first, second, end);
+    graph.learn();
+    let mut place = Some(seams.begin);
+    while let Some(block) = place {
+        let at = address(addresses, block);
+        if seams.end <= at {
+            return;
+        }
+        put(addresses, block, (seams.shifted(at) / 4) as u32);
+        place = graph.next(block);
     }
 }
 

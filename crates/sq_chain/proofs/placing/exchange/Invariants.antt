@@ -1,7 +1,15 @@
-use Rattle.std.proofs.Common.{◌≡◌, ◌++◌, map, take, drop}
-use Rattle.sq_chain.specs.Shifts.{exchanged_to}
+use Rattle.std.proofs.Common.{length}
+use Rattle.sq_graph.specs.Blocks.{named}
+use Rattle.sq_graph.specs.Cursor.{IsPlace, rest_from}
+use Rattle.sq_chain.specs.Places.{placed_at}
+use Rattle.sq_chain.proofs.Passed.{ArePassed}
 use Rattle.sq_chain.proofs.placing.exchange.Given as goal
 
 abbrev pub invariant-loop-place : goal.invariant-loop-place
-invariant-loop-place l =
-    l.place-items ≡ map (exchanged_to (record { first = l.first; second = l.second; end = l.end })) (take l.place-index l.fn.addresses.items) ++ drop l.place-index l.fn.addresses.items
+invariant-loop-place l = record {
+  place : IsPlace (named l.graph.graph.blocks) l.place;
+  passed : ArePassed l.graph.graph l.seams (placed_at l.fn.addresses.items) (placed_at l.addresses.items) l.place;
+}
+
+abbrev pub decreases-loop-place : goal.decreases-loop-place
+decreases-loop-place l = length (rest_from (named l.graph.graph.blocks) l.place)
