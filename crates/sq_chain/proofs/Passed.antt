@@ -186,6 +186,7 @@ module _ (g : Graph) (seams : Seams) (rules : IsGraph g) (first : seams.first �
                 ap (λ (xs : List (ℕ × Block)). is_some (value_of xs n)) rest ∙ rw apart refl ∙ ap (λ (xs : List (ℕ × Block)). is_some (value_of xs n)) (sym next) in
                 stays ∙ passed n ∙ ap (λ t. if t then old n else option_map (exchanged_to seams) (old n)) same
           ]
+
       -- the rest stands behind the pieces
       pub rest_passed : seams.end ≤ stands_at block_words g c → (n : ℕ) → now n ≡ option_map (exchanged_to seams) (old n)
       rest_passed far n =

@@ -144,8 +144,7 @@ pub(crate) fn look_around(
 {
     graph.learn();
     // Which block is near which seam decides only where a look begins.
-    let ahead = address(addresses, to) == seams.first;
-    let (first, second, third) = if ahead {
+    let (first, second, third) = if seams.begin == to {
         (to, end, from)
     } else {
         (from, to, end)

@@ -9,6 +9,7 @@
 mod around;
 mod carry;
 mod chain;
+mod counting;
 pub mod laws;
 mod least;
 mod local;

@@ -60,7 +60,8 @@ fn jumps_over(graph: &Graph, block: u32) -> bool
     }
 }
 
-/// Takes out this block, if there is one, which is empty with Fall. Where its name is used it leaves it, and answers false.
+/// Takes out this block, if there is one, which is empty with Fall. Where its name is used, or the block before it jumps over it,
+/// it leaves it, and answers false.
 fn drop_bare(graph: &mut Graph, uses: &Uses, places: &mut Places, bare: Option<u32>) -> bool
     requires uses { AreUses graph.old.graph uses.now }
     requires placed { IsPlaced graph.old.graph places.old }

@@ -8,7 +8,7 @@ ghost use Rattle.sq_graph.specs.Words.{block_words, procedure_words, words_of};
 ghost use Rattle.sq_chain.specs.Places.{placed_at};
 ghost use Rattle.sq_chain.specs.Surveys.{extent_of, extents_of, IsSurvey};
 
-use crate::outlook::count_short;
+use crate::counting::count_short;
 use crate::placing::{NOWHERE, fallen_addresses};
 use sq_graph::{Graph, Term};
 use sq_num::Memory;

@@ -10,7 +10,7 @@ use Rattle.sq_chain.specs.Least.{is_short}
 use Rattle.sq_chain.proofs.Rounds.{count_of}
 use Rattle.sq_chain.proofs.Widens.{came_one}
 use Rattle.sq_chain.proofs.Surveyed.{extent_at, extents_length}
-use Rattle.sq_chain.proofs.outlook.count_short.Goals as goal
+use Rattle.sq_chain.proofs.counting.count_short.Goals as goal
 
 pub one_if_short-short-requires-clause-block : goal.one_if_short-short-requires-clause-block
 one_if_short-short-requires-clause-block c =

@@ -6,7 +6,7 @@ use Rattle.sq_chain.specs.Places.{placed_at}
 use Rattle.sq_chain.specs.Least.{is_short}
 use Rattle.sq_chain.specs.Surveys.{IsLaidOut}
 use Rattle.sq_chain.proofs.Rounds.{count_of}
-use Rattle.sq_chain.proofs.outlook.count_short.Given as goal
+use Rattle.sq_chain.proofs.counting.count_short.Given as goal
 
 abbrev pub invariant-loop-extent : goal.invariant-loop-extent
 invariant-loop-extent l = record {
