@@ -2,7 +2,6 @@
 //! each Branch still reaches, none is widened. Where one block alone falls and a Branch doesn't reach, the move saves nothing.
 
 ghost use Rattle.std.specs.Prelude.{◌≡◌, ◌+◌, ◌≤◌, ◌<◌, ◌^◌, ℕ, IsTrue};
-ghost use Rattle.sq_graph.specs.Graph.{Graph as Parts};
 ghost use Rattle.sq_graph.specs.Places.{IsInReach};
 ghost use Rattle.sq_graph.specs.Words.{block_words as words_in, words_of};
 ghost use Rattle.sq_layout.specs.Weights.{address_by};
@@ -18,7 +17,7 @@ use crate::chain::end_of_chain;
 use crate::outlook::Outlook;
 use crate::placing::{address, jumps_to};
 use crate::survey::Survey;
-use sq_graph::{Graph, Term};
+use sq_graph::Graph;
 use sq_layout::block_words;
 
 /// The block with which the first of the pieces begins, the addresses at which it does, and the second one, and at which this one

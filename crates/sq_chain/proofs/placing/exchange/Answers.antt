@@ -1,7 +1,7 @@
-use Rattle.std.proofs.Common.{◌≡◌, ◌∙◌, ◌*◌, ◌<◌, ℕ, List, Option, Some, nat_eq, length, sym, ap, subst, arith}
+use Rattle.std.proofs.Common.{◌∙◌, ℕ, List, Option, Some, nat_eq, length, sym, ap, subst, arith}
 use Rattle.std.specs.Prelude.{unwrap_or}
 use Rattle.std.specs.Map.{update}
-use Rattle.sq_graph.specs.Blocks.{named, HasBlock, next_of}
+use Rattle.sq_graph.specs.Blocks.{named, HasBlock}
 use Rattle.sq_graph.specs.Cursor.{IsPlace, rest_from}
 use Rattle.sq_graph.specs.Words.{block_words}
 use Rattle.sq_lookup.specs.Addresses.{address_at}
