@@ -20,6 +20,7 @@ KIND is one of:
     tables     1,000 relocation sections over one table of COUNT entries
     nearby     COUNT branches to a lone jump of their own, whose target comes near only once others' words went
     nearinvert COUNT branches over a lone jump, whose target comes near only once others' words went
+    waits      COUNT branches over a lone jump, whose targets come near one after another, each once one more window became calls
     once       COUNT procedures that a note lists, each called once: row O4 puts their bodies in place
     doubles    COUNT procedures that a note lists, with equal bodies, each called twice: row O3 leaves one of them
     rows       COUNT groups, each with a candidate of every row of the cost rule
@@ -279,13 +280,39 @@ def repeat(p, count):
     p.items(*[addi(A2, A2, 1)] * count)
 
 
+def window(p, number, place):
+    """Four items that stand in three places, with another item before them in each."""
+    p.items(addi(14 + place, 15, (3 * number + place) % 2039))
+    p.items(addi(A0, A0, number % 2000), addi(11, 11, number // 2000 + 1))
+    p.items(addi(A2, A2, number % 1999), addi(13, 13, 5))
+
+
 def windows(p, count):
-    """Windows of four items, each in three places, with another item before each of these."""
     for place in range(3):
         for number in range(count):
-            p.items(addi(14 + place, 15, (3 * number + place) % 2039))
-            p.items(addi(A0, A0, number % 2000), addi(11, 11, number // 2000 + 1))
-            p.items(addi(A2, A2, number % 1999), addi(13, 13, 5))
+            window(p, number, place)
+
+
+def only(number):
+    """An item that stands nowhere else."""
+    return addi(18 + number // 2039 % 10, 18 + number // 20390 % 10, number % 2039)
+
+
+def waits(p, count):
+    items = itertools.count()
+    for group in range(-(-count // 60)):
+        numbers = range(60 * group, min(60 * group + 60, count))
+        for number in numbers:
+            p.branch(("over", number))
+            p.jump(("target", number))
+            p.mark(("over", number))
+            p.items(only(next(items)))
+        for place in range(3):
+            for number in numbers:
+                window(p, number, place)
+        for number in numbers:
+            p.mark(("target", number))
+            p.items(*[only(next(items)) for _ in range(12)])
 
 
 def equal(p, count):
@@ -430,6 +457,7 @@ KINDS = {
     "unreached": (unreached, 2),
     "repeat": (repeat, 1),
     "windows": (windows, 15),
+    "waits": (waits, 30),
     "equal": (equal, 2),
     "renamed": (renamed, 4),
     "near": (near, 1),

@@ -29,11 +29,11 @@ use Rattle.sq_outline.proofs.Still.{made_still, call_still}
 
 -- ROOM
 
-few_items : (bs : List Block) → length (items_of_blocks bs) ≤ sum_by block_words bs
+pub few_items : (bs : List Block) → length (items_of_blocks bs) ≤ sum_by block_words bs
 few_items [] = omega arith
 few_items (b ∷ bs) = omega (arith, few_items bs, sum_by-cons block_words b bs, length-append b.items (items_of_blocks bs))
 
-few_bodies : (ps : List Procedure) → length ps + length (items_of_bodies ps) ≤ sum_by procedure_words ps
+pub few_bodies : (ps : List Procedure) → length ps + length (items_of_bodies ps) ≤ sum_by procedure_words ps
 few_bodies [] = omega arith
 few_bodies (p ∷ ps) = omega (arith, few_bodies ps, sum_by-cons procedure_words p ps, length-append p.body (items_of_bodies ps))
 

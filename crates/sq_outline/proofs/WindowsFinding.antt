@@ -4,10 +4,10 @@ use Rattle.std.specs.Prelude.{MatchOption, IfSome}
 use Rattle.std.specs.List.{All}
 use Rattle.std.proofs.lemmas.Bool.{cases_Bool}
 use Rattle.std.proofs.lemmas.List.{length-take, length-drop, length-map}
-use Rattle.std.proofs.lemmas.List.Elements.{All-weaker}
+use Rattle.std.proofs.lemmas.List.Elements.{All-nil, All-weaker}
 use Rattle.sq_graph.specs.declared.item.Item.{Item}
 use Rattle.sq_graph.specs.Graph.{Graph}
-use Rattle.sq_graph.specs.Blocks.{HasBlock, items_of}
+use Rattle.sq_graph.specs.Blocks.{HasBlock, items_of, items_of_blocks}
 use Rattle.sq_graph.specs.Parts.{names_of}
 use Rattle.sq_graph.specs.Room.{GraphAndRoom, IsSmall, total_of}
 use Rattle.sq_graph.specs.Rules.{IsGraph}
@@ -26,57 +26,39 @@ use Rattle.sq_outline.specs.declared.sites.Site.{Site}
 use Rattle.sq_outline.specs.Sites.{IsPlace}
 use Rattle.sq_outline.specs.Links.{IsLink}
 use Rattle.sq_outline.specs.Made.{ArePlain}
-use Rattle.sq_outline.specs.WindowsPlaces.{StandAt, in_block, occurrences}
+use Rattle.sq_outline.specs.WindowsPlaces.{in_block, occurrences}
 use Rattle.sq_outline.specs.WindowsMade.{items_at, IsWhole, behind_by, behind, IsWindowMade, IsWindowCut}
-use Rattle.sq_outline.specs.WindowsSearch.{overlaps, standing, thinned, MayBeMade, AreStanding}
+use Rattle.sq_outline.specs.WindowsSearch.{overlaps, standing, thinned, IsThere, MayBeMade, IsFoundAt, AreStanding}
 use Rattle.sq_outline.proofs.WindowsApart.{all_mapped, all_stand, blocks_there}
+use Rattle.sq_outline.proofs.WindowsFew.{occurrences_few}
 use Rattle.sq_outline.proofs.WindowsThin.{thinned_are}
-use Rattle.sq_outline.proofs.WindowsMaking.{window_applied}
 
--- OCCURRENCES
+-- SITES
 
-module _ (g : Graph) (window : List Item) (sites : List Site) (are : sites ≡ occurrences g window) where
+module _ (g : Graph) (window : List Item) (sites : List Site) (there : All (IsThere g (length window)) sites) where
   pub sites_there : All (λ site. HasBlock g site.block) sites
-  sites_there = subst (λ (ss : List Site). All (λ site. HasBlock g site.block) ss) (sym are) (blocks_there g window (names_of g) (λ name listed. (names_are g name).0 listed))
-
-  stand : All (λ site. StandAt g site.block site.at window) sites
-  stand = subst (λ (ss : List Site). All (λ site. StandAt g site.block site.at window) ss) (sym are) (all_stand g window (names_of g))
+  sites_there = All-weaker {X = Site} (IsThere g (length window)) (λ site. HasBlock g site.block) (λ site s. s.there) sites there
 
   pub sites_small : words_of g < 2 ^ 31 → All (λ site. site.at + length window < 2 ^ 32) sites
   sites_small few =
-      All-weaker {X = Site} (λ site. StandAt g site.block site.at window) (λ site. site.at + length window < 2 ^ 32) (λ site s. let l = items_few g site.block few in let m = s.within in omega arith) sites stand
+      All-weaker {X = Site} (IsThere g (length window)) (λ site. site.at + length window < 2 ^ 32) (λ site s. let l = items_few g site.block few in let m = s.within in omega arith) sites there
 
   pub ends_there : All (IsPlace g) (behind (length window) sites)
-  ends_there = all_mapped (IsPlace g) (behind_by (length window)) sites (λ k d l. record { there = sites_there k d l; within = (stand k d l).within })
+  ends_there = all_mapped (IsPlace g) (behind_by (length window)) sites (All-weaker {X = Site} (IsThere g (length window)) (λ site. IsPlace g (behind_by (length window) site)) (λ site s. record { there = s.there; within = s.within }) sites there)
 
-module _ (g : Graph) (window : List Item) (sites ends : List Site) (result : Option ℕ)
-    (are : sites ≡ occurrences g window) (ends_are : ends ≡ behind (length window) sites) (plain : ArePlain window) (part : ¬ All (IsWhole g (length window)) sites)
+module _ (g : Graph) (window : List Item) (sites ends : List Site) (result : Option ℕ) (ends_are : ends ≡ behind (length window) sites) (plain : ArePlain window) (part : ¬ All (IsWhole g (length window)) sites)
     (told : MatchOption result ((r : ℕ) → ¬ IsLink g window ends r) (λ r. IsLink g window ends r)) where
-  behind_all : ends ≡ behind (length window) (occurrences g window)
-  behind_all = ends_are ∙ ap (λ ss. behind (length window) ss) are
-
-  may_by : (link block at n : ℕ) → IsLink g window ends link → window ≡ items_at g block at n → n ≡ length window → MayBeMade g block at n link
-  may_by link block at n linked is long = record {
-    plain = subst ArePlain is plain;
-    part = subst (λ (w : List Item). ¬ All (IsWhole g n) (occurrences g w)) is (subst (λ m. ¬ All (IsWhole g m) (occurrences g window)) (sym long) (subst (λ (ss : List Site). ¬ All (IsWhole g (length window)) ss) are part));
-    linked =
-        subst (λ (w : List Item). IsLink g w (behind n (occurrences g w)) link) is
-        (subst (λ m. IsLink g window (behind m (occurrences g window)) link) (sym long) (subst (λ (es : List Site). IsLink g window es link) behind_all linked));
-  }
-
-  pub some_made : IfSome result (λ link. (block at n : ℕ) → window ≡ items_at g block at n → n ≡ length window → MayBeMade g block at n link)
+  pub some_made : IfSome result (MayBeMade g window sites)
   some_made = go result told
     where
-      go : (o : Option ℕ) → MatchOption o ((r : ℕ) → ¬ IsLink g window ends r) (λ r. IsLink g window ends r) → IfSome o (λ link. (block at n : ℕ) → window ≡ items_at g block at n → n ≡ length window → MayBeMade g block at n link)
+      go : (o : Option ℕ) → MatchOption o ((r : ℕ) → ¬ IsLink g window ends r) (λ r. IsLink g window ends r) → IfSome o (MayBeMade g window sites)
       go None none = tt
-      go (Some link) linked = λ block at n is long. may_by link block at n linked is long
+      go (Some link) linked = record { plain = plain; part = part; linked = subst (λ (es : List Site). IsLink g window es link) ends_are linked }
 
-  pub none_made : result ≡ None → (block at n link : ℕ) → window ≡ items_at g block at n → n ≡ length window → ¬ MayBeMade g block at n link
-  none_made none block at n link is long may =
+  pub none_made : result ≡ None → (link : ℕ) → ¬ MayBeMade g window sites link
+  none_made none link may =
       let fails = subst (λ (o : Option ℕ). MatchOption o ((r : ℕ) → ¬ IsLink g window ends r) (λ r. IsLink g window ends r)) none told in
-      fails link
-      (subst (λ (es : List Site). IsLink g window es link) (sym behind_all)
-      (subst (λ m. IsLink g window (behind m (occurrences g window)) link) long (subst (λ (w : List Item). IsLink g w (behind n (occurrences g w)) link) (sym is) may.linked)))
+      fails link (subst (λ (es : List Site). IsLink g window es link) (sym ends_are) may.linked)
 
 -- PLACES
 
@@ -91,6 +73,44 @@ fewer n last (place ∷ places) =
       | inr apart ↦ rw apart (omega (arith, fewer n (Some (in_block place.block place.at)) places))
     ]
 
+-- the first of some sites
+pub first_of : (sites : List Site) (d : Site) → 1 ≤ length sites → (others : List Site) × (sites ≡ get_or sites 0 d ∷ others)
+first_of [] d some = absurd (omega (arith, some))
+first_of (site ∷ sites) d some = (sites, refl)
+
+-- where some words go there is an occurrence
+pub some_site : (sites : List Site) (by come : ℕ) → come < length sites * by → 1 ≤ length sites
+some_site [] by come more = absurd (omega (arith, more))
+some_site (site ∷ sites) by come more = omega arith
+
+site_heads : (x y : Site) (xs ys : List Site) → x ∷ xs ≡ y ∷ ys → x ≡ y
+site_heads x y xs ys e = cc
+
+module _ (g : Graph) (n : ℕ) (places : List WindowAt) where
+  too_few : (k saving : ℕ) → 1 ≤ n → saving + (n + 1) ≡ k * (n - 1) → k < 2 → 1 ≤ saving → ⊥
+  too_few zero saving one saves few some = absurd (omega (arith, saves, some))
+  too_few (suc zero) saving one saves few some = absurd (omega (arith, saves, some, one))
+  too_few (suc (suc k)) saving one saves few some = absurd (omega (arith, few))
+
+  pub none_few : 1 ≤ n → length places < 2 → (first : Site) (link saving : ℕ) (sites : List Site) → ¬ IsFoundAt g n places first link saving sites
+  none_few one few first link saving sites found =
+      too_few (length sites) saving one found.saves (omega (arith, ap (λ (ss : List Site). length ss) found.sites_are, fewer n None places, few)) found.some
+
+  pub none_pays : (given : List Site) → given ≡ thinned n None places → length given * (n - 1) ≤ n + 1 → (first : Site) (link saving : ℕ) (sites : List Site) → ¬ IsFoundAt g n places first link saving sites
+  none_pays given is little first link saving sites found =
+      let same : length sites * (n - 1) ≡ length given * (n - 1) = ap (λ (ss : List Site). length ss * (n - 1)) (found.sites_are ∙ sym is) in
+      absurd (omega (arith, same, found.saves, found.some, little))
+
+  pub none_links : (given others : List Site) (head : Site) (window : List Item) → given ≡ thinned n None places → given ≡ head ∷ others → window ≡ items_at g head.block head.at n → ((link : ℕ) → ¬ MayBeMade g window given link)
+      → (first : Site) (link saving : ℕ) (sites : List Site) → ¬ IsFoundAt g n places first link saving sites
+  none_links given others head window is parts window_is none first link saving sites found =
+      let same : sites ≡ given = found.sites_are ∙ sym is in
+      let heads : first ≡ head = site_heads first head found.others others (sym found.first_is ∙ same ∙ parts) in
+      let w : items_at g first.block first.at n ≡ window = ap (λ (s : Site). items_at g s.block s.at n) heads ∙ sym window_is in
+      none link (subst (λ (ss : List Site). MayBeMade g window ss link) same (subst (λ (is : List Item). MayBeMade g is sites link) w found.made))
+
+-- STANDING
+
 module _ (g : Graph) (n : ℕ) (rules : IsGraph g) where
   -- the occurrences of a window that stands at these places
   pub occurrences_are : (block at : ℕ) (places : List WindowAt) → at + n ≤ length (items_of g block) → places ≡ standing g (items_at g block at n) → thinned n None places ≡ occurrences g (items_at g block at n)
@@ -99,93 +119,73 @@ module _ (g : Graph) (n : ℕ) (rules : IsGraph g) where
       ∙ ap (λ m. thinned m None (standing g (items_at g block at n))) (sym (long_at g block at n within))
       ∙ thinned_are g (items_at g block at n) rules
 
-  too_few : (k saving : ℕ) → 1 ≤ n → saving + (n + 1) ≡ k * (n - 1) → k < 2 → 1 ≤ saving → ⊥
-  too_few zero saving one saves few some = absurd (omega (arith, saves, some))
-  too_few (suc zero) saving one saves few some = absurd (omega (arith, saves, some, one))
-  too_few (suc (suc k)) saving one saves few some = absurd (omega (arith, few))
+  -- a window is there where it occurs
+  pub occur_there : (w : List Item) → All (IsThere g (length w)) (occurrences g w)
+  occur_there w = λ k d l. record { there = blocks_there g w (names_of g) (λ name listed. (names_are g name).0 listed) k d l; within = (all_stand g w (names_of g) k d l).within }
 
-  pub none_few : (block at link saving : ℕ) (places : List WindowAt) → length places < 2 → places ≡ standing g (items_at g block at n) → ¬ IsWindowMade g block at n link saving
-  none_few block at link saving places few are made =
-      let same = ap (λ (ss : List Site). length ss) (occurrences_are block at places made.within are) in
-      let less = fewer n None places in
-      let least = made.least in
-      too_few (length (occurrences g (items_at g block at n))) saving (omega (arith, least)) made.saves (omega (arith, same, less, few)) made.some
-
-  pub none_pays : (block at link saving : ℕ) (places : List WindowAt) (sites : List Site) → sites ≡ thinned n None places → length sites * (n - 1) ≤ n + 1 → places ≡ standing g (items_at g block at n) → ¬ IsWindowMade g block at n link saving
-  none_pays block at link saving places sites is little are made =
-      let same : length sites ≡ length (occurrences g (items_at g block at n)) = ap (λ (ss : List Site). length ss) (is ∙ occurrences_are block at places made.within are) in
-      let product = ap (λ k. k * (n - 1)) same in
-      let saves = made.saves in
-      let some = made.some in
-      absurd (omega (arith, product, saves, some, little))
-
-  -- the first of them
-  pub record IsFirst (places : List WindowAt) (sites : List Site) (first : Site) : Type 0 where
-    pub there : HasBlock g first.block
-    pub within : first.at + n ≤ length (items_of g first.block)
-    pub others : List Site
-    pub is : sites ≡ first ∷ others
-    pub occur : sites ≡ occurrences g (items_at g first.block first.at n)
-
-  pub first_there : (places : List WindowAt) (sites : List Site) (d : Site) → AreStanding g n places → sites ≡ thinned n None places → 1 ≤ length sites → IsFirst places sites (get_or sites 0 d)
-  first_there [] sites d standing is some = absurd (let e = ap (λ (ss : List Site). length ss) is in omega (arith, e, some))
-  first_there (place ∷ places) sites d standing is some =
-      let first : get_or sites 0 d ≡ in_block place.block place.at = ap (λ (ss : List Site). get_or ss 0 d) is in
-      let there = standing.there place places refl in
+  pub standing_there : (places : List WindowAt) → AreStanding g n places → All (IsThere g n) (thinned n None places)
+  standing_there [] standing = All-nil (IsThere g n)
+  standing_there (place ∷ places) standing =
       let within = standing.within place places refl in
-      subst (λ s. IsFirst (place ∷ places) sites s) (sym first)
-      (record {
-        there = there;
-        within = within;
-        others = thinned n (Some (in_block place.block place.at)) places;
-        is = is;
-        occur = is ∙ occurrences_are place.block place.at (place ∷ places) within (standing.all place places refl);
-      })
+      subst (All (IsThere g n)) (sym (occurrences_are place.block place.at (place ∷ places) within (standing.all place places refl)))
+      (subst (λ m. All (IsThere g m) (occurrences g (items_at g place.block place.at n))) (long_at g place.block place.at n within) (occur_there (items_at g place.block place.at n)))
 
-  pub first_made : (places : List WindowAt) (sites : List Site) (first : Site) (link saving : ℕ) → 3 ≤ n → n ≤ 16 → IsFirst places sites first → MayBeMade g first.block first.at n link → saving + (n + 1) ≡ length sites * (n - 1) → 1 ≤ saving
-      → IsWindowMade g first.block first.at n link saving
-  first_made places sites first link saving least most at_first may saves some = record {
-    least = least;
-    most = most;
-    there = at_first.there;
-    within = at_first.within;
-    plain = may.plain;
-    others = at_first.others;
-    first = sym at_first.occur ∙ at_first.is;
-    part = may.part;
-    linked = may.linked;
-    saves = saves ∙ ap (λ (ss : List Site). length ss * (n - 1)) at_first.occur;
-    some = some;
-  }
+  pub standing_few : (places : List WindowAt) → AreStanding g n places → length (thinned n None places) * n ≤ length (items_of_blocks g.blocks)
+  standing_few [] standing = omega arith
+  standing_few (place ∷ places) standing =
+      let within = standing.within place places refl in
+      subst (λ (ss : List Site). length ss * n ≤ length (items_of_blocks g.blocks)) (sym (occurrences_are place.block place.at (place ∷ places) within (standing.all place places refl)))
+      (subst (λ m. length (occurrences g (items_at g place.block place.at n)) * m ≤ length (items_of_blocks g.blocks)) (long_at g place.block place.at n within) (occurrences_few g (items_at g place.block place.at n) rules))
 
-  heads : (x y : Site) (xs ys : List Site) → x ∷ xs ≡ y ∷ ys → x ≡ y
-  heads x y xs ys e = cc
+  -- where the window that stands at all these places occurs
+  pub found_occur : (places : List WindowAt) (first : Site) (link saving : ℕ) (sites : List Site) → AreStanding g n places → IsFoundAt g n places first link saving sites → HasBlock g first.block × (first.at + n ≤ length (items_of g first.block)) × (sites ≡ occurrences g (items_at g first.block first.at n))
+  found_occur [] first link saving sites standing found = absurd (let e : [] ≡ first ∷ found.others = sym found.sites_are ∙ found.first_is in cc)
+  found_occur (place ∷ places) first link saving sites standing found =
+      let heads : in_block place.block place.at ≡ first = site_heads (in_block place.block place.at) first (thinned n (Some (in_block place.block place.at)) places) found.others (sym found.sites_are ∙ found.first_is) in
+      let within = standing.within place places refl in
+      subst (λ (s : Site). HasBlock g s.block × (s.at + n ≤ length (items_of g s.block)) × (sites ≡ occurrences g (items_at g s.block s.at n))) heads
+      (standing.there place places refl, within, found.sites_are ∙ occurrences_are place.block place.at (place ∷ places) within (standing.all place places refl))
 
-  pub none_first : (block at link saving : ℕ) (places : List WindowAt) (sites : List Site) (first : Site) → sites ≡ thinned n None places → IsFirst places sites first → ((l : ℕ) → ¬ MayBeMade g first.block first.at n l)
-      → places ≡ standing g (items_at g block at n) → ¬ IsWindowMade g block at n link saving
-  none_first block at link saving places sites first is at_first none are made =
-      let all : first ∷ at_first.others ≡ in_block block at ∷ made.others = sym at_first.is ∙ is ∙ occurrences_are block at places made.within are ∙ made.first in
-      let same : first ≡ in_block block at = heads first (in_block block at) at_first.others made.others all in
-      let may : MayBeMade g block at n link = record { plain = made.plain; part = made.part; linked = made.linked } in
-      none link (subst (λ (s : Site). MayBeMade g s.block s.at n link) (sym same) may)
+  pub found_made : (places : List WindowAt) (first : Site) (link saving : ℕ) (sites : List Site) → 3 ≤ n → n ≤ 16 → AreStanding g n places → IsFoundAt g n places first link saving sites → IsWindowMade g first.block first.at n link saving
+  found_made places first link saving sites least most standing found =
+      let occur = found_occur places first link saving sites standing found in
+      let w = items_at g first.block first.at n in
+      let long = long_at g first.block first.at n occur.1 in
+      record {
+        least = least;
+        most = most;
+        there = occur.0;
+        within = occur.1;
+        plain = found.made.plain;
+        others = found.others;
+        first = sym occur.2 ∙ found.first_is;
+        part = subst (λ (ss : List Site). ¬ All (IsWhole g n) ss) occur.2 (subst (λ m. ¬ All (IsWhole g m) sites) long found.made.part);
+        linked = subst (λ (ss : List Site). IsLink g (items_at g first.block first.at n) (behind n ss) link) occur.2 (subst (λ m. IsLink g (items_at g first.block first.at n) (behind m sites) link) long found.made.linked);
+        saves = found.saves ∙ ap (λ (ss : List Site). length ss * (n - 1)) occur.2;
+        some = found.some;
+      }
 
-  pub saving_few : (block at link saving : ℕ) → words_of g < 2 ^ 31 → IsWindowMade g block at n link saving → saving < 2 ^ 32
-  saving_few block at link saving few made = let words = (window_applied g block at n link saving rules made).words in omega (arith, words, few)
-
--- where some words go there is an occurrence
-pub some_site : (sites : List Site) (by come : ℕ) → come < length sites * by → 1 ≤ length sites
-some_site [] by come more = absurd (omega (arith, more))
-some_site (site ∷ sites) by come more = omega arith
-
-module _ (g : Graph) (n : ℕ) (rules : IsGraph g) where
-  site_heads : (x y : Site) (xs ys : List Site) → x ∷ xs ≡ y ∷ ys → x ≡ y
-  site_heads x y xs ys e = cc
+  pub made_found : (places : List WindowAt) (block at link saving : ℕ) → places ≡ standing g (items_at g block at n) → IsWindowMade g block at n link saving → IsFoundAt g n places (in_block block at) link saving (occurrences g (items_at g block at n))
+  made_found places block at link saving are made =
+      let long = sym (long_at g block at n made.within) in
+      record {
+        sites_are = sym (occurrences_are block at places made.within are);
+        others = made.others;
+        first_is = made.first;
+        made = record {
+          plain = made.plain;
+          part = subst (λ m. ¬ All (IsWhole g m) (occurrences g (items_at g block at n))) long made.part;
+          linked = subst (λ m. IsLink g (items_at g block at n) (behind m (occurrences g (items_at g block at n))) link) long made.linked;
+        };
+        saves = made.saves;
+        some = made.some;
+      }
 
   -- a window that stands at these places occurs first where that was found
   pub first_same : (places : List WindowAt) (block at link saving : ℕ) (first : Site) (l s : ℕ) → places ≡ standing g (items_at g block at n) → IsWindowMade g block at n link saving → IsWindowMade g first.block first.at n l s
       → thinned n None places ≡ occurrences g (items_at g first.block first.at n) → first ≡ in_block block at
   first_same places block at link saving first l s are made other occur =
-      site_heads first (in_block block at) other.others made.others (sym other.first ∙ sym occur ∙ occurrences_are g n rules block at places made.within are ∙ made.first)
+      site_heads first (in_block block at) other.others made.others (sym other.first ∙ sym occur ∙ occurrences_are block at places made.within are ∙ made.first)
 
 -- CUTS
 

@@ -1,31 +1,25 @@
--- A block without a kind of the window's items has no place of it, and calls leave the kinds of blocks right.
-use Rattle.std.proofs.Common.{◌≡◌, ◌≢◌, ℕ, ◌+◌, ◌<◌, ◌==◌, ◌||◌, ◌&&◌, not, true, false, Bool, List, [], ◌∷◌, ◌++◌, map, take, drop, length, get_or, add-one, Option, None, Some, IfSome, is_some, option_map, inl, inr, refl, sym, ap, ◌∙◌, subst, arith}
+-- A block without a kind of the window's items has no place of it.
+use Rattle.std.proofs.Common.{◌≡◌, ◌≢◌, ℕ, ◌+◌, ◌<◌, ◌==◌, ◌||◌, ◌&&◌, not, true, false, Bool, List, [], ◌∷◌, ◌++◌, map, take, drop, length, get_or, add-one, Option, None, Some, IfSome, is_some, inl, inr, refl, sym, ap, ◌∙◌, subst, arith}
 use Rattle.std.specs.List.{All, Contains}
 use Rattle.std.specs.Int.{bit_at}
 use Rattle.std.proofs.Math.Seq.{take-suc}
-use Rattle.std.proofs.lemmas.Bool.{cases_Bool, cases_eq, eq-eqb, ne_eqb}
+use Rattle.std.proofs.lemmas.Bool.{cases_Bool, eq-eqb, ne_eqb}
 use Rattle.std.proofs.lemmas.Bool.Decides.{nat_tests}
 use Rattle.std.proofs.lemmas.List.{append-nil, get_or-map, map-append, length-map}
-use Rattle.std.proofs.lemmas.List.Elements.{All-cons, All-tail, All-append, All-weaker, All-take, All-drop, All-contains, All-contains_itself, Contains-push}
+use Rattle.std.proofs.lemmas.List.Elements.{All-tail, All-weaker, All-take, All-drop, All-contains, All-contains_itself, Contains-push}
 use Rattle.std.proofs.lemmas.Nat.Bits.{bit_at-lt, same_from_bits}
 use Rattle.sq_isa.specs.Registers.{is_member}
 use Rattle.sq_graph.specs.declared.item.Item.{Item}
-use Rattle.sq_graph.specs.declared.item.Item.TheVariants.{Out}
-use Rattle.sq_graph.specs.Graph.{Block, Graph}
-use Rattle.sq_graph.specs.Blocks.{HasBlock, block_of, block_items, items_of, body_of}
-use Rattle.sq_graph.specs.Operations.{with_blocks, replaced_items, outlined}
+use Rattle.sq_graph.specs.Graph.{Graph}
+use Rattle.sq_graph.specs.Blocks.{HasBlock, items_of}
 use Rattle.sq_graph.specs.Parts.{names_of}
 use Rattle.sq_graph.specs.Rules.{ItemFits, IsGraph}
-use Rattle.sq_layout.proofs.Standing.{block_of-changed, block_of-changed_here}
 use Rattle.sq_finger.proofs.Layouts.{items_fit, name_there}
 use Rattle.sq_finger.specs.declared.places.WindowAt.{WindowAt}
-use Rattle.law_patch.specs.Calls.{called_there}
-use Rattle.sq_outline.specs.declared.sites.Site.{Site}
 use Rattle.sq_outline.specs.declared.windows.kinds.BlockKinds.{BlockKinds}
-use Rattle.sq_outline.specs.Sites.{called_each}
-use Rattle.sq_outline.specs.WindowsKinds.{kind_of, HasKind, HasKinds, AreKinds, KeepsKinds}
-use Rattle.sq_outline.specs.WindowsMade.{items_at, window_made}
-use Rattle.sq_outline.specs.WindowsPlaces.{begins, places_from, calls_for}
+use Rattle.sq_outline.specs.WindowsKinds.{kind_of, HasKind, HasKinds, AreKinds}
+use Rattle.sq_outline.specs.WindowsMade.{items_at}
+use Rattle.sq_outline.specs.WindowsPlaces.{begins, places_from}
 use Rattle.sq_outline.specs.WindowsSearch.{place_in, standing_among}
 use Rattle.sq_outline.proofs.Early.{one_more}
 use Rattle.sq_outline.proofs.WindowsApart.{all_front}
@@ -155,64 +149,6 @@ module _ (g : Graph) (blocks : List BlockKinds) (i : ℕ) (d block : BlockKinds)
         let none = no_places window (items_of g block.name) 0 block.kinds own_kinds fails in
         ap (λ (ps : List WindowAt). ps ++ standing_among g window (drop (i + 1) (names_of g))) (sym (append-nil places) ∙ ap (λ (ats : List ℕ). places ++ map (place_in block.name) ats) (sym none))
         ∙ listed_there
-
--- CALLS
-
-names_stay : (f : Block → Block) (bs : List Block) (n : ℕ) → ((b : Block) → (f b).name ≡ b.name) → map (λ b. b.name) (with_blocks (λ b. f b ∷ []) bs n) ≡ map (λ b. b.name) bs
-names_stay f [] n names = refl
-names_stay f (b ∷ bs) n names =
-    elim (cases_Bool (b.name == n)) [
-      | inl here ↦ rw here (ap (λ k. k ∷ map (λ b. b.name) bs) (names b))
-      | inr apart ↦ rw apart (ap (λ ks. b.name ∷ ks) (names_stay f bs n names))
-    ]
-
-module _ (g : Graph) (site : Site) (procedure : ℕ) where
-  abbrev size : ℕ
-  size = length (body_of g procedure)
-
-  abbrev h : Graph
-  h = called_there g site.block site.at procedure
-
-  abbrev changed : Block → Block
-  changed b = record b { items = replaced_items b.items site.at (length (body_of g procedure)) (Out procedure ∷ []) }
-
-  replaced_kinds : (items : List Item) (set : ℕ) → HasKinds items set → HasKinds (replaced_items items site.at size (Out procedure ∷ [])) set
-  replaced_kinds items set all =
-      let front = All-take (HasKind set) site.at items all in
-      let back = All-drop (HasKind set) (site.at + length (body_of g procedure)) items all in
-      All-append (HasKind set) (take site.at items) (Out procedure ∷ drop (site.at + length (body_of g procedure)) items) front
-      (All-cons (HasKind set) (Out procedure) (drop (site.at + length (body_of g procedure)) items) (λ some. absurd (some refl)) back)
-
-  changed_kinds : (o : Option Block) (set : ℕ) → HasKinds (block_items o) set → HasKinds (block_items (option_map changed o)) set
-  changed_kinds None set all = all
-  changed_kinds (Some b) set all = replaced_kinds b.items set all
-
-  still_has : (name set : ℕ) → HasKinds (items_of g name) set → HasKinds (items_of h name) set
-  still_has name set all =
-      elim (cases_eq name site.block) [
-        | inl same ↦
-            let own : HasKinds (items_of g site.block) set = subst (λ k. HasKinds (items_of g k) set) same all in
-            subst (λ k. HasKinds (items_of h k) set) (sym same)
-            (subst (λ (o : Option Block). HasKinds (block_items o) set) (sym (block_of-changed_here changed g.blocks site.block (λ b. refl))) (changed_kinds (block_of g site.block) set own))
-        | inr other ↦ subst (λ (o : Option Block). HasKinds (block_items o) set) (sym (block_of-changed changed g.blocks site.block name (λ b. refl) other)) all
-      ]
-
-  call_kinds : KeepsKinds g h
-  call_kinds blocks are = record {
-    names = are.names ∙ sym (names_stay changed g.blocks site.block (λ b. refl));
-    kinds =
-        All-weaker (λ (block : BlockKinds). HasKinds (items_of g block.name) block.kinds) (λ (block : BlockKinds). HasKinds (items_of h block.name) block.kinds) (λ block has. still_has block.name block.kinds has) blocks are.kinds;
-  }
-
-each_kinds : (sites : List Site) (procedure : ℕ) (g : Graph) → KeepsKinds g (called_each sites procedure g)
-each_kinds [] procedure g blocks are = are
-each_kinds (site ∷ sites) procedure g blocks are = each_kinds sites procedure (called_there g site.block site.at procedure) blocks (call_kinds g site procedure blocks are)
-
-pub made_kinds : (g h : Graph) (block at n link : ℕ) → h ≡ window_made g block at n link → KeepsKinds g h
-made_kinds g h block at n link is = λ blocks are.
-    let og = outlined g block at n link in
-    let before : AreKinds (outlined g block at n link) blocks = record { names = are.names; kinds = are.kinds } in
-    subst (λ (k : Graph). AreKinds k blocks) (sym is) (each_kinds (calls_for g (items_at g block at n)) (length g.procedures) og blocks before)
 
 -- LISTS OF BLOCKS
 

@@ -38,8 +38,8 @@ use Rattle.sq_outline.proofs.Linking.{link_may, link_some, link_below}
 use Rattle.sq_outline.proofs.Making.{saved_words, last_there, same_some}
 use Rattle.sq_outline.proofs.Plainness.{NoCalls, plain_free}
 use Rattle.sq_outline.proofs.Standing.{AreCalls, sites_called}
-use Rattle.sq_outline.proofs.WindowsApart.{all_reversed, all_unmapped, calls_all, calls_apart, as_many, all_stand, blocks_there}
-use Rattle.sq_outline.proofs.WindowsOrder.{back_apart, any_order}
+use Rattle.sq_outline.proofs.WindowsApart.{all_unmapped, calls_all, calls_apart, as_many, all_stand, blocks_there}
+use Rattle.sq_outline.proofs.WindowsOrder.{any_order}
 use Rattle.sq_outline.proofs.WindowsCalling.{callable_matches}
 
 module _ (g : Graph) (block at n link saving : ℕ) (rules : IsGraph g) (can : IsWindowMade g block at n link saving) where
@@ -157,13 +157,6 @@ module _ (g : Graph) (block at n link saving : ℕ) (rules : IsGraph g) (can : I
   }
 
   -- from the last one on they are made calls, too, with the same result
-  pub may_call_back : MayCallEach og (reverse (occurrences g (items_at g block at n))) number
-  may_call_back = record {
-    some = may_call.some;
-    apart = back_apart g window (length (body_of og number)) (names_of g) (ap length new_body) (names_distinct g rules);
-    matching = all_reversed (MatchesAt og number) places each_matches;
-  }
-
   pub calls_back : called_each (reverse (occurrences g (items_at g block at n))) number og ≡ window_made g block at n link
   calls_back = any_order g window (names_of g) (names_distinct g rules) number og
 

@@ -32,7 +32,7 @@ module _ (n block : ℕ) (rest : List WindowAt) (all : All (λ p. p.block ≢ bl
         | inr l ↦ rw (eq-eqb block block refl, le-ltb at (a + n) l) (ap (λ ss. in_block block at ∷ ss) (in_one at ps))
       ]
 
-  one_block : (ps : List ℕ) → thinned n None (map (place_in block) ps ++ rest) ≡ map (in_block block) (apart_from n 0 ps) ++ thinned n None rest
+  pub one_block : (ps : List ℕ) → thinned n None (map (place_in block) ps ++ rest) ≡ map (in_block block) (apart_from n 0 ps) ++ thinned n None rest
   one_block [] = refl
   one_block (at ∷ ps) = rw (le-ltb at 0 (omega arith)) (ap (λ ss. in_block block at ∷ ss) (in_one at ps))
 

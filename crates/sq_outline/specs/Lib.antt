@@ -17,7 +17,8 @@ pub mod WindowsInside
 pub mod WindowsHeads
 pub mod WindowsMade
 pub mod WindowsSearch
-pub mod WindowsPast
+pub mod WindowsTaken
 pub mod WindowsKinds
 pub mod WindowsCandidates
 pub mod WindowsProposed
+pub mod WindowsSwept

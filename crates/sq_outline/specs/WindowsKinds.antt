@@ -29,7 +29,3 @@ HasKinds items kinds = All (HasKind kinds) items
 pub record AreKinds (g : Graph) (blocks : List BlockKinds) : Type 0 where
   pub names : map (λ block. block.name) blocks ≡ names_of g
   pub kinds : All (λ block. HasKinds (items_of g block.name) block.kinds) blocks
-
--- what is so for the first graph is so for the second
-abbrev pub KeepsKinds : Graph → Graph → Type 0
-KeepsKinds g h = (blocks : List BlockKinds) → AreKinds g blocks → AreKinds h blocks

@@ -1,5 +1,5 @@
 -- How windows are searched that may become procedures. No public clause cites this module.
-use Rattle.std.specs.Prelude.{◌≡◌, ℕ, ◌+◌, ◌≤◌, Bool, false, ◌&&◌, ◌==◌, nat_lt, if◌then◌else◌, List, [], ◌∷◌, Option, None, Some, map, length, slice_get}
+use Rattle.std.specs.Prelude.{◌≡◌, ℕ, ◌+◌, ◌-◌, ◌*◌, ◌≤◌, Bool, false, ◌&&◌, ◌==◌, nat_lt, if◌then◌else◌, List, [], ◌∷◌, Option, None, Some, map, length, slice_get}
 use Rattle.std.specs.List.{All, flat_map}
 use Rattle.sq_graph.specs.declared.item.Item.{Item}
 use Rattle.sq_graph.specs.Graph.{Graph}
@@ -10,7 +10,7 @@ use Rattle.sq_finger.specs.Windows.{IsWindow}
 use Rattle.sq_outline.specs.declared.sites.Site.{Site}
 use Rattle.sq_outline.specs.Links.{IsLink}
 use Rattle.sq_outline.specs.Made.{ArePlain}
-use Rattle.sq_outline.specs.WindowsPlaces.{places_from, in_block, occurrences}
+use Rattle.sq_outline.specs.WindowsPlaces.{places_from, in_block}
 use Rattle.sq_outline.specs.WindowsMade.{items_at, IsWhole, behind}
 
 abbrev pub place_in : ℕ → ℕ → WindowAt
@@ -34,11 +34,26 @@ thinned n last [] = []
 thinned n last (place ∷ places) =
     if overlaps n last place then thinned n last places else in_block place.block place.at ∷ thinned n (Some (in_block place.block place.at)) places
 
--- but for what it saves the window at this place may become a procedure
-pub record MayBeMade (g : Graph) (block at n link : ℕ) : Type 0 where
-  pub plain : ArePlain (items_at g block at n)
-  pub part : ¬ All (IsWhole g n) (occurrences g (items_at g block at n))
-  pub linked : IsLink g (items_at g block at n) (behind n (occurrences g (items_at g block at n))) link
+-- n items are there
+pub record IsThere (g : Graph) (n : ℕ) (site : Site) : Type 0 where
+  pub there : HasBlock g site.block
+  pub within : site.at + n ≤ length (items_of g site.block)
+
+-- but for what it saves a window that occurs at these places may become a procedure with this link
+pub record MayBeMade (g : Graph) (window : List Item) (sites : List Site) (link : ℕ) : Type 0 where
+  pub plain : ArePlain window
+  pub part : ¬ All (IsWhole g (length window)) sites
+  pub linked : IsLink g window (behind (length window) sites) link
+
+-- the n items that stand at these places, and occur at those of them that don't overlap the one before, may become a procedure
+-- that saves so many words
+pub record IsFoundAt (g : Graph) (n : ℕ) (places : List WindowAt) (first : Site) (link saving : ℕ) (sites : List Site) : Type 0 where
+  pub sites_are : sites ≡ thinned n None places
+  pub others : List Site
+  pub first_is : sites ≡ first ∷ others
+  pub made : MayBeMade g (items_at g first.block first.at n) sites link
+  pub saves : saving + (n + 1) ≡ length sites * (n - 1)
+  pub some : 1 ≤ saving
 
 -- these are all places where n items stand, those at the first of them
 pub record AreStanding (g : Graph) (n : ℕ) (places : List WindowAt) : Type 0 where

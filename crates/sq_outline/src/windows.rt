@@ -11,11 +11,11 @@ mod kinds;
 mod left;
 mod occurrences;
 mod pass;
-mod past;
 mod proposals;
 mod search;
 mod stands;
 mod sweep;
+mod taken;
 mod window;
 
 pub(crate) use endings::Endings;

@@ -1,12 +1,13 @@
 //! What a new procedure may give rows O2 and O3.
 
 ghost use Rattle.sq_graph.specs.Blocks.{HasBlock, HasProcedure};
-ghost use Rattle.sq_outline.specs.WindowsPast.{IsPast};
+ghost use Rattle.sq_live.specs.Liveness.{IsLivenessOf};
+ghost use Rattle.sq_outline.specs.WindowsTaken.{IsTakenOf};
 
 use crate::filed::{Filed, file};
 use crate::groups::{block_print, body_print};
 use crate::plain::are_plain;
-use crate::windows::past::{Shift, dead_behind};
+use crate::windows::taken::Taken;
 use sq_graph::Graph;
 use sq_isa::RegSet;
 use sq_live::Liveness;
@@ -61,44 +62,50 @@ pub(crate) fn is_double(graph: &Graph, procedure: u32, others: &[u32]) -> bool
     false
 }
 
-/// Whether a call of the procedure may stand for the body of the block, by registers that were dead before these calls came.
-fn may_stand_for(
-    graph: &Graph,
-    before: &Liveness,
-    shifts: &[Shift],
-    block: u32,
-    procedure: u32,
-) -> bool
-    requires past { IsPast graph.now.graph before.now shifts.now }
+/// The registers that are dead behind the items of a block.
+pub(crate) fn dead_behind(graph: &Graph, live: &Liveness, block: u32) -> RegSet
+    requires live { IsLivenessOf graph.now.graph live.now }
+    requires block { HasBlock graph.now.graph block }
+{
+    graph.learn();
+    let items = graph.items(block);
+    RegSet::all().without(live.live_at(block, items.len() as u32))
+}
+
+/// Whether a call of the procedure may stand for the body of the block, of which no item was taken.
+fn may_stand_for(graph: &Graph, live: &Liveness, taken: &Taken, block: u32, procedure: u32) -> bool
+    requires live { IsLivenessOf graph.now.graph live.now }
+    requires taken { IsTakenOf graph.now.graph taken.now }
     requires block { HasBlock graph.now.graph block }
     requires procedure { HasProcedure graph.now.graph procedure }
 {
     graph.learn();
     let items = graph.items(block);
     let body = graph.body(procedure);
-    if items.len() != body.len() || !are_plain(items) {
+    if items.len() != body.len() || !are_plain(items) || !taken.are_free(block, 0, items.len()) {
         return false;
     }
     if match_items(graph, items, body, RegSet::all()).is_none() {
         return false;
     }
-    let dead = dead_behind(graph, before, shifts, block);
+    let dead = dead_behind(graph, live, block);
     dead.has(graph.link(procedure)) && match_items(graph, items, body, dead).is_some()
 }
 
 /// Whether a call of the procedure may stand for the body of one of these blocks.
 pub(crate) fn stands_for_one(
     graph: &Graph,
-    before: &Liveness,
-    shifts: &[Shift],
+    live: &Liveness,
+    taken: &Taken,
     procedure: u32,
     blocks: &[u32],
 ) -> bool
-    requires past { IsPast graph.now.graph before.now shifts.now }
+    requires live { IsLivenessOf graph.now.graph live.now }
+    requires taken { IsTakenOf graph.now.graph taken.now }
     requires procedure { HasProcedure graph.now.graph procedure }
 {
     for block in blocks {
-        if is_block(graph, *block) && may_stand_for(graph, before, shifts, *block, procedure) {
+        if is_block(graph, *block) && may_stand_for(graph, live, taken, *block, procedure) {
             return true;
         }
     }

@@ -5,7 +5,11 @@
 //! may be new: Branches that reach, since words went (J2, J3, O4); bodies that match that of a new procedure (O2), or a
 //! procedure that equals it (O3); and two blocks that call one procedure at the same place since a call came (T).
 
-ghost use Rattle.sq_outline.specs.WindowsPast.{IsPast};
+ghost use Rattle.sq_graph.specs.Blocks.{HasBlock};
+ghost use Rattle.sq_graph.specs.Calls.{with_calls};
+ghost use Rattle.sq_graph.specs.Rules.{IsGraph};
+ghost use Rattle.sq_live.specs.Liveness.{IsLivenessOf};
+ghost use Rattle.sq_outline.specs.WindowsTaken.{IsTakenOf};
 
 use crate::filed::{Filed, file, filed};
 use crate::groups::body_print;
@@ -14,9 +18,9 @@ use crate::sites::Site;
 use crate::unmoved::News;
 use crate::ways::FarWays;
 use crate::windows::doubles::{is_double, plain_bodies, procedure_bodies, stands_for_one};
-use crate::windows::joins::{callers_of, may_join_one};
-use crate::windows::past::Shift;
-use sq_finger::WindowAt;
+use crate::windows::endings::ending_of;
+use crate::windows::joins::{Caller, callers_of, may_join_one};
+use crate::windows::taken::Taken;
 use sq_graph::Graph;
 use sq_live::{Liveness, block_names};
 use sq_num::Memory;
@@ -30,7 +34,7 @@ pub(crate) struct Earlier {
     // Blocks of which a procedure may have the body, and procedures, by the prints of their bodies.
     bodies: Filed<u64>,
     procedures: Filed<u64>,
-    callers: Vec<u32>,
+    callers: Filed<Caller>,
     news: News,
 }
 
@@ -60,24 +64,39 @@ impl Earlier {
     }
 
     /// What may be new since blocks lost words, and since items came by which there may be more or not.
-    fn news_of(&mut self, alloc: Global, graph: &Graph, more: bool) -> Result<News, Memory> {
+    fn news_of(
+        &mut self,
+        alloc: Global,
+        graph: &Graph,
+        taken: &Taken,
+        more: bool,
+    ) -> Result<News, Memory>
+        requires taken { IsTakenOf graph.now.graph taken.now }
+        requires still { IsGraph (with_calls taken.now.fates.items graph.now.graph) }
+    {
         let reaches = self.far.take_near();
-        if more || self.inlines && find_inline(alloc, graph)?.is_some() {
+        if more {
             return Ok(News::Items);
+        }
+        if self.inlines {
+            let called = graph.with_calls(alloc, taken.fates())?;
+            if find_inline(alloc, &called)?.is_some() {
+                return Ok(News::Items);
+            }
         }
         Ok(if reaches { News::Reach } else { News::Nothing })
     }
 
-    /// Whether the last procedure, by registers that were dead before these calls came, may stand for the body of a block, or
-    /// equals another one.
+    /// Whether the last procedure may stand for the body of a block, or equals another one.
     fn has_likeness(
         &mut self,
         alloc: Global,
         graph: &Graph,
-        before: &Liveness,
-        shifts: &[Shift],
+        live: &Liveness,
+        taken: &Taken,
     ) -> Result<bool, Memory>
-        requires past { IsPast graph.now.graph before.now shifts.now }
+        requires live { IsLivenessOf graph.now.graph live.now }
+        requires taken { IsTakenOf graph.now.graph taken.now }
     {
         graph.learn();
         if graph.procedures() == 0 {
@@ -88,48 +107,55 @@ impl Earlier {
         file(alloc, &mut self.procedures, key, new)?;
         Ok(
             is_double(graph, new, filed(&self.procedures, &key))
-                || stands_for_one(graph, before, shifts, new, filed(&self.bodies, &key)),
+                || stands_for_one(graph, live, taken, new, filed(&self.bodies, &key)),
         )
     }
 
-    /// Looks at what may be new since the last procedure came, which is called at these places for so many items, by registers
-    /// that were dead before these calls came.
+    /// Looks at what may be new since the last procedure came, which is called at these places for so many items.
     pub(crate) fn look_at_procedure(
         &mut self,
         alloc: Global,
         graph: &Graph,
-        before: &Liveness,
-        shifts: &[Shift],
+        live: &Liveness,
+        taken: &Taken,
         sites: &[Site],
         n: u64,
     ) -> Result<(), Memory>
-        requires past { IsPast graph.now.graph before.now shifts.now }
+        requires live { IsLivenessOf graph.now.graph live.now }
+        requires taken { IsTakenOf graph.now.graph taken.now }
+        requires still { IsGraph (with_calls taken.now.fates.items graph.now.graph) }
     {
         for site in sites {
             self.far.shorten(site.block, n)?;
         }
-        let more = self.has_likeness(alloc, graph, before, shifts)?;
-        self.news = self.news_of(alloc, graph, more)?;
+        let more = self.has_likeness(alloc, graph, live, taken)?;
+        self.news = self.news_of(alloc, graph, taken, more)?;
         Ok(())
     }
 
-    /// Looks at what may be new since a call came at a place for so many items, by registers that were dead before these calls
-    /// came.
+    /// Looks at what may be new since a call of a procedure came at a place for so many items.
     pub(crate) fn look_at_call(
         &mut self,
         alloc: Global,
         graph: &Graph,
-        before: &Liveness,
-        shifts: &[Shift],
-        place: WindowAt,
+        live: &Liveness,
+        taken: &Taken,
+        site: Site,
+        procedure: u32,
         n: u64,
     ) -> Result<(), Memory>
-        requires past { IsPast graph.now.graph before.now shifts.now }
+        requires live { IsLivenessOf graph.now.graph live.now }
+        requires taken { IsTakenOf graph.now.graph taken.now }
+        requires still { IsGraph (with_calls taken.now.fates.items graph.now.graph) }
+        requires block { HasBlock graph.now.graph site.block }
     {
-        self.far.shorten(place.block, n)?;
-        let more = may_join_one(graph, before, shifts, place, &self.callers);
-        self.news = self.news_of(alloc, graph, more)?;
-        self.callers.push(place.block)?;
+        let Site { block, at } = site;
+        self.far.shorten(block, n)?;
+        let key = (ending_of(graph, block), procedure);
+        let others = filed(&self.callers, &key);
+        let more = may_join_one(alloc, graph, live, taken, block, at, others)?;
+        self.news = self.news_of(alloc, graph, taken, more)?;
+        file(alloc, &mut self.callers, key, block)?;
         Ok(())
     }
 }

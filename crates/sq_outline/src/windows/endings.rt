@@ -13,7 +13,7 @@ use std::collections::HashMap;
 
 /// Where a block leads by its end, with lone Jumps followed: its term without the target, the target, and where it goes on.
 #[derive(Clone, Copy, Debug, PartialEq, Eq)]
-pub(crate) struct End {
+struct End {
     term: Term,
     to: Option<u32>,
     next: Option<u32>,
@@ -40,7 +40,7 @@ fn reached(graph: &Graph, block: Option<u32>) -> Option<u32> {
 }
 
 /// The end of a block.
-pub(crate) fn end_of(graph: &Graph, block: u32) -> End
+fn end_of(graph: &Graph, block: u32) -> End
     requires { HasBlock graph.now.graph block }
 {
     graph.learn();
@@ -57,6 +57,26 @@ pub(crate) fn end_of(graph: &Graph, block: u32) -> End
         term: without_target(term),
         to: reached(graph, term.target()),
         next: if term.goes_on() { next } else { None },
+    }
+}
+
+/// How a block ends, as a key: two blocks have one where their ends are equal.
+#[derive(Clone, Copy, Debug, PartialEq, Eq, Hash)]
+pub(crate) struct Ending {
+    term: TermKey,
+    to: Option<u32>,
+    next: Option<u32>,
+}
+
+/// How a block ends.
+pub(crate) fn ending_of(graph: &Graph, block: u32) -> Ending
+    requires { HasBlock graph.now.graph block }
+{
+    let end = end_of(graph, block);
+    Ending {
+        term: term_key(&end.term),
+        to: end.to,
+        next: end.next,
     }
 }
 

@@ -4,23 +4,19 @@
 //!              p: ..                            p: ..
 //!                 jr l                             jr l
 
-ghost use Rattle.std.specs.Prelude.{◌≡◌, ◌≤◌, ◌<◌, ◌^◌, ◌+◌, ◌↔◌, ℕ, nat_eq, None, Ok, IsTrue, IfOk, IfSome, length};
+ghost use Rattle.std.specs.Prelude.{◌≡◌, ◌<◌, ◌+◌, ◌↔◌, ℕ, nat_eq, None, Ok, IsTrue, IfOk, IfSome, length};
 ghost use Rattle.std.specs.HashMap.{get};
-ghost use Rattle.sq_graph.specs.Blocks.{HasBlock, HasProcedure, items_of, body_of};
+ghost use Rattle.sq_graph.specs.Blocks.{HasBlock, HasProcedure};
 ghost use Rattle.sq_finger.specs.Lines.{line_of};
 ghost use Rattle.sq_live.specs.Liveness.{IsLivenessOf};
 ghost use Rattle.sq_pass.specs.declared.cut.Cut.{Cut as Told};
 ghost use Rattle.sq_pass.specs.declared.cut.Row.TheVariants.{V as Inside};
 ghost use Rattle.sq_pass.specs.Cuts.{IsCompleted};
-ghost use Rattle.sq_outline.specs.Called.{call_saving};
 ghost use Rattle.sq_outline.specs.WindowsHeads.{HasHeads};
 ghost use Rattle.sq_outline.specs.WindowsInside.{StandsInside, MayCallInside, IsInsideCut};
-ghost use Rattle.sq_outline.specs.WindowsPast.{IsPast};
 
-use crate::sites::Site;
 use crate::spans::Span;
 use crate::windows::heads::{heads, span_at};
-use crate::windows::past::{Shift, is_dead_still};
 use crate::windows::stands::stand_at;
 use sq_finger::{WindowAt, all_places};
 use sq_graph::Graph;
@@ -72,33 +68,6 @@ pub(crate) fn may_call_inside(
     }
     let count = graph.body(procedure).len() as u32;
     live.dead_at(block, at + count, graph.link(procedure))
-}
-
-/// Whether a call of the procedure may stand there, by registers that were dead before these calls came. It may miss one.
-pub(crate) fn may_call_still(
-    graph: &Graph,
-    live: &Liveness,
-    shifts: &[Shift],
-    place: WindowAt,
-    procedure: u32,
-) -> bool
-    requires past { IsPast graph.now.graph live.now shifts.now }
-    ensures { IsTrue result → HasProcedure graph.now.graph procedure × MayCallInside graph.now.graph place.block place.at procedure }
-{
-    graph.learn();
-    let WindowAt { block, at } = place;
-    if !is_block(graph, block) || procedure >= graph.procedures() {
-        return false;
-    }
-    if !stands_inside(graph, block, at, procedure) {
-        return false;
-    }
-    let count = graph.body(procedure).len() as u32;
-    let end = Site {
-        block,
-        at: at + count,
-    };
-    is_dead_still(graph, live, shifts, end, graph.link(procedure))
 }
 
 /// The first procedure of which a call may stand for items from a place on.

@@ -1,10 +1,10 @@
 //! Candidates of rows V and W that one look finds.
 
-ghost use Rattle.std.specs.Prelude.{◌≤◌, IfOk, IfSome, OnOk};
+ghost use Rattle.std.specs.Prelude.{◌≤◌, IfOk, OnOk};
 ghost use Rattle.std.specs.List.{All};
 ghost use Rattle.sq_live.specs.Liveness.{IsLivenessOf};
 ghost use Rattle.sq_outline.specs.WindowsCandidates.{IsWindowsCandidate};
-ghost use Rattle.sq_outline.specs.WindowsProposed.{IsFoundWindow};
+ghost use Rattle.sq_outline.specs.WindowsProposed.{IsFoundWindow, IsPlacedIn};
 ghost use Rattle.sq_outline.specs.WindowsSearch.{AreWindowClasses};
 
 use crate::windows::found::{Found, found_at};
@@ -24,6 +24,16 @@ pub(crate) struct FoundWindow {
     pub(crate) n: u32,
     pub(crate) found: Found,
     pub(crate) sixteenths: u64,
+    // Where it stands: so many places from this one on, among those of all windows of a look.
+    pub(crate) place: usize,
+    pub(crate) places: usize,
+}
+
+/// The windows that one look finds, and the places where they stand.
+#[derive(Drop)]
+pub(crate) struct Look {
+    pub(crate) windows: Vec<FoundWindow>,
+    pub(crate) places: Vec<WindowAt>,
 }
 
 /// Which part of the words of its occurrences a window of n items saves, in sixteenths.
@@ -42,22 +52,28 @@ fn push_windows(
     live: &Liveness,
     n: u32,
     classes: &Groups<WindowAt>,
-    windows: &mut Vec<FoundWindow>,
+    look: &mut Look,
 ) -> Result<(), Memory>
     requires live { IsLivenessOf graph.now.graph live.now }
     requires least { 3 ≤ n }
     requires most { n ≤ 16 }
     requires classes { AreWindowClasses graph.now.graph n classes.now }
-    requires windows { All (IsFoundWindow graph.now.graph) windows.old.items }
-    ensures { OnOk result (All (IsFoundWindow graph.now.graph) windows.new.items) }
+    requires windows { All (IsFoundWindow graph.now.graph) look.old.windows.items }
+    requires placed { All (IsPlacedIn graph.now.graph look.old.places.items) look.old.windows.items }
+    ensures windows { OnOk result (All (IsFoundWindow graph.now.graph) look.new.windows.items) }
+    ensures placed { OnOk result (All (IsPlacedIn graph.now.graph look.new.places.items) look.new.windows.items) }
 {
     for number in 0..classes.len() {
-        if let Some(found) = found_at(alloc, graph, live, n, classes.members(number))? {
-            windows.push(FoundWindow {
+        let places = classes.members(number);
+        if let Some(found) = found_at(alloc, graph, live, n, places)? {
+            look.windows.push(FoundWindow {
                 n,
                 found,
                 sixteenths: sixteenths(n, found.saving),
+                place: look.places.len(),
+                places: places.len(),
             })?;
+            look.places.extend_from_slice(places)?;
         }
     }
     Ok(())
@@ -65,27 +81,27 @@ fn push_windows(
 
 /// All windows that may become procedures, those that save the greatest part of their words last, of these the longest last. It
 /// numbers the windows of each length.
-pub(crate) fn found_windows(
-    alloc: Global,
-    graph: &Graph,
-    live: &Liveness,
-) -> Result<Vec<FoundWindow>, Memory>
+pub(crate) fn found_windows(alloc: Global, graph: &Graph, live: &Liveness) -> Result<Look, Memory>
     requires live { IsLivenessOf graph.now.graph live.now }
-    ensures { IfOk result (λ windows. All (IsFoundWindow graph.now.graph) windows.items) }
+    ensures windows { IfOk result (λ look. All (IsFoundWindow graph.now.graph) look.windows.items) }
+    ensures placed { IfOk result (λ look. All (IsPlacedIn graph.now.graph look.places.items) look.windows.items) }
 {
     graph.learn();
     window_laws();
     let line = all_places(alloc, graph)?;
     let items = number_items(alloc, graph, &line)?;
     let mut numbers = number_longer_runs(alloc, &items, &items)?;
-    let mut windows = Vec::new(alloc);
+    let mut look = Look {
+        windows: Vec::new(alloc),
+        places: Vec::new(alloc),
+    };
     for n in 3..17 {
         numbers = number_longer_runs(alloc, &items, &numbers)?;
         let classes = classes_in_line(alloc, graph, n, &line, &numbers)?;
-        push_windows(alloc, graph, live, n, &classes, &mut windows)?;
+        push_windows(alloc, graph, live, n, &classes, &mut look)?;
     }
-    windows.sort_by_key(|window| window.sixteenths)?;
-    Ok(windows)
+    look.windows.sort_by_key(|window| window.sixteenths)?;
+    Ok(look)
 }
 
 /// Puts behind the others a candidate of W for each of these windows.
@@ -134,9 +150,9 @@ pub fn propose_windows(alloc: Global, graph: &Graph, live: &Liveness) -> Result<
     requires { IsLivenessOf graph.now.graph live.now }
     ensures { IfOk result (λ cuts. All (IsWindowsCandidate graph.now.graph) cuts.items) }
 {
-    let windows = found_windows(alloc, graph, live)?;
+    let look = found_windows(alloc, graph, live)?;
     let mut cuts = Vec::new(alloc);
-    push_made(alloc, graph, &windows, &mut cuts)?;
+    push_made(alloc, graph, &look.windows, &mut cuts)?;
     push_calls(alloc, graph, live, &mut cuts)?;
     Ok(cuts)
 }

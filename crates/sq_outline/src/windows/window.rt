@@ -4,12 +4,12 @@
 //!              b: w; ..                         b: jal l,p; ..
 //!                                               p: w; jr l
 
-ghost use Rattle.std.specs.Prelude.{◌≡◌, ◌+◌, ◌<◌, ◌≤◌, ◌^◌, ◌++◌, ◌∷◌, ℕ, List, MatchOption, length, map, max, reverse};
+ghost use Rattle.std.specs.Prelude.{◌≡◌, ◌+◌, ◌<◌, ◌≤◌, ◌++◌, ◌∷◌, ℕ, List, MatchOption, length, map, max, reverse};
 ghost use Rattle.sq_graph.specs.Blocks.{HasBlock, items_of, body_of};
 ghost use Rattle.sq_graph.specs.Room.{KeepsTotal, Covers};
 ghost use Rattle.sq_outline.specs.Sites.{MayCallEach, called_each};
 ghost use Rattle.sq_outline.specs.WindowsPlaces.{occurrences_in, occurrences_from, occurrences, in_block, calls_between, calls_for};
-ghost use Rattle.sq_outline.specs.WindowsMade.{items_at, IsWindowMade, window_made, room_for_window};
+ghost use Rattle.sq_outline.specs.WindowsMade.{IsWindowMade, window_made, room_for_window};
 
 use crate::call::call;
 use crate::sites::Site;
@@ -102,30 +102,4 @@ pub(crate) fn make_window(graph: &mut Graph, block: u32, at: u32, n: u32, link: 
     graph.learn();
     let procedure = graph.outline(block, at, n, link);
     call_in_blocks(graph, procedure);
-}
-
-/// Makes the items at each of these places calls of a procedure, from the last place on.
-fn call_from_last(graph: &mut Graph, sites: &[Site], procedure: u32)
-    requires { MayCallEach graph.old.graph (reverse sites.now) procedure }
-    ensures graph { graph.new.graph ≡ called_each (reverse sites.now) procedure graph.old.graph }
-    ensures total { KeepsTotal graph.old graph.new }
-{
-    for i in 0..sites.len() {
-        let site = sites[sites.len() - 1 - i];
-        graph.learn();
-        call(graph, site.block, site.at, procedure);
-    }
-}
-
-/// Makes a window a procedure, and each of its occurrences, which are at hand, a call of it.
-pub(crate) fn make_window_at(graph: &mut Graph, sites: &[Site], first: Site, n: u32, link: Reg)
-    requires made { (saving : ℕ) × IsWindowMade graph.old.graph first.block first.at n link saving }
-    requires sites { sites.now ≡ occurrences graph.old.graph (items_at graph.old.graph first.block first.at n) }
-    requires room { Covers graph.old.spare (room_for_window n) }
-    ensures graph { graph.new.graph ≡ window_made graph.old.graph first.block first.at n link }
-    ensures total { KeepsTotal graph.old graph.new }
-{
-    graph.learn();
-    let procedure = graph.outline(first.block, first.at, n, link);
-    call_from_last(graph, sites, procedure);
 }

@@ -17,11 +17,11 @@ find_link-requires-clause-places c =
 
 pub returns-clause-some : goal.returns-clause-some
 returns-clause-some c =
-    some_made c.args.graph.now.graph c.args.window.now c.args.sites.now c.deref.result.now c.find_link.result c.requires.sites (c.deref.ensures.value ∙ c.in_ok-ends.ensures) (c.are_plain.ensures.0 c.if-not-are_plain.false)
+    some_made c.args.graph.now.graph c.args.window.now c.args.sites.now c.deref.result.now c.find_link.result (c.deref.ensures.value ∙ c.in_ok-ends.ensures) (c.are_plain.ensures.0 c.if-not-are_plain.false)
     (λ all. let yes = c.are_whole.ensures.1 all in let no = c.if-are_whole.false in absurd (cc)) c.find_link.ensures
 
 pub returns-clause-none : goal.returns-clause-none
 returns-clause-none c = λ e.
     let none : c.find_link.result ≡ None = cc in
-    none_made c.args.graph.now.graph c.args.window.now c.args.sites.now c.deref.result.now c.find_link.result c.requires.sites (c.deref.ensures.value ∙ c.in_ok-ends.ensures) (c.are_plain.ensures.0 c.if-not-are_plain.false)
+    none_made c.args.graph.now.graph c.args.window.now c.args.sites.now c.deref.result.now c.find_link.result (c.deref.ensures.value ∙ c.in_ok-ends.ensures) (c.are_plain.ensures.0 c.if-not-are_plain.false)
     (λ all. let yes = c.are_whole.ensures.1 all in let no = c.if-are_whole.false in absurd (cc)) c.find_link.ensures none

@@ -2,7 +2,7 @@ use Rattle.std.proofs.Common.{◌≡◌, ◌≤◌, ◌+◌, ◌-◌, ℕ, List,
 use Rattle.std.proofs.lemmas.List.Elements.{All-nil}
 use Rattle.std.proofs.lemmas.List.Sorted.{All-permutation}
 use Rattle.std.specs.List.{All}
-use Rattle.sq_outline.specs.WindowsProposed.{IsFoundWindow}
+use Rattle.sq_outline.specs.WindowsProposed.{IsFoundWindow, IsPlacedIn}
 use Rattle.sq_finger.specs.declared.places.WindowAt.{WindowAt}
 use Rattle.sq_finger.specs.Lines.{line_of, item_at, AreWindowNumbers}
 use Rattle.sq_finger.specs.Numbers.{AreNumbersOf}
@@ -18,7 +18,8 @@ number_longer_runs-requires c =
 pub loop-n-init : goal.loop-n-init
 loop-n-init c = record {
   runs = longer_numbers c.deref-2.result.now c.in_ok-items.items.items c.deref-3.result.now c.in_ok-items.items.items c.in_ok-numbers.numbers.items c.deref-2.ensures.value c.deref-3.ensures.value c.in_ok-numbers.ensures 1 (c.window_laws.ensures.ones c.in_ok-items.items.items);
-  found = subst (λ windows. All (IsFoundWindow c.args.graph.now.graph) windows) (sym c.new-windows.ensures.items) (All-nil (IsFoundWindow c.args.graph.now.graph));
+  found = subst (λ windows. All (IsFoundWindow c.args.graph.now.graph) windows) (sym c.new.ensures.items) (All-nil (IsFoundWindow c.args.graph.now.graph));
+  placed = subst (λ windows. All (IsPlacedIn c.args.graph.now.graph c.new-2.result.items) windows) (sym c.new.ensures.items) (All-nil (IsPlacedIn c.args.graph.now.graph c.new-2.result.items));
 }
 
 pub number_longer_runs-requires-in-loop-n : goal.number_longer_runs-requires-in-loop-n
@@ -51,8 +52,12 @@ loop-n-preserved c =
     let same : (c.loop-n.n - 1) + 1 ≡ (c.loop-n.n + 1) - 1 = omega (arith, least) in
     record {
       runs = subst (λ k. AreRunNumbers k c.in_ok-items.items.items c.in_ok-numbers-2.numbers.items) same longer;
-      found = c.in_ok-push_windows.ensures;
+      found = c.in_ok-push_windows.ensures.windows;
+      placed = c.in_ok-push_windows.ensures.placed;
     }
 
-pub returns : goal.returns
-returns c = All-permutation (IsFoundWindow c.args.graph.now.graph) _ _ c.in_ok-sort_by_key.ensures.permutation c.loop-n.invariant.found
+pub returns-clause-windows : goal.returns-clause-windows
+returns-clause-windows c = All-permutation (IsFoundWindow c.args.graph.now.graph) _ _ c.in_ok-sort_by_key.ensures.permutation c.loop-n.invariant.found
+
+pub returns-clause-placed : goal.returns-clause-placed
+returns-clause-placed c = All-permutation (IsPlacedIn c.args.graph.now.graph c.loop-n.look.places.items) _ _ c.in_ok-sort_by_key.ensures.permutation c.loop-n.invariant.placed

@@ -1,10 +1,8 @@
-use Rattle.sq_pass.specs.Rewrites.{IsRewritten}
-use Rattle.sq_outline.specs.WindowsCandidates.{IsWindowsCandidate, windows_described}
-use Rattle.sq_outline.specs.WindowsPast.{KeepsPast}
+use Rattle.sq_outline.specs.WindowsSwept.{IsSweeping, AreSwept}
 use Rattle.sq_outline.proofs.windows.sweep.call_each.Given as goal
 
 abbrev pub invariant-loop-at : goal.invariant-loop-at
 invariant-loop-at l = record {
-  rewritten : IsRewritten IsWindowsCandidate windows_described l.fn.savings l.after l.fn.graph.graph l.graph.graph;
-  past : KeepsPast l.fn.graph.graph l.fn.shifts.items l.graph.graph l.shifts.items;
+  sweeping : IsSweeping l.graph.graph l.taken l.after;
+  swept : AreSwept l.graph.graph l.fn.taken l.graph.graph l.taken l.fn.savings l.after;
 }

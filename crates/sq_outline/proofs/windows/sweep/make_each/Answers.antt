@@ -1,27 +1,51 @@
+use Rattle.std.proofs.Common.{length, sym, ap, ◌∙◌, subst}
+use Rattle.sq_graph.specs.Calls.{with_calls}
+use Rattle.sq_graph.specs.Graph.{Graph}
+use Rattle.sq_graph.specs.Rules.{IsGraph}
 use Rattle.law_follow.proofs.Following.{graph_follows_itself}
-use Rattle.sq_pass.proofs.Rewriting.{rewritten_itself, rewritten_through}
+use Rattle.law_follow.specs.Follows.{Follows}
+use Rattle.sq_pass.specs.Rewrites.{IsRewritten}
 use Rattle.sq_outline.specs.WindowsCandidates.{IsWindowsCandidate, windows_described}
-use Rattle.sq_outline.proofs.WindowsPast.{past_itself}
+use Rattle.sq_outline.proofs.WindowsUntaken.{none_sweeping, none_swept, ends_swept}
 use Rattle.sq_outline.proofs.windows.sweep.make_each.Goals as goal
 
-pub returns-in_err-blocks-clause-follows : goal.returns-in_err-blocks-clause-follows
-returns-in_err-blocks-clause-follows c = graph_follows_itself c.args.graph.now.graph
+pub returns-in_err-taken-clause-follows : goal.returns-in_err-taken-clause-follows
+returns-in_err-taken-clause-follows c = graph_follows_itself c.args.graph.now.graph
 
-pub loop-window-init : goal.loop-window-init
-loop-window-init c = record {
-  rewritten = rewritten_itself IsWindowsCandidate windows_described c.args.savings c.args.graph.now.graph c.requires.canonical;
-  past = rw c.new-shifts.ensures.items (past_itself c.args.graph.now.graph _ c.requires.live);
-  kinds = c.in_ok-blocks.ensures;
-}
+pub take_each-requires-clause-sweeping : goal.take_each-requires-clause-sweeping
+take_each-requires-clause-sweeping c =
+    none_sweeping c.args.graph.now.graph c.in_ok-taken.taken c.in_ok-taken.ensures.taken c.in_ok-taken.ensures.stay c.args.savings c.learn.ensures.rules c.requires.canonical c.requires.words
 
-pub loop-window-preserved : goal.loop-window-preserved
-loop-window-preserved c = record {
-  rewritten =
-      rewritten_through IsWindowsCandidate windows_described c.args.savings c.loop-window.after c.in_ok-after.after c.args.graph.now.graph c.loop-window.graph.graph c.make_if_may.new.graph.graph c.loop-window.invariant.rewritten c.in_ok-after.ensures.rewritten;
-  past = c.in_ok-after.ensures.past c.args.before.now c.loop-window.invariant.past;
-  kinds = c.in_ok-after.ensures.kinds c.in_ok-blocks.blocks.items c.loop-window.invariant.kinds;
-}
+pub returns-in_err-after-clause-follows : goal.returns-in_err-after-clause-follows
+returns-in_err-after-clause-follows c = c.take_each.ensures.blocks.follows
 
-pub returns-then-asks-clause-rewritten : goal.returns-then-asks-clause-rewritten
-returns-then-asks-clause-rewritten c =
-    rewritten_through IsWindowsCandidate windows_described c.args.savings c.loop-window.after c.in_ok-after.after c.args.graph.now.graph c.loop-window.graph.graph c.make_if_may.new.graph.graph c.loop-window.invariant.rewritten c.in_ok-after.ensures.rewritten
+pub with_calls-requires-clause-many : goal.with_calls-requires-clause-many
+with_calls-requires-clause-many c =
+    let many = c.in_ok-after.ensures.sweeping.fates.fates.many in
+    ap (λ fs. length fs) c.fates.ensures ∙ many
+
+pub with_calls-requires-clause-rules : goal.with_calls-requires-clause-rules
+with_calls-requires-clause-rules c =
+    subst (λ fs. IsGraph (with_calls fs c.take_each.new.graph.graph)) (sym c.fates.ensures) c.in_ok-after.ensures.sweeping.rules
+
+pub returns-in_err-graph-clause-follows : goal.returns-in_err-graph-clause-follows
+returns-in_err-graph-clause-follows c = c.take_each.ensures.blocks.follows
+
+pub returns-in_err-shift-clause-follows : goal.returns-in_err-shift-clause-follows
+returns-in_err-shift-clause-follows c =
+    let g = c.args.graph.now.graph in
+    let h = c.take_each.new.graph.graph in
+    let starts = none_swept g c.in_ok-taken.taken c.in_ok-taken.ensures.taken c.in_ok-taken.ensures.stay in
+    let all = ends_swept g h c.in_ok-taken.taken c.take_each.new.taken c.args.savings c.in_ok-after.after starts c.in_ok-after.ensures.swept in
+    subst (λ (k : Graph). Follows g k) (sym (c.in_ok-graph.ensures.graph ∙ ap (λ fs. with_calls fs h) c.fates.ensures)) all.lighter.follows
+
+pub returns-clause-rewritten : goal.returns-clause-rewritten
+returns-clause-rewritten c =
+    let g = c.args.graph.now.graph in
+    let h = c.take_each.new.graph.graph in
+    let starts = none_swept g c.in_ok-taken.taken c.in_ok-taken.ensures.taken c.in_ok-taken.ensures.stay in
+    subst (λ (k : Graph). IsRewritten IsWindowsCandidate windows_described c.args.savings c.in_ok-after.after g k) (sym (c.in_ok-graph.ensures.graph ∙ ap (λ fs. with_calls fs h) c.fates.ensures))
+    (ends_swept g h c.in_ok-taken.taken c.take_each.new.taken c.args.savings c.in_ok-after.after starts c.in_ok-after.ensures.swept)
+
+pub returns-clause-follows : goal.returns-clause-follows
+returns-clause-follows c = (returns-clause-rewritten c).lighter.follows
