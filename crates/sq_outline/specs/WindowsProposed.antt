@@ -16,10 +16,10 @@ IsFoundWindow g w = IsWindowMade g w.found.first.block w.found.first.at w.n w.fo
 abbrev pub places_of : List WindowAt → FoundWindow → List WindowAt
 places_of places w = take w.places (drop w.place places)
 
--- these are all places where the items of the window's first one stand
+-- the window's, if there are any, are all places where the items of its first one stand
 pub record IsPlacedIn (g : Graph) (places : List WindowAt) (w : FoundWindow) : Type 0 where
   pub within : w.place + w.places ≤ length places
-  pub all : places_of places w ≡ standing g (items_at g w.found.first.block w.found.first.at w.n)
+  pub all : 1 ≤ w.places → places_of places w ≡ standing g (items_at g w.found.first.block w.found.first.at w.n)
 
 -- the same where it is known where windows stand
 abbrev pub IsFoundIn : Graph → List WindowAt → FoundWindow → Type 0

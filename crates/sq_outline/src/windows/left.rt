@@ -24,7 +24,7 @@ const LEFT: u32 = 1024;
 #[derive(Drop)]
 pub struct FoundWindows {
     windows: Vec<FoundWindow>,
-    // Where they stand in the graph that was looked at; none once it is another one.
+    // Where they stand in the graph that was looked at, as far as there was room; none once it is another one.
     places: Vec<WindowAt>,
     // Why the sweep ended that left them.
     news: News,
@@ -71,12 +71,12 @@ impl FoundWindows {
         })
     }
 
-    /// The places where a window stands in this graph, if the look was at it.
+    /// The places where a window stands in this graph, if the look was at it and had room for them.
     pub(crate) fn places_of(&self, window: &FoundWindow) -> Option<&[WindowAt]>
         requires { 1 ≤ length self.now.places.items → window.now.place + window.now.places ≤ length self.now.places.items }
-        ensures { IfSome result (λ places. (1 ≤ length self.now.places.items) × (places.now ≡ places_of self.now.places.items window.now)) }
+        ensures { IfSome result (λ places. (1 ≤ length self.now.places.items) × (1 ≤ window.now.places) × (places.now ≡ places_of self.now.places.items window.now)) }
     {
-        if self.places.is_empty() {
+        if self.places.is_empty() || window.places == 0 {
             return None;
         }
         Some(&self.places[window.place..][..window.places])

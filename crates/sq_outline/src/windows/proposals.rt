@@ -1,6 +1,6 @@
 //! Candidates of rows V and W that one look finds.
 
-ghost use Rattle.std.specs.Prelude.{◌≤◌, IfOk, OnOk};
+ghost use Rattle.std.specs.Prelude.{◌≡◌, ◌≤◌, ◌-◌, ◌++◌, if◌then◌else◌, nat_lt, length, take, IfOk, OnOk};
 ghost use Rattle.std.specs.List.{All};
 ghost use Rattle.sq_live.specs.Liveness.{IsLivenessOf};
 ghost use Rattle.sq_outline.specs.WindowsCandidates.{IsWindowsCandidate};
@@ -18,18 +18,21 @@ use sq_num::Memory;
 use sq_pass::Cut;
 use std::alloc::Global;
 
+// So many places of windows are kept for each place of the graph; else a text of one repeated item would fill the memory.
+const PLACES: usize = 4;
+
 /// A window of n items that may become a procedure, and which part of the words of its occurrences it saves, in sixteenths.
 #[derive(Clone, Copy, Debug)]
 pub(crate) struct FoundWindow {
     pub(crate) n: u32,
     pub(crate) found: Found,
     pub(crate) sixteenths: u64,
-    // Where it stands: so many places from this one on, among those of all windows of a look.
+    // Where it stands: so many places from this one on, among those of all windows of a look; none if there was no room for them.
     pub(crate) place: usize,
     pub(crate) places: usize,
 }
 
-/// The windows that one look finds, and the places where they stand.
+/// The windows that one look finds, and the places where they stand, but of those for whose places there was no room.
 #[derive(Drop)]
 pub(crate) struct Look {
     pub(crate) windows: Vec<FoundWindow>,
@@ -45,13 +48,26 @@ pub(crate) fn sixteenths(n: u32, saving: u32) -> u64
     16 * u64::from(saving) / words
 }
 
-/// Puts the windows of n items that may become procedures behind the others.
+/// Keeps these places behind the others if no more than so many are kept then, or none of them. It answers how many it kept.
+fn keep(kept: &mut Vec<WindowAt>, places: &[WindowAt], most: usize) -> Result<usize, Memory>
+    ensures count { IfOk result (λ n. n ≡ (if nat_lt (most - length kept.old.items) (length places.now) then 0 else length places.now)) }
+    ensures kept { IfOk result (λ n. kept.new.items ≡ kept.old.items ++ take n places.now) }
+{
+    if most.saturating_sub(kept.len()) < places.len() {
+        return Ok(0);
+    }
+    kept.extend_from_slice(places)?;
+    Ok(places.len())
+}
+
+/// Puts the windows of n items that may become procedures behind the others, with their places while these are so few.
 fn push_windows(
     alloc: Global,
     graph: &Graph,
     live: &Liveness,
     n: u32,
     classes: &Groups<WindowAt>,
+    most_places: usize,
     look: &mut Look,
 ) -> Result<(), Memory>
     requires live { IsLivenessOf graph.now.graph live.now }
@@ -71,9 +87,8 @@ fn push_windows(
                 found,
                 sixteenths: sixteenths(n, found.saving),
                 place: look.places.len(),
-                places: places.len(),
+                places: keep(&mut look.places, places, most_places)?,
             })?;
-            look.places.extend_from_slice(places)?;
         }
     }
     Ok(())
@@ -89,6 +104,7 @@ pub(crate) fn found_windows(alloc: Global, graph: &Graph, live: &Liveness) -> Re
     graph.learn();
     window_laws();
     let line = all_places(alloc, graph)?;
+    let most_places = line.len().saturating_mul(PLACES);
     let items = number_items(alloc, graph, &line)?;
     let mut numbers = number_longer_runs(alloc, &items, &items)?;
     let mut look = Look {
@@ -98,7 +114,7 @@ pub(crate) fn found_windows(alloc: Global, graph: &Graph, live: &Liveness) -> Re
     for n in 3..17 {
         numbers = number_longer_runs(alloc, &items, &numbers)?;
         let classes = classes_in_line(alloc, graph, n, &line, &numbers)?;
-        push_windows(alloc, graph, live, n, &classes, &mut look)?;
+        push_windows(alloc, graph, live, n, &classes, most_places, &mut look)?;
     }
     look.windows.sort_by_key(|window| window.sixteenths)?;
     Ok(look)

@@ -1,4 +1,4 @@
-use Rattle.std.proofs.Common.{List, ◌++◌, length, refl, sym, ap, ◌∙◌, subst}
+use Rattle.std.proofs.Common.{List, ◌++◌, length, take, refl, sym, ap, ◌∙◌, subst}
 use Rattle.std.proofs.lemmas.List.Elements.{All-push, All-weaker}
 use Rattle.std.specs.List.{All}
 use Rattle.std.specs.Prelude.{IfSome}
@@ -9,7 +9,7 @@ use Rattle.sq_outline.specs.declared.windows.proposals.FoundWindow.{FoundWindow}
 use Rattle.sq_outline.specs.declared.windows.proposals.Look.{Look}
 use Rattle.sq_outline.proofs.WindowsPlaced.{placed_still, placed_new}
 use Rattle.sq_outline.proofs.windows.proposals.push_windows.Goals as goal
-use Rattle.sq_outline.proofs.windows.proposals.push_windows.Goals.{in-Some+in_ok-push+in_ok-extend_from_slice, in_default}
+use Rattle.sq_outline.proofs.windows.proposals.push_windows.Goals.{in-Some+in_ok-keep+in_ok-push, in_default}
 
 pub loop-number-preserved : goal.loop-number-preserved
 loop-number-preserved c =
@@ -19,22 +19,23 @@ loop-number-preserved c =
     let places = c.loop-number.look.places.items in
     let members = c.members-places.result.now in
     elim c.match-branch-2.branch [
-      | in-Some+in_ok-push+in_ok-extend_from_slice w ↦
+      | in-Some+in_ok-keep+in_ok-push w ↦
           let made = subst (λ found. IfSome found (λ made. IsWindowMade g made.first.block made.first.at c.args.n made.link made.saving)) w.in-Some.is c.in_ok-found.ensures.some in
           let first = rw w.in-Some.is at c.in_ok-found.ensures.first in
           let all = ap (λ (look : Look). look.windows.items) w.look-is ∙ w.in_ok-push.ensures.items in
-          let more = ap (λ (look : Look). look.places.items) w.look-is ∙ w.in_ok-extend_from_slice.ensures.items in
+          let kept = take w.in_ok-keep.field-0 members in
+          let more = ap (λ (look : Look). look.places.items) w.look-is ∙ w.in_ok-keep.ensures.kept in
           record {
             windows = subst (λ (ws : List FoundWindow). All P ws) (sym all) (All-push P windows _ c.loop-number.invariant.windows made);
             placed =
                 subst (λ (ps : List WindowAt). All (IsPlacedIn g ps) c.match-branch-2.look.windows.items) (sym more)
-                (subst (λ (ws : List FoundWindow). All (IsPlacedIn g (places ++ members)) ws) (sym all)
-                (All-push (IsPlacedIn g (places ++ members)) windows
-                (record { n = c.args.n; found = w.in-Some.found; sixteenths = w.sixteenths.result; place = w.len.result; places = length c.members-places.result.now })
-                (All-weaker (IsPlacedIn g places) (IsPlacedIn g (places ++ members)) (λ v placed. placed_still g places members v placed) windows c.loop-number.invariant.placed)
+                (subst (λ (ws : List FoundWindow). All (IsPlacedIn g (places ++ kept)) ws) (sym all)
+                (All-push (IsPlacedIn g (places ++ kept)) windows
+                (record { n = c.args.n; found = w.in-Some.found; sixteenths = w.sixteenths.result; place = w.len.result; places = w.in_ok-keep.field-0 })
+                (All-weaker (IsPlacedIn g places) (IsPlacedIn g (places ++ kept)) (λ v placed. placed_still g places kept v placed) windows c.loop-number.invariant.placed)
                 (placed_new g c.args.n w.in-Some.found.link w.in-Some.found.saving w.in-Some.found.first.block w.in-Some.found.first.at places members
-                (record { n = c.args.n; found = w.in-Some.found; sixteenths = w.sixteenths.result; place = w.len.result; places = length c.members-places.result.now })
-                refl refl refl (w.len.ensures ∙ c.loop-number.look.places.ok.0) refl (c.requires.classes.each _ _ c.members-places.ensures) made first)));
+                (record { n = c.args.n; found = w.in-Some.found; sixteenths = w.sixteenths.result; place = w.len.result; places = w.in_ok-keep.field-0 })
+                _ refl refl refl (w.len.ensures ∙ c.loop-number.look.places.ok.0) w.in_ok-keep.ensures.count (c.requires.classes.each _ _ c.members-places.ensures) made first)));
           }
       | in_default w ↦
           record {

@@ -24,7 +24,7 @@ free_places-requires c =
     let f = c.args.window.now.found.first in
     let n = c.args.window.now.n in
     let within : c.args.window.now.found.first.at + c.args.window.now.n ≤ length (items_of c.args.graph.now.graph c.args.window.now.found.first.block) = omega (arith, c.if-count-at.false, ap length c.items-count.ensures) in
-    subst (λ (ps : List WindowAt). All (λ (p : WindowAt). HasFates c.args.taken.now p.block p.at n) ps) (sym (c.in-Some.ensures.1 ∙ (c.requires.found c.in-Some.ensures.0).all))
+    subst (λ (ps : List WindowAt). All (λ (p : WindowAt). HasFates c.args.taken.now p.block p.at n) ps) (sym (c.in-Some.ensures.2 ∙ (c.requires.found c.in-Some.ensures.0).all c.in-Some.ensures.1))
     (all_have_fates g c.args.taken.now c.requires.taken n (standing g (items_at g f.block f.at n)) (standing_within g f.block f.at n within))
 
 pub free_places-requires-in-None : goal.free_places-requires-in-None
@@ -46,7 +46,7 @@ returns-clause-places c =
     let free = free_places_of g taken c.requires.taken n (standing g (items_at g f.block f.at n)) (standing_within g f.block f.at n within) in
     elim c.match-places_of.branch [
       | in-Some+in_ok-places-in-Some w ↦
-          ap (λ v. v.items) w.places-is ∙ w.in_ok-places-in-Some.ensures ∙ ap (λ (ps : List WindowAt). filter (is_free_at taken n) ps) (w.in-Some.ensures.1 ∙ (c.requires.found w.in-Some.ensures.0).all) ∙ free
+          ap (λ v. v.items) w.places-is ∙ w.in_ok-places-in-Some.ensures ∙ ap (λ (ps : List WindowAt). filter (is_free_at taken n) ps) (w.in-Some.ensures.2 ∙ (c.requires.found w.in-Some.ensures.0).all w.in-Some.ensures.1) ∙ free
       | in-None+in_ok-standing-in-None+in_ok-places-in-None w ↦
           ap (λ v. v.items) w.places-is ∙ w.in_ok-places-in-None.ensures ∙ ap (λ (ps : List WindowAt). filter (is_free_at taken n) ps) (w.deref.ensures.value ∙ w.in_ok-standing-in-None.ensures) ∙ free
     ]

@@ -15,3 +15,6 @@ returns-clause-rewritten c =
 
 pub returns-clause-follows : goal.returns-clause-follows
 returns-clause-follows c = graph_follows_through c.args.graph.now.graph c.make_each.new.graph.graph _ c.in_ok-made.ensures.follows c.sweep_made-2.ensures.follows
+
+pub make_each-requires-clause-found : goal.make_each-requires-clause-found
+make_each-requires-clause-found c = c.requires.found c.args.graph.now.graph
