@@ -27,10 +27,10 @@ IsFar g seam block =
     (stands_at block_words g block + 4 * length (items_of g block) + 4096 < seam)
     ⊎ (seam + 4096 < stands_at block_words g block)
 
--- each Branch of a slot before this block is far from this address
+-- each Branch of a slot before this block is further ahead of this address than it reaches
 abbrev pub AreFarBefore : Graph → ℕ → ℕ → Type 0
 AreFarBefore g seam block =
-    (n : ℕ) → EndsInBranch g n → ContainsKey (before (named g.blocks) block) n → IsFar g seam n
+    (n : ℕ) → EndsInBranch g n → ContainsKey (before (named g.blocks) block) n → stands_at block_words g n + 4 * length (items_of g n) + 4096 < seam
 
 -- each Branch still reaches or is far from this address
 abbrev pub IsSeenAround : Graph → Seams → ℕ → Type 0

@@ -1,7 +1,7 @@
 //! The Branches around the seams of a move, which exchanges two pieces of the blocks that follow each other. One that is further
 //! from each seam than a Branch reaches stays as far from its target.
 
-ghost use Rattle.std.specs.Prelude.{◌≡◌, ◌↔◌, ◌⊎◌, ℕ, ◌<◌, ◌^◌, IfSome};
+ghost use Rattle.std.specs.Prelude.{◌≡◌, ◌↔◌, ◌⊎◌, ℕ, ◌≤◌, ◌<◌, ◌^◌, false, IfSome};
 ghost use Rattle.sq_graph.specs.Graph.{Graph as Parts};
 ghost use Rattle.sq_graph.specs.Blocks.{HasBlock};
 ghost use Rattle.sq_graph.specs.Places.{IsInReach};
@@ -18,7 +18,7 @@ use sq_graph::{Graph, Term};
 use sq_layout::{distance, reaches};
 
 /// How many slots a look goes along at most.
-const SLOTS: u32 = 2400;
+const SLOTS: u32 = 4800;
 
 /// How many bytes from a seam it goes: more than a Branch reaches.
 const REACH: u64 = 4200;
@@ -94,17 +94,25 @@ fn far_before(graph: &Graph, addresses: &[u32], seam: u64, from: u32) -> Option<
     None
 }
 
-/// What the Branches around a seam come to. The look begins at this block, which is best one near the seam.
-fn look_at_seam(graph: &Graph, addresses: &[u32], seams: Seams, seam: u64, from: u32) -> Around
-    requires block { HasBlock graph.now.graph from }
+/// Addresses from a seam up to a last one, which one look goes around. It begins at this block, which is best one near the first.
+#[derive(Clone, Copy)]
+struct Span {
+    first: u64,
+    last: u64,
+    from: u32,
+}
+
+/// What the Branches around a span come to.
+fn look_around_span(graph: &Graph, addresses: &[u32], seams: Seams, span: Span) -> Around
+    requires block { HasBlock graph.now.graph span.from }
     requires addresses { (n : ℕ) → placed_at addresses.now n ≡ address_by words_in graph.now.graph.blocks 0 n }
     requires exchanged { (h : Parts) × IsExchanged graph.now.graph h seams }
-    requires small { seam < 2 ^ 34 }
-    ensures near { result ≡ Near → IsSeenAround graph.now.graph seams seam }
+    requires small { span.last < 2 ^ 34 }
+    ensures near { result ≡ Near → (seam : ℕ) → span.first ≤ seam → seam ≤ span.last → IsSeenAround graph.now.graph seams seam }
     ensures short { result ≡ Short → (n : ℕ) × IsSurelyShort graph.now.graph seams n }
 {
     graph.learn();
-    let Some(mut block) = far_before(graph, addresses, seam, from) else {
+    let Some(mut block) = far_before(graph, addresses, span.first, span.from) else {
         return Around::Unsure;
     };
     let mut around = Around::Near;
@@ -116,7 +124,7 @@ fn look_at_seam(graph: &Graph, addresses: &[u32], seams: Seams, seam: u64, from:
         let Some(next) = graph.next(block) else {
             return around;
         };
-        if address(addresses, next) > seam + REACH {
+        if address(addresses, next) > span.last + REACH {
             return around;
         }
         block = next;
@@ -124,7 +132,31 @@ fn look_at_seam(graph: &Graph, addresses: &[u32], seams: Seams, seam: u64, from:
     around.with(Around::Unsure)
 }
 
-/// What all Branches come to once the chain from `to` to `end` stands behind `from`. It looks around the three seams alone.
+/// What Branches that were looked at and those around a span come to. It looks no further where the span was seen, too, or one of
+/// the Branches is short.
+fn look_on(
+    graph: &Graph,
+    addresses: &[u32],
+    seams: Seams,
+    span: Span,
+    around: Around,
+    seen: bool,
+) -> Around
+    requires block { HasBlock graph.now.graph span.from }
+    requires addresses { (n : ℕ) → placed_at addresses.now n ≡ address_by words_in graph.now.graph.blocks 0 n }
+    requires exchanged { (h : Parts) × IsExchanged graph.now.graph h seams }
+    requires small { span.last < 2 ^ 34 }
+    ensures near { result ≡ Near → (around ≡ Near) × (seen ≡ false → (seam : ℕ) → span.first ≤ seam → seam ≤ span.last → IsSeenAround graph.now.graph seams seam) }
+    ensures short { result ≡ Short → (around ≡ Short) ⊎ ((n : ℕ) × IsSurelyShort graph.now.graph seams n) }
+{
+    if seen || around == Around::Short {
+        return around;
+    }
+    around.with(look_around_span(graph, addresses, seams, span))
+}
+
+/// What all Branches come to once the chain from `to` to `end` stands behind `from`. It looks around the three seams alone, by one
+/// look around those that are near the one before.
 pub(crate) fn look_around(
     graph: &Graph,
     addresses: &[u32],
@@ -144,18 +176,31 @@ pub(crate) fn look_around(
 {
     graph.learn();
     // Which block is near which seam decides only where a look begins.
-    let (first, second, third) = if seams.begin == to {
+    let (from_first, from_second, from_end) = if seams.begin == to {
         (to, end, from)
     } else {
         (from, to, end)
     };
-    let mut around = look_at_seam(graph, addresses, seams, seams.first, first);
-    if around == Around::Short {
-        return around;
-    }
-    around = around.with(look_at_seam(graph, addresses, seams, seams.second, second));
-    if around == Around::Short {
-        return around;
-    }
-    around.with(look_at_seam(graph, addresses, seams, seams.end, third))
+    let (second_is_near, end_is_near) = (
+        seams.second - seams.first <= REACH,
+        seams.end - seams.second <= REACH,
+    );
+    let at_end = Span {
+        first: seams.end,
+        last: seams.end,
+        from: from_end,
+    };
+    let at_second = Span {
+        first: seams.second,
+        last: if end_is_near { seams.end } else { seams.second },
+        from: from_second,
+    };
+    let at_first = Span {
+        first: seams.first,
+        last: if second_is_near { at_second.last } else { seams.first },
+        from: from_first,
+    };
+    let first = look_around_span(graph, addresses, seams, at_first);
+    let second = look_on(graph, addresses, seams, at_second, first, second_is_near);
+    look_on(graph, addresses, seams, at_end, second, end_is_near)
 }

@@ -1,4 +1,4 @@
-use Rattle.std.proofs.Common.{◌≡◌, ◌∙◌, ℕ, None, Some, inl, sym, ap, arith}
+use Rattle.std.proofs.Common.{◌≡◌, ◌∙◌, ℕ, None, Some, sym, ap, arith}
 use Rattle.sq_arena.specs.Entries.{previous_key}
 use Rattle.sq_graph.specs.Blocks.{named}
 use Rattle.sq_graph.specs.Words.{block_words}
@@ -21,7 +21,7 @@ returns-then-address-seam c =
     let g = c.args.graph.now.graph in
     let at = c.address.ensures ∙ ap (λ (f : ℕ → ℕ). f c.loop-slot.block) (stands_are block_words g (placed_at c.args.addresses.now) c.requires.addresses) in (
       c.loop-slot.invariant,
-      λ n branch ahead. inl (omega (arith, at, c.if-address-seam.true, branch_ahead g c.learn.ensures.rules c.loop-slot.block c.loop-slot.invariant n branch ahead)),
+      λ n branch ahead. omega (arith, at, c.if-address-seam.true, branch_ahead g c.learn.ensures.rules c.loop-slot.block c.loop-slot.invariant n branch ahead),
     )
 
 pub previous-requires : goal.previous-requires
