@@ -197,7 +197,11 @@ pub(crate) fn look_around(
     };
     let at_first = Span {
         first: seams.first,
-        last: if second_is_near { at_second.last } else { seams.first },
+        last: if second_is_near {
+            at_second.last
+        } else {
+            seams.first
+        },
         from: from_first,
     };
     let first = look_around_span(graph, addresses, seams, at_first);

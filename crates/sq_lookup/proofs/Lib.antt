@@ -3,6 +3,8 @@ pub mod Targets
 pub mod Sizes
 pub mod Reaching
 pub mod Resolving
+pub mod Following
+pub mod Noting
 pub mod Adding
 pub mod Previous
 pub mod Counting

@@ -1,4 +1,5 @@
 pub mod Names
 pub mod Tables
+pub mod Resolutions
 pub mod Addresses
 pub mod Counts

@@ -1,7 +1,7 @@
 //! What passes look up in a graph.
 //!
 //! To the layers above it promises that a `Table` has what was last put under each name, and `Names` the names that were
-//! put there; that `is_block`, `block_before`, `jump_from`, `block_addresses` and `resolve` answer what the definitions say,
+//! put there; that `is_block`, `block_before`, `jump_from`, `block_addresses`, `resolve` and `Resolutions` answer what the definitions say,
 //! and `used_names` and `held_names` which names a graph uses; that `Uses` has how often, as it is rewritten; and that
 //! `in_reach` is true exactly of a graph each of whose branches reaches its target.
 #![tactic(auto)]
@@ -12,6 +12,7 @@ mod counts;
 mod lone_jumps;
 mod names;
 mod reach;
+mod resolutions;
 mod table;
 mod uses;
 
@@ -21,5 +22,6 @@ pub use counts::{Uses, uses_of};
 pub use lone_jumps::{jump_from, resolve};
 pub use names::Names;
 pub use reach::in_reach;
+pub use resolutions::{Resolutions, resolve_all};
 pub use table::Table;
 pub use uses::{held_names, used_names};

@@ -11,9 +11,10 @@ ghost use Rattle.sq_tail.specs.Resolved.{block_key};
 ghost use Rattle.sq_tail.specs.Ends.{item_back};
 ghost use Rattle.sq_tail.specs.Numbers.{AreEndNumbers, zipped};
 
-use crate::resolved::resolved_term;
+use crate::resolved::resolved_term_by;
 use sq_finger::{ItemKey, TermKey, item_key, number_all, term_key};
 use sq_graph::Graph;
+use sq_lookup::resolve_all;
 use sq_num::Memory;
 use sq_rename::has_no_reservations;
 use std::alloc::Global;
@@ -25,9 +26,10 @@ fn term_keys(alloc: Global, graph: &Graph, names: &[u32]) -> Result<Vec<Option<E
     requires { names.now ≡ names_of graph.now.graph }
     ensures { IfOk result (λ keys. keys.items ≡ map (block_key graph.now.graph) names.now) }
 {
+    let table = resolve_all(alloc, graph)?;
     let mut keys = Vec::new(alloc);
     for name in names {
-        let resolved = resolved_term(graph, *name);
+        let resolved = resolved_term_by(graph, &table, *name);
         keys.push(Some((term_key(&resolved.term), resolved.next)))?;
     }
     Ok(keys)

@@ -1,12 +1,13 @@
 //! Terms with each of their blocks resolved.
 
-ghost use Rattle.std.specs.Prelude.{◌≡◌, Some, option_map};
+ghost use Rattle.std.specs.Prelude.{◌≡◌, Some, IfSome, option_copied, option_map};
 ghost use Rattle.sq_graph.specs.Blocks.{HasBlock, next_of};
 ghost use Rattle.sq_graph.specs.Resolve.{resolved, resolved_term_of};
+ghost use Rattle.sq_lookup.specs.Resolutions.{AreResolutions};
 ghost use Rattle.sq_tail.specs.Resolved.{meaning_of};
 
 use sq_graph::{Graph, Term};
-use sq_lookup::resolve;
+use sq_lookup::{Resolutions, resolve};
 
 /// A resolved term, and the resolved slot in which what follows goes on, if it does.
 #[derive(Clone, Copy, Debug, PartialEq, Eq)]
@@ -15,25 +16,39 @@ pub struct Resolved {
     pub next: Option<u32>,
 }
 
+/// What the name of a block resolves to, by a table where there is one.
+fn resolve_by(graph: &Graph, table: Option<&Resolutions>, block: u32) -> u32
+    requires table { IfSome (option_copied table) (AreResolutions graph.now.graph) }
+    requires block { HasBlock graph.now.graph block }
+    ensures { result ≡ resolved graph.now.graph block }
+{
+    match table {
+        Some(table) => table.get(graph, block),
+        None => resolve(graph, block),
+    }
+}
+
 /// The next slot, resolved.
-fn resolved_next(graph: &Graph, block: u32) -> Option<u32>
-    requires { HasBlock graph.now.graph block }
+fn resolved_next(graph: &Graph, table: Option<&Resolutions>, block: u32) -> Option<u32>
+    requires table { IfSome (option_copied table) (AreResolutions graph.now.graph) }
+    requires block { HasBlock graph.now.graph block }
     ensures { result ≡ option_map (resolved graph.now.graph) (next_of graph.now.graph block) }
 {
     graph.learn();
     match graph.next(block) {
-        Some(next) => Some(resolve(graph, next)),
+        Some(next) => Some(resolve_by(graph, table, next)),
         None => None,
     }
 }
 
-/// The resolved term of a block: a Fall counts as a Jump to the next slot, and the target of a PartJump stays.
-pub fn resolved_term(graph: &Graph, block: u32) -> Resolved
-    requires { HasBlock graph.now.graph block }
+/// The resolved term of a block, by a table where there is one.
+fn resolved_end(graph: &Graph, table: Option<&Resolutions>, block: u32) -> Resolved
+    requires table { IfSome (option_copied table) (AreResolutions graph.now.graph) }
+    requires block { HasBlock graph.now.graph block }
     ensures { resolved_term_of graph.now.graph block ≡ Some (meaning_of result) }
 {
     graph.learn();
-    let next = resolved_next(graph, block);
+    let next = resolved_next(graph, table, block);
     let term = graph.term(block);
     match term {
         Term::Fall => Resolved {
@@ -42,7 +57,7 @@ pub fn resolved_term(graph: &Graph, block: u32) -> Resolved
         },
         Term::Jump { to } => Resolved {
             term: Term::Jump {
-                to: resolve(graph, to),
+                to: resolve_by(graph, table, to),
             },
             next: None,
         },
@@ -51,14 +66,14 @@ pub fn resolved_term(graph: &Graph, block: u32) -> Resolved
                 cond,
                 a,
                 b,
-                to: resolve(graph, to),
+                to: resolve_by(graph, table, to),
             },
             next,
         },
         Term::Call { link, to } => Resolved {
             term: Term::Call {
                 link,
-                to: resolve(graph, to),
+                to: resolve_by(graph, table, to),
             },
             next,
         },
@@ -67,4 +82,21 @@ pub fn resolved_term(graph: &Graph, block: u32) -> Resolved
             next: if term.goes_on() { next } else { None },
         },
     }
+}
+
+/// The resolved term of a block: a Fall counts as a Jump to the next slot, and the target of a PartJump stays.
+pub fn resolved_term(graph: &Graph, block: u32) -> Resolved
+    requires { HasBlock graph.now.graph block }
+    ensures { resolved_term_of graph.now.graph block ≡ Some (meaning_of result) }
+{
+    resolved_end(graph, None, block)
+}
+
+/// The same by a table, for where those of many blocks are wanted.
+pub fn resolved_term_by(graph: &Graph, table: &Resolutions, block: u32) -> Resolved
+    requires table { AreResolutions graph.now.graph table.now }
+    requires block { HasBlock graph.now.graph block }
+    ensures { resolved_term_of graph.now.graph block ≡ Some (meaning_of result) }
+{
+    resolved_end(graph, Some(table), block)
 }

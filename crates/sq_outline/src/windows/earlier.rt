@@ -23,6 +23,7 @@ use crate::windows::joins::{Caller, callers_of, may_join_one};
 use crate::windows::taken::Taken;
 use sq_graph::Graph;
 use sq_live::{Liveness, block_names};
+use sq_lookup::Resolutions;
 use sq_num::Memory;
 use std::alloc::Global;
 
@@ -151,7 +152,8 @@ impl Earlier {
     {
         let Site { block, at } = site;
         self.far.shorten(block, n)?;
-        let key = (ending_of(graph, block), procedure);
+        let ending = ending_of(graph, &Resolutions::none(alloc), block);
+        let key = (ending, procedure);
         let others = filed(&self.callers, &key);
         let more = may_join_one(alloc, graph, live, taken, block, at, others)?;
         self.news = self.news_of(alloc, graph, taken, more)?;

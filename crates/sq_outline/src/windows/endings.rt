@@ -1,12 +1,13 @@
 //! How blocks end, and which ones end alike.
 
 ghost use Rattle.sq_graph.specs.Blocks.{HasBlock};
+ghost use Rattle.sq_lookup.specs.Resolutions.{AreResolutions};
 
 use crate::filed::{Filed, file, filed};
 use sq_finger::{ItemKey, TermKey, item_key, term_key};
 use sq_graph::{Graph, Term};
 use sq_live::block_names;
-use sq_lookup::{is_block, jump_from, resolve};
+use sq_lookup::{Resolutions, is_block, jump_from, resolve_all};
 use sq_num::Memory;
 use std::alloc::Global;
 use std::collections::HashMap;
@@ -30,22 +31,25 @@ fn without_target(term: Term) -> Term {
 }
 
 /// The block to which lone Jumps lead from this one, if there is this one.
-fn reached(graph: &Graph, block: Option<u32>) -> Option<u32> {
+fn reached(graph: &Graph, resolutions: &Resolutions, block: Option<u32>) -> Option<u32>
+    requires { AreResolutions graph.now.graph resolutions.now }
+{
     let at = block?;
     if is_block(graph, at) {
-        Some(resolve(graph, at))
+        Some(resolutions.get(graph, at))
     } else {
         None
     }
 }
 
 /// The end of a block.
-fn end_of(graph: &Graph, block: u32) -> End
-    requires { HasBlock graph.now.graph block }
+fn end_of(graph: &Graph, resolutions: &Resolutions, block: u32) -> End
+    requires resolutions { AreResolutions graph.now.graph resolutions.now }
+    requires block { HasBlock graph.now.graph block }
 {
     graph.learn();
     let term = graph.term(block);
-    let next = reached(graph, graph.next(block));
+    let next = reached(graph, resolutions, graph.next(block));
     if term == Term::Fall {
         return End {
             term: without_target(term),
@@ -55,7 +59,7 @@ fn end_of(graph: &Graph, block: u32) -> End
     }
     End {
         term: without_target(term),
-        to: reached(graph, term.target()),
+        to: reached(graph, resolutions, term.target()),
         next: if term.goes_on() { next } else { None },
     }
 }
@@ -69,10 +73,11 @@ pub(crate) struct Ending {
 }
 
 /// How a block ends.
-pub(crate) fn ending_of(graph: &Graph, block: u32) -> Ending
-    requires { HasBlock graph.now.graph block }
+pub(crate) fn ending_of(graph: &Graph, resolutions: &Resolutions, block: u32) -> Ending
+    requires resolutions { AreResolutions graph.now.graph resolutions.now }
+    requires block { HasBlock graph.now.graph block }
 {
-    let end = end_of(graph, block);
+    let end = end_of(graph, resolutions, block);
     Ending {
         term: term_key(&end.term),
         to: end.to,
@@ -94,15 +99,16 @@ fn off_cycles(graph: &Graph, block: Option<u32>) -> Option<u32> {
 }
 
 /// The key of a block's end, if the block has items.
-fn end_key(graph: &Graph, block: u32) -> Option<EndKey>
-    requires { HasBlock graph.now.graph block }
+fn end_key(graph: &Graph, resolutions: &Resolutions, block: u32) -> Option<EndKey>
+    requires resolutions { AreResolutions graph.now.graph resolutions.now }
+    requires block { HasBlock graph.now.graph block }
 {
     graph.learn();
     let items = graph.items(block);
     if items.is_empty() {
         return None;
     }
-    let end = end_of(graph, block);
+    let end = end_of(graph, resolutions, block);
     Some((
         item_key(&items[items.len() - 1]),
         term_key(&end.term),
@@ -112,7 +118,8 @@ fn end_key(graph: &Graph, block: u32) -> Option<EndKey>
 }
 
 /// Whether two blocks have items, and end alike behind an equal last one.
-fn end_alike(graph: &Graph, block: u32, other: u32) -> bool
+fn end_alike(graph: &Graph, resolutions: &Resolutions, block: u32, other: u32) -> bool
+    requires resolutions { AreResolutions graph.now.graph resolutions.now }
     requires block { HasBlock graph.now.graph block }
     requires other { HasBlock graph.now.graph other }
 {
@@ -121,15 +128,16 @@ fn end_alike(graph: &Graph, block: u32, other: u32) -> bool
     last.is_some()
         && last == graph.items(other).last()
         && without_target(graph.term(block)) == without_target(graph.term(other))
-        && end_of(graph, block) == end_of(graph, other)
+        && end_of(graph, resolutions, block) == end_of(graph, resolutions, other)
 }
 
 /// Whether another one of these blocks ends as this one does.
-fn is_alike_one(graph: &Graph, names: &[u32], block: u32) -> bool
-    requires { HasBlock graph.now.graph block }
+fn is_alike_one(graph: &Graph, resolutions: &Resolutions, names: &[u32], block: u32) -> bool
+    requires resolutions { AreResolutions graph.now.graph resolutions.now }
+    requires block { HasBlock graph.now.graph block }
 {
     for name in names {
-        if *name != block && is_block(graph, *name) && end_alike(graph, *name, block) {
+        if *name != block && is_block(graph, *name) && end_alike(graph, resolutions, *name, block) {
             return true;
         }
     }
@@ -159,10 +167,17 @@ impl Endings {
     }
 
     /// Files a block by how it ends, if it has items.
-    fn file(&mut self, alloc: Global, graph: &Graph, block: u32) -> Result<(), Memory>
-        requires { HasBlock graph.now.graph block }
+    fn file(
+        &mut self,
+        alloc: Global,
+        graph: &Graph,
+        resolutions: &Resolutions,
+        block: u32,
+    ) -> Result<(), Memory>
+        requires resolutions { AreResolutions graph.now.graph resolutions.now }
+        requires block { HasBlock graph.now.graph block }
     {
-        match end_key(graph, block) {
+        match end_key(graph, resolutions, block) {
             Some(key) => file(alloc, &mut self.blocks, key, block),
             None => Ok(()),
         }
@@ -171,9 +186,11 @@ impl Endings {
     /// Files each block.
     fn file_all(&mut self, alloc: Global, graph: &Graph) -> Result<(), Memory> {
         graph.learn();
-        for name in &block_names(alloc, graph)? {
+        let names = block_names(alloc, graph)?;
+        let resolutions = resolve_all(alloc, graph)?;
+        for name in &names {
             if is_block(graph, *name) {
-                self.file(alloc, graph, *name)?;
+                self.file(alloc, graph, &resolutions, *name)?;
             }
         }
         self.filed = true;
@@ -183,17 +200,18 @@ impl Endings {
     /// Takes note of a block that may end otherwise than before, if there is this one.
     pub(crate) fn note(&mut self, alloc: Global, graph: &Graph, block: u32) -> Result<(), Memory> {
         if self.filed && is_block(graph, block) {
-            self.file(alloc, graph, block)?;
+            self.file(alloc, graph, &Resolutions::none(alloc), block)?;
         }
         Ok(())
     }
 
     /// Whether another one of those that were filed ends as this one does.
-    fn has_filed(&self, graph: &Graph, block: u32) -> bool
+    fn has_filed(&self, alloc: Global, graph: &Graph, block: u32) -> bool
         requires { HasBlock graph.now.graph block }
     {
-        match end_key(graph, block) {
-            Some(key) => is_alike_one(graph, filed(&self.blocks, &key), block),
+        let resolutions = Resolutions::none(alloc);
+        match end_key(graph, &resolutions, block) {
+            Some(key) => is_alike_one(graph, &resolutions, filed(&self.blocks, &key), block),
             None => false,
         }
     }
@@ -212,11 +230,13 @@ impl Endings {
         }
         if self.asked < LOOKS {
             self.asked += 1;
-            return Ok(is_alike_one(graph, &block_names(alloc, graph)?, block));
+            let names = block_names(alloc, graph)?;
+            let resolutions = resolve_all(alloc, graph)?;
+            return Ok(is_alike_one(graph, &resolutions, &names, block));
         }
         if !self.filed {
             self.file_all(alloc, graph)?;
         }
-        Ok(self.has_filed(graph, block))
+        Ok(self.has_filed(alloc, graph, block))
     }
 }

@@ -12,7 +12,7 @@ use crate::windows::taken::Taken;
 use sq_graph::{Graph, Item};
 use sq_isa::RegSet;
 use sq_live::Liveness;
-use sq_lookup::is_block;
+use sq_lookup::{is_block, resolve_all};
 use sq_num::Memory;
 use sq_rename::match_items;
 use std::alloc::Global;
@@ -112,12 +112,13 @@ pub(crate) fn callers_of(
     names: &[u32],
 ) -> Result<Filed<Caller>, Memory> {
     graph.learn();
+    let resolutions = resolve_all(alloc, graph)?;
     let mut callers = HashMap::new(alloc);
     for name in names {
         if !is_block(graph, *name) {
             continue;
         }
-        let end = ending_of(graph, *name);
+        let end = ending_of(graph, &resolutions, *name);
         for item in graph.items(*name) {
             file_call(alloc, &mut callers, &end, item, *name)?;
         }

@@ -6,11 +6,13 @@ ghost use Rattle.sq_graph.specs.Blocks.{HasBlock};
 ghost use Rattle.sq_graph.specs.Rules.{ItemFits};
 ghost use Rattle.sq_graph.specs.Resolve.{resolved_term_of};
 ghost use Rattle.sq_rename.specs.Shapes.{shape_of};
+ghost use Rattle.sq_lookup.specs.Resolutions.{AreResolutions};
 ghost use Rattle.sq_tail.specs.BodiesPrints.{item_number, mixed, number_of_uses, end_number, print_of};
 
-use crate::resolved::resolved_term;
+use crate::resolved::resolved_term_by;
 use sq_encode::encode;
 use sq_graph::{Graph, Item};
+use sq_lookup::{Resolutions, resolve_all};
 use sq_num::Memory;
 use sq_rename::shape;
 use std::alloc::Global;
@@ -51,22 +53,24 @@ fn block_number(block: Option<u32>) -> u64
 }
 
 /// The number of a block's end: of the block that its term names, and of the slot in which what follows goes on.
-fn end_number(graph: &Graph, block: u32) -> u64
-    requires { HasBlock graph.now.graph block }
+fn end_number(graph: &Graph, table: &Resolutions, block: u32) -> u64
+    requires table { AreResolutions graph.now.graph table.now }
+    requires block { HasBlock graph.now.graph block }
     ensures value { result ≡ end_number (resolved_term_of graph.now.graph block) }
     ensures small { result ≤ 2 ^ 32 }
 {
-    let end = resolved_term(graph, block);
+    let end = resolved_term_by(graph, table, block);
     mixed(block_number(end.term.target()), block_number(end.next))
 }
 
 /// The print of a block.
-fn print(graph: &Graph, block: u32) -> u64
-    requires { HasBlock graph.now.graph block }
+fn print(graph: &Graph, table: &Resolutions, block: u32) -> u64
+    requires table { AreResolutions graph.now.graph table.now }
+    requires block { HasBlock graph.now.graph block }
     ensures { result ≡ print_of graph.now.graph block }
 {
     graph.learn();
-    let mut print = end_number(graph, block);
+    let mut print = end_number(graph, table, block);
     let items = graph.items(block);
     for item in items {
         print = mixed(print, shape_number(item));
@@ -79,9 +83,10 @@ pub(crate) fn prints(alloc: Global, graph: &Graph, names: &[u32]) -> Result<Vec<
     requires { All (HasBlock graph.now.graph) names.now }
     ensures { IfOk result (λ prints. prints.items ≡ map (print_of graph.now.graph) names.now) }
 {
+    let table = resolve_all(alloc, graph)?;
     let mut prints = Vec::with_capacity(alloc, names.len())?;
     for name in names {
-        prints.push(print(graph, *name))?;
+        prints.push(print(graph, &table, *name))?;
     }
     Ok(prints)
 }

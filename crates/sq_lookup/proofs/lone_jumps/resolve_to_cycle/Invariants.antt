@@ -1,7 +1,7 @@
 use Rattle.std.proofs.Common.{◌≡◌, ◌-◌, length}
 use Rattle.sq_graph.specs.Blocks.{HasBlock}
 use Rattle.sq_graph.specs.Resolve.{resolved_within, resolved}
-use Rattle.sq_lookup.proofs.lone_jumps.resolve.Given as goal
+use Rattle.sq_lookup.proofs.lone_jumps.resolve_to_cycle.Given as goal
 
 abbrev pub invariant-loop-hop : goal.invariant-loop-hop
 invariant-loop-hop l = record {

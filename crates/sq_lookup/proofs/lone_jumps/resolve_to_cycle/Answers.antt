@@ -3,7 +3,7 @@ use Rattle.sq_graph.specs.Resolve.{resolved_within}
 use Rattle.sq_graph.proofs.LinkReads.{length-links}
 use Rattle.sq_lookup.proofs.Resolving.{resolves_here, resolves_last, resolves_on, one_left, none_left}
 use Rattle.sq_lookup.proofs.Targets.{jump_there}
-use Rattle.sq_lookup.proofs.lone_jumps.resolve.Goals as goal
+use Rattle.sq_lookup.proofs.lone_jumps.resolve_to_cycle.Goals as goal
 
 pub returns-then-is_on_cycle : goal.returns-then-is_on_cycle
 returns-then-is_on_cycle c =
@@ -22,7 +22,7 @@ loop-hop-preserved c =
     let count = c.len-hop-end.ensures.value ∙ length-links c.links.result.now.entries g.blocks c.links.ensures.blocks in
     let left = one_left (length g.blocks) c.loop-hop._hop (omega (arith, count)) in
     record {
-      there = jump_there g c.loop-hop.at c.in-Some.to c.learn.ensures.rules jump;
+      there = jump_there g c.loop-hop.at c.in-Some.to c.requires.rules jump;
       same =
           c.loop-hop.invariant.same
           ∙ ap (λ n. resolved_within g n c.loop-hop.at) left
