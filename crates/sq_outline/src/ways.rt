@@ -35,16 +35,23 @@ fn is_entered(graph: &Graph, block: u32) -> bool
     }
 }
 
-/// The way by the lone Jump to another block to which a Branch leads, where no block goes on into that.
-fn detour(graph: &Graph, from: u32, over: u32) -> Option<Way> {
-    if !is_block(graph, over) {
-        return None;
-    }
+/// The way by a lone Jump to another block, if it is one.
+fn way_by(graph: &Graph, from: u32, over: u32) -> Option<Way>
+    requires { HasBlock graph.now.graph over }
+{
     let to = jump_from(graph, over)?;
-    if to == over || is_entered(graph, over) {
+    if to == over {
         return None;
     }
     Some(Way { from, over, to })
+}
+
+/// The way by the lone Jump to another block to which a Branch leads, where no block goes on into that.
+fn detour(graph: &Graph, from: u32, over: u32) -> Option<Way> {
+    if !is_block(graph, over) || is_entered(graph, over) {
+        return None;
+    }
+    way_by(graph, from, over)
 }
 
 /// The way by the lone Jump over which a Branch leads to a block.
@@ -283,13 +290,45 @@ pub(crate) fn near_jumps(
     Ok(near)
 }
 
+/// Whether the block's Branch reaches where the lone Jump leads to which it leads. Most are too far, and the rest isn't asked then.
+fn reaches_by(graph: &Graph, addresses: &[u32], block: u32, over: u32) -> bool {
+    is_block(graph, over)
+        && way_by(graph, block, over).is_some_and(|way| is_near(graph, addresses, way))
+        && !is_entered(graph, over)
+}
+
 /// Whether the block's Branch reaches where a lone Jump leads, to which or over which it leads.
 fn reaches_past(graph: &Graph, addresses: &[u32], block: u32) -> bool
     requires { HasBlock graph.now.graph block }
 {
-    let (by_target, by_slot) = ways_of(graph, block);
-    by_target.is_some_and(|way| is_near(graph, addresses, way))
-        || by_slot.is_some_and(|way| is_near(graph, addresses, way))
+    let Term::Branch { to, .. } = graph.term(block) else {
+        return false;
+    };
+    reaches_by(graph, addresses, block, to)
+        || inversion(graph, block, to).is_some_and(|way| is_near(graph, addresses, way))
+}
+
+/// The last address at which a look for Branches goes on that begins at this one: as far as one reaches, or to the next of these
+/// blocks, from which it is asked, too.
+fn last_of(graph: &Graph, addresses: &[u32], starts: &[u32], start: u64, ahead: bool) -> u64 {
+    let mut last = if ahead {
+        start.saturating_add(NEAR)
+    } else {
+        start.saturating_sub(NEAR)
+    };
+    for other in starts {
+        if !is_block(graph, *other) {
+            continue;
+        }
+        let at = address_in(addresses, *other);
+        if ahead && start < at {
+            last = last.min(at - 1);
+        }
+        if !ahead && at < start {
+            last = last.max(at + 1);
+        }
+    }
+    last
 }
 
 /// The blocks whose Branches reach where a lone Jump leads, as far as they were looked for.
@@ -345,20 +384,19 @@ impl Reaching {
         ahead: bool,
     ) -> Result<bool, Memory> {
         let start = address_in(addresses, from);
+        let last = last_of(graph, addresses, starts, start, ahead);
         let mut new = false;
         let mut place = Some(from);
         for _slot in 0..NEAR_SLOTS {
-            let Some(at) = place else {
+            let Some(block) = place else {
                 return Ok(new);
             };
-            if !is_block(graph, at)
-                || address_in(addresses, at).abs_diff(start) > NEAR
-                || at != from && starts.contains(&at)
-            {
+            let at = address_in(addresses, block);
+            if !is_block(graph, block) || ahead && last < at || !ahead && at < last {
                 return Ok(new);
             }
-            new |= self.note(graph, addresses, at)?;
-            place = beside(graph, at, ahead);
+            new |= self.note(graph, addresses, block)?;
+            place = beside(graph, block, ahead);
         }
         Ok(new)
     }
