@@ -2,10 +2,14 @@
 """Packs a collection of linked programs, runs each before and after, watches it, and prints docs/FIGURES.md's table.
 
     examples/figures.py SQUEEZE COLLECTION
+    examples/figures.py SQUEEZE rows COLLECTION
     examples/figures.py SQUEEZE hostile [KIND ..]
+    examples/figures.py chart TABLE > flags.svg
 
-The second form packs the files of examples/hostile.py, of three sizes each, and prints processor time, peak memory, and
-the power of the size by which time grew last.
+The second form prints how many words each row of the cost rule saved in each program, as `size` tells. The third packs the
+files of examples/hostile.py, of three sizes each, and prints processor time, peak memory, and the power of the size by which
+time grew last. The fourth draws what examples/flags/measure.sh printed into the file TABLE: text as the compilers and the
+linker's relaxation leave it, and packed.
 
 SQUEEZE is the built program. COLLECTION is a folder with manifest.json: a record with base, size, limit and a list of
 executables. Each has file, verdict, text, loaded and runs, and each run has argv, stdin, stdout_sha256, plain_end and
@@ -41,6 +45,38 @@ def written(lines):
 def agrees(run, lines):
     digest = hashlib.sha256(written(lines)).hexdigest()
     return digest == run["stdout_sha256"] and lines[-1] == run["plain_end"]
+
+
+LIMIT = 120  # seconds, of each file
+WORDS = 260_900  # of text at most, to which one kind adds 1,023
+
+
+def peak(process):
+    """The peak memory of a running process so far, in MB. (What the kernel tells at its end has this script's in it.)"""
+    try:
+        told = re.search(r"VmHWM:\s*(\d+) kB", pathlib.Path(f"/proc/{process.pid}/status").read_text())
+    except OSError:
+        return 0
+    return int(told[1]) / 1024 if told else 0
+
+
+def measured(squeeze, *words):
+    """The status, the last line that was printed, processor time in seconds, and peak memory in MB; None where it takes too long."""
+    with tempfile.TemporaryFile() as lines:
+        start, memory = time.perf_counter(), 0
+        child = subprocess.Popen([squeeze, *map(str, words)], stdout=lines, stderr=lines)
+        while True:
+            memory = max(memory, peak(child))
+            ended, status, used = os.wait4(child.pid, os.WNOHANG)
+            if ended:
+                lines.seek(0)
+                last = lines.read().decode().splitlines()[-1:]
+                return os.waitstatus_to_exitcode(status), (last or ["nothing printed"])[0], used.ru_utime + used.ru_stime, memory
+            if time.perf_counter() - start > LIMIT:
+                child.kill()
+                child.wait()
+                return None
+            time.sleep(0.002)
 
 
 class Collection:
@@ -80,14 +116,14 @@ class Collection:
 
     def figures(self, entry, packed):
         file = self.folder / entry["file"]
-        status, lines, seconds = call(self.squeeze, "pack", file, packed)
+        status, line, seconds, memory = measured(self.squeeze, "pack", file, packed) or (1, f"over {LIMIT} s", 0, 0)
         if entry["verdict"] != "accepted":
-            self.check(f"pack {entry['file']}", status == 3, lines)
-            return f"| {file.stem} | {lines[-1]} | | | | | | |"
-        numbers = re.fullmatch(r"text (\d+) -> (\d+), loaded (\d+) -> (\d+)", lines[-1])
-        self.check(f"pack {entry['file']}", status == 0 and numbers is not None, lines)
+            self.check(f"pack {entry['file']}", status == 3, [line])
+            return f"| {file.stem} | {line} | | | | | | | |"
+        numbers = re.fullmatch(r"text (\d+) -> (\d+), loaded (\d+) -> (\d+)", line)
+        self.check(f"pack {entry['file']}", status == 0 and numbers is not None, [line])
         if numbers is None:
-            return f"| {file.stem} | {lines[-1]} | | | | | | |"
+            return f"| {file.stem} | {line} | | | | | | | |"
         again = call(self.squeeze, "pack", packed, f"{packed}.again")
         same = again[0] == 0 and packed.read_bytes() == pathlib.Path(f"{packed}.again").read_bytes()
         self.check(f"again {entry['file']}", same, again[1])
@@ -96,30 +132,8 @@ class Collection:
         share = f"{100 * (before - after) / before:.1f} %"
         return (
             f"| {file.stem} | {before:,} | {after:,} | {share} | {loaded_before:,} -> {loaded_after:,} "
-            f"| {seconds:.2f} s | {unbroken} | {broken} |"
+            f"| {seconds:.2f} s | {memory:.0f} MB | {unbroken} | {broken} |"
         )
-
-
-LIMIT = 120  # seconds, of each file
-WORDS = 260_900  # of text at most, to which one kind adds 1,023
-
-
-def measured(squeeze, *words):
-    """The last line that was printed, processor time in seconds, and peak memory in MB; None where it takes too long."""
-    with tempfile.TemporaryFile() as lines:
-        start = time.perf_counter()
-        child = subprocess.Popen([squeeze, *map(str, words)], stdout=lines, stderr=lines)
-        while True:
-            ended, _, used = os.wait4(child.pid, os.WNOHANG)
-            if ended:
-                lines.seek(0)
-                last = lines.read().decode().splitlines()[-1:]
-                return (last or ["nothing printed"])[0], used.ru_utime + used.ru_stime, used.ru_maxrss / 1024
-            if time.perf_counter() - start > LIMIT:
-                child.kill()
-                child.wait()
-                return None
-            time.sleep(0.01)
 
 
 def measure_hostile(squeeze, kinds):
@@ -131,26 +145,89 @@ def measure_hostile(squeeze, kinds):
             before = None
             for share in (16, 4, 1):
                 count = (100_000 if kind == "tables" else WORDS // hostile.KINDS[kind][1]) // share
-                # by a process of its own, since a child's peak memory begins with that of this one
                 with file.open("wb") as out:
                     subprocess.run([sys.executable, hostile.__file__, kind, str(count)], stdout=out, check=True)
                 found = measured(squeeze, "pack", file, packed)
                 if found is None:
                     print(f"| {kind} | {count:,} | | over {LIMIT} s | | |", flush=True)
                     break
-                line, seconds, memory = found
+                _, line, seconds, memory = found
                 power = f"n^{math.log(seconds / before, 4):.1f}" if before and before > 0.05 else ""
                 print(f"| {kind} | {count:,} | {line} | {seconds:.2f} s | {memory:.0f} MB | {power} |", flush=True)
                 before = seconds
 
 
+ROWS = ["U", "J1", "J2", "J3", "C", "T", "O1", "O2", "O3", "O4"]
+
+
+def print_rows(squeeze, folder):
+    print(f"| Program | {' | '.join(ROWS)} | L | left out |".replace("O1", "O1, W").replace("O2", "O2, V"))
+    print("|---" * (len(ROWS) + 3) + "|")
+    for entry in json.loads((folder / "manifest.json").read_text())["executables"]:
+        if entry["verdict"] == "accepted":
+            told = json.loads(call(squeeze, "size", folder / entry["file"])[1][-1])
+            words = [*[told["rows"][row] for row in ROWS], told["moved"], told["unreached"]]
+            print(f"| {pathlib.Path(entry['file']).stem} | {' | '.join(f'{count:,}' for count in words)} |", flush=True)
+
+
+# of the chart: where bars begin and end, its width, how far apart lines are, and the colours of the two bars
+LEFT, RIGHT, WIDTH, STEP = 300, 800, 900, 44
+PLAIN, PACKED = "#9aa5b1", "#1f6f8b"
+
+
+def measured_lines(table):
+    """For each program the lines of the table about it: flags, and bytes of text relaxed and packed."""
+    programs = {}
+    for line in table.splitlines():
+        cells = [cell.strip() for cell in line.strip("|").split("|")]
+        if len(cells) == 5 and cells[2].isdigit():
+            flags = re.sub(r"(-fno-\S+ ?)+", "and seven flags ", cells[1]).strip()
+            flags = flags if flags.startswith("clang") else f"gcc {flags}"
+            programs.setdefault(cells[0], []).append((flags, int(cells[2]), int(cells[4])))
+    return programs
+
+
+def bar(y, count, most, colour):
+    width = (RIGHT - LEFT) * count / most
+    return (
+        f'<rect x="{LEFT}" y="{y}" width="{width:.0f}" height="14" fill="{colour}"/>'
+        f'<text x="{LEFT + width + 6:.0f}" y="{y + 11}">{count:,}</text>'
+    )
+
+
+def chart(table):
+    """The drawing, by the SVG standard, 1.1."""
+    shapes, y = [], 56
+    for program, lines in measured_lines(table).items():
+        shapes.append(f'<text x="10" y="{y}" font-weight="bold">{program}</text>')
+        most = max(relaxed for _, relaxed, _ in lines)
+        for flags, relaxed, packed in lines:
+            y += 10
+            shapes.append(f'<text x="10" y="{y + 18}">{flags}</text>')
+            shapes += [bar(y, relaxed, most, PLAIN), bar(y + 16, packed, most, PACKED)]
+            y += STEP - 10
+        y += 36
+    key = f'<tspan fill="{PLAIN}">as compiler and linker leave it</tspan>, <tspan fill="{PACKED}">packed</tspan>'
+    return (
+        f'<svg xmlns="http://www.w3.org/2000/svg" width="{WIDTH}" height="{y}" font-family="sans-serif" font-size="12">'
+        f'<rect width="{WIDTH}" height="{y}" fill="white"/><text x="10" y="26" font-size="14">Bytes of text: {key}</text>'
+        f'{"".join(shapes)}</svg>'
+    )
+
+
 def main():
+    if sys.argv[1] == "chart":
+        print(chart(pathlib.Path(sys.argv[2]).read_text()))
+        return 0
     if sys.argv[2:3] == ["hostile"]:
         measure_hostile(sys.argv[1], sys.argv[3:] or hostile.KINDS)
         return 0
+    if sys.argv[2:3] == ["rows"]:
+        print_rows(sys.argv[1], pathlib.Path(sys.argv[3]))
+        return 0
     collection = Collection(sys.argv[1], pathlib.Path(sys.argv[2]))
-    print("| Program | Text before | after | less | Loaded | pack | runs kept | runs that break |")
-    print("|---|---|---|---|---|---|---|---|")
+    print("| Program | Text before | after | less | Loaded | pack | memory | runs kept | runs that break |")
+    print("|---|---|---|---|---|---|---|---|---|")
     with tempfile.TemporaryDirectory() as folder:
         for entry in collection.manifest["executables"]:
             print(collection.figures(entry, pathlib.Path(folder) / "packed.elf"), flush=True)

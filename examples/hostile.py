@@ -7,6 +7,8 @@ KIND is one of:
     chain      COUNT lone jumps, each to the next in shuffled order: row J2 gives all their names to the last one's target
     table      COUNT lone jumps to one block, each named by a word of data alone
     detours    COUNT blocks with a Branch to a lone jump of their own
+    chained    the same, but each lone jump leads to another one, in shuffled order, and all but the near ones stay
+    threads    COUNT blocks of an item and a jump, each to the next in shuffled order, which words name: each moves
     falls      COUNT jumps to the next slot, which nothing else names, each behind an item
     steps      COUNT calls, each before a lone jump to the next slot
     inverts    COUNT branches over a lone jump
@@ -16,12 +18,15 @@ KIND is one of:
     windows    COUNT different windows of four items in one block, each in three places: row W makes procedures of them
     equal      COUNT equal blocks of one item and a call
     renamed    COUNT blocks of three items and a call that match one another by renaming
+    unmatched  COUNT blocks of two items that are alike but for their registers, all of which are live behind them: none match
     near       COUNT branches that just reach, with nothing to spare
     tables     1,000 relocation sections over one table of COUNT entries
     nearby     COUNT branches to a lone jump of their own, whose target comes near only once others' words went
     nearinvert COUNT branches over a lone jump, whose target comes near only once others' words went
+    asked      COUNT windows, and one procedure whose body may not come in place of its call, since a branch wouldn't reach
     waits      COUNT branches over a lone jump, whose targets come near one after another, each once one more window became calls
     once       COUNT procedures that a note lists, each called once: row O4 puts their bodies in place
+    blocked    the same, but between branches that just reach: row O4 may put none in place
     doubles    COUNT procedures that a note lists, with equal bodies, each called twice: row O3 leaves one of them
     rows       COUNT groups, each with a candidate of every row of the cost rule
 
@@ -165,14 +170,19 @@ def elf(program, copies):
     return header + segments + padded + b"".join(struct.pack("<10I", *line) for line in head)
 
 
-def chain(p, count):
+def shuffled(count):
+    """The first number of a shuffled order, and for each what is behind it."""
     order = list(range(count))
     random.Random(1).shuffle(order)
-    behind = dict(zip(order, order[1:]))
-    p.jump(order[0])
+    return order[0], dict(zip(order, [*order[1:], "exit"]))
+
+
+def chain(p, count):
+    first, behind = shuffled(count)
+    p.jump(first)
     for number in range(count):
         p.mark(number)
-        p.jump(behind.get(number, "exit"))
+        p.jump(behind[number])
 
 
 def table(p, count):
@@ -184,14 +194,33 @@ def table(p, count):
         p.word(number)
 
 
-def detours(p, count):
-    for number in range(count):
+def branches(p, targets):
+    """For each target a Branch to a lone jump of its own, which leads there."""
+    for number, target in enumerate(targets):
         p.branch(number)
         p.items(addi(A2, A2, 1))
         p.jump(("next", number))
         p.mark(number)
-        p.jump("exit")
+        p.jump(target)
         p.mark(("next", number))
+
+
+def detours(p, count):
+    branches(p, ["exit"] * count)
+
+
+def chained(p, count):
+    _, behind = shuffled(count)
+    branches(p, [behind[number] for number in range(count)])
+
+
+def threads(p, count):
+    _, behind = shuffled(count)
+    for number in range(count):
+        p.word(number)
+        p.mark(number)
+        p.items(only(number))
+        p.jump(behind[number])
 
 
 def falls(p, count):
@@ -298,6 +327,11 @@ def only(number):
     return addi(18 + number // 2039 % 10, 18 + number // 20390 % 10, number % 2039)
 
 
+def asked(p, count):
+    windows(p, count)
+    blocked(p, 1)
+
+
 def waits(p, count):
     items = itertools.count()
     for group in range(-(-count // 60)):
@@ -332,6 +366,21 @@ def renamed(p, count):
     function(p)
 
 
+def unmatched(p, count):
+    registers = [1, *range(5, 32)]
+    chosen = random.Random(2)
+    last = list(itertools.permutations(registers, 3))
+    chosen.shuffle(last)
+    for number in range(count):
+        p.word(number)
+        p.mark(number)
+        for rd, rs, other in [chosen.choices(registers, k=3), last[number % len(last)]]:
+            p.items(other << 20 | rs << 15 | rd << 7 | 0x33)  # add
+        p.jump("common")
+    p.mark("common")
+    p.items(*[addi(register, register, 1) for register in registers])
+
+
 def near(p, count):
     """Each Branch leads 4,092 bytes ahead, as far as one can."""
     for number in range(count + 1023):
@@ -358,8 +407,27 @@ def procedures(p, count, calls, body):
         p.procedure(("procedure", number), body(number))
 
 
+def two_items(number):
+    return [addi(A2, A2, number % 2047 + 1), addi(A1, A1, number // 2047 + 1)]
+
+
 def once(p, count):
-    procedures(p, count, 1, lambda number: [addi(A2, A2, number % 2047 + 1), addi(A1, A1, number // 2047 + 1)])
+    procedures(p, count, 1, two_items)
+
+
+def blocked(p, count):
+    """Each second word is a Branch that leads 4,092 bytes ahead, the others are the calls."""
+    for number in range(2 * count + 1023):
+        p.mark(("word", number))
+        if number >= 2 * count:
+            p.items(only(number))
+        elif number % 2 == 0:
+            p.branch(("word", number + 1023))
+        else:
+            p.jump(("procedure", number // 2), T0)
+    p.jump("exit")
+    for number in range(count):
+        p.procedure(("procedure", number), two_items(number))
 
 
 def doubles(p, count):
@@ -450,6 +518,8 @@ KINDS = {
     "chain": (chain, 1),
     "table": (table, 1),
     "detours": (detours, 4),
+    "chained": (chained, 4),
+    "threads": (threads, 2),
     "falls": (falls, 2),
     "steps": (steps, 2),
     "inverts": (inverts, 3),
@@ -457,14 +527,17 @@ KINDS = {
     "unreached": (unreached, 2),
     "repeat": (repeat, 1),
     "windows": (windows, 15),
+    "asked": (asked, 15),
     "waits": (waits, 30),
     "equal": (equal, 2),
     "renamed": (renamed, 4),
+    "unmatched": (unmatched, 3),
     "near": (near, 1),
     "tables": (tables, 1),
     "nearby": (nearby, 7),
     "nearinvert": (nearinvert, 8),
     "once": (once, 4),
+    "blocked": (blocked, 5),
     "doubles": (doubles, 7),
     "rows": (rows, 73),
 }
