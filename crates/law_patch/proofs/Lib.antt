@@ -36,6 +36,7 @@ pub mod OneBlock
 mod Leading
 mod Meeting
 pub mod Merging
+pub mod EndsLive
 pub mod MatchedBodies
 mod MergeExamples
 pub mod Tailing

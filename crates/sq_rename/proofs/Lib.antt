@@ -1,8 +1,8 @@
 pub mod Equals
 pub mod Forms
 mod Joining
-mod Places
+pub mod Places
 mod Exchanges
-mod Bodies
+pub mod Bodies
 mod Dead
 mod Sizes

@@ -52,7 +52,7 @@ count_with d a b Ebreak = refl
 count_with d a b (Unimp w) = refl
 count_with d a b (Atomic op order rd rs src) = refl
 
-registers_same : (item other : Item) → IsSameForm item other → length (item_registers item) ≡ length (item_registers other)
+pub registers_same : (item other : Item) → IsSameForm item other → length (item_registers item) ≡ length (item_registers other)
 registers_same (Op insn) (Op other) e = count_with (destination_of other) (first_of other) (second_of other) insn ∙ sym (ap (λ i. length (destination_of i ∷ sources_of i)) e)
 registers_same (Hi rd to) (Hi rd' to') e = refl
 registers_same (Lo rd rs to) (Lo rd' rs' to') e = refl

@@ -3,7 +3,7 @@
 ghost use Rattle.std.specs.Prelude.{◌↔◌, IsTrue};
 ghost use Rattle.sq_graph.specs.Matches.{IsWrittenFirst};
 
-use crate::registers::{item_reads, item_writes};
+use crate::items::{item_reads, item_writes};
 use sq_graph::Item;
 use sq_isa::Reg;
 

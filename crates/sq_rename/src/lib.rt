@@ -6,13 +6,14 @@
 #![tactic(auto)]
 
 mod first;
+mod items;
 mod matching;
 mod pairs;
-mod registers;
 mod renaming;
 mod reservations;
 mod shapes;
 
+pub use items::{item_reads, item_writes, registers};
 pub use matching::{dead_registers, match_items, matches, matches_body};
 pub use renaming::{Renaming, rename};
 pub use reservations::has_no_reservations;

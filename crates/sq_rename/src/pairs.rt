@@ -6,7 +6,7 @@ ghost use Rattle.sq_graph.specs.Matches.{item_registers, registers_of, IsSameFor
 ghost use Rattle.sq_rename.specs.Pairs.{GoWith, AreTables, Joins, ArePairs, HavePairs, MayChange, AllMayChange};
 
 use crate::first::is_written_first;
-use crate::registers::registers;
+use crate::items::registers;
 use crate::shapes::shape;
 use sq_graph::{Graph, Item};
 use sq_isa::{Reg, RegSet};

@@ -18,6 +18,7 @@ use Rattle.sq_graph.specs.Rules.{IsGraph}
 use Rattle.sq_graph.specs.Slotted.{position_in}
 use Rattle.sq_graph.specs.Words.{term_words}
 use Rattle.sq_graph.proofs.Slotting.{at_position, position_below}
+use Rattle.sq_live.specs.Liveness.{IsLivenessOf}
 use Rattle.sq_live.proofs.Layouts.{block_at}
 use Rattle.sq_rename.specs.Bodies.{IsBodyMatch, IsLiveBehind}
 use Rattle.law_patch.specs.Bodies.{HaveBodies}
@@ -94,35 +95,35 @@ key_at f [] i below = absurd (omega arith)
 key_at f (n ∷ names) zero below = refl
 key_at f (n ∷ names) (suc i) below = key_at f names i (omega arith)
 
-module _ (g : Graph) (names : List ℕ) (place : ℕ) where
+module _ (live : List (ℕ × List ℕ)) (g : Graph) (names : List ℕ) (place : ℕ) where
   -- those from `below` on have been tried, and `at` is the last one below it that has the print
   pub record IsOpen (at : Option ℕ) : Type 0 where
     pub below : ℕ
     pub within : below ≤ place
-    pub last : IsLast (map (print_of g) names) (slice_index (map (print_of g) names) place) below at
+    pub last : IsLast (map (print_of live g) names) (slice_index (map (print_of live g) names) place) below at
     pub tried : (j : ℕ) → below ≤ j → j < place → ¬ HaveBodies g (slice_index names place) (slice_index names j)
 
   lower : (keys : List ℕ) (key below : ℕ) (at : Option ℕ) → IsLast keys key below at → steps_left at < below + 1
   lower keys key below None last = omega arith
   lower keys key below (Some at) last = let under = last.0 in omega arith
 
-  module _ (there : place < length names) where
-    unlike : (j : ℕ) → j < place → slice_index (map (print_of g) names) j ≢ slice_index (map (print_of g) names) place → ¬ HaveBodies g (slice_index names place) (slice_index names j)
+  module _ (there : place < length names) (rules : IsGraph g) (exact : IsLivenessOf g live) where
+    unlike : (j : ℕ) → j < place → slice_index (map (print_of live g) names) j ≢ slice_index (map (print_of live g) names) place → ¬ HaveBodies g (slice_index names place) (slice_index names j)
     unlike j ahead apart have =
-        apart (key_at (print_of g) names j (omega arith) ∙ sym (one_print g (slice_index names place) (slice_index names j) have) ∙ sym (key_at (print_of g) names place there))
+        apart (key_at (print_of live g) names j (omega arith) ∙ sym (one_print live g (slice_index names place) (slice_index names j) rules exact have) ∙ sym (key_at (print_of live g) names place there))
 
-    pub open_first : (earlier : List (Option ℕ)) (at : Option ℕ) → AreEarlier (map (print_of g) names) earlier → slice_get earlier place ≡ Some at → IsOpen at
+    pub open_first : (earlier : List (Option ℕ)) (at : Option ℕ) → AreEarlier (map (print_of live g) names) earlier → slice_get earlier place ≡ Some at → IsOpen at
     open_first earlier at are e =
         record { below = place; within = omega arith; last = are.earlier place at e; tried = λ j over under. absurd (omega arith) }
 
-    pub open_next : (earlier : List (Option ℕ)) (other : ℕ) (at : Option ℕ) → AreEarlier (map (print_of g) names) earlier → IsOpen (Some other) → ¬ HaveBodies g (slice_index names place) (slice_index names other) → slice_get earlier other ≡ Some at → IsOpen at
+    pub open_next : (earlier : List (Option ℕ)) (other : ℕ) (at : Option ℕ) → AreEarlier (map (print_of live g) names) earlier → IsOpen (Some other) → ¬ HaveBodies g (slice_index names place) (slice_index names other) → slice_get earlier other ≡ Some at → IsOpen at
     open_next earlier other at are o fails e =
         let under = o.last.0 in
         let within = o.within in
         record {
           below = other;
           within = omega arith;
-          last = subst (λ key. IsLast (map (print_of g) names) key other at) o.last.1.0 (are.earlier other at e);
+          last = subst (λ key. IsLast (map (print_of live g) names) key other at) o.last.1.0 (are.earlier other at e);
           tried = λ j over ahead.
               ⊎_elim
               (λ same. subst (λ k. ¬ HaveBodies g (slice_index names place) (slice_index names k)) (sym same) fails)
@@ -134,21 +135,21 @@ module _ (g : Graph) (names : List ℕ) (place : ℕ) where
     open_none o j ahead = ⊎_elim (λ less. unlike j ahead (o.last j less)) (λ more. o.tried j more ahead) (split j o.below)
 
     -- the walk goes down
-    pub open_smaller : (earlier : List (Option ℕ)) (other : ℕ) (at : Option ℕ) → AreEarlier (map (print_of g) names) earlier → slice_get earlier other ≡ Some at → steps_left at < steps_left (Some other)
-    open_smaller earlier other at are e = lower (map (print_of g) names) (slice_index (map (print_of g) names) other) other at (are.earlier other at e)
+    pub open_smaller : (earlier : List (Option ℕ)) (other : ℕ) (at : Option ℕ) → AreEarlier (map (print_of live g) names) earlier → slice_get earlier other ≡ Some at → steps_left at < steps_left (Some other)
+    open_smaller earlier other at are e = lower (map (print_of live g) names) (slice_index (map (print_of live g) names) other) other at (are.earlier other at e)
 
-    pub open_within : (earlier : List (Option ℕ)) (other : ℕ) → AreEarlier (map (print_of g) names) earlier → IsOpen (Some other) → other < length earlier
+    pub open_within : (earlier : List (Option ℕ)) (other : ℕ) → AreEarlier (map (print_of live g) names) earlier → IsOpen (Some other) → other < length earlier
     open_within earlier other are o =
         let under = o.last.0 in
         let within = o.within in
         let many = are.many in
-        omega (arith, length-map names (print_of g))
+        omega (arith, length-map names (print_of live g))
 
-    pub place_within : (earlier : List (Option ℕ)) → AreEarlier (map (print_of g) names) earlier → place < length earlier
-    place_within earlier are = let many = are.many in omega (arith, length-map names (print_of g))
+    pub place_within : (earlier : List (Option ℕ)) → AreEarlier (map (print_of live g) names) earlier → place < length earlier
+    place_within earlier are = let many = are.many in omega (arith, length-map names (print_of live g))
 
     -- none ahead has the print
-    pub first_print : (earlier : List (Option ℕ)) → AreEarlier (map (print_of g) names) earlier → slice_get earlier place ≡ Some None → (j : ℕ) → j < place → ¬ IsBodyPair g (slice_index names place) (slice_index names j)
+    pub first_print : (earlier : List (Option ℕ)) → AreEarlier (map (print_of live g) names) earlier → slice_get earlier place ≡ Some None → (j : ℕ) → j < place → ¬ IsBodyPair g (slice_index names place) (slice_index names j)
     first_print earlier are e j ahead pair = open_none (open_first earlier None are e) j ahead pair.bodies
 
 -- ALL PAIRS

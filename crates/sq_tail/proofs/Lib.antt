@@ -13,6 +13,7 @@ pub mod Searching
 pub mod Words
 pub mod Fitting
 pub mod BodiesEqual
+pub mod BodiesWalked
 pub mod BodiesPrinted
 pub mod BodiesEarlier
 pub mod BodiesFound

@@ -5,8 +5,10 @@
 //!              b: x'                  j c
 //!                 j c
 
+mod calls;
 mod earlier;
 mod prints;
+mod walks;
 
 ghost use Rattle.std.specs.Prelude.{◌≡◌, ◌↔◌, ◌<◌, ℕ, None, Ok, IsTrue, map, length, slice_index, IfOk, IfSome, MatchOption};
 ghost use Rattle.std.specs.List.{All};
@@ -102,22 +104,24 @@ pub fn is_body_pair(graph: &Graph, live: &Liveness, dropped: u32, kept: u32) -> 
     may_drop(graph, dropped) && have_bodies(graph, dropped, kept, dead_behind(graph, live, dropped))
 }
 
-/// A block ahead of the one at this place whose body matches its own, where these registers are dead behind it. It goes
-/// from one block to the last one ahead of it that has the same print.
+/// A block ahead of the one at this place whose body matches its own. It goes from one block to the last one ahead of it
+/// that has the same print.
 fn kept_ahead(
     graph: &Graph,
+    live: &Liveness,
     names: &[u32],
     earlier: &[Option<usize>],
     place: usize,
-    dead: RegSet,
 ) -> Option<u32>
+    requires live { IsLivenessOf graph.now.graph live.now }
     requires names { All (HasBlock graph.now.graph) names.now }
-    requires earlier { AreEarlier (map (print_of graph.now.graph) names.now) earlier.now }
+    requires earlier { AreEarlier (map (print_of live.now graph.now.graph) names.now) earlier.now }
     requires place { place < length names.now }
     requires may_drop { MayDrop graph.now.graph (slice_index names.now place) }
-    requires dead { AreDeadBehind dead graph.now.graph (slice_index names.now place) }
     ensures { MatchOption result ((j : ℕ) → j < place → ¬ HaveBodies graph.now.graph (slice_index names.now place) (slice_index names.now j)) (HaveBodies graph.now.graph (slice_index names.now place)) }
 {
+    graph.learn();
+    let dead = dead_behind(graph, live, names[place]);
     let mut at = earlier[place];
     while let Some(other) = at {
         if have_bodies(graph, names[place], names[other], dead) {
@@ -138,17 +142,17 @@ pub(crate) fn pair_at(
 ) -> Option<BodyPair>
     requires live { IsLivenessOf graph.now.graph live.now }
     requires names { All (HasBlock graph.now.graph) names.now }
-    requires earlier { AreEarlier (map (print_of graph.now.graph) names.now) earlier.now }
+    requires earlier { AreEarlier (map (print_of live.now graph.now.graph) names.now) earlier.now }
     requires place { place < length names.now }
     ensures some { IfSome result (λ pair. IsBodyPair graph.now.graph pair.dropped pair.kept) }
     ensures none { result ≡ None → (j : ℕ) → j < place → ¬ IsBodyPair graph.now.graph (slice_index names.now place) (slice_index names.now j) }
 {
+    graph.learn();
     let dropped = names[place];
     if earlier[place].is_none() || !may_drop(graph, dropped) {
         return None;
     }
-    let dead = dead_behind(graph, live, dropped);
-    match kept_ahead(graph, names, earlier, place, dead) {
+    match kept_ahead(graph, live, names, earlier, place) {
         Some(kept) => Some(BodyPair { dropped, kept }),
         None => None,
     }
@@ -158,12 +162,14 @@ pub(crate) fn pair_at(
 pub(crate) fn equal_ahead(
     alloc: Global,
     graph: &Graph,
+    live: &Liveness,
     names: &[u32],
 ) -> Result<Vec<Option<usize>>, Memory>
-    requires { All (HasBlock graph.now.graph) names.now }
-    ensures { IfOk result (λ earlier. AreEarlier (map (print_of graph.now.graph) names.now) earlier.items) }
+    requires live { IsLivenessOf graph.now.graph live.now }
+    requires names { All (HasBlock graph.now.graph) names.now }
+    ensures { IfOk result (λ earlier. AreEarlier (map (print_of live.now graph.now.graph) names.now) earlier.items) }
 {
-    let prints = prints(alloc, graph, names)?;
+    let prints = prints(alloc, graph, live, names)?;
     earlier_places(alloc, &prints)
 }
 
@@ -178,7 +184,7 @@ fn find_ahead(
 ) -> Result<Option<BodyPair>, Memory>
     requires live { IsLivenessOf graph.now.graph live.now }
     requires names { All (HasBlock graph.now.graph) names.now }
-    requires prints { prints.now ≡ map (print_of graph.now.graph) names.now }
+    requires prints { prints.now ≡ map (print_of live.now graph.now.graph) names.now }
     ensures some { IfOk result (λ found. IfSome found (λ pair. IsBodyPair graph.now.graph pair.dropped pair.kept)) }
     ensures none { result ≡ Ok None → NoneAhead graph.now.graph names.now }
 {
@@ -204,7 +210,7 @@ pub fn find_bodies(
 {
     graph.learn();
     let mut names = block_names(alloc, graph)?;
-    let mut prints = prints(alloc, graph, &names)?;
+    let mut prints = prints(alloc, graph, live, &names)?;
     if let Some(pair) = find_ahead(alloc, graph, live, &names, &prints)? {
         return Ok(Some(pair));
     }

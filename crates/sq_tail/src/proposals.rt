@@ -78,7 +78,7 @@ fn propose_bodies(alloc: Global, graph: &Graph, live: &Liveness) -> Result<Vec<C
 {
     graph.learn();
     let names = block_names(alloc, graph)?;
-    let earlier = equal_ahead(alloc, graph, &names)?;
+    let earlier = equal_ahead(alloc, graph, live, &names)?;
     let mut cuts = Vec::new(alloc);
     for place in 0..names.len() {
         if let Some(pair) = pair_at(graph, live, &names, &earlier, place) {

@@ -63,21 +63,22 @@ fn behind_later(
     Some(behind_block(graph, live, block))
 }
 
-/// What is told of those of these blocks that have an earlier place. It looks for live registers once.
+/// What is told of those of these blocks that have an earlier place.
 fn look_behind(
     alloc: Global,
     graph: &Graph,
+    live: &Liveness,
     names: &[u32],
     earlier: &[Option<usize>],
 ) -> Result<Vec<Option<Behind>>, Memory>
+    requires live { IsLivenessOf graph.now.graph live.now }
     requires names { All (HasBlock graph.now.graph) names.now }
     requires earlier { length earlier.now ≡ length names.now }
     ensures { IfOk result (λ told. AreStillDead graph.now.graph names.now told.items (length names.now)) }
 {
-    let live = live(alloc, graph)?;
     let mut told = Vec::new(alloc);
     for (place, name) in names.iter().enumerate() {
-        told.push(behind_later(graph, &live, *name, earlier[place]))?;
+        told.push(behind_later(graph, live, *name, earlier[place]))?;
     }
     Ok(told)
 }
@@ -217,7 +218,8 @@ pub(crate) fn sweep_bodies(
 {
     graph.learn();
     let names = block_names(alloc, graph)?;
-    let earlier = equal_ahead(alloc, graph, &names)?;
-    let told = look_behind(alloc, graph, &names, &earlier)?;
+    let live = live(alloc, graph)?;
+    let earlier = equal_ahead(alloc, graph, &live, &names)?;
+    let told = look_behind(alloc, graph, &live, &names, &earlier)?;
     drop_each(graph, uses, &names, &earlier, &told, savings)
 }

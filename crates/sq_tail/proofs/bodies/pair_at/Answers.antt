@@ -11,10 +11,10 @@ returns-then-is_none-clause-none c = λ e j ahead pair.
     let names = c.args.names.now in
     let earlier = c.args.earlier.now in
     let place = c.args.place in
-    let within = place_within g names place c.requires.place earlier c.requires.earlier in
+    let within = place_within c.args.live.now g names place c.requires.place c.learn.ensures.rules c.requires.live earlier c.requires.earlier in
     elim c.then-is_none.branch [
       | then-is_none-via-then-is_none w ↦
-          first_print g names place c.requires.place earlier c.requires.earlier
+          first_print c.args.live.now g names place c.requires.place c.learn.ensures.rules c.requires.live earlier c.requires.earlier
           (slice_get-get_or earlier place None within ∙ ap Some (none_is (get_or earlier place None) c.is_none.result c.is_none.ensures w.if-is_none.true))
           j ahead pair
       | then-is_none-via-else-is_none+then-not-may_drop w ↦

@@ -7,8 +7,8 @@ use Rattle.sq_tail.proofs.BodiesFound.{names_there}
 use Rattle.sq_tail.proofs.proposals.propose_bodies.Goals as goal
 use Rattle.sq_tail.proofs.proposals.propose_bodies.Goals.{in-Some+in_ok-body_cut+in_ok-push, in_default}
 
-pub equal_ahead-requires : goal.equal_ahead-requires
-equal_ahead-requires c = names_there c.args.graph.now.graph c.deref.result.now c.learn.ensures.rules (c.deref.ensures.value ∙ c.in_ok-names.ensures)
+pub equal_ahead-requires-clause-names : goal.equal_ahead-requires-clause-names
+equal_ahead-requires-clause-names c = names_there c.args.graph.now.graph c.deref.result.now c.learn.ensures.rules (c.deref.ensures.value ∙ c.in_ok-names.ensures)
 
 pub pair_at-requires-clause-names : goal.pair_at-requires-clause-names
 pair_at-requires-clause-names c =

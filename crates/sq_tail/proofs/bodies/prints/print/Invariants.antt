@@ -1,10 +1,9 @@
-use Rattle.std.proofs.Common.{◌≡◌, ◌≤◌, ◌^◌, map, drop}
-use Rattle.sq_rename.specs.Shapes.{shape_of}
-use Rattle.sq_tail.specs.BodiesPrints.{mixed_all, print_of}
+use Rattle.std.proofs.Common.{◌≡◌, ◌+◌, drop}
+use Rattle.sq_tail.specs.BodiesPrints.{walked, walk_of, print_of, is_kept, IsWalk}
 use Rattle.sq_tail.proofs.bodies.prints.print.Given as goal
 
-abbrev pub invariant-loop-item : goal.invariant-loop-item
-invariant-loop-item l = record {
-  small : l.print ≤ 2 ^ 32;
-  left : mixed_all l.print (map shape_of (drop l.item-index l.items)) ≡ print_of l.graph.graph l.block;
+abbrev pub invariant-loop-place : goal.invariant-loop-place
+invariant-loop-place l = record {
+  fits : IsWalk l.walk;
+  left : (walked (walk_of l.walk) (is_kept l.fn.live l.graph.graph l.block) (32 + l.place) (drop l.place l.items)).print ≡ print_of l.fn.live l.graph.graph l.block;
 }

@@ -10,7 +10,7 @@ use sq_graph::Item;
 use sq_isa::{Insn, Reg, RegSet, reads, writes};
 
 /// The destination and then the sources of an item, and x0 for those that it doesn't have.
-pub(crate) fn registers(item: &Item) -> [Reg; 5]
+pub fn registers(item: &Item) -> [Reg; 5]
     ensures { result ≡ padded 5 (item_registers item.now) }
 {
     let zero = Reg::from_low_bits(0);
@@ -43,7 +43,7 @@ fn insn_registers(insn: &Insn) -> [Reg; 5]
 }
 
 /// The registers that an item itself reads: an Out does nothing but call.
-pub(crate) fn item_reads(item: &Item) -> RegSet
+pub fn item_reads(item: &Item) -> RegSet
     ensures { (r : ℕ) → is_member result r ≡ item_reads item.now r }
 {
     match *item {
@@ -53,7 +53,8 @@ pub(crate) fn item_reads(item: &Item) -> RegSet
     }
 }
 
-pub(crate) fn item_writes(item: &Item) -> RegSet
+/// Those that it writes.
+pub fn item_writes(item: &Item) -> RegSet
     ensures { (r : ℕ) → is_member result r ≡ item_writes item.now r }
 {
     match *item {
