@@ -1,3 +1,4 @@
+pub mod Flags
 pub mod Reaching
 pub mod Blocks
 pub mod Searches

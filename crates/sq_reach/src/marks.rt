@@ -1,14 +1,16 @@
 //! Marks on numbers.
 
+ghost use Rattle.std.specs.Prelude.{◌≡◌, ◌<◌, ℕ, length, OnOk};
+ghost use Rattle.sq_reach.specs.Marks.{flag_at};
+
 use sq_num::Memory;
 use std::alloc::Global;
-use std::collections::HashSet;
 use std::marker::Model;
 
-/// A set of numbers, such as the names of blocks.
+/// A set of numbers, such as the names of blocks: a byte for each number up to the greatest one.
 #[derive(Drop)]
 pub struct Marks {
-    numbers: HashSet<u32>,
+    flags: Vec<bool>,
 }
 
 impl Model for Marks {
@@ -16,7 +18,22 @@ impl Model for Marks {
 
     ghost Value = { List ℕ };
 
-    ghost view = { λ m. m.numbers.keys };
+    ghost use Rattle.sq_reach.specs.Marks.{numbers_from};
+
+    ghost view = { λ m. numbers_from 0 m.flags.items };
+}
+
+/// Makes room for a number, and for as many again, so that numbers in a row take few calls.
+fn grow(flags: &mut Vec<bool>, number: u32) -> Result<(), Memory>
+    ensures room { OnOk result (number < length flags.new.items) }
+    ensures same { (n : ℕ) → flag_at flags.new.items n ≡ flag_at flags.old.items n }
+{
+    let len = flags.len();
+    if len <= number as usize {
+        let room = len.saturating_mul(2).max(number as usize + 1);
+        flags.resize(room, false)?;
+    }
+    Ok(())
 }
 
 impl Marks {
@@ -28,7 +45,7 @@ impl Marks {
         ensures { result ≡ [] }
     {
         Marks {
-            numbers: HashSet::new(alloc),
+            flags: Vec::new(alloc),
         }
     }
 
@@ -39,13 +56,17 @@ impl Marks {
         ensures count { IfOk result (λ added. length self.new ≡ length self.old + (if added then 1 else 0)) }
         ensures distinct { IsDistinct nat_eq self.new }
     {
-        Ok(self.numbers.insert(number)?)
+        let added = !self.has(number);
+        grow(&mut self.flags, number)?;
+        self.flags[number as usize] = true;
+        Ok(added)
     }
 
     /// Whether a block is marked.
     pub fn has(&self, block: u32) -> bool
         ensures { result ≡ is_marked self.now block }
     {
-        self.numbers.contains(&block)
+        let block = block as usize;
+        block < self.flags.len() && self.flags[block]
     }
 }
