@@ -62,7 +62,7 @@ pub fn number_items(
     ensures { IfOk result (λ numbers. AreNumbersOf (map (item_at graph.now.graph) line.now) numbers.items) }
 {
     graph.learn();
-    let mut keys = Vec::new(alloc);
+    let mut keys = Vec::with_capacity(alloc, line.len())?;
     for place in line {
         keys.push(key_at(graph, *place))?;
     }

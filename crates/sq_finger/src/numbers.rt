@@ -35,8 +35,8 @@ pub fn number_all<K: Copy + Eq + Hash>(
     ensures value { IfOk result (λ numbers. numbers.items ≡ numbers_of K.eq keys.now) }
     ensures numbers { IfOk result (λ numbers. AreNumbers K.eq keys.now numbers.items) }
 {
-    let mut seen = IndexSet::new(alloc);
-    let mut numbers = Vec::new(alloc);
+    let mut seen = IndexSet::with_capacity(alloc, keys.len())?;
+    let mut numbers = Vec::with_capacity(alloc, keys.len())?;
     for key in keys {
         let number = number(&mut seen, *key)?;
         numbers.push(number)?;

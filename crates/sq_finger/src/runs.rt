@@ -25,7 +25,7 @@ pub fn number_longer_runs(
     requires { length firsts.now < 2 ^ 32 }
     ensures { IfOk result (λ longer. (n : ℕ) → AreRunNumbers n firsts.now runs.now → AreRunNumbers (n + 1) firsts.now longer.items) }
 {
-    let mut pairs = Vec::new(alloc);
+    let mut pairs = Vec::with_capacity(alloc, firsts.len())?;
     for i in 0..firsts.len() {
         pairs.push(number_at(firsts, i).zip(number_at(runs, i + 1)))?;
     }
