@@ -241,7 +241,7 @@ impl Pass for Jumps {
         }
     }
 
-    /// A few looks at the whole graph, and in each of at most 32 rounds a few more.
+    /// A few looks at the whole graph, and at most 160 walks over it.
     fn sweep(&self, alloc: Global, graph: &mut Graph, savings: Savings) -> Result<Savings, Memory> {
         let after_calls = sweep_calls(alloc, graph, savings)?;
         sweep_jumps(alloc, graph, after_calls)

@@ -145,7 +145,18 @@ fn count_shortened(graph: &mut Graph, blocks: &[u32], savings: Savings) -> Savin
     done.count(savings)
 }
 
-/// Rewrites the graph by candidates of row C. It looks for live registers once, and then at the end of each block.
+/// Whether one of these blocks jumps by an upper half.
+fn has_part_jump(graph: &Graph, names: &[u32]) -> bool {
+    for name in names {
+        if is_block(graph, *name) && matches!(graph.term(*name), Term::PartJump { .. }) {
+            return true;
+        }
+    }
+    false
+}
+
+/// Rewrites the graph by candidates of row C. Where a block jumps by an upper half it looks for live registers once, and then at the
+/// end of each block.
 pub(crate) fn sweep_calls(
     alloc: Global,
     graph: &mut Graph,
@@ -157,8 +168,11 @@ pub(crate) fn sweep_calls(
     ensures follows { Follows graph.old.graph graph.new.graph }
 {
     graph.learn();
-    let live = live(alloc, graph)?;
     let names = block_names(alloc, graph)?;
+    if !has_part_jump(graph, &names) {
+        return Ok(savings);
+    }
+    let live = live(alloc, graph)?;
     let blocks = shortable_blocks(alloc, graph, &live, &names)?;
     Ok(count_shortened(graph, &blocks, savings))
 }
