@@ -1,12 +1,12 @@
 -- What row O4 makes of a graph keeps what a pass promises.
-use Rattle.std.proofs.Common.{◌≡◌, ◌≢◌, ℕ, zero, suc, ◌+◌, ◌*◌, List, [], ◌∷◌, ◌++◌, length, IsSome, slice_get, Option, Some, None, refl, sym, subst, arith}
+use Rattle.std.proofs.Common.{◌≡◌, ◌≢◌, ℕ, zero, suc, ◌+◌, ◌*◌, List, [], ◌∷◌, ◌++◌, length, refl, sym, subst, arith}
 use Rattle.std.specs.List.{All, Contains, flat_map}
 use Rattle.std.proofs.lemmas.Bool.{eq-eqb}
 use Rattle.std.proofs.lemmas.List.Elements.{All-nil, All-cons, All-contains}
 use Rattle.sq_graph.specs.declared.item.Item.{Item}
 use Rattle.sq_graph.specs.declared.item.Item.TheVariants.{Op, Hi, Lo, Out}
 use Rattle.sq_graph.specs.Graph.{Block, Graph}
-use Rattle.sq_graph.specs.Blocks.{HasBlock, HasProcedure, block_of, block_items, body_of, items_of_blocks, items_of_bodies}
+use Rattle.sq_graph.specs.Blocks.{HasProcedure, body_of, items_of_blocks, items_of_bodies}
 use Rattle.sq_graph.specs.Operations.{inlined}
 use Rattle.sq_graph.specs.Rules.{IsGraph}
 use Rattle.sq_graph.specs.Soundness.{IsSound}
@@ -21,7 +21,7 @@ use Rattle.law_patch.proofs.Recalling.{uncalled_goes_follows, uncalled_goes_soun
 use Rattle.law_patch.proofs.Saving.{inline_saves, uncalled_goes_saves}
 use Rattle.sq_pass.specs.Applied.{IsApplied}
 use Rattle.sq_outline.specs.Inlined.{call_count, spread_all, inlined_all, WouldSave, IsInlinable}
-use Rattle.sq_outline.proofs.Spreading.{is_one, calls_in, calls_in-append, calls_in-cons, none_left_in, bodies_call_none, all_bodies_call_none, IsCall, inlined_sooner, inlined_fewer, spread_itself, some_call}
+use Rattle.sq_outline.proofs.Spreading.{is_one, calls_in, calls_in-append, calls_in-cons, none_left_in, bodies_call_none, all_bodies_call_none, IsCall, call_there, inlined_sooner, inlined_fewer, spread_itself, some_call}
 
 -- BODIES IN PLACE OF CALLS
 
@@ -35,13 +35,6 @@ record IsSpread (k n : ℕ) (g h : Graph) : Type 0 where
 spread_same : (n : ℕ) (g h : Graph) → IsGraph g → h ≡ g → IsSpread 0 n g h
 spread_same n g h rules same =
     subst (λ k. IsSpread 0 n g k) (sym same) (record { rules = rules; follows = graph_follows_itself g; sound = λ sound. sound; words = omega arith })
-
-pub call_there : (g : Graph) (p block at : ℕ) → IsCall g p block at → HasBlock g block
-call_there g p block at there = in_block (block_of g block) there
-  where
-    in_block : (o : Option Block) → slice_get (block_items o) at ≡ Some (Out p) → IsSome o
-    in_block None there = absurd (cc)
-    in_block (Some b) there = refl
 
 spread_more : (k n : ℕ) (g : Graph) (p block at : ℕ) → IsGraph g → length (body_of g p) ≡ n → IsCall g p block at → IsSpread k n (inlined g block at) (spread_all (inlined g block at) p) → IsSpread (suc k) n g (spread_all g p)
 spread_more k n g p block at rules size there rest =

@@ -17,6 +17,7 @@ pub mod Spreading
 pub mod Inlining
 pub mod InlineSteps
 pub mod InlineSearch
+pub mod Blocked
 pub mod Kept
 pub mod Undone
 pub mod Still

@@ -1,5 +1,5 @@
 -- Bodies in place of calls, one after another.
-use Rattle.std.proofs.Common.{◌≡◌, ◌<◌, ℕ, zero, suc, ◌+◌, ◌==◌, Bool, true, false, if◌then◌else◌, List, [], ◌∷◌, ◌++◌, map, take, drop, Option, None, Some, slice_get, refl, sym, ap, ◌∙◌, subst, inl, inr, arith}
+use Rattle.std.proofs.Common.{◌≡◌, ◌<◌, ℕ, zero, suc, ◌+◌, ◌==◌, Bool, true, false, if◌then◌else◌, List, [], ◌∷◌, ◌++◌, map, take, drop, Option, None, Some, IsSome, slice_get, refl, sym, ap, ◌∙◌, subst, inl, inr, arith}
 use Rattle.std.specs.List.{All, count_by, list_any}
 use Rattle.std.proofs.lemmas.Bool.{cases_Bool, or_parts, eq-eqb, eqb-true}
 use Rattle.std.proofs.lemmas.List.Concat.{flat_map-append}
@@ -10,7 +10,7 @@ use Rattle.sq_arena.proofs.EntriesLaws.{distinct_back}
 use Rattle.sq_graph.specs.declared.item.Item.{Item}
 use Rattle.sq_graph.specs.declared.item.Item.TheVariants.{Op, Hi, Lo, Out}
 use Rattle.sq_graph.specs.Graph.{Block, Procedure, Graph}
-use Rattle.sq_graph.specs.Blocks.{named, block_items, items_of, items_of_blocks, items_of_bodies, procedure_body, body_of}
+use Rattle.sq_graph.specs.Blocks.{named, HasBlock, block_of, block_items, items_of, items_of_blocks, items_of_bodies, procedure_body, body_of}
 use Rattle.sq_graph.specs.Operations.{with_blocks, replaced_items, call_of, called_at, called_body, inlined}
 use Rattle.sq_graph.specs.Rules.{IsGraph, ProcedureFits}
 use Rattle.sq_graph.specs.Uses.{item_calls}
@@ -188,6 +188,13 @@ all_bodies_call_none p (r ∷ ps) all =
 -- an item of a block calls the procedure
 abbrev pub IsCall : Graph → ℕ → ℕ → ℕ → Type 0
 IsCall g p block at = slice_get (items_of g block) at ≡ Some (Out p)
+
+pub call_there : (g : Graph) (p block at : ℕ) → IsCall g p block at → HasBlock g block
+call_there g p block at there = in_block (block_of g block) there
+  where
+    in_block : (o : Option Block) → slice_get (block_items o) at ≡ Some (Out p) → IsSome o
+    in_block None there = absurd (cc)
+    in_block (Some b) there = refl
 
 -- once the body stands there
 pub inlined_body : (g : Graph) (p block at : ℕ) → IsCall g p block at → called_body g (called_at g block at) ≡ body_of g p

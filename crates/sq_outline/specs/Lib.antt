@@ -9,6 +9,7 @@ pub mod RecalledNumbers
 pub mod Inlined
 pub mod InlineSteps
 pub mod InlineSweeps
+pub mod Blocked
 pub mod Still
 pub mod Spans
 pub mod Prints

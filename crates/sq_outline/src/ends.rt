@@ -22,7 +22,7 @@ pub struct Ends {
 }
 
 /// Whether the block jumps to the next slot.
-fn jumps_to_next(graph: &Graph, block: u32) -> bool {
+pub(crate) fn jumps_to_next(graph: &Graph, block: u32) -> bool {
     graph.learn();
     if !is_block(graph, block) {
         return false;

@@ -3,13 +3,16 @@
 //!     before   a: jal x5,p              after   a: add a0,a0,a1
 //!              p: add a0,a0,a1; jr x5
 
+mod blocked;
 mod sweep;
+mod waiting;
 
 ghost use Rattle.std.specs.Prelude.{◌≡◌, ◌↔◌, ℕ, ◌+◌, ◌*◌, ◌≤◌, ◌<◌, ◌^◌, IsTrue, length, None, Ok, IfOk, IfSome, OnOk};
 ghost use Rattle.std.specs.List.{count_by, list_any};
 ghost use Rattle.sq_graph.specs.Blocks.{HasBlock, HasProcedure, items_of, body_of};
-ghost use Rattle.sq_graph.specs.Places.{IsInReach};
+ghost use Rattle.sq_graph.specs.Places.{block_address, IsInReach};
 ghost use Rattle.sq_graph.specs.Room.{KeepsTotal};
+ghost use Rattle.sq_lookup.specs.Tables.{number_at};
 ghost use Rattle.sq_pass.specs.declared.cut.Cut.{Cut as Told};
 ghost use Rattle.sq_pass.specs.declared.cut.Row.TheVariants.{O4 as InPlace};
 ghost use Rattle.sq_pass.specs.Applied.{IsApplied};
@@ -17,6 +20,7 @@ ghost use Rattle.sq_pass.specs.Cuts.{IsCompleted};
 ghost use Rattle.sq_outline.specs.Inlined.{is_call, call_count, spread_all, inlined_all, WouldSave, IsInlinable, inline_cut, IsInlined};
 ghost use Rattle.sq_outline.specs.InlineSteps.{inlined_if, spread_at, HasRoom, inline_room, counted};
 
+use blocked::{Places, blocker};
 use sq_graph::{Graph, Item, Room};
 use sq_isa::Reg;
 use sq_layout::words_of;
@@ -25,6 +29,7 @@ use sq_num::Memory;
 use sq_pass::{Blocks, Cut, Row};
 use std::alloc::Global;
 pub(crate) use sweep::sweep_inlines;
+pub(crate) use waiting::{WaitingCalls, WaitingMoves};
 
 // Whether the item calls the procedure.
 fn is_call(item: &Item, number: u32) -> bool
@@ -184,22 +189,24 @@ fn would_save(graph: &Graph, calls: &Table, procedure: u32) -> Option<u32>
     Some((gone - come) as u32)
 }
 
-// The same, or `None` where a Branch doesn't reach.
+// The same, or `None` where a Branch doesn't reach. A copy is made only where none is found around the calls that doesn't.
 fn inline_saving(
     alloc: Global,
     graph: &Graph,
     calls: &Table,
+    places: &Places,
     procedure: u32,
 ) -> Result<Option<u32>, Memory>
     requires there { HasProcedure graph.now.graph procedure }
     requires calls { counted calls.now procedure ≡ call_count graph.now.graph procedure }
+    requires places { (n : ℕ) → number_at places.now.addresses n ≡ block_address graph.now.graph 0 n }
     ensures some { IfOk result (λ found. IfSome found (IsInlinable graph.now.graph procedure)) }
     ensures none { result ≡ Ok None → (saving : ℕ) → ¬ IsInlinable graph.now.graph procedure saving }
 {
     let Some(saving) = would_save(graph, calls, procedure) else {
         return Ok(None);
     };
-    if !is_near(alloc, graph, procedure)? {
+    if blocker(graph, places, procedure).is_some() || !is_near(alloc, graph, procedure)? {
         return Ok(None);
     }
     Ok(Some(saving))
@@ -236,15 +243,16 @@ fn inline_cut(alloc: Global, procedure: u32, saving: u32) -> Cut
 
 /// The cut of the first procedure whose body may come in place of its calls, or `None` where there is none.
 ///
-/// It looks at each word once, and a few times more for each procedure that would save words: such are called once, have
-/// one item, or have two and are called twice.
+/// It looks at each word a few times, and for each procedure that would save words at the blocks around its calls: such are
+/// called once, have one item, or have two and are called twice.
 pub(crate) fn find_inline(alloc: Global, graph: &Graph) -> Result<Option<Cut>, Memory>
     ensures some { IfOk result (λ found. IfSome found (IsInlined graph.now.graph)) }
     ensures none { result ≡ Ok None → (cut : Told) → ¬ IsInlined graph.now.graph cut }
 {
     let calls = count_calls(alloc, graph)?;
+    let places = Places::look(alloc, graph)?;
     for procedure in 0..graph.procedures() {
-        if let Some(saving) = inline_saving(alloc, graph, &calls, procedure)? {
+        if let Some(saving) = inline_saving(alloc, graph, &calls, &places, procedure)? {
             return Ok(Some(inline_cut(alloc, procedure, saving)));
         }
     }
@@ -264,7 +272,8 @@ pub(crate) fn admit_inline(alloc: Global, graph: &Graph, cut: &Cut) -> Result<Op
         return Ok(None);
     }
     let calls = count_calls(alloc, graph)?;
-    match inline_saving(alloc, graph, &calls, cut.procedure)? {
+    let places = Places::look(alloc, graph)?;
+    match inline_saving(alloc, graph, &calls, &places, cut.procedure)? {
         Some(saving) => Ok(Some(inline_cut(alloc, cut.procedure, saving))),
         None => Ok(None),
     }

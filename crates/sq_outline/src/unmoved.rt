@@ -3,16 +3,18 @@
 
 ghost use Rattle.sq_graph.specs.Blocks.{HasBlock};
 
+use crate::ends::jumps_to_next;
 use crate::groups::{block_print, procedure_prints};
-use crate::inline::{any_would_save, find_inline};
+use crate::inline::WaitingMoves;
 use crate::seams::may_pay_at;
-use crate::ways::{Reaching, near_jumps, previous};
+use crate::ways::{Reaching, near_jumps, previous, wide_target};
 use crate::windows::Endings;
-use sq_graph::{Graph, Term};
+use sq_graph::{Graph, Item, Term};
 use sq_live::block_names;
-use sq_lookup::{Names, is_block};
+use sq_lookup::{Names, is_block, jump_from};
 use sq_num::Memory;
 use std::alloc::Global;
+use std::collections::HashMap;
 
 /// What may give a row a candidate since a chain moved.
 #[derive(Clone, Copy, Debug, PartialEq, Eq)]
@@ -52,8 +54,12 @@ pub struct Unmoved {
     near: Names,
     reaching: Reaching,
     endings: Endings,
-    // Whether a procedure waits for Branches to reach.
-    inlines: bool,
+    // The names in items.
+    named: Names,
+    // The blocks whose Branches lead over a lone Jump, and where that leads.
+    wide: HashMap<u32, u32>,
+    // The procedures that wait for Branches to reach.
+    waiting: WaitingMoves,
 }
 
 /// Whether another of these blocks has as many items and the print of this one.
@@ -125,6 +131,15 @@ fn before(graph: &Graph, block: u32) -> Option<u32> {
     }
 }
 
+/// The block behind this one, if there are both.
+fn behind(graph: &Graph, block: u32) -> Option<u32> {
+    if is_block(graph, block) {
+        graph.next(block)
+    } else {
+        None
+    }
+}
+
 /// Whether a block goes on into this one.
 fn is_entered_at(graph: &Graph, block: u32) -> bool {
     graph.learn();
@@ -134,16 +149,61 @@ fn is_entered_at(graph: &Graph, block: u32) -> bool {
     }
 }
 
-/// How a block ends since the move that jumped before it and has as many items as then, if it doesn't jump now.
+/// How a block ends since the move that jumped before it, if that may be as another one ends: not where it jumps now. Where it
+/// falls, row T saves a word only by two equal items, so it has more only where items came.
 fn new_end(graph: &Graph, was: Was) -> Option<Term> {
     graph.learn();
-    if !was.jumped || !is_block(graph, was.block) || graph.items(was.block).len() != was.count {
+    if !was.jumped || !is_block(graph, was.block) {
         return None;
     }
     match graph.term(was.block) {
-        Term::Jump { .. } | Term::Fall => None,
+        Term::Jump { .. } => None,
+        Term::Fall if graph.items(was.block).len() == was.count => None,
         term => Some(term),
     }
+}
+
+/// Adds the names in these items.
+fn add_names(names: &mut Names, items: &[Item]) -> Result<(), Memory> {
+    for item in items {
+        if let Item::Hi { to, .. } | Item::Lo { to, .. } = *item {
+            names.insert(to)?;
+        }
+    }
+    Ok(())
+}
+
+/// The names in items of blocks. It looks at each item.
+fn named_by_items(alloc: Global, graph: &Graph) -> Result<Names, Memory> {
+    graph.learn();
+    let mut named = Names::new(alloc);
+    for name in &block_names(alloc, graph)? {
+        if is_block(graph, *name) {
+            add_names(&mut named, graph.items(*name))?;
+        }
+    }
+    Ok(named)
+}
+
+/// Where the lone Jump leads over which the block's Branch leads, if there is this block and it ends in such a one.
+fn wide_at(graph: &Graph, block: u32) -> Option<u32> {
+    if is_block(graph, block) {
+        wide_target(graph, block)
+    } else {
+        None
+    }
+}
+
+/// The blocks whose Branches lead over a lone Jump, and where that leads.
+fn wide_branches(alloc: Global, graph: &Graph) -> Result<HashMap<u32, u32>, Memory> {
+    graph.learn();
+    let mut wide = HashMap::new(alloc);
+    for name in &block_names(alloc, graph)? {
+        if let Some(to) = wide_at(graph, *name) {
+            wide.insert(*name, to)?;
+        }
+    }
+    Ok(wide)
 }
 
 /// A set of these names.
@@ -153,6 +213,14 @@ fn set_of(alloc: Global, names: &[u32]) -> Result<Names, Memory> {
         set.insert(*name)?;
     }
     Ok(set)
+}
+
+/// Adds a place that isn't there.
+fn push_new(places: &mut Vec<usize>, place: usize) -> Result<(), Memory> {
+    if !places.contains(&place) {
+        places.push(place)?;
+    }
+    Ok(())
 }
 
 impl Unmoved {
@@ -165,7 +233,9 @@ impl Unmoved {
             near: Names::new(alloc),
             reaching: Reaching::new(alloc),
             endings: Endings::new(alloc),
-            inlines: false,
+            named: Names::new(alloc),
+            wide: HashMap::new(alloc),
+            waiting: WaitingMoves::new(alloc),
         }
     }
 
@@ -178,7 +248,9 @@ impl Unmoved {
             near: set_of(alloc, &near_jumps(alloc, graph, addresses)?)?,
             reaching: Reaching::look(alloc, graph, addresses)?,
             endings: Endings::new(alloc),
-            inlines: any_would_save(alloc, graph)?,
+            named: named_by_items(alloc, graph)?,
+            wide: wide_branches(alloc, graph)?,
+            waiting: WaitingMoves::look(alloc, graph)?,
         })
     }
 
@@ -190,15 +262,21 @@ impl Unmoved {
         Ok(())
     }
 
-    /// Takes note of a block and the one behind it.
-    fn note_seam(&mut self, graph: &Graph, first: u32) -> Result<(), Memory> {
-        graph.learn();
-        if !is_block(graph, first) {
+    /// Takes note of both blocks at a seam.
+    fn note_seam(
+        &mut self,
+        graph: &Graph,
+        first: Option<u32>,
+        second: Option<u32>,
+    ) -> Result<(), Memory> {
+        let Some(block) = first else {
             return Ok(());
-        }
-        let second = graph.next(first);
-        self.sides.push(Sides { first, second })?;
-        self.note(graph, first)?;
+        };
+        self.sides.push(Sides {
+            first: block,
+            second,
+        })?;
+        self.note(graph, block)?;
         match second {
             Some(block) => self.note(graph, block),
             None => Ok(()),
@@ -218,12 +296,14 @@ impl Unmoved {
             return Ok(false);
         }
         let end = end_of_chain(graph, to);
-        self.note(graph, to)?;
-        self.note_seam(graph, from)?;
-        self.note_seam(graph, end)?;
-        if let Some(block) = before(graph, to) {
-            self.note_seam(graph, block)?;
-        }
+        let ahead = before(graph, to);
+        // Those that it closes, and those that it makes: of these the first block goes where it is a lone Jump.
+        self.note_seam(graph, Some(from), behind(graph, from))?;
+        self.note_seam(graph, Some(end), behind(graph, end))?;
+        self.note_seam(graph, ahead, Some(to))?;
+        self.note_seam(graph, Some(from), Some(to))?;
+        self.note_seam(graph, Some(end), behind(graph, from))?;
+        self.note_seam(graph, ahead, behind(graph, end))?;
         Ok(true)
     }
 
@@ -243,7 +323,8 @@ impl Unmoved {
         places.push(count)?;
         for was in &self.seams {
             if !is_block(graph, was.block) && was.count < now {
-                places.push(now - was.count)?;
+                push_new(&mut places, now - was.count)?;
+                push_new(&mut places, count.saturating_add(was.count))?;
             }
         }
         Ok(places)
@@ -350,9 +431,41 @@ impl Unmoved {
         Ok(false)
     }
 
-    /// Takes note of how the blocks at the seams end now. Where others came or went, as where a Branch is wide now, all are to be
-    /// looked at anew.
-    fn note_ends(&mut self, alloc: Global, graph: &Graph) -> Result<(), Memory> {
+    /// The blocks whose Branches are wide by the move. It looks at each block.
+    fn take_wide(&mut self, alloc: Global, graph: &Graph) -> Result<Vec<u32>, Memory> {
+        graph.learn();
+        let mut wide = Vec::new(alloc);
+        for name in &block_names(alloc, graph)? {
+            let to = wide_at(graph, *name);
+            if to.is_some() && to != self.wide.get(name).copied() {
+                wide.push(*name)?;
+            }
+        }
+        self.wide = wide_branches(alloc, graph)?;
+        Ok(wide)
+    }
+
+    /// What may be new since the Branches of these blocks are wide: one may end as another block does, and a lone Jump may go that
+    /// stayed for the Branch.
+    fn wide_news(&mut self, alloc: Global, graph: &Graph, wide: &[u32]) -> Result<News, Memory> {
+        let mut news = News::Nothing;
+        for block in wide {
+            self.endings.note(alloc, graph, *block)?;
+            if self.endings.has_alike(alloc, graph, *block)? {
+                return Ok(News::Items);
+            }
+            if let Some(to) = wide_at(graph, *block)
+                && is_block(graph, to)
+                && jump_from(graph, to).is_some()
+            {
+                news = News::Reach;
+            }
+        }
+        Ok(news)
+    }
+
+    /// Takes note of how the blocks at the seams end now, and what may be new where others came or went, as where a Branch is wide.
+    fn note_ends(&mut self, alloc: Global, graph: &Graph) -> Result<News, Memory> {
         let mut blocks = graph.links().len();
         for was in &self.seams {
             if is_block(graph, was.block) {
@@ -361,10 +474,34 @@ impl Unmoved {
                 blocks = blocks.saturating_add(1);
             }
         }
-        if blocks != self.blocks {
-            self.endings = Endings::new(alloc);
+        if blocks == self.blocks {
+            return Ok(News::Nothing);
         }
-        Ok(())
+        let wide = self.take_wide(alloc, graph)?;
+        if u64::from(blocks) != u64::from(self.blocks).saturating_add(wide.len() as u64) {
+            self.endings = Endings::new(alloc);
+            return Ok(News::Items);
+        }
+        self.wide_news(alloc, graph, &wide)
+    }
+
+    /// Whether a block went whose names others have now, and the block before it jumps to the next slot, or items named it.
+    fn has_more_names(&mut self, graph: &Graph) -> Result<bool, Memory> {
+        let mut more = false;
+        for Sides { first, second } in &self.sides {
+            if is_block(graph, *first) {
+                continue;
+            }
+            let Some(block) = *second else {
+                continue;
+            };
+            more |= before(graph, block).is_some_and(|at| jumps_to_next(graph, at));
+            if self.named.has(*first) {
+                self.named.insert(block)?;
+                more = true;
+            }
+        }
+        Ok(more)
     }
 
     /// Whether one of them ends otherwise by the move, and a row may have a candidate there since.
@@ -388,9 +525,11 @@ impl Unmoved {
         graph: &Graph,
         addresses: &[u32],
     ) -> Result<News, Memory> {
-        let reaches = self.has_more_near(alloc, graph, addresses)?;
-        self.note_ends(alloc, graph)?;
-        if self.inlines && find_inline(alloc, graph)?.is_some()
+        let by_wide = self.note_ends(alloc, graph)?;
+        let reaches = self.has_more_near(alloc, graph, addresses)? || by_wide == News::Reach;
+        if by_wide == News::Items
+            || self.has_more_names(graph)?
+            || self.waiting.may_inline(alloc, graph, addresses)?
             || self.has_more_items(alloc, graph)?
             || self.has_more_ends(alloc, graph)?
         {

@@ -70,6 +70,16 @@ fn inversion(graph: &Graph, from: u32, behind: u32) -> Option<Way>
     Some(Way { from, over, to })
 }
 
+/// Where the lone Jump leads over which the block's Branch leads, if it ends in such a one: as where a Branch is wide.
+pub(crate) fn wide_target(graph: &Graph, block: u32) -> Option<u32>
+    requires { HasBlock graph.now.graph block }
+{
+    let Term::Branch { to, .. } = graph.term(block) else {
+        return None;
+    };
+    Some(inversion(graph, block, to)?.to)
+}
+
 /// The ways by which row J2 and row J3 would lead the block's Branch elsewhere.
 fn ways_of(graph: &Graph, from: u32) -> (Option<Way>, Option<Way>)
     requires { HasBlock graph.now.graph from }
@@ -297,15 +307,40 @@ fn reaches_by(graph: &Graph, addresses: &[u32], block: u32, over: u32) -> bool {
         && !is_entered(graph, over)
 }
 
-/// Whether the block's Branch reaches where a lone Jump leads, to which or over which it leads.
-fn reaches_past(graph: &Graph, addresses: &[u32], block: u32) -> bool
+/// By which of its ways a Branch reaches where the lone Jump leads: by that to which it leads, and by that over which it leads.
+#[derive(Clone, Copy, Debug, PartialEq, Eq)]
+struct Reach {
+    past: bool,
+    over: bool,
+}
+
+const NONE: Reach = Reach {
+    past: false,
+    over: false,
+};
+
+/// By which ways the block's Branch reaches.
+fn reach_of(graph: &Graph, addresses: &[u32], block: u32) -> Reach
     requires { HasBlock graph.now.graph block }
 {
     let Term::Branch { to, .. } = graph.term(block) else {
-        return false;
+        return NONE;
     };
-    reaches_by(graph, addresses, block, to)
-        || inversion(graph, block, to).is_some_and(|way| is_near(graph, addresses, way))
+    Reach {
+        past: reaches_by(graph, addresses, block, to),
+        over: inversion(graph, block, to).is_some_and(|way| is_near(graph, addresses, way)),
+    }
+}
+
+/// Where a look for Branches begins at a block: ahead at its end, since the seam may stand there within it.
+fn start_at(graph: &Graph, addresses: &[u32], block: u32, ahead: bool) -> u64 {
+    graph.learn();
+    let at = address_in(addresses, block);
+    if ahead && is_block(graph, block) {
+        at.saturating_add(4 * graph.items(block).len() as u64)
+    } else {
+        at
+    }
 }
 
 /// The last address at which a look for Branches goes on that begins at this one: as far as one reaches, or to the next of these
@@ -331,17 +366,18 @@ fn last_of(graph: &Graph, addresses: &[u32], starts: &[u32], start: u64, ahead: 
     last
 }
 
-/// The blocks whose Branches reach where a lone Jump leads, as far as they were looked for.
+/// By which of their ways Branches reach where lone Jumps lead, as far as they were looked at.
 #[derive(Drop)]
 pub(crate) struct Reaching {
-    blocks: Names,
+    // By the names of the blocks.
+    reaches: Vec<Reach>,
 }
 
 impl Reaching {
     /// None.
     pub(crate) fn new(alloc: Global) -> Reaching {
         Reaching {
-            blocks: Names::new(alloc),
+            reaches: Vec::new(alloc),
         }
     }
 
@@ -352,6 +388,7 @@ impl Reaching {
         addresses: &[u32],
     ) -> Result<Reaching, Memory> {
         let mut reaching = Reaching::new(alloc);
+        reaching.reaches.resize(addresses.len(), NONE)?;
         for name in 0..u32::try_from(addresses.len()).unwrap_or(u32::MAX) {
             if is_block(graph, name) {
                 reaching.note(graph, addresses, name)?;
@@ -360,17 +397,26 @@ impl Reaching {
         Ok(reaching)
     }
 
+    /// Puts down by which ways a block's Branch reaches.
+    fn put(&mut self, block: u32, reach: Reach) -> Result<(), Memory> {
+        let at = block as usize;
+        if self.reaches.len() <= at {
+            self.reaches.resize(at + 1, NONE)?;
+        }
+        self.reaches[at] = reach;
+        Ok(())
+    }
+
     /// Takes note of the block's Branch, if it ends in one. Whether it is new that it reaches.
     fn note(&mut self, graph: &Graph, addresses: &[u32], block: u32) -> Result<bool, Memory>
         requires { HasBlock graph.now.graph block }
     {
-        let new = matches!(graph.term(block), Term::Branch { .. })
-            && !self.blocks.has(block)
-            && reaches_past(graph, addresses, block);
-        if new {
-            self.blocks.insert(block)?;
+        let before = self.reaches.get(block as usize).copied().unwrap_or(NONE);
+        let now = reach_of(graph, addresses, block);
+        if now != before {
+            self.put(block, now)?;
         }
-        Ok(new)
+        Ok(now.past && !before.past || now.over && !before.over)
     }
 
     /// Whether it is new that a Branch reaches, from one of these blocks on, ahead or back, as far as one reaches, or up to another
@@ -383,7 +429,7 @@ impl Reaching {
         from: u32,
         ahead: bool,
     ) -> Result<bool, Memory> {
-        let start = address_in(addresses, from);
+        let start = start_at(graph, addresses, from, ahead);
         let last = last_of(graph, addresses, starts, start, ahead);
         let mut new = false;
         let mut place = Some(from);
@@ -392,10 +438,14 @@ impl Reaching {
                 return Ok(new);
             };
             let at = address_in(addresses, block);
-            if !is_block(graph, block) || ahead && last < at || !ahead && at < last {
+            if !is_block(graph, block) || ahead && last < at {
                 return Ok(new);
             }
             new |= self.note(graph, addresses, block)?;
+            // A block that begins before that may end in a Branch behind it.
+            if !ahead && at < last {
+                return Ok(new);
+            }
             place = beside(graph, block, ahead);
         }
         Ok(new)

@@ -13,7 +13,7 @@ ghost use Rattle.sq_outline.specs.WindowsTaken.{IsTakenOf};
 
 use crate::filed::{Filed, file, filed};
 use crate::groups::body_print;
-use crate::inline::{any_would_save, find_inline};
+use crate::inline::{WaitingCalls, find_inline};
 use crate::sites::Site;
 use crate::unmoved::News;
 use crate::ways::FarWays;
@@ -31,7 +31,7 @@ use std::alloc::Global;
 #[derive(Drop)]
 pub(crate) struct Earlier {
     far: FarWays,
-    inlines: bool,
+    waiting: WaitingCalls,
     // Blocks of which a procedure may have the body, and procedures, by the prints of their bodies.
     bodies: Filed<u64>,
     procedures: Filed<u64>,
@@ -46,7 +46,7 @@ impl Earlier {
         let names = block_names(alloc, graph)?;
         Ok(Earlier {
             far: FarWays::look(alloc, graph, &names)?,
-            inlines: any_would_save(alloc, graph)?,
+            waiting: WaitingCalls::look(alloc, graph)?,
             bodies: plain_bodies(alloc, graph, &names)?,
             procedures: procedure_bodies(alloc, graph)?,
             callers: callers_of(alloc, graph, &names)?,
@@ -64,6 +64,12 @@ impl Earlier {
         self.news
     }
 
+    /// Takes note that so many items of a block became a call.
+    fn shorten(&mut self, block: u32, items: u64) -> Result<(), Memory> {
+        self.waiting.shorten(block, items);
+        self.far.shorten(block, items)
+    }
+
     /// What may be new since blocks lost words, and since items came by which there may be more or not.
     fn news_of(
         &mut self,
@@ -79,11 +85,12 @@ impl Earlier {
         if more {
             return Ok(News::Items);
         }
-        if self.inlines {
+        if self.waiting.asks() {
             let called = graph.with_calls(alloc, taken.fates())?;
             if find_inline(alloc, &called)?.is_some() {
                 return Ok(News::Items);
             }
+            self.waiting = WaitingCalls::look(alloc, &called)?;
         }
         Ok(if reaches { News::Reach } else { News::Nothing })
     }
@@ -127,7 +134,7 @@ impl Earlier {
         requires still { IsGraph (with_calls taken.now.fates.items graph.now.graph) }
     {
         for site in sites {
-            self.far.shorten(site.block, n)?;
+            self.shorten(site.block, n)?;
         }
         let more = self.has_likeness(alloc, graph, live, taken)?;
         self.news = self.news_of(alloc, graph, taken, more)?;
@@ -151,7 +158,7 @@ impl Earlier {
         requires block { HasBlock graph.now.graph site.block }
     {
         let Site { block, at } = site;
-        self.far.shorten(block, n)?;
+        self.shorten(block, n)?;
         let ending = ending_of(graph, &Resolutions::none(alloc), block);
         let key = (ending, procedure);
         let others = filed(&self.callers, &key);

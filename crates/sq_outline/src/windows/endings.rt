@@ -4,7 +4,8 @@ ghost use Rattle.sq_graph.specs.Blocks.{HasBlock};
 ghost use Rattle.sq_lookup.specs.Resolutions.{AreResolutions};
 
 use crate::filed::{Filed, file, filed};
-use sq_finger::{ItemKey, TermKey, item_key, term_key};
+use crate::groups::block_print;
+use sq_finger::{TermKey, fingerprint, term_key};
 use sq_graph::{Graph, Term};
 use sq_live::block_names;
 use sq_lookup::{Resolutions, is_block, jump_from, resolve_all};
@@ -85,8 +86,8 @@ pub(crate) fn ending_of(graph: &Graph, resolutions: &Resolutions, block: u32) ->
     }
 }
 
-/// What blocks that end alike have in common: the last item, the term, and where that leads and goes on.
-type EndKey = (ItemKey, TermKey, Option<u32>, Option<u32>);
+/// What blocks that end alike have in common: the form of the last item, the term, and where that leads and goes on.
+type EndKey = (u64, TermKey, Option<u32>, Option<u32>);
 
 /// The block where it is no lone Jump. One to which names resolve is on a cycle of them, which a move may make shorter.
 fn off_cycles(graph: &Graph, block: Option<u32>) -> Option<u32> {
@@ -110,23 +111,34 @@ fn end_key(graph: &Graph, resolutions: &Resolutions, block: u32) -> Option<EndKe
     }
     let end = end_of(graph, resolutions, block);
     Some((
-        item_key(&items[items.len() - 1]),
+        fingerprint(&items[items.len() - 1..]),
         term_key(&end.term),
         off_cycles(graph, end.to),
         off_cycles(graph, end.next),
     ))
 }
 
-/// Whether two blocks have items, and end alike behind an equal last one.
-fn end_alike(graph: &Graph, resolutions: &Resolutions, block: u32, other: u32) -> bool
-    requires resolutions { AreResolutions graph.now.graph resolutions.now }
+/// Whether two blocks have an equal last item, or bodies of one print.
+fn may_join(graph: &Graph, block: u32, other: u32) -> bool
     requires block { HasBlock graph.now.graph block }
     requires other { HasBlock graph.now.graph other }
 {
     graph.learn();
     let last = graph.items(block).last();
     last.is_some()
-        && last == graph.items(other).last()
+        && (last == graph.items(other).last()
+            || graph.items(block).len() == graph.items(other).len()
+                && block_print(graph, block) == block_print(graph, other))
+}
+
+/// Whether two blocks end alike, behind an equal last item or bodies of one print.
+fn end_alike(graph: &Graph, resolutions: &Resolutions, block: u32, other: u32) -> bool
+    requires resolutions { AreResolutions graph.now.graph resolutions.now }
+    requires block { HasBlock graph.now.graph block }
+    requires other { HasBlock graph.now.graph other }
+{
+    graph.learn();
+    may_join(graph, block, other)
         && without_target(graph.term(block)) == without_target(graph.term(other))
         && end_of(graph, resolutions, block) == end_of(graph, resolutions, other)
 }

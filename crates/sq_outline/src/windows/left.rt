@@ -26,6 +26,8 @@ pub struct FoundWindows {
     windows: Vec<FoundWindow>,
     // Where they stand in the graph that was looked at, as far as there was room; none once it is another one.
     places: Vec<WindowAt>,
+    // Whether the last look found none.
+    none: bool,
     // Why the sweep ended that left them.
     news: News,
 }
@@ -36,6 +38,7 @@ impl FoundWindows {
         FoundWindows {
             windows: Vec::new(alloc),
             places: Vec::new(alloc),
+            none: false,
             news: News::Nothing,
         }
     }
@@ -43,6 +46,11 @@ impl FoundWindows {
     /// Whether there are none.
     pub fn is_empty(&self) -> bool {
         self.windows.is_empty()
+    }
+
+    /// Whether the last look for windows found none.
+    pub fn ran_out(&self) -> bool {
+        self.none
     }
 
     /// How many of them are worth a try.
@@ -64,9 +72,11 @@ impl FoundWindows {
         ensures { IfOk result (AreFound graph.now.graph) }
     {
         let Look { windows, places } = found_windows(alloc, graph, live)?;
+        let none = windows.is_empty();
         Ok(FoundWindows {
             windows,
             places,
+            none,
             news: News::Nothing,
         })
     }
@@ -88,7 +98,7 @@ impl FoundWindows {
     }
 
     /// Has it told.
-    pub(crate) fn tell(&mut self, news: News)
+    pub fn tell(&mut self, news: News)
         ensures { (g : Parts) → AreFound g self.old → AreFound g self.new }
     {
         self.news = news;
