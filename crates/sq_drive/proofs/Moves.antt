@@ -12,7 +12,7 @@ use Rattle.sq_pass.specs.declared.cut.Row.{Row}
 use Rattle.sq_pass.specs.declared.cut.Row.TheVariants.{U, J1, J2, J3, C, T, O1, O2, O3, O4, W, V, L}
 use Rattle.sq_pass.specs.declared.rewrite.Rewrite.{Rewrite}
 use Rattle.sq_pass.specs.Rewrites.{IsRewrite, IsRewritten}
-use Rattle.sq_pass.proofs.Rewriting.{stepped_wider}
+use Rattle.sq_pass.proofs.Rewriting.{stepped_wider, rewritten_through}
 use Rattle.sq_jumps.specs.Candidates.{HasRow, IsCandidate as IsJumpsCandidate, described as jumps_described}
 use Rattle.sq_outline.specs.WindowsCandidates.{IsWindowsCandidate, windows_described}
 use Rattle.sq_chain.specs.Candidates.{cut_of, IsCandidate as IsMove, described as move_described}
@@ -92,6 +92,12 @@ pub some_by_all : (is : Graph → Cut → Type 0) (its : Graph → Cut → Graph
 some_by_all is its by before old same new (Ok (Some after)) e made = by before after old new (subst (λ (g : Graph). IsRewritten is its before after g new) e made)
 some_by_all is its by before old same new (Ok None) e made = tt
 some_by_all is its by before old same new (Err error) e made = tt
+
+-- rewrites by all rows, by those of the passes, and by all rows twice more
+pub rewritten_on_late : (s0 s1 s2 s3 s4 : Savings) (g0 g1 g2 g3 g4 : Graph) → IsRewritten IsCandidate described s0 s1 g0 g1 → IsRewritten IsRowCandidate row_described s1 s2 g1 g2 → IsRewritten IsCandidate described s2 s3 g2 g3 → IsRewritten IsCandidate described s3 s4 g3 g4 → IsRewritten IsCandidate described s0 s4 g0 g4
+rewritten_on_late s0 s1 s2 s3 s4 g0 g1 g2 g3 g4 first rows late last =
+    let settled = rewritten_through IsCandidate described s0 s1 s2 g0 g1 g2 first (by_rows s1 s2 g1 g2 rows) in
+    rewritten_through IsCandidate described s0 s3 s4 g0 g3 g4 (rewritten_through IsCandidate described s0 s2 s3 g0 g2 g3 settled late) last
 
 -- WHERE NO CANDIDATE IS LEFT
 

@@ -148,5 +148,6 @@ pub(crate) fn move_some(
     let Some(done) = move_once(alloc, graph)? else {
         return Ok(None);
     };
+    left.news = News::Items;
     Ok(Some(done.count(after)))
 }

@@ -1,4 +1,4 @@
-//! Sweeps of windows and of moves that go on where they ended since a Branch came to reach.
+//! Sweeps of windows and of moves, one behind the other as long as no other row can have a candidate.
 
 ghost use Rattle.std.specs.Prelude.{◌≤◌, ◌+◌, IfOk};
 ghost use Rattle.sq_num.specs.Saved.{words_saved};
@@ -17,18 +17,21 @@ use sq_num::{Memory, Savings};
 use sq_outline::{Ends, FoundWindows, News, sweep_windows};
 use std::alloc::Global;
 
-/// A sweep that ended.
-#[derive(Clone, Copy, Debug)]
-enum Ended {
+/// What was swept.
+#[derive(Clone, Copy, Debug, PartialEq, Eq)]
+pub(crate) enum Swept {
     Windows,
     Moves,
 }
 
-/// With what sweeps that ended go on.
+/// With what sweeps go on.
 #[derive(Drop)]
 pub(crate) struct Left {
     pub(crate) windows: FoundWindows,
     pub(crate) moves: LeftMoves,
+    // What was swept last, and whether that saved words.
+    swept: Swept,
+    saved: bool,
 }
 
 impl Left {
@@ -37,29 +40,48 @@ impl Left {
         Left {
             windows: FoundWindows::new(alloc),
             moves: LeftMoves::new(alloc),
+            swept: Swept::Windows,
+            saved: true,
         }
     }
 
-    /// The sweep that ended last, where it did since a Branch came to reach.
-    fn ended(&mut self) -> Option<Ended> {
-        let by_windows = self.windows.take_news();
-        let by_moves = self.moves.take_news();
-        if by_windows == News::Reach {
-            return Some(Ended::Windows);
+    /// Takes note of a sweep, and whether it saved words.
+    pub(crate) fn note(&mut self, swept: Swept, saved: bool) {
+        self.swept = swept;
+        self.saved = saved;
+    }
+
+    /// Whether neither saves a word any more: chains moved last, and that saved none.
+    pub(crate) fn is_done(&self) -> bool {
+        self.swept == Swept::Moves && !self.saved
+    }
+
+    /// Why the last sweep ended.
+    fn take_news(&mut self) -> News {
+        match self.swept {
+            Swept::Windows => self.windows.take_news(),
+            Swept::Moves => self.moves.take_news(),
         }
-        if by_moves == News::Reach {
-            return Some(Ended::Moves);
+    }
+
+    /// Has chains move next, where no window is left, and as long as that saves words. Whether they are to.
+    fn turn(&mut self) -> bool {
+        match self.swept {
+            Swept::Windows if !self.windows.ran_out() => false,
+            Swept::Windows => {
+                self.swept = Swept::Moves;
+                true
+            }
+            Swept::Moves => self.saved,
         }
-        None
     }
 }
 
-/// Goes on with a sweep.
+/// Sweeps what was swept last.
 fn sweep_on(
     alloc: Global,
     graph: &mut Graph,
     left: &mut Left,
-    ended: Ended,
     savings: Savings,
 ) -> Result<Savings, Memory>
     requires canonical { IsCanonical graph.old.graph }
@@ -67,17 +89,67 @@ fn sweep_on(
     ensures rewritten { IfOk result (λ after. IsRewritten IsCandidate described savings after graph.old.graph graph.new.graph) }
     ensures follows { Follows graph.old.graph graph.new.graph }
 {
-    match ended {
-        Ended::Windows => {
+    match left.swept {
+        Swept::Windows => {
             let live = live(alloc, graph)?;
             sweep_windows(alloc, graph, &live, &mut left.windows, savings)
         }
-        Ended::Moves => sweep_moves(alloc, graph, &mut left.moves, savings),
+        Swept::Moves => sweep_moves(alloc, graph, &mut left.moves, savings),
     }
 }
 
-/// Where a sweep ended since a Branch came to reach: rewrites the graph by rows J2 and J3, and goes on with the sweep as long as no
-/// other row can have a candidate by that.
+/// What is between two sweeps.
+#[derive(Clone, Copy, Debug)]
+struct Between {
+    savings: Savings,
+    /// Whether no other row can have a candidate.
+    goes_on: bool,
+}
+
+/// Rewrites the graph, in which Branches came to reach and no other row has a candidate, by rows J2 and J3.
+fn lead(alloc: Global, graph: &mut Graph, savings: Savings) -> Result<Between, Memory>
+    requires canonical { IsCanonical graph.old.graph }
+    requires words { words_of graph.old.graph + words_saved savings ≤ most_words }
+    ensures rewritten { IfOk result (λ between. IsRewritten IsCandidate described savings between.savings graph.old.graph graph.new.graph) }
+    ensures follows { Follows graph.old.graph graph.new.graph }
+{
+    let ends = Ends::look(alloc, graph)?;
+    let before = words_of(graph);
+    let after = sweep_reach(alloc, graph, savings)?;
+    let words = u64::from(before - words_of(graph));
+    Ok(Between {
+        savings: after,
+        goes_on: ends.are_quiet(alloc, graph, words)?,
+    })
+}
+
+/// Has the next sweep be one that may go on, as the last one ended.
+fn prepare(
+    alloc: Global,
+    graph: &mut Graph,
+    left: &mut Left,
+    savings: Savings,
+) -> Result<Between, Memory>
+    requires canonical { IsCanonical graph.old.graph }
+    requires words { words_of graph.old.graph + words_saved savings ≤ most_words }
+    ensures rewritten { IfOk result (λ between. IsRewritten IsCandidate described savings between.savings graph.old.graph graph.new.graph) }
+    ensures follows { Follows graph.old.graph graph.new.graph }
+{
+    match left.take_news() {
+        News::Items => Ok(Between {
+            savings,
+            goes_on: false,
+        }),
+        News::Reach => lead(alloc, graph, savings),
+        News::Nothing => Ok(Between {
+            savings,
+            goes_on: left.turn(),
+        }),
+    }
+}
+
+/// Where a sweep ended: rewrites the graph by rows J2 and J3 if a Branch came to reach, and by further sweeps, of moves once no window
+/// is left, as long as no other row can have a candidate.
 pub(crate) fn go_on(
     alloc: Global,
     graph: &mut Graph,
@@ -90,20 +162,13 @@ pub(crate) fn go_on(
     ensures follows { Follows graph.old.graph graph.new.graph }
 {
     let mut after = savings;
-    loop {
-        let Some(ended) = left.ended() else {
-            return Ok(after);
-        };
-        let ends = Ends::look(alloc, graph)?;
-        let before = words_of(graph);
-        let led = sweep_reach(alloc, graph, after)?;
-        let between = words_of(graph);
-        if !ends.are_quiet(alloc, graph, u64::from(before - between))? {
-            return Ok(led);
+    for _sweep in 0..u32::MAX {
+        let Between { savings, goes_on } = prepare(alloc, graph, left, after)?;
+        if !goes_on {
+            return Ok(savings);
         }
-        after = sweep_on(alloc, graph, left, ended, led)?;
-        if words_of(graph) == between {
-            return Ok(after);
-        }
+        after = sweep_on(alloc, graph, left, savings)?;
+        left.saved = after != savings;
     }
+    Ok(after)
 }

@@ -16,7 +16,7 @@ ghost use Rattle.sq_drive.specs.Rows.{IsCandidateOf, IsCandidate, described, IsL
 
 use crate::chains::move_some;
 use crate::once::{find_one, rewrite_by_cut};
-use crate::reach::{Left, go_on};
+use crate::reach::{Left, Swept, go_on};
 use crate::rows::{Settled, settle_earlier};
 use crate::windows::window_some;
 use sq_graph::Graph;
@@ -99,14 +99,18 @@ fn rewrite_late(
     ensures follows { Follows graph.old.graph graph.new.graph }
 {
     if left.moves.asks_windows() {
+        left.note(Swept::Windows, true);
         if let Some(after) = window_some(alloc, graph, live, &mut left.windows, savings)? {
             return Ok(Some(after));
         }
+        left.note(Swept::Moves, true);
         return move_some(alloc, graph, &mut left.moves, savings);
     }
+    left.note(Swept::Moves, true);
     if let Some(after) = move_some(alloc, graph, &mut left.moves, savings)? {
         return Ok(Some(after));
     }
+    left.note(Swept::Windows, true);
     window_some(alloc, graph, live, &mut left.windows, savings)
 }
 
@@ -128,14 +132,14 @@ fn block_count(alloc: Global, graph: &Graph) -> Result<usize, Memory> {
     Ok(block_names(alloc, graph)?.len())
 }
 
-/// Rewrites the graph by all rows until none has a candidate, and answers the savings with what each row saved. Windows are
-/// asked only where no row before them has a candidate, and chains move only where no other row has one. Where it finds no
-/// memory, the graph is left as the rewrites made it so far.
+/// Rewrites the graph by all rows, and answers the savings with what each row saved: until none has a candidate, or where that saved
+/// words until sweeps of windows and of moves save none. Windows are asked only where no row before them has a candidate, and
+/// chains move only where no other row has one. Where it finds no memory, the graph is left as the rewrites made it so far.
 fn settle_from(alloc: Global, graph: &mut Graph, savings: Savings) -> Result<Savings, Memory>
     requires canonical { IsCanonical graph.old.graph }
     requires words { words_of graph.old.graph + words_saved savings ≤ most_words }
     ensures rewritten { IfOk result (λ after. IsRewritten IsCandidate described savings after graph.old.graph graph.new.graph) }
-    ensures left { OnOk result (IsLeftoverFree graph.new.graph) }
+    ensures left { OnOk result (words_of graph.old.graph ≤ words_of graph.new.graph → IsLeftoverFree graph.new.graph) }
     ensures follows { Follows graph.old.graph graph.new.graph }
 {
     let mut saved = savings;
@@ -152,11 +156,13 @@ fn settle_from(alloc: Global, graph: &mut Graph, savings: Savings) -> Result<Sav
             return Ok(savings);
         };
         saved = go_on(alloc, graph, &mut left, after)?;
+        if left.is_done() {
+            return Ok(saved);
+        }
     }
 }
 
-/// The same from no savings on. No move of a chain saves a word then.
-#[tactic(auto, using(crate::proofs::Moves::leftover_free_is_still))]
+/// Rewrites the graph by all rows until none has a candidate, and answers what each row saved. No move of a chain saves a word then.
 pub fn settle(alloc: Global, graph: &mut Graph) -> Result<Savings, Memory>
     requires canonical { IsCanonical graph.old.graph }
     requires words { words_of graph.old.graph ≤ most_words }
@@ -165,7 +171,14 @@ pub fn settle(alloc: Global, graph: &mut Graph) -> Result<Savings, Memory>
     ensures still { OnOk result (IsStill graph.new.graph) }
     ensures follows { Follows graph.old.graph graph.new.graph }
 {
-    settle_from(alloc, graph, Savings::NONE)
+    let mut savings = Savings::NONE;
+    loop {
+        let before = words_of(graph);
+        savings = settle_from(alloc, graph, savings)?;
+        if words_of(graph) == before {
+            return Ok(savings);
+        }
+    }
 }
 
 /// The same of a graph whose blocks are named by their positions, as they are in the end. After each round that saved words

@@ -15,7 +15,7 @@ use sq_graph::Graph;
 use sq_layout::words_of;
 use sq_live::Liveness;
 use sq_num::{Memory, Savings};
-use sq_outline::{FoundWindows, Windows, sweep_windows};
+use sq_outline::{FoundWindows, News, Windows, sweep_windows};
 use sq_pass::Pass;
 use std::alloc::Global;
 
@@ -48,5 +48,6 @@ pub(crate) fn window_some(
     let Some(done) = rewrite_once(alloc, graph, &Windows)? else {
         return Ok(None);
     };
+    left.tell(News::Items);
     Ok(Some(done.count(after)))
 }

@@ -34,8 +34,11 @@ returns-then-words_of-before-clause-slotted c =
     (omega (arith, c.if-words_of-before.true, c.words_of.ensures, c.words_of-before.ensures))))
     c.loop-savings.invariant.slotted
 
+pub returns-then-words_of-before-clause-left : goal.returns-then-words_of-before-clause-left
+returns-then-words_of-before-clause-left c = c.in_ok-savings.ensures.left (omega (arith, c.if-words_of-before.true, c.words_of.ensures, c.words_of-before.ensures))
+
 pub returns-then-words_of-before-clause-still : goal.returns-then-words_of-before-clause-still
-returns-then-words_of-before-clause-still c = leftover_free_is_still c.settle_from.new.graph.graph c.in_ok-savings.ensures.left
+returns-then-words_of-before-clause-still c = leftover_free_is_still c.settle_from.new.graph.graph (returns-then-words_of-before-clause-left c)
 
 pub returns-then-words_of-before-clause-follows : goal.returns-then-words_of-before-clause-follows
 returns-then-words_of-before-clause-follows c = (returns-then-words_of-before-clause-rewritten c).lighter.follows
