@@ -19,6 +19,7 @@ KIND is one of:
     equal      COUNT equal blocks of one item and a call
     renamed    COUNT blocks of three items and a call that match one another by renaming
     unmatched  COUNT blocks of two items that are alike but for their registers, all of which are live behind them: none match
+    mentions   COUNT blocks that are alike but for registers, which a procedure that they come to call mentions: none match
     near       COUNT branches that just reach, with nothing to spare
     tables     1,000 relocation sections over one table of COUNT entries
     nearby     COUNT branches to a lone jump of their own, whose target comes near only once others' words went
@@ -50,6 +51,10 @@ def addi(rd, rs, number):
 
 def lui(rd, number):
     return number << 12 | rd << 7 | 0x37
+
+
+def store(rs, base, number):
+    return (number >> 5 & 127) << 25 | rs << 20 | base << 15 | (number & 31) << 7 | 0x2023
 
 
 def jump_bits(distance):
@@ -381,6 +386,25 @@ def unmatched(p, count):
     p.items(*[addi(register, register, 1) for register in registers])
 
 
+def mentions(p, count):
+    """Each block has the same 14 stores, which become a call."""
+    registers = range(5, 19)
+    chosen = random.Random(3)
+    blocks = set()
+    while len(blocks) < count:
+        blocks.add(tuple(chosen.sample(registers, 6)))
+    for number, block in enumerate(sorted(blocks)):
+        p.word(number)
+        p.mark(number)
+        p.items(*[addi(register, 0, 5) for register in block[:4]])
+        p.items(*[store(register, 2, 4 * place) for place, register in enumerate(registers)])
+        p.items(addi(block[4], 0, 6), addi(block[5], 0, 9))
+        p.jump("common")
+    p.mark("common")
+    p.items(*[addi(register, 0, 1) for register in range(5, 32)])
+    p.items(*[store(register, A0, 0) for register in range(5, 32)])
+
+
 def near(p, count):
     """Each Branch leads 4,092 bytes ahead, as far as one can."""
     for number in range(count + 1023):
@@ -532,6 +556,7 @@ KINDS = {
     "equal": (equal, 2),
     "renamed": (renamed, 4),
     "unmatched": (unmatched, 3),
+    "mentions": (mentions, 21),
     "near": (near, 1),
     "tables": (tables, 1),
     "nearby": (nearby, 7),
