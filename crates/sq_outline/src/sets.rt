@@ -57,10 +57,7 @@ fn is_other(graph: &Graph, block: u32, first: u32, dead: RegSet) -> bool
     if block == first {
         return false;
     }
-    if !are_plain(graph.items(block)) {
-        return false;
-    }
-    items_match(graph, block, first, dead)
+    items_match(graph, block, first, dead) && are_plain(graph.items(block))
 }
 
 /// The registers that are dead behind the items of a block, without x0.

@@ -1,5 +1,5 @@
 -- From the tables of pairs to bodies that match.
-use Rattle.std.proofs.Common.{◌≡◌, ◌≢◌, ◌<◌, ◌↔◌, ℕ, ◌⊎◌, inl, inr, ⊎_elim, Bool, true, false, List, Option, Some, None, length, slice_get, refl, sym, ◌∙◌, subst, arith}
+use Rattle.std.proofs.Common.{◌≡◌, ◌≢◌, ◌<◌, ◌↔◌, ℕ, inl, inr, ⊎_elim, Bool, true, false, List, Option, Some, None, length, slice_get, refl, sym, ◌∙◌, subst, arith}
 use Rattle.std.specs.Prelude.{MatchOption}
 use Rattle.std.proofs.lemmas.Option.{slice_get_within, get_or_from_slice_get}
 use Rattle.sq_isa.specs.Registers.{is_member}
@@ -47,18 +47,22 @@ module _ (ps : List Procedure) (items others : List Item) (dead : ℕ) where
     known true e = e
     known false e = absurd (n (k, (l, e)))
 
+  pub pair_dies : (r s : ℕ) → IsBodyMatch ps items others (MayLive dead) → IsPair ps items others r s → s ≢ r → r < 32 → s < 32 → MayChange dead items r s
+  pair_dies r s m p ne small small' =
+      let not_zero : r ≢ 0 = λ e. ne (m.match.zero_there s (subst (λ z. IsPair ps items others z s) e p) ∙ sym e) in
+      let not_back : s ≢ 0 = λ e. ne (e ∙ sym (m.match.zero_back r (subst (λ z. IsPair ps items others r z) e p))) in
+      let die = m.pairs_die r s p ne in
+      (dies r die.0 (omega arith) small, (dies s die.1 (omega arith) small', m.match.first r s p ne))
+
   pub match_all : (pairs : Pairs) → ArePairs ps items others pairs → IsBodyMatch ps items others (MayLive dead) → AllMayChange dead items pairs
   match_all pairs h m r s g ne = ⊎_elim (λ z. absurd (ne (z.1 ∙ sym z.0))) (λ p. changes p) (h.up r s g) where
     changes : IsPair ps items others r s → MayChange dead items r s
     changes p =
-        let not_zero : r ≢ 0 = λ e. ne (m.match.zero_there s (subst (λ z. IsPair ps items others z s) e p) ∙ sym e) in
-        let not_back : s ≢ 0 = λ e. ne (e ∙ sym (m.match.zero_back r (subst (λ z. IsPair ps items others r z) e p))) in
         let within : r < length pairs.there = slice_get_within pairs.there r (Some s) g in
         let within_back : s < length pairs.back = slice_get_within pairs.back s (Some r) (h.tables.back r s g) in
-        let die = m.pairs_die r s p ne in
         let a = h.tables.there_count in
         let b = h.tables.back_count in
-        (dies r die.0 (omega arith) (omega arith), (dies s die.1 (omega arith) (omega arith), m.match.first r s p ne))
+        pair_dies r s m p ne (omega arith) (omega arith)
 
 pub match_has : (ps : List Procedure) (items others : List Item) (Lives : ℕ → Type 0) → IsBodyMatch ps items others Lives → HavePairs ps items others
 match_has ps items others Lives m = record {

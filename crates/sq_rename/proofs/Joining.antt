@@ -198,7 +198,7 @@ pad_in zero (x ∷ xs) (y ∷ ys) l q t p = absurd (omega arith)
 pad_in (suc n) (x ∷ xs) (y ∷ ys) l q t (inl p) = inl p
 pad_in (suc n) (x ∷ xs) (y ∷ ys) l q t (inr p) = inr (pad_in n xs ys (omega arith) q t p)
 
-pad_out : (n : ℕ) (xs ys : List ℕ) → length xs ≡ length ys → (q t : ℕ) → IsPairIn (padded n xs) (padded n ys) q t → IsPairIn xs ys q t ⊎ ((q ≡ 0) × (t ≡ 0))
+pub pad_out : (n : ℕ) (xs ys : List ℕ) → length xs ≡ length ys → (q t : ℕ) → IsPairIn (padded n xs) (padded n ys) q t → IsPairIn xs ys q t ⊎ ((q ≡ 0) × (t ≡ 0))
 pad_out zero xs ys e q t p = absurd p
 pad_out (suc n) [] [] e q t (inl p) = inr p
 pad_out (suc n) [] [] e q t (inr p) = pad_out n [] [] refl q t p

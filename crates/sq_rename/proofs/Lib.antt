@@ -6,3 +6,4 @@ mod Exchanges
 pub mod Bodies
 mod Dead
 mod Sizes
+mod LiveApart

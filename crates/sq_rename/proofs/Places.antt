@@ -59,7 +59,7 @@ registers_same (Lo rd rs to) (Lo rd' rs' to') e = refl
 registers_same (Out p) (Out p') e = refl
 registers_same item other e = absurd e
 
-same_plain : (ps : List Procedure) (item other : Item) → ((p : ℕ) → item ≡ Out p → ⊥) → IsSameForm item other → (registers_of ps item ≡ item_registers item) × (registers_of ps other ≡ item_registers other)
+pub same_plain : (ps : List Procedure) (item other : Item) → ((p : ℕ) → item ≡ Out p → ⊥) → IsSameForm item other → (registers_of ps item ≡ item_registers item) × (registers_of ps other ≡ item_registers other)
 same_plain ps (Op insn) (Op other) n f = (refl, refl)
 same_plain ps (Hi rd to) (Hi rd' to') n f = (refl, refl)
 same_plain ps (Lo rd rs to) (Lo rd' rs' to') n f = (refl, refl)

@@ -1,9 +1,9 @@
 -- Registers that go with each other, as two tables have them. No public clause cites this module.
-use Rattle.std.specs.Prelude.{◌≡◌, ◌≢◌, ℕ, zero, suc, Bool, true, ◌⊎◌, List, [], ◌∷◌, Some, slice_get, length, MatchBool}
+use Rattle.std.specs.Prelude.{◌≡◌, ◌≢◌, ◌<◌, ℕ, zero, suc, Bool, true, ◌⊎◌, List, [], ◌∷◌, Some, slice_get, length, MatchBool}
 use Rattle.sq_isa.specs.Registers.{is_member}
 use Rattle.sq_graph.specs.declared.item.Item.{Item}
 use Rattle.sq_graph.specs.Graph.{Procedure}
-use Rattle.sq_graph.specs.Matches.{AreSameForms, IsPair, IsWrittenFirst}
+use Rattle.sq_graph.specs.Matches.{AreSameForms, IsPairIn, IsPair, IsWrittenFirst}
 use Rattle.sq_rename.specs.declared.pairs.Pairs.{Pairs}
 
 -- r goes with s
@@ -67,3 +67,15 @@ abbrev pub padded : ℕ → List ℕ → List ℕ
 padded zero xs = []
 padded (suc n) [] = 0 ∷ padded n []
 padded (suc n) (x ∷ xs) = x ∷ padded n xs
+
+-- two registers differ, and aren't both in the set
+abbrev pub AreApart : ℕ → ℕ → ℕ → Type 0
+AreApart dead r s = (s ≢ r) × (¬ ((is_member dead r ≡ true) × (is_member dead s ≡ true)))
+
+-- such two stand in one place
+pub record HaveApart (dead : ℕ) (xs ys : List ℕ) : Type 0 where
+  pub first : ℕ
+  pub second : ℕ
+  pub pair : IsPairIn xs ys first second
+  pub small : (first < 32) × (second < 32)
+  pub apart : AreApart dead first second

@@ -5,6 +5,7 @@
 //! permutation which gives each register the one that it goes with; and that items of equal forms are items of one shape.
 #![tactic(auto)]
 
+mod apart;
 mod first;
 mod items;
 mod matching;

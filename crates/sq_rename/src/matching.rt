@@ -9,6 +9,7 @@ ghost use Rattle.sq_graph.specs.Walks.{IsLive};
 ghost use Rattle.sq_live.specs.Liveness.{IsLivenessOf, places_of};
 ghost use Rattle.sq_rename.specs.Bodies.{IsBodyMatch, IsMatchBy, MayLive, IsLiveBehind};
 
+use crate::apart::are_live_apart;
 use crate::pairs::pairs_of;
 use crate::renaming::Renaming;
 use sq_graph::{Graph, Item};
@@ -29,6 +30,10 @@ pub fn dead_registers(live: &Liveness, block: u32, place: u32) -> RegSet
 pub fn match_items(g: &Graph, items: &[Item], others: &[Item], dead: RegSet) -> Option<Renaming>
     ensures { MatchOption result (¬ IsBodyMatch g.now.graph.procedures items.now others.now (MayLive dead)) (IsMatchBy g.now.graph.procedures items.now others.now (MayLive dead)) }
 {
+    // Mostly this tells it already.
+    if are_live_apart(items, others, dead) {
+        return None;
+    }
     let Some(pairs) = pairs_of(g, items, others) else {
         return None;
     };

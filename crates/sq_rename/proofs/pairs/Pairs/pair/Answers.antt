@@ -1,4 +1,4 @@
-use Rattle.std.proofs.Common.{◌∙◌, ap, sym, Some, None}
+use Rattle.std.proofs.Common.{◌∙◌, ap, sym, Some}
 use Rattle.std.proofs.lemmas.Bool.{eqb-true, eqb-false}
 use Rattle.sq_rename.proofs.Joining.{read_at, pair_new_at, pair_there, pair_back}
 use Rattle.sq_rename.proofs.pairs.Pairs.pair.Goals as goal
