@@ -118,7 +118,7 @@ saves_none h n rules once has short =
     some_or_zero (suc k) = inl (omega arith)
 
 -- by the survey of a graph in which none falls
-pub addresses_stay : (g : Graph) (survey : Survey) → IsSurvey g survey → survey.falls ≡ 0 → (n : ℕ) → placed_at survey.places.addresses.items n ≡ address_by block_words g.blocks 0 n
+pub addresses_stay : (g : Graph) (survey : Survey) → IsSurvey g survey → survey.falls ≡ 0 → (n : ℕ) → placed_at survey.places.addresses n ≡ address_by block_words g.blocks 0 n
 addresses_stay g survey s none n = s.addresses n ∙ ap (λ (bs : List Block). address_by block_words bs 0 n) (stays g (omega (arith, s.falls, none)))
 
 -- so the move saves nothing

@@ -20,7 +20,8 @@ use Rattle.sq_graph.proofs.CanonicalReach.{canonical_in_reach}
 use Rattle.sq_graph.proofs.Bypassing.{bare_falls, bare_items}
 use Rattle.sq_graph.proofs.Kept.{absent_behind, fall_words}
 use Rattle.sq_layout.specs.Weights.{address_by}
-use Rattle.sq_chain.specs.Places.{nowhere, address_behind, placed_at}
+use Rattle.sq_lookup.specs.Lowering.{nowhere}
+use Rattle.sq_chain.specs.Places.{address_behind, placed_at}
 use Rattle.sq_lookup.proofs.JoiningBefore.{fall_is, joins, joins_not}
 use Rattle.sq_lookup.proofs.Targets.{has_term}
 use Rattle.sq_lookup.proofs.Previous.{next_has, next_there, one_before, previous_none, before_next}
@@ -92,7 +93,7 @@ none_saved g falls = ap (λ bs. words_of (record g { blocks = bs })) falls
 
 -- ONCE PIECES ARE EXCHANGED
 
-pub placed_exchanged : (g h : Graph) (seams : Seams) (old new : Places) → IsExchanged g h seams → words_of h ≡ words_of g → IsPlaced g old → ((n : ℕ) → placed_at new.addresses.items n ≡ option_map (exchanged_to seams) (placed_at old.addresses.items n)) → new.words ≡ old.words → IsPlaced h new
+pub placed_exchanged : (g h : Graph) (seams : Seams) (old new : Places) → IsExchanged g h seams → words_of h ≡ words_of g → IsPlaced g old → ((n : ℕ) → placed_at new.addresses n ≡ option_map (exchanged_to seams) (placed_at old.addresses n)) → new.words ≡ old.words → IsPlaced h new
 placed_exchanged g h seams old new x words placed is same = record {
   addresses = λ n. is n ∙ ap (option_map (exchanged_to seams)) (placed.addresses n) ∙ by_address n (address_by block_words g.blocks 0 n) refl;
   words = same ∙ placed.words ∙ sym words;
@@ -108,7 +109,7 @@ placed_exchanged g h seams old new x words placed is same = record {
 
 -- A FALL
 
-pub placed_fell : (g : Graph) (m n start : ℕ) (old new : Places) → term_of g m ≡ Some (Jump n) → IsPlaced g old → start ≡ get_or old.addresses.items m nowhere → ((k : ℕ) → placed_at new.addresses.items k ≡ option_map (lowered_to (4 * start)) (placed_at old.addresses.items k)) → new.words + 1 ≡ old.words → IsPlaced (with_term g m Fall) new
+pub placed_fell : (g : Graph) (m n start : ℕ) (old new : Places) → term_of g m ≡ Some (Jump n) → IsPlaced g old → start ≡ get_or old.addresses m nowhere → ((k : ℕ) → placed_at new.addresses k ≡ option_map (lowered_to (4 * start)) (placed_at old.addresses k)) → new.words + 1 ≡ old.words → IsPlaced (with_term g m Fall) new
 placed_fell g m n start old new jump placed at is less =
     let found = stands_there block_words g m (has_term g m (Jump n) jump) in
     let same : 4 * start ≡ stands_at block_words g m = behind_is start (stands_at block_words g m) (ap address_behind at ∙ placed.addresses m ∙ found) in
@@ -120,7 +121,7 @@ placed_fell g m n start old new jump placed at is less =
 -- A BLOCK THAT IS EMPTY WITH FALL GOES
 
 module _ (g : Graph) (m : ℕ) (rules : IsGraph g) where
-  pub placed_without : (old new : Places) → IsBareAt g m → IsPlaced g old → ((k : ℕ) → placed_at new.addresses.items k ≡ (if m == k then None else placed_at old.addresses.items k)) → new.words ≡ old.words → IsPlaced (without_block g m) new
+  pub placed_without : (old new : Places) → IsBareAt g m → IsPlaced g old → ((k : ℕ) → placed_at new.addresses k ≡ (if m == k then None else placed_at old.addresses k)) → new.words ≡ old.words → IsPlaced (without_block g m) new
   placed_without old new bare placed is words =
       let none : (b : Block) → block_of g m ≡ Some b → block_words b ≡ 0 = λ b found.
       let both : Some b ≡ Some bare.block = sym found ∙ bare.there in
@@ -215,7 +216,7 @@ module _ (g : Graph) (n : ℕ) (rules : IsGraph g) where
             absurd (cc (ap is_some none, there))
       ]
 
-  pub placed_joined : (old new : Places) → ¬ HasBlock (joined_before g n) n → IsPlaced g old → ((k : ℕ) → placed_at new.addresses.items k ≡ (if n == k then None else placed_at old.addresses.items k)) → new.words ≡ old.words → IsPlaced (joined_before g n) new
+  pub placed_joined : (old new : Places) → ¬ HasBlock (joined_before g n) n → IsPlaced g old → ((k : ℕ) → placed_at new.addresses k ≡ (if n == k then None else placed_at old.addresses k)) → new.words ≡ old.words → IsPlaced (joined_before g n) new
   placed_joined old new gone placed is same =
       elim same_or_joined [
         | inl stays ↦

@@ -144,9 +144,9 @@ below_is g names all n has =
     subst (λ (m : ℕ). m < names) w.2 (All-get_or (λ (m : ℕ). m < names) (names_of g) w.0 0 w.1 all)
 
 -- there is room for each where all names are less than there is room for
-pub room_is : (g : Graph) (names : ℕ) (room : List ℕ) → AreBelow names g → length room ≡ names → ((n : ℕ) → placed_at room n ≡ None) → IsRoom g room
-room_is g names room below same none = record {
-  within = λ n has. omega (arith, below n has, same);
+pub room_is : (g : Graph) (names : ℕ) (room : List ℕ) → AreBelow names g → names ≤ length room → ((n : ℕ) → placed_at room n ≡ None) → IsRoom g room
+room_is g names room below enough none = record {
+  within = λ n has. omega (arith, below n has, enough);
   none = none;
 }
 

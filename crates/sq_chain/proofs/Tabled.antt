@@ -3,8 +3,9 @@ use Rattle.std.proofs.Common.{◌≡◌, ◌≢◌, ℕ, zero, suc, ◌*◌, ◌
 use Rattle.std.specs.Prelude.{option_map, nat_lt}
 use Rattle.std.specs.Map.{update}
 use Rattle.std.proofs.lemmas.Bool.{cases_Bool, lt-ltb, le-ltb, ltb-true, ltb-false, eqb-true, eqb-false}
-use Rattle.sq_chain.specs.Places.{nowhere, address_behind, placed_at}
-use Rattle.sq_chain.specs.Shifts.{lowered_to, lowered_word}
+use Rattle.sq_lookup.specs.Lowering.{nowhere, lowered_word}
+use Rattle.sq_chain.specs.Places.{address_behind, placed_at}
+use Rattle.sq_chain.specs.Shifts.{lowered_to}
 
 -- an address is that behind so many words
 pub behind_is : (words at : ℕ) → address_behind words ≡ Some at → 4 * words ≡ at
@@ -52,18 +53,16 @@ placed_within t name at is =
       | inr past ↦ absurd (cc (ap address_behind (read_past t name (ltb-false name (length t) past)), is))
     ]
 
-pub forgotten : (t : List ℕ) (name n : ℕ) → name < length t → placed_at (set t name nowhere) n ≡ (if name == n then None else placed_at t n)
-forgotten t name n within =
-    elim (cases_Bool (name == n)) [
-      | inl here ↦ rw here (ap (λ k. address_behind (get_or (set t name nowhere) k nowhere)) (sym (eqb-true name n here)) ∙ ap address_behind (read_here t name nowhere within))
-      | inr apart ↦ rw apart (ap address_behind (read_apart t name n nowhere (eqb-false name n apart)))
-    ]
+gone_here : (t : List ℕ) (name : ℕ) → get_or (set t name nowhere) name nowhere ≡ nowhere
+gone_here [] name = refl
+gone_here (x ∷ t) zero = refl
+gone_here (x ∷ t) (suc name) = gone_here t name
 
-pub never_known : (t : List ℕ) (name n : ℕ) → length t ≤ name → placed_at t n ≡ (if name == n then None else placed_at t n)
-never_known t name n far =
+pub forgotten : (t : List ℕ) (name n : ℕ) → placed_at (set t name nowhere) n ≡ (if name == n then None else placed_at t n)
+forgotten t name n =
     elim (cases_Bool (name == n)) [
-      | inl here ↦ rw here (ap (λ k. address_behind (get_or t k nowhere)) (sym (eqb-true name n here)) ∙ ap address_behind (read_past t name far))
-      | inr apart ↦ rw apart refl
+      | inl here ↦ rw here (ap (λ k. address_behind (get_or (set t name nowhere) k nowhere)) (sym (eqb-true name n here)) ∙ ap address_behind (gone_here t name))
+      | inr apart ↦ rw apart (ap address_behind (read_apart t name n nowhere (eqb-false name n apart)))
     ]
 
 -- ALL PLACES

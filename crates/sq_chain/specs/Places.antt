@@ -1,9 +1,6 @@
 -- Tables of where blocks stand, by their names: how many words are before each.
 use Rattle.std.specs.Prelude.{ℕ, ◌*◌, nat_lt, if◌then◌else◌, List, Option, None, Some, get_or}
-
--- at least what stands under a name of no block
-abbrev pub nowhere : ℕ
-nowhere = 4294967295
+use Rattle.sq_lookup.specs.Lowering.{nowhere}
 
 -- the address behind so many words
 abbrev pub address_behind : ℕ → Option ℕ

@@ -1,6 +1,5 @@
 -- Where what stood at an address stands once blocks have moved or a word has gone.
-use Rattle.std.specs.Prelude.{ℕ, ◌≡◌, ◌+◌, ◌-◌, ◌*◌, ◌/◌, ◌&&◌, nat_lt, if◌then◌else◌}
-use Rattle.sq_chain.specs.Places.{nowhere}
+use Rattle.std.specs.Prelude.{ℕ, ◌≡◌, ◌+◌, ◌-◌, ◌*◌, ◌/◌, nat_lt, if◌then◌else◌}
 use Rattle.sq_chain.specs.declared.seams.Seams.{Seams}
 
 -- the pieces have whole words
@@ -20,7 +19,3 @@ exchanged_to seams at =
 -- once the word at another address is gone
 abbrev pub lowered_to : ℕ → ℕ → ℕ
 lowered_to start at = if nat_lt start at then at - 4 else at
-
--- the same, told by how many words are before it
-abbrev pub lowered_word : ℕ → ℕ → ℕ
-lowered_word start words = if nat_lt words nowhere && nat_lt start words then words - 1 else words

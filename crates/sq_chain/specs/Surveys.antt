@@ -36,14 +36,14 @@ pub record IsLaidOut (g : Graph) (order : List Extent) : Type 0 where
 -- What the look over a graph's blocks found: `near` only where each Branch reaches once each Jump to the next slot is Fall.
 pub record IsSurvey (g : Graph) (survey : Survey) : Type 0 where
   pub names : AreBelow survey.names g
-  pub addresses : (n : ℕ) → placed_at survey.places.addresses.items n ≡ address_by block_words (fallen_blocks g.blocks) 0 n
+  pub addresses : (n : ℕ) → placed_at survey.places.addresses n ≡ address_by block_words (fallen_blocks g.blocks) 0 n
   pub falls : words_of (fallen g) + survey.falls ≡ words_of g
   pub near : survey.near ≡ true → IsInReach (fallen g)
   pub words : survey.places.words ≡ words_of g
 
 -- These are the addresses of its blocks, and so many words it takes.
 pub record IsPlaced (g : Graph) (places : Places) : Type 0 where
-  pub addresses : (n : ℕ) → placed_at places.addresses.items n ≡ address_by block_words g.blocks 0 n
+  pub addresses : (n : ℕ) → placed_at places.addresses n ≡ address_by block_words g.blocks 0 n
   pub words : places.words ≡ words_of g
 
 -- no block jumps to the next slot

@@ -16,6 +16,7 @@ use crate::placing::address;
 use crate::seams::Seams;
 use sq_graph::{Graph, Term};
 use sq_layout::{distance, reaches};
+use sq_lookup::WordsBefore;
 
 /// How many slots a look goes along at most.
 const SLOTS: u32 = 4800;
@@ -50,7 +51,7 @@ impl Around {
 }
 
 /// What the Branch of a block comes to, if it ends in one.
-fn look_at(graph: &Graph, addresses: &[u32], seams: Seams, block: u32) -> Around
+fn look_at(graph: &Graph, addresses: &WordsBefore, seams: Seams, block: u32) -> Around
     requires block { HasBlock graph.now.graph block }
     requires addresses { (n : ℕ) → placed_at addresses.now n ≡ address_by words_in graph.now.graph.blocks 0 n }
     requires exchanged { (h : Parts) × IsExchanged graph.now.graph h seams }
@@ -75,7 +76,7 @@ fn look_at(graph: &Graph, addresses: &[u32], seams: Seams, block: u32) -> Around
 
 /// The nearest block from this one back before which each Branch is further ahead of the seam than it reaches. None where that
 /// is too many slots back.
-fn far_before(graph: &Graph, addresses: &[u32], seam: u64, from: u32) -> Option<u32>
+fn far_before(graph: &Graph, addresses: &WordsBefore, seam: u64, from: u32) -> Option<u32>
     requires block { HasBlock graph.now.graph from }
     requires addresses { (n : ℕ) → placed_at addresses.now n ≡ address_by words_in graph.now.graph.blocks 0 n }
     ensures { IfSome result (λ first. HasBlock graph.now.graph first × AreFarBefore graph.now.graph seam first) }
@@ -103,7 +104,7 @@ struct Span {
 }
 
 /// What the Branches around a span come to.
-fn look_around_span(graph: &Graph, addresses: &[u32], seams: Seams, span: Span) -> Around
+fn look_around_span(graph: &Graph, addresses: &WordsBefore, seams: Seams, span: Span) -> Around
     requires block { HasBlock graph.now.graph span.from }
     requires addresses { (n : ℕ) → placed_at addresses.now n ≡ address_by words_in graph.now.graph.blocks 0 n }
     requires exchanged { (h : Parts) × IsExchanged graph.now.graph h seams }
@@ -136,7 +137,7 @@ fn look_around_span(graph: &Graph, addresses: &[u32], seams: Seams, span: Span) 
 /// the Branches is short.
 fn look_on(
     graph: &Graph,
-    addresses: &[u32],
+    addresses: &WordsBefore,
     seams: Seams,
     span: Span,
     around: Around,
@@ -159,7 +160,7 @@ fn look_on(
 /// look around those that are near the one before.
 pub(crate) fn look_around(
     graph: &Graph,
-    addresses: &[u32],
+    addresses: &WordsBefore,
     seams: Seams,
     from: u32,
     to: u32,

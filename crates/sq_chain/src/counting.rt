@@ -13,9 +13,10 @@ use crate::placing::address;
 use crate::survey::Extent;
 use sq_graph::Term;
 use sq_layout::{distance, reaches};
+use sq_lookup::WordsBefore;
 
 /// Whether the block ends in a Branch that doesn't reach by these addresses.
-fn falls_short(addresses: &[u32], extent: Extent) -> bool
+fn falls_short(addresses: &WordsBefore, extent: Extent) -> bool
     requires block { (b : Block) × (extent_of b ≡ extent) }
     requires small { (n : ℕ) → address_at (placed_at addresses.now) n < 2 ^ 34 }
     ensures { (h : Parts) (b : Block) → extent_of b ≡ extent → block_of h b.name ≡ Some b → result ≡ is_short (address_at (placed_at addresses.now)) h b.name (term_of h b.name) }
@@ -29,7 +30,7 @@ fn falls_short(addresses: &[u32], extent: Extent) -> bool
 }
 
 /// 1 for a block that ends in a Branch that doesn't reach by these addresses, and 0 for another one.
-fn one_if_short(addresses: &[u32], extent: Extent) -> u32
+fn one_if_short(addresses: &WordsBefore, extent: Extent) -> u32
     requires block { (b : Block) × (extent_of b ≡ extent) }
     requires small { (n : ℕ) → address_at (placed_at addresses.now) n < 2 ^ 34 }
     ensures few { result ≤ 1 }
@@ -39,7 +40,7 @@ fn one_if_short(addresses: &[u32], extent: Extent) -> u32
 }
 
 /// How many of these blocks end in a Branch that doesn't reach by these addresses, or `most` where they are more.
-pub(crate) fn count_short(addresses: &[u32], order: &[Extent], most: u32) -> u32
+pub(crate) fn count_short(addresses: &WordsBefore, order: &[Extent], most: u32) -> u32
     requires order { (h : Parts) × IsLaidOut h order.now }
     requires small { (n : ℕ) → address_at (placed_at addresses.now) n < 2 ^ 34 }
     ensures most { result ≤ most }

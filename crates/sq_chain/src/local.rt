@@ -12,7 +12,7 @@ ghost use Rattle.sq_chain.specs.Surveys.{IsPlaced, NoneFalls};
 ghost use Rattle.sq_lookup.specs.Counts.{AreUses};
 
 use crate::chain::end_of_chain;
-use crate::placing::{exchange, forget, jumps_to, lower_behind, words_before};
+use crate::placing::{exchange, forget, jumps_to, lower_behind};
 use crate::seams::seams_of;
 use crate::survey::Places;
 use sq_graph::{Graph, Term};
@@ -38,7 +38,7 @@ fn fall_before(graph: &mut Graph, uses: &mut Uses, places: &mut Places, name: u3
     }
     graph.set_term(block, Term::Fall);
     uses.take(name);
-    let start = words_before(&places.addresses, block);
+    let start = places.addresses.get(block);
     lower_behind(&mut places.addresses, start);
     places.words -= 1;
     if graph.items(block).is_empty() {

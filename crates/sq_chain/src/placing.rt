@@ -1,26 +1,28 @@
 //! Where the blocks stand once each Jump to the next slot is Fall.
 
-ghost use Rattle.std.specs.Prelude.{◌≡◌, ◌↔◌, ℕ, ◌+◌, ◌*◌, ◌≤◌, ◌<◌, ◌^◌, ◌==◌, if◌then◌else◌, None, Some, IsTrue, length, option_map, get_or, slice_get, nat_eq};
+ghost use Rattle.std.specs.Prelude.{◌≡◌, ◌↔◌, ℕ, ◌+◌, ◌*◌, ◌≤◌, ◌<◌, ◌^◌, ◌==◌, if◌then◌else◌, None, Some, IsTrue, length, option_map, slice_get, nat_eq};
 ghost use Rattle.std.specs.Map.{update};
 ghost use Rattle.sq_graph.specs.Graph.{Block, Graph as Parts};
 ghost use Rattle.sq_graph.specs.Blocks.{block_of, next_of};
 ghost use Rattle.sq_graph.specs.Words.{block_words as words_in, words_of};
 ghost use Rattle.sq_layout.specs.Weights.{address_by};
 ghost use Rattle.sq_lookup.specs.Addresses.{address_at};
-ghost use Rattle.sq_chain.specs.Places.{nowhere, placed_at};
+ghost use Rattle.sq_lookup.specs.Lowering.{nowhere};
+ghost use Rattle.sq_chain.specs.Places.{placed_at};
 ghost use Rattle.sq_chain.specs.Moves.{JumpsTo, fallen_blocks, fallen};
 ghost use Rattle.sq_chain.specs.Seams.{Begins};
-ghost use Rattle.sq_chain.specs.Shifts.{AreWhole, exchanged_to, lowered_to, lowered_word};
+ghost use Rattle.sq_chain.specs.Shifts.{AreWhole, exchanged_to, lowered_to};
 ghost use Rattle.sq_chain.specs.Surveys.{extent_of, IsRoom, IsLaidOut};
 
 use crate::seams::Seams;
 use crate::survey::Extent;
 use sq_graph::{Graph, Term};
+use sq_lookup::{NOWHERE, WordsBefore};
 
 /// Where blocks stand once each Jump to the next slot is Fall, and how many words that saves.
 #[derive(Drop)]
 pub(crate) struct Fallen {
-    pub addresses: Vec<u32>,
+    pub addresses: WordsBefore,
     pub falls: u32,
 }
 
@@ -52,25 +54,22 @@ fn fall_of(extent: Extent, next: Option<u32>) -> u32
     if jumps_to(extent.term, next) { 1 } else { 0 }
 }
 
-/// What stands in a table of places under a name of no block.
-pub(crate) const NOWHERE: u32 = u32::MAX;
-
 /// Puts a block under a name for which there is room, with so many words before it.
-fn put(addresses: &mut Vec<u32>, name: u32, words: u32)
-    requires within { name < length addresses.old.items }
+fn put(addresses: &mut WordsBefore, name: u32, words: u32)
+    requires within { name < length addresses.old }
     requires there { words < nowhere }
-    ensures length { length addresses.new.items ≡ length addresses.old.items }
-    ensures value { (n : ℕ) → placed_at addresses.new.items n ≡ update nat_eq (placed_at addresses.old.items) name (Some (4 * words)) n }
+    ensures length { length addresses.new ≡ length addresses.old }
+    ensures value { (n : ℕ) → placed_at addresses.new n ≡ update nat_eq (placed_at addresses.old) name (Some (4 * words)) n }
 {
-    addresses[name as usize] = words;
+    addresses.put(name, words);
 }
 
 /// Where the blocks stand in this order once each Jump to the next slot is Fall. The addresses fill the room for them.
-pub(crate) fn fallen_addresses(room: Vec<u32>, order: &[Extent]) -> Fallen
-    requires { (h : Parts) × IsLaidOut h order.now × IsRoom h room.items }
-    ensures addresses { (h : Parts) → IsLaidOut h order.now → IsRoom h room.items → (n : ℕ) → placed_at result.addresses.items n ≡ address_by words_in (fallen_blocks h.blocks) 0 n }
-    ensures small { (n : ℕ) → address_at (placed_at result.addresses.items) n < 2 ^ 34 }
-    ensures falls { (h : Parts) → IsLaidOut h order.now → IsRoom h room.items → words_of (fallen h) + result.falls ≡ words_of h }
+pub(crate) fn fallen_addresses(room: WordsBefore, order: &[Extent]) -> Fallen
+    requires { (h : Parts) × IsLaidOut h order.now × IsRoom h room }
+    ensures addresses { (h : Parts) → IsLaidOut h order.now → IsRoom h room → (n : ℕ) → placed_at result.addresses n ≡ address_by words_in (fallen_blocks h.blocks) 0 n }
+    ensures small { (n : ℕ) → address_at (placed_at result.addresses) n < 2 ^ 34 }
+    ensures falls { (h : Parts) → IsLaidOut h order.now → IsRoom h room → words_of (fallen h) + result.falls ≡ words_of h }
 {
     let mut addresses = room;
     let mut falls = 0;
@@ -87,23 +86,11 @@ pub(crate) fn fallen_addresses(room: Vec<u32>, order: &[Extent]) -> Fallen
     Fallen { addresses, falls }
 }
 
-/// How many words are before the block of this name.
-pub(crate) fn words_before(addresses: &[u32], name: u32) -> u32
-    ensures { result ≡ get_or addresses.now name nowhere }
-{
-    let name = name as usize;
-    if name < addresses.len() {
-        addresses[name]
-    } else {
-        NOWHERE
-    }
-}
-
 /// The address of the block of this name.
-pub(crate) fn address(addresses: &[u32], name: u32) -> u64
+pub(crate) fn address(addresses: &WordsBefore, name: u32) -> u64
     ensures { result ≡ address_at (placed_at addresses.now) name }
 {
-    let words = words_before(addresses, name);
+    let words = addresses.get(name);
     if words == NOWHERE {
         0
     } else {
@@ -112,14 +99,14 @@ pub(crate) fn address(addresses: &[u32], name: u32) -> u64
 }
 
 /// Moves the addresses of the blocks between the seams to where the exchange puts them.
-pub(crate) fn exchange(graph: &Graph, addresses: &mut Vec<u32>, seams: Seams)
-    requires addresses { (n : ℕ) → placed_at addresses.old.items n ≡ address_by words_in graph.now.graph.blocks 0 n }
+pub(crate) fn exchange(graph: &Graph, addresses: &mut WordsBefore, seams: Seams)
+    requires addresses { (n : ℕ) → placed_at addresses.old n ≡ address_by words_in graph.now.graph.blocks 0 n }
     requires begins { Begins graph.now.graph seams }
     requires first { seams.first ≤ seams.second }
     requires second { seams.second ≤ seams.end }
     requires few { seams.end < 2 ^ 34 }
     requires whole { AreWhole seams }
-    ensures { (n : ℕ) → placed_at addresses.new.items n ≡ option_map (exchanged_to seams) (placed_at addresses.old.items n) }
+    ensures { (n : ℕ) → placed_at addresses.new n ≡ option_map (exchanged_to seams) (placed_at addresses.old n) }
 {
     graph.learn();
     let mut place = Some(seams.begin);
@@ -133,32 +120,16 @@ pub(crate) fn exchange(graph: &Graph, addresses: &mut Vec<u32>, seams: Seams)
     }
 }
 
-/// How many words are before what so many are before, once the word goes that is behind `start` of them.
-fn lowered(at: u32, start: u32) -> u32
-    ensures { result ≡ lowered_word start at }
-{
-    if at == NOWHERE || at <= start {
-        at
-    } else {
-        at - 1
-    }
-}
-
 /// Lowers each address behind this word by one.
-pub(crate) fn lower_behind(addresses: &mut Vec<u32>, start: u32)
-    ensures { (n : ℕ) → placed_at addresses.new.items n ≡ option_map (lowered_to (4 * start)) (placed_at addresses.old.items n) }
+pub(crate) fn lower_behind(addresses: &mut WordsBefore, start: u32)
+    ensures { (n : ℕ) → placed_at addresses.new n ≡ option_map (lowered_to (4 * start)) (placed_at addresses.old n) }
 {
-    for place in addresses.iter_mut() {
-        *place = lowered(*place, start);
-    }
+    addresses.lower_behind(start);
 }
 
 /// Takes out the address under a name.
-pub(crate) fn forget(addresses: &mut Vec<u32>, name: u32)
-    ensures { (n : ℕ) → placed_at addresses.new.items n ≡ (if name == n then None else placed_at addresses.old.items n) }
+pub(crate) fn forget(addresses: &mut WordsBefore, name: u32)
+    ensures { (n : ℕ) → placed_at addresses.new n ≡ (if name == n then None else placed_at addresses.old n) }
 {
-    let name = name as usize;
-    if name < addresses.len() {
-        addresses[name] = NOWHERE;
-    }
+    addresses.forget(name);
 }

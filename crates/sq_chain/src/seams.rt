@@ -19,6 +19,7 @@ use crate::placing::{address, jumps_to};
 use crate::survey::Survey;
 use sq_graph::Graph;
 use sq_layout::block_words;
+use sq_lookup::WordsBefore;
 
 /// The block with which the first of the pieces begins, the addresses at which it does, and the second one, and at which this one
 /// ends.
@@ -51,7 +52,13 @@ impl Seams {
 }
 
 /// The seams of the move of the chain from `to` to `end` behind `from`.
-pub(crate) fn seams_of(graph: &Graph, addresses: &[u32], from: u32, to: u32, end: u32) -> Seams
+pub(crate) fn seams_of(
+    graph: &Graph,
+    addresses: &WordsBefore,
+    from: u32,
+    to: u32,
+    end: u32,
+) -> Seams
     requires movable { IsMovable graph.now.graph from to }
     requires end { end ≡ chain_end graph.now.graph to }
     requires addresses { (n : ℕ) → placed_at addresses.now n ≡ address_by words_in graph.now.graph.blocks 0 n }
@@ -110,7 +117,7 @@ pub(crate) fn outlook_at_seams(graph: &Graph, survey: &Survey, from: u32, to: u3
     if survey.falls != 0 || !survey.near {
         return Outlook::Unsure;
     }
-    let addresses: &[u32] = &survey.places.addresses;
+    let addresses = &survey.places.addresses;
     let seams = seams_of(graph, addresses, from, to, end);
     match look_around(graph, addresses, seams, from, to, end) {
         Around::Near => Outlook::Near,

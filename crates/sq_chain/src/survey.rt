@@ -1,6 +1,6 @@
 //! What a graph's blocks have that decides where they stand.
 
-ghost use Rattle.std.specs.Prelude.{◌≡◌, ℕ, ◌<◌, ◌^◌, length, option_map, sum_by, Some, None, IfOk};
+ghost use Rattle.std.specs.Prelude.{◌≡◌, ℕ, ◌≤◌, ◌<◌, ◌^◌, length, option_map, sum_by, Some, None, IfOk};
 ghost use Rattle.std.specs.List.{All};
 ghost use Rattle.sq_graph.specs.Blocks.{HasBlock, block_of};
 ghost use Rattle.sq_graph.specs.Parts.{names_of};
@@ -9,8 +9,9 @@ ghost use Rattle.sq_chain.specs.Places.{placed_at};
 ghost use Rattle.sq_chain.specs.Surveys.{extent_of, extents_of, IsSurvey};
 
 use crate::counting::count_short;
-use crate::placing::{NOWHERE, fallen_addresses};
+use crate::placing::fallen_addresses;
 use sq_graph::{Graph, Term};
+use sq_lookup::WordsBefore;
 use sq_num::Memory;
 use std::alloc::Global;
 
@@ -25,7 +26,7 @@ pub(crate) struct Extent {
 /// Where the blocks of a graph stand, by their names, and how many words the graph takes.
 #[derive(Drop)]
 pub(crate) struct Places {
-    pub addresses: Vec<u32>,
+    pub addresses: WordsBefore,
     pub words: u32,
 }
 
@@ -107,13 +108,11 @@ fn words_of_procedures(graph: &Graph) -> u32
 }
 
 /// Room for an address under each name below this number.
-pub(crate) fn room_for(alloc: Global, names: usize) -> Result<Vec<u32>, Memory>
-    ensures within { IfOk result (λ room. length room.items ≡ names) }
-    ensures none { IfOk result (λ room. (n : ℕ) → placed_at room.items n ≡ None) }
+pub(crate) fn room_for(alloc: Global, names: usize) -> Result<WordsBefore, Memory>
+    ensures within { IfOk result (λ room. names ≤ length room) }
+    ensures none { IfOk result (λ room. (n : ℕ) → placed_at room n ≡ None) }
 {
-    let mut room = Vec::new(alloc);
-    room.resize(names, NOWHERE)?;
-    Ok(room)
+    WordsBefore::new(alloc, names)
 }
 
 /// The survey of a graph, by one walk over the blocks and two looks at their listing.

@@ -19,7 +19,7 @@ use crate::outlook::{Outlook, outlook_of};
 use crate::survey::{Survey, survey_of};
 use sq_graph::Graph;
 use sq_live::block_names;
-use sq_lookup::{Uses, uses_of};
+use sq_lookup::{Uses, WordsBefore, uses_of};
 use sq_num::{Memory, Savings};
 use sq_pass::{Rewrite, Row};
 use std::alloc::Global;
@@ -28,13 +28,23 @@ use std::alloc::Global;
 /// each Jump to the next slot is Fall: how many words are before each, and `u32::MAX` under a name of none.
 pub trait Watch {
     /// Looks at the graph with which the sweep begins.
-    fn begins(&mut self, alloc: Global, graph: &Graph, addresses: &[u32]) -> Result<(), Memory>;
+    fn begins(
+        &mut self,
+        alloc: Global,
+        graph: &Graph,
+        addresses: &WordsBefore,
+    ) -> Result<(), Memory>;
 
     /// Whether the sweep tries to move a chain behind this block. It may look at the graph as it is before that.
     fn wants(&mut self, graph: &Graph, from: u32) -> Result<bool, Memory>;
 
     /// Whether the sweep ends at this graph, in which a chain has just moved.
-    fn ends(&mut self, alloc: Global, graph: &Graph, addresses: &[u32]) -> Result<bool, Memory>;
+    fn ends(
+        &mut self,
+        alloc: Global,
+        graph: &Graph,
+        addresses: &WordsBefore,
+    ) -> Result<bool, Memory>;
 }
 
 /// Whether a move that comes to this is made at its seams alone, where so many blocks jump to the next slot before.

@@ -10,13 +10,14 @@ ghost use Rattle.sq_pass.specs.Rewrites.{IsRewritten};
 ghost use Rattle.sq_chain.specs.Candidates.{IsCandidate, described};
 
 use crate::once::find_one;
+use crate::patience::Patience;
 use crate::rows::AllRows;
 use sq_chain::{Watch, move_once};
 use sq_graph::Graph;
 use sq_layout::words_of;
-use sq_lookup::Names;
+use sq_lookup::{Names, WordsBefore};
 use sq_num::{Memory, Savings};
-use sq_outline::{News, Unmoved};
+use sq_outline::{Asking, News, Unmoved};
 use std::alloc::Global;
 use std::mem::{replace, swap};
 
@@ -65,16 +66,31 @@ struct RowWatch {
     tried: Names,
     news: News,
     ended: bool,
+    patience: Patience,
+}
+
+impl RowWatch {
+    /// Whether passes are asked behind each move.
+    fn asks(&self) -> bool {
+        self.patience.asking() == Asking::BehindEach
+    }
 }
 
 impl Watch for RowWatch {
-    fn begins(&mut self, alloc: Global, graph: &Graph, addresses: &[u32]) -> Result<(), Memory> {
-        self.unmoved = Unmoved::look(alloc, graph, addresses)?;
+    fn begins(
+        &mut self,
+        alloc: Global,
+        graph: &Graph,
+        addresses: &WordsBefore,
+    ) -> Result<(), Memory> {
+        if self.asks() {
+            self.unmoved = Unmoved::look(alloc, graph, addresses)?;
+        }
         Ok(())
     }
 
     fn wants(&mut self, graph: &Graph, from: u32) -> Result<bool, Memory> {
-        if self.tried.has(from) || !self.unmoved.begin(graph, from)? {
+        if self.tried.has(from) || self.asks() && !self.unmoved.begin(graph, from)? {
             return Ok(false);
         }
         self.tried.insert(from)?;
@@ -82,24 +98,40 @@ impl Watch for RowWatch {
     }
 
     /// It ends where a Branch came to reach, or where blocks became one and a look at the whole graph finds a candidate of a pass,
-    /// of which none had one before the move.
-    fn ends(&mut self, alloc: Global, graph: &Graph, addresses: &[u32]) -> Result<bool, Memory> {
+    /// of which none had one before the move. Where passes aren't asked behind each move it doesn't end.
+    fn ends(
+        &mut self,
+        alloc: Global,
+        graph: &Graph,
+        addresses: &WordsBefore,
+    ) -> Result<bool, Memory> {
+        if !self.asks() {
+            self.news = News::Items;
+            return Ok(false);
+        }
         self.news = self.unmoved.news(alloc, graph, addresses)?;
+        self.patience
+            .spend_passes(graph, self.unmoved.take_passes());
         self.ended = match self.news {
             News::Nothing => false,
             News::Reach => true,
-            News::Items => find_one(alloc, graph, &AllRows)?.is_some(),
+            News::Items => {
+                self.patience.spend_look(graph);
+                find_one(alloc, graph, &AllRows)?.is_some()
+            }
         };
         Ok(self.ended)
     }
 }
 
 /// Moves chains by one look over the blocks, as `sq_chain::sweep_moves` does, where no pass has a candidate when it begins. It
-/// ends where one may have since a chain moved, and the next sweep then goes on behind the blocks that weren't tried.
+/// ends where one may have since a chain moved, as long as there is patience to ask for that, and the next sweep then goes on behind
+/// the blocks that weren't tried.
 pub fn sweep_moves(
     alloc: Global,
     graph: &mut Graph,
     left: &mut LeftMoves,
+    patience: &mut Patience,
     savings: Savings,
 ) -> Result<Savings, Memory>
     requires canonical { IsCanonical graph.old.graph }
@@ -113,11 +145,15 @@ pub fn sweep_moves(
         tried: replace(&mut left.tried, Names::new(alloc)),
         news: News::Nothing,
         ended: false,
+        patience: *patience,
     };
     let after = sq_chain::sweep_moves(alloc, graph, &mut watch, savings)?;
+    *patience = watch.patience;
     left.news = News::Nothing;
     if watch.ended {
         swap(&mut left.tried, &mut watch.tried);
+    }
+    if watch.ended || !watch.asks() {
         left.news = watch.news;
     }
     left.windows = left.news == News::Items;
@@ -129,6 +165,7 @@ pub(crate) fn move_some(
     alloc: Global,
     graph: &mut Graph,
     left: &mut LeftMoves,
+    patience: &mut Patience,
     savings: Savings,
 ) -> Result<Option<Savings>, Memory>
     requires canonical { IsCanonical graph.old.graph }
@@ -140,7 +177,7 @@ pub(crate) fn move_some(
     ensures follows { Follows graph.old.graph graph.new.graph }
 {
     let before = words_of(graph);
-    let after = sweep_moves(alloc, graph, left, savings)?;
+    let after = sweep_moves(alloc, graph, left, patience, savings)?;
     if words_of(graph) < before {
         return Ok(Some(after));
     }

@@ -9,6 +9,7 @@ ghost use Rattle.sq_pass.specs.Rewrites.{IsRewritten};
 ghost use Rattle.sq_drive.specs.Rows.{IsCandidate, described};
 
 use crate::chains::{LeftMoves, sweep_moves};
+use crate::patience::Patience;
 use sq_graph::Graph;
 use sq_jumps::sweep_reach;
 use sq_layout::words_of;
@@ -82,6 +83,7 @@ fn sweep_on(
     alloc: Global,
     graph: &mut Graph,
     left: &mut Left,
+    patience: &mut Patience,
     savings: Savings,
 ) -> Result<Savings, Memory>
     requires canonical { IsCanonical graph.old.graph }
@@ -92,9 +94,16 @@ fn sweep_on(
     match left.swept {
         Swept::Windows => {
             let live = live(alloc, graph)?;
-            sweep_windows(alloc, graph, &live, &mut left.windows, savings)
+            sweep_windows(
+                alloc,
+                graph,
+                &live,
+                &mut left.windows,
+                patience.asking(),
+                savings,
+            )
         }
-        Swept::Moves => sweep_moves(alloc, graph, &mut left.moves, savings),
+        Swept::Moves => sweep_moves(alloc, graph, &mut left.moves, patience, savings),
     }
 }
 
@@ -107,7 +116,12 @@ struct Between {
 }
 
 /// Rewrites the graph, in which Branches came to reach and no other row has a candidate, by rows J2 and J3.
-fn lead(alloc: Global, graph: &mut Graph, savings: Savings) -> Result<Between, Memory>
+fn lead(
+    alloc: Global,
+    graph: &mut Graph,
+    patience: &mut Patience,
+    savings: Savings,
+) -> Result<Between, Memory>
     requires canonical { IsCanonical graph.old.graph }
     requires words { words_of graph.old.graph + words_saved savings ≤ most_words }
     ensures rewritten { IfOk result (λ between. IsRewritten IsCandidate described savings between.savings graph.old.graph graph.new.graph) }
@@ -116,10 +130,11 @@ fn lead(alloc: Global, graph: &mut Graph, savings: Savings) -> Result<Between, M
     let ends = Ends::look(alloc, graph)?;
     let before = words_of(graph);
     let after = sweep_reach(alloc, graph, savings)?;
-    let words = u64::from(before - words_of(graph));
+    let words = before - words_of(graph);
+    patience.spend_jumps(graph, words);
     Ok(Between {
         savings: after,
-        goes_on: ends.are_quiet(alloc, graph, words)?,
+        goes_on: ends.are_quiet(alloc, graph, u64::from(words))?,
     })
 }
 
@@ -128,6 +143,7 @@ fn prepare(
     alloc: Global,
     graph: &mut Graph,
     left: &mut Left,
+    patience: &mut Patience,
     savings: Savings,
 ) -> Result<Between, Memory>
     requires canonical { IsCanonical graph.old.graph }
@@ -140,7 +156,7 @@ fn prepare(
             savings,
             goes_on: false,
         }),
-        News::Reach => lead(alloc, graph, savings),
+        News::Reach => lead(alloc, graph, patience, savings),
         News::Nothing => Ok(Between {
             savings,
             goes_on: left.turn(),
@@ -154,6 +170,7 @@ pub(crate) fn go_on(
     alloc: Global,
     graph: &mut Graph,
     left: &mut Left,
+    patience: &mut Patience,
     savings: Savings,
 ) -> Result<Savings, Memory>
     requires canonical { IsCanonical graph.old.graph }
@@ -163,11 +180,12 @@ pub(crate) fn go_on(
 {
     let mut after = savings;
     for _sweep in 0..u32::MAX {
-        let Between { savings, goes_on } = prepare(alloc, graph, left, after)?;
+        let Between { savings, goes_on } = prepare(alloc, graph, left, patience, after)?;
         if !goes_on {
             return Ok(savings);
         }
-        after = sweep_on(alloc, graph, left, savings)?;
+        patience.spend_round(graph);
+        after = sweep_on(alloc, graph, left, patience, savings)?;
         left.saved = after != savings;
     }
     Ok(after)

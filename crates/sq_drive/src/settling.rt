@@ -1,6 +1,6 @@
 //! Rewriting by one pass, or by all rows, until no candidate is left.
 
-ghost use Rattle.std.specs.Prelude.{◌≡◌, ◌≤◌, ◌<◌, ◌+◌, false, None, Ok, IfOk, IfSome, OnOk};
+ghost use Rattle.std.specs.Prelude.{◌≡◌, ◌≤◌, ◌<◌, ◌+◌, None, Ok, IfOk, IfSome, OnOk};
 ghost use Rattle.sq_num.specs.Saved.{words_saved};
 ghost use Rattle.sq_graph.specs.Leaders.{IsCanonical};
 ghost use Rattle.sq_graph.specs.Slotted.{IsSlotted};
@@ -16,6 +16,7 @@ ghost use Rattle.sq_drive.specs.Rows.{IsCandidateOf, IsCandidate, described, IsL
 
 use crate::chains::move_some;
 use crate::once::{find_one, rewrite_by_cut};
+use crate::patience::Patience;
 use crate::reach::{Left, Swept, go_on};
 use crate::rows::{Settled, settle_earlier};
 use crate::windows::window_some;
@@ -86,6 +87,7 @@ fn rewrite_late(
     graph: &mut Graph,
     live: &Liveness,
     left: &mut Left,
+    patience: &mut Patience,
     savings: Savings,
 ) -> Result<Option<Savings>, Memory>
     requires canonical { IsCanonical graph.old.graph }
@@ -98,20 +100,21 @@ fn rewrite_late(
     ensures moves { result ≡ Ok None → (cut : Told) → ¬ IsMove graph.old.graph cut }
     ensures follows { Follows graph.old.graph graph.new.graph }
 {
+    let asking = patience.asking();
     if left.moves.asks_windows() {
         left.note(Swept::Windows, true);
-        if let Some(after) = window_some(alloc, graph, live, &mut left.windows, savings)? {
+        if let Some(after) = window_some(alloc, graph, live, &mut left.windows, asking, savings)? {
             return Ok(Some(after));
         }
         left.note(Swept::Moves, true);
-        return move_some(alloc, graph, &mut left.moves, savings);
+        return move_some(alloc, graph, &mut left.moves, patience, savings);
     }
     left.note(Swept::Moves, true);
-    if let Some(after) = move_some(alloc, graph, &mut left.moves, savings)? {
+    if let Some(after) = move_some(alloc, graph, &mut left.moves, patience, savings)? {
         return Ok(Some(after));
     }
     left.note(Swept::Windows, true);
-    window_some(alloc, graph, live, &mut left.windows, savings)
+    window_some(alloc, graph, live, &mut left.windows, asking, savings)
 }
 
 /// Whether rows J2 and J3 alone saved words between these savings, each of which took a block away, where so many blocks went: then
@@ -134,8 +137,13 @@ fn block_count(alloc: Global, graph: &Graph) -> Result<usize, Memory> {
 
 /// Rewrites the graph by all rows, and answers the savings with what each row saved: until none has a candidate, or where that saved
 /// words until sweeps of windows and of moves save none. Windows are asked only where no row before them has a candidate, and
-/// chains move only where no other row has one. Where it finds no memory, the graph is left as the rewrites made it so far.
-fn settle_from(alloc: Global, graph: &mut Graph, savings: Savings) -> Result<Savings, Memory>
+/// chains move only where no other row has one, as long as there is patience to ask behind each. Where it finds no memory, the graph is left as the rewrites made it so far.
+fn settle_from(
+    alloc: Global,
+    graph: &mut Graph,
+    patience: &mut Patience,
+    savings: Savings,
+) -> Result<Savings, Memory>
     requires canonical { IsCanonical graph.old.graph }
     requires words { words_of graph.old.graph + words_saved savings ≤ most_words }
     ensures rewritten { IfOk result (λ after. IsRewritten IsCandidate described savings after graph.old.graph graph.new.graph) }
@@ -152,10 +160,11 @@ fn settle_from(alloc: Global, graph: &mut Graph, savings: Savings) -> Result<Sav
         if !are_lone_jumps(saved, savings, gone) {
             left.moves.ask_windows();
         }
-        let Some(after) = rewrite_late(alloc, graph, &live, &mut left, savings)? else {
+        patience.spend_look(graph);
+        let Some(after) = rewrite_late(alloc, graph, &live, &mut left, patience, savings)? else {
             return Ok(savings);
         };
-        saved = go_on(alloc, graph, &mut left, after)?;
+        saved = go_on(alloc, graph, &mut left, patience, after)?;
         if left.is_done() {
             return Ok(saved);
         }
@@ -172,9 +181,10 @@ pub fn settle(alloc: Global, graph: &mut Graph) -> Result<Savings, Memory>
     ensures follows { Follows graph.old.graph graph.new.graph }
 {
     let mut savings = Savings::NONE;
+    let mut patience = Patience::FULL;
     loop {
         let before = words_of(graph);
-        savings = settle_from(alloc, graph, savings)?;
+        savings = settle_from(alloc, graph, &mut patience, savings)?;
         if words_of(graph) == before {
             return Ok(savings);
         }
@@ -194,9 +204,10 @@ pub fn settle_slotted(alloc: Global, graph: &mut Graph) -> Result<Savings, Memor
     ensures follows { Follows graph.old.graph graph.new.graph }
 {
     let mut savings = Savings::NONE;
+    let mut patience = Patience::FULL;
     loop {
         let before = words_of(graph);
-        savings = settle_from(alloc, graph, savings)?;
+        savings = settle_from(alloc, graph, &mut patience, savings)?;
         if words_of(graph) == before {
             return Ok(savings);
         }

@@ -15,7 +15,7 @@ use sq_graph::Graph;
 use sq_layout::words_of;
 use sq_live::Liveness;
 use sq_num::{Memory, Savings};
-use sq_outline::{FoundWindows, News, Windows, sweep_windows};
+use sq_outline::{Asking, FoundWindows, News, Windows, sweep_windows};
 use sq_pass::Pass;
 use std::alloc::Global;
 
@@ -26,6 +26,7 @@ pub(crate) fn window_some(
     graph: &mut Graph,
     live: &Liveness,
     left: &mut FoundWindows,
+    asking: Asking,
     savings: Savings,
 ) -> Result<Option<Savings>, Memory>
     requires canonical { IsCanonical graph.old.graph }
@@ -41,7 +42,7 @@ pub(crate) fn window_some(
         return Ok(None);
     }
     let before = words_of(graph);
-    let after = sweep_windows(alloc, graph, live, left, savings)?;
+    let after = sweep_windows(alloc, graph, live, left, asking, savings)?;
     if words_of(graph) < before {
         return Ok(Some(after));
     }

@@ -9,3 +9,4 @@ pub mod Adding
 pub mod Previous
 pub mod Counting
 pub mod JoiningBefore
+pub mod Lowering

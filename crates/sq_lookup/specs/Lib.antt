@@ -3,3 +3,4 @@ pub mod Tables
 pub mod Resolutions
 pub mod Addresses
 pub mod Counts
+pub mod Lowering

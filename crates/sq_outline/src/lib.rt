@@ -31,4 +31,4 @@ pub use ends::Ends;
 pub use outlines::Outlines;
 pub use proposals::propose;
 pub use unmoved::{News, Unmoved};
-pub use windows::{FoundWindows, Windows, propose_windows, sweep_windows};
+pub use windows::{Asking, FoundWindows, Windows, propose_windows, sweep_windows};

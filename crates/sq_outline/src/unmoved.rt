@@ -1,6 +1,7 @@
 //! Whether a row may have a candidate since a chain moved. The words stay but for Jumps, so what may be new stands where blocks
 //! became one, or is a Branch that reaches now, or a procedure that may come in place of its calls now.
 
+ghost use Rattle.std.specs.Prelude.{IsTrue};
 ghost use Rattle.sq_graph.specs.Blocks.{HasBlock};
 
 use crate::ends::jumps_to_next;
@@ -11,10 +12,11 @@ use crate::ways::{Reaching, near_jumps, previous, wide_target};
 use crate::windows::Endings;
 use sq_graph::{Graph, Item, Term};
 use sq_live::block_names;
-use sq_lookup::{Names, is_block, jump_from};
+use sq_lookup::{Names, WordsBefore, is_block, jump_from};
 use sq_num::Memory;
 use std::alloc::Global;
 use std::collections::HashMap;
+use std::mem::replace;
 
 /// What may give a row a candidate since a chain moved.
 #[derive(Clone, Copy, Debug, PartialEq, Eq)]
@@ -60,6 +62,8 @@ pub struct Unmoved {
     wide: HashMap<u32, u32>,
     // The procedures that wait for Branches to reach.
     waiting: WaitingMoves,
+    // How often it went over the whole graph since that was asked.
+    passes: u32,
 }
 
 /// Whether another of these blocks has as many items and the print of this one.
@@ -92,6 +96,13 @@ fn was_of(graph: &Graph, block: u32) -> Was
         count: graph.items(block).len(),
         jumped: matches!(graph.term(block), Term::Jump { .. }),
     }
+}
+
+/// Whether a block has other items than before the move.
+fn has_other_items(graph: &Graph, was: Was) -> bool
+    ensures { IsTrue result → HasBlock graph.now.graph was.block }
+{
+    is_block(graph, was.block) && graph.items(was.block).len() != was.count
 }
 
 /// The last block of the chain that begins at this one.
@@ -236,11 +247,12 @@ impl Unmoved {
             named: Names::new(alloc),
             wide: HashMap::new(alloc),
             waiting: WaitingMoves::new(alloc),
+            passes: 0,
         }
     }
 
     /// One look at each block of a graph in which no row has a candidate, whose blocks stand at these addresses, by their names.
-    pub fn look(alloc: Global, graph: &Graph, addresses: &[u32]) -> Result<Unmoved, Memory> {
+    pub fn look(alloc: Global, graph: &Graph, addresses: &WordsBefore) -> Result<Unmoved, Memory> {
         Ok(Unmoved {
             blocks: 0,
             seams: Vec::new(alloc),
@@ -251,7 +263,18 @@ impl Unmoved {
             named: named_by_items(alloc, graph)?,
             wide: wide_branches(alloc, graph)?,
             waiting: WaitingMoves::look(alloc, graph)?,
+            passes: 0,
         })
+    }
+
+    /// Takes note that it goes over the whole graph so often.
+    fn pass(&mut self, times: u32) {
+        self.passes = self.passes.saturating_add(times);
+    }
+
+    /// How often it went over the whole graph since it was asked.
+    pub fn take_passes(&mut self) -> u32 {
+        replace(&mut self.passes, 0)
     }
 
     /// Takes note of a block, if there is this one and it isn't noted.
@@ -357,15 +380,6 @@ impl Unmoved {
         Ok(false)
     }
 
-    /// Whether a block has other items than before the move, and a row may have a candidate in it since.
-    fn has_more_at(&self, alloc: Global, graph: &Graph, was: Was) -> Result<bool, Memory> {
-        graph.learn();
-        if !is_block(graph, was.block) || graph.items(was.block).len() == was.count {
-            return Ok(false);
-        }
-        self.may_pay(alloc, graph, was.block, was.count)
-    }
-
     /// The blocks at the seams, from which Branches are looked for.
     fn starts(&self, alloc: Global, graph: &Graph) -> Result<Vec<u32>, Memory> {
         let mut starts = Vec::new(alloc);
@@ -389,7 +403,7 @@ impl Unmoved {
         &mut self,
         alloc: Global,
         graph: &Graph,
-        addresses: &[u32],
+        addresses: &WordsBefore,
     ) -> Result<bool, Memory> {
         let starts = self.starts(alloc, graph)?;
         let mut more = false;
@@ -409,11 +423,12 @@ impl Unmoved {
         &mut self,
         alloc: Global,
         graph: &Graph,
-        addresses: &[u32],
+        addresses: &WordsBefore,
     ) -> Result<bool, Memory> {
         if !self.reaches_more(alloc, graph, addresses)? {
             return Ok(false);
         }
+        self.pass(1);
         let near = near_jumps(alloc, graph, addresses)?;
         let before = &self.near;
         let more = near.iter().any(|jump| !before.has(*jump));
@@ -422,13 +437,34 @@ impl Unmoved {
     }
 
     /// Whether items came into one of the blocks at the seams by the move, and a row may have a candidate there since.
-    fn has_more_items(&self, alloc: Global, graph: &Graph) -> Result<bool, Memory> {
-        for was in &self.seams {
-            if self.has_more_at(alloc, graph, *was)? {
+    fn has_more_items(&mut self, alloc: Global, graph: &Graph) -> Result<bool, Memory> {
+        for place in 0..self.seams.len() {
+            let Some(was) = self.seams.get(place).copied() else {
+                return Ok(false);
+            };
+            if !has_other_items(graph, was) {
+                continue;
+            }
+            self.pass(1);
+            if self.may_pay(alloc, graph, was.block, was.count)? {
                 return Ok(true);
             }
         }
         Ok(false)
+    }
+
+    /// Whether a body may come in place of its calls since the chain moved.
+    fn has_more_bodies(
+        &mut self,
+        alloc: Global,
+        graph: &Graph,
+        addresses: &WordsBefore,
+    ) -> Result<bool, Memory> {
+        if !self.waiting.asks(graph, addresses) {
+            return Ok(false);
+        }
+        self.pass(2);
+        self.waiting.may_inline(alloc, graph)
     }
 
     /// The blocks whose Branches are wide by the move. It looks at each block.
@@ -477,6 +513,7 @@ impl Unmoved {
         if blocks == self.blocks {
             return Ok(News::Nothing);
         }
+        self.pass(1);
         let wide = self.take_wide(alloc, graph)?;
         if u64::from(blocks) != u64::from(self.blocks).saturating_add(wide.len() as u64) {
             self.endings = Endings::new(alloc);
@@ -523,13 +560,13 @@ impl Unmoved {
         &mut self,
         alloc: Global,
         graph: &Graph,
-        addresses: &[u32],
+        addresses: &WordsBefore,
     ) -> Result<News, Memory> {
         let by_wide = self.note_ends(alloc, graph)?;
         let reaches = self.has_more_near(alloc, graph, addresses)? || by_wide == News::Reach;
         if by_wide == News::Items
             || self.has_more_names(graph)?
-            || self.waiting.may_inline(alloc, graph, addresses)?
+            || self.has_more_bodies(alloc, graph, addresses)?
             || self.has_more_items(alloc, graph)?
             || self.has_more_ends(alloc, graph)?
         {

@@ -5,7 +5,9 @@ ghost use Rattle.sq_graph.specs.Blocks.{HasBlock};
 ghost use Rattle.sq_graph.specs.Parts.{names_of};
 
 use sq_graph::{Graph, Term};
-use sq_lookup::{Names, Table, address, block_addresses, is_block, jump_from};
+use sq_lookup::{
+    NOWHERE, Names, Table, WordsBefore, address, block_addresses, is_block, jump_from,
+};
 use sq_num::Memory;
 use std::alloc::Global;
 
@@ -168,6 +170,15 @@ pub(crate) struct FarWays {
 }
 
 impl FarWays {
+    /// None.
+    pub(crate) fn new(alloc: Global) -> FarWays {
+        FarWays {
+            ways: Vec::new(alloc),
+            addresses: Table::new(alloc),
+            near: Vec::new(alloc),
+        }
+    }
+
     /// Adds a way whose Branch doesn't reach.
     fn push(&mut self, graph: &Graph, found: Option<Way>) -> Result<(), Memory> {
         if let Some(way) = found
@@ -238,11 +249,11 @@ impl FarWays {
     }
 }
 
-/// The address of the block of this name, by how many words are before each, and `u32::MAX` under a name of none.
-fn address_in(addresses: &[u32], name: u32) -> u64 {
-    match addresses.get(name as usize).copied() {
-        Some(words) if words != u32::MAX => 4 * u64::from(words),
-        _ => 0,
+/// The address of the block of this name, by how many words are before each, and 0 where there is none.
+fn address_in(addresses: &WordsBefore, name: u32) -> u64 {
+    match addresses.get(name) {
+        NOWHERE => 0,
+        words => 4 * u64::from(words),
     }
 }
 
@@ -252,7 +263,7 @@ const NEAR_SLOTS: u32 = 1200;
 const NEAR: u64 = 4200;
 
 /// Whether the Branch of a way reaches where the lone Jump leads once that is gone, by these addresses.
-fn is_near(graph: &Graph, addresses: &[u32], way: Way) -> bool {
+fn is_near(graph: &Graph, addresses: &WordsBefore, way: Way) -> bool {
     let ends = Ends {
         from: address_in(addresses, way.from),
         over: address_in(addresses, way.over),
@@ -264,7 +275,7 @@ fn is_near(graph: &Graph, addresses: &[u32], way: Way) -> bool {
 /// Puts the lone Jump of a way with those whose Branches reach, or with those of which one doesn't.
 fn note(
     graph: &Graph,
-    addresses: &[u32],
+    addresses: &WordsBefore,
     found: Option<Way>,
     near: &mut Vec<u32>,
     far: &mut Names,
@@ -284,12 +295,12 @@ fn note(
 pub(crate) fn near_jumps(
     alloc: Global,
     graph: &Graph,
-    addresses: &[u32],
+    addresses: &WordsBefore,
 ) -> Result<Vec<u32>, Memory> {
     graph.learn();
     let mut far = Names::new(alloc);
     let mut near = Vec::new(alloc);
-    for name in 0..u32::try_from(addresses.len()).unwrap_or(u32::MAX) {
+    for name in 0..u32::try_from(addresses.names()).unwrap_or(u32::MAX) {
         if is_block(graph, name) {
             let (by_target, by_slot) = ways_of(graph, name);
             note(graph, addresses, by_target, &mut near, &mut far)?;
@@ -301,7 +312,7 @@ pub(crate) fn near_jumps(
 }
 
 /// Whether the block's Branch reaches where the lone Jump leads to which it leads. Most are too far, and the rest isn't asked then.
-fn reaches_by(graph: &Graph, addresses: &[u32], block: u32, over: u32) -> bool {
+fn reaches_by(graph: &Graph, addresses: &WordsBefore, block: u32, over: u32) -> bool {
     is_block(graph, over)
         && way_by(graph, block, over).is_some_and(|way| is_near(graph, addresses, way))
         && !is_entered(graph, over)
@@ -320,7 +331,7 @@ const NONE: Reach = Reach {
 };
 
 /// By which ways the block's Branch reaches.
-fn reach_of(graph: &Graph, addresses: &[u32], block: u32) -> Reach
+fn reach_of(graph: &Graph, addresses: &WordsBefore, block: u32) -> Reach
     requires { HasBlock graph.now.graph block }
 {
     let Term::Branch { to, .. } = graph.term(block) else {
@@ -333,7 +344,7 @@ fn reach_of(graph: &Graph, addresses: &[u32], block: u32) -> Reach
 }
 
 /// Where a look for Branches begins at a block: ahead at its end, since the seam may stand there within it.
-fn start_at(graph: &Graph, addresses: &[u32], block: u32, ahead: bool) -> u64 {
+fn start_at(graph: &Graph, addresses: &WordsBefore, block: u32, ahead: bool) -> u64 {
     graph.learn();
     let at = address_in(addresses, block);
     if ahead && is_block(graph, block) {
@@ -345,7 +356,7 @@ fn start_at(graph: &Graph, addresses: &[u32], block: u32, ahead: bool) -> u64 {
 
 /// The last address at which a look for Branches goes on that begins at this one: as far as one reaches, or to the next of these
 /// blocks, from which it is asked, too.
-fn last_of(graph: &Graph, addresses: &[u32], starts: &[u32], start: u64, ahead: bool) -> u64 {
+fn last_of(graph: &Graph, addresses: &WordsBefore, starts: &[u32], start: u64, ahead: bool) -> u64 {
     let mut last = if ahead {
         start.saturating_add(NEAR)
     } else {
@@ -385,11 +396,11 @@ impl Reaching {
     pub(crate) fn look(
         alloc: Global,
         graph: &Graph,
-        addresses: &[u32],
+        addresses: &WordsBefore,
     ) -> Result<Reaching, Memory> {
         let mut reaching = Reaching::new(alloc);
-        reaching.reaches.resize(addresses.len(), NONE)?;
-        for name in 0..u32::try_from(addresses.len()).unwrap_or(u32::MAX) {
+        reaching.reaches.resize(addresses.names(), NONE)?;
+        for name in 0..u32::try_from(addresses.names()).unwrap_or(u32::MAX) {
             if is_block(graph, name) {
                 reaching.note(graph, addresses, name)?;
             }
@@ -408,7 +419,7 @@ impl Reaching {
     }
 
     /// Takes note of the block's Branch, if it ends in one. Whether it is new that it reaches.
-    fn note(&mut self, graph: &Graph, addresses: &[u32], block: u32) -> Result<bool, Memory>
+    fn note(&mut self, graph: &Graph, addresses: &WordsBefore, block: u32) -> Result<bool, Memory>
         requires { HasBlock graph.now.graph block }
     {
         let before = self.reaches.get(block as usize).copied().unwrap_or(NONE);
@@ -424,7 +435,7 @@ impl Reaching {
     pub(crate) fn grows(
         &mut self,
         graph: &Graph,
-        addresses: &[u32],
+        addresses: &WordsBefore,
         starts: &[u32],
         from: u32,
         ahead: bool,

@@ -18,6 +18,7 @@ mod sweep;
 mod taken;
 mod window;
 
+pub use earlier::Asking;
 pub(crate) use endings::Endings;
 pub use left::FoundWindows;
 pub use pass::Windows;

@@ -7,6 +7,7 @@ use crate::chains::{chain_text, tried};
 use crate::changes::{change, reserve};
 use crate::drafts::{graph_of, is_part, parts_ahead};
 use crate::folds::{difference_text, folded};
+use crate::late::{late_moves, late_windows};
 use crate::passes::{led_on, pass_step, settled, settled_with};
 use crate::places::{liveness_text, told};
 use crate::terms::{fields, register_of};
@@ -210,6 +211,8 @@ fn graph_step(
             expect(step.words, &found)?;
         }
         "fold" => expect(step.words, folded(alloc, graph).map_err(memory)?)?,
+        "late_moves" => expect(step.words, &late_moves(alloc, graph).map_err(memory)?)?,
+        "late_windows" => expect(step.words, &late_windows(alloc, graph).map_err(memory)?)?,
         "sweep_reach" => expect(step.words, &led_on(alloc, graph).map_err(memory)?)?,
         "settle" => expect(step.words, &settled(alloc, graph).map_err(memory)?)?,
         "settle_with" => {

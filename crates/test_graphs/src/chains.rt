@@ -8,7 +8,7 @@ use crate::cuts::savings_text;
 use crate::passes::{is_ready, rewrite_text};
 use crate::texts::names_of;
 use sq_chain::{movable, move_once, try_move, widen};
-use sq_drive::{LeftMoves, sweep_moves};
+use sq_drive::{LeftMoves, Patience, sweep_moves};
 use sq_graph::Graph;
 use sq_num::{Memory, Savings};
 use std::alloc::Global;
@@ -75,5 +75,7 @@ pub fn chain_text(alloc: Global, graph: &mut Graph, verb: &str) -> Result<String
         return rewrite_text(alloc, move_once(alloc, graph)?);
     }
     let mut left = LeftMoves::new(alloc);
-    savings_text(alloc, &sweep_moves(alloc, graph, &mut left, Savings::NONE)?)
+    let mut patience = Patience::FULL;
+    let savings = sweep_moves(alloc, graph, &mut left, &mut patience, Savings::NONE)?;
+    savings_text(alloc, &savings)
 }

@@ -14,6 +14,7 @@ mod changes;
 mod cuts;
 mod drafts;
 mod folds;
+mod late;
 mod passes;
 mod places;
 mod rules;

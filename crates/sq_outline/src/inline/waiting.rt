@@ -14,7 +14,7 @@ use crate::inline::blocked::{
 use crate::inline::{any_would_save, count_calls, find_inline, is_call, would_save};
 use crate::sites::Site;
 use sq_graph::{Graph, Term};
-use sq_lookup::{Table, address, is_block};
+use sq_lookup::{Table, WordsBefore, address, is_block};
 use sq_num::Memory;
 use std::alloc::Global;
 
@@ -108,7 +108,7 @@ pub(crate) struct WaitingCalls {
 
 impl WaitingCalls {
     /// Nothing.
-    fn new(alloc: Global) -> WaitingCalls {
+    pub(crate) fn new(alloc: Global) -> WaitingCalls {
         WaitingCalls {
             addresses: Table::new(alloc),
             far: Vec::new(alloc),
@@ -156,7 +156,7 @@ impl WaitingCalls {
 }
 
 /// Where an item stands that calls the procedure, where so many words are ahead of each block, by its name.
-fn call_address(graph: &Graph, addresses: &[u32], procedure: u32, site: Site) -> Option<u64> {
+fn call_address(graph: &Graph, addresses: &WordsBefore, procedure: u32, site: Site) -> Option<u64> {
     if !is_block(graph, site.block) {
         return None;
     }
@@ -165,12 +165,12 @@ fn call_address(graph: &Graph, addresses: &[u32], procedure: u32, site: Site) ->
     if !is_call(item, procedure) {
         return None;
     }
-    let ahead = *addresses.get(site.block as usize)?;
+    let ahead = addresses.get(site.block);
     Some(4 * (u64::from(ahead) + u64::from(site.at)))
 }
 
 /// Where the block's Branch stands and where it leads, if it ends in one, by the same addresses.
-fn branch_by(graph: &Graph, addresses: &[u32], block: u32) -> Option<BranchAt>
+fn branch_by(graph: &Graph, addresses: &WordsBefore, block: u32) -> Option<BranchAt>
     ensures { IfSome result (λ branch. branch.at < 2 ^ 40 × branch.to < 2 ^ 40) }
 {
     if !is_block(graph, block) {
@@ -181,8 +181,8 @@ fn branch_by(graph: &Graph, addresses: &[u32], block: u32) -> Option<BranchAt>
         return None;
     };
     let count = u32::try_from(graph.items(block).len()).ok()?;
-    let ahead = *addresses.get(block as usize)?;
-    let target = *addresses.get(to as usize)?;
+    let ahead = addresses.get(block);
+    let target = addresses.get(to);
     Some(BranchAt {
         at: 4 * (u64::from(ahead) + u64::from(count)),
         to: 4 * u64::from(target),
@@ -190,7 +190,7 @@ fn branch_by(graph: &Graph, addresses: &[u32], block: u32) -> Option<BranchAt>
 }
 
 /// By how many bytes the Branch of a procedure that waits misses, by the same addresses, if that is known.
-fn missing_by(graph: &Graph, addresses: &[u32], waiting: Waiting) -> Option<u64> {
+fn missing_by(graph: &Graph, addresses: &WordsBefore, waiting: Waiting) -> Option<u64> {
     if waiting.procedure >= graph.procedures() {
         return None;
     }
@@ -231,20 +231,16 @@ impl WaitingMoves {
         })
     }
 
-    /// Whether a body may come in place of its calls since a chain moved, where none could before. It looks at each procedure that
-    /// waits, and at the graph only where a Branch came to reach for which one did.
-    pub(crate) fn may_inline(
-        &mut self,
-        alloc: Global,
-        graph: &Graph,
-        addresses: &[u32],
-    ) -> Result<bool, Memory> {
-        let may = self.asks
+    /// Whether row O4 is to be asked since a chain moved: a Branch came to reach for which a procedure waits. It looks at each that
+    /// does.
+    pub(crate) fn asks(&self, graph: &Graph, addresses: &WordsBefore) -> bool {
+        self.asks
             || self.waiting.iter().any(|waiting| missing_by(graph, addresses, *waiting).unwrap_or(0)
-                == 0);
-        if !may {
-            return Ok(false);
-        }
+                == 0)
+    }
+
+    /// Whether a body may come in place of its calls. It looks at the whole graph.
+    pub(crate) fn may_inline(&mut self, alloc: Global, graph: &Graph) -> Result<bool, Memory> {
         if find_inline(alloc, graph)?.is_some() {
             return Ok(true);
         }

@@ -26,12 +26,28 @@ use sq_live::{Liveness, block_names};
 use sq_lookup::Resolutions;
 use sq_num::Memory;
 use std::alloc::Global;
+use std::collections::HashMap;
+
+/// So often a sweep looks at the whole graph before it ends for that.
+const LOOKS: u32 = 32;
+
+/// When a sweep of windows has the rows before asked.
+#[derive(Clone, Copy, Debug, PartialEq, Eq)]
+pub enum Asking {
+    /// Behind each window and each call: it ends where one of them may have a candidate.
+    BehindEach,
+    /// Once it has ended.
+    AtTheEnd,
+}
 
 /// What keeps the rows before from having a candidate, and whether one may have one since.
 #[derive(Drop)]
 pub(crate) struct Earlier {
+    asking: Asking,
     far: FarWays,
     waiting: WaitingCalls,
+    // How often it may still be looked whether a body may come in place of its calls.
+    looks: u32,
     // Blocks of which a procedure may have the body, and procedures, by the prints of their bodies.
     bodies: Filed<u64>,
     procedures: Filed<u64>,
@@ -40,13 +56,32 @@ pub(crate) struct Earlier {
 }
 
 impl Earlier {
-    /// One look at a graph in which none of these rows has a candidate.
-    pub(crate) fn look(alloc: Global, graph: &Graph) -> Result<Earlier, Memory> {
+    /// What there is where they are asked once the sweep has ended.
+    fn late(alloc: Global) -> Earlier {
+        Earlier {
+            asking: Asking::AtTheEnd,
+            far: FarWays::new(alloc),
+            waiting: WaitingCalls::new(alloc),
+            looks: 0,
+            bodies: HashMap::new(alloc),
+            procedures: HashMap::new(alloc),
+            callers: HashMap::new(alloc),
+            news: News::Nothing,
+        }
+    }
+
+    /// One look at a graph in which none of these rows has a candidate, if they are asked behind each window.
+    pub(crate) fn look(alloc: Global, graph: &Graph, asking: Asking) -> Result<Earlier, Memory> {
+        if asking == Asking::AtTheEnd {
+            return Ok(Earlier::late(alloc));
+        }
         graph.learn();
         let names = block_names(alloc, graph)?;
         Ok(Earlier {
+            asking,
             far: FarWays::look(alloc, graph, &names)?,
             waiting: WaitingCalls::look(alloc, graph)?,
+            looks: LOOKS,
             bodies: plain_bodies(alloc, graph, &names)?,
             procedures: procedure_bodies(alloc, graph)?,
             callers: callers_of(alloc, graph, &names)?,
@@ -56,7 +91,16 @@ impl Earlier {
 
     /// Whether one of the rows is to be asked before more windows become calls.
     pub(crate) fn asks(&self) -> bool {
-        self.news != News::Nothing
+        self.asking == Asking::BehindEach && self.news != News::Nothing
+    }
+
+    /// Takes note that one of them may have a candidate, where they are asked once the sweep has ended.
+    fn puts_off(&mut self) -> bool {
+        let late = self.asking == Asking::AtTheEnd;
+        if late {
+            self.news = News::Items;
+        }
+        late
     }
 
     /// What may give one of them a candidate.
@@ -86,6 +130,10 @@ impl Earlier {
             return Ok(News::Items);
         }
         if self.waiting.asks() {
+            if self.looks == 0 {
+                return Ok(News::Items);
+            }
+            self.looks -= 1;
             let called = graph.with_calls(alloc, taken.fates())?;
             if find_inline(alloc, &called)?.is_some() {
                 return Ok(News::Items);
@@ -133,6 +181,9 @@ impl Earlier {
         requires taken { IsTakenOf graph.now.graph taken.now }
         requires still { IsGraph (with_calls taken.now.fates.items graph.now.graph) }
     {
+        if self.puts_off() {
+            return Ok(());
+        }
         for site in sites {
             self.shorten(site.block, n)?;
         }
@@ -157,6 +208,9 @@ impl Earlier {
         requires still { IsGraph (with_calls taken.now.fates.items graph.now.graph) }
         requires block { HasBlock graph.now.graph site.block }
     {
+        if self.puts_off() {
+            return Ok(());
+        }
         let Site { block, at } = site;
         self.shorten(block, n)?;
         let ending = ending_of(graph, &Resolutions::none(alloc), block);

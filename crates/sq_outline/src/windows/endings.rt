@@ -157,7 +157,7 @@ fn is_alike_one(graph: &Graph, resolutions: &Resolutions, names: &[u32], block: 
 }
 
 /// So many looks at the end of each block cost about as much as to file them.
-const LOOKS: u32 = 16;
+const LOOKS: u32 = 4;
 
 /// Blocks by how they end, once it was asked often which ones end alike.
 #[derive(Drop)]

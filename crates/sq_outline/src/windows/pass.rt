@@ -1,6 +1,7 @@
 //! The pass.
 
 use crate::call::call;
+use crate::windows::earlier::Asking;
 use crate::windows::inside::{admit_inside, find_inside};
 use crate::windows::left::FoundWindows;
 use crate::windows::search::{admit_window, find_window};
@@ -83,6 +84,13 @@ impl Pass for Windows {
     fn sweep(&self, alloc: Global, graph: &mut Graph, savings: Savings) -> Result<Savings, Memory> {
         let live = live(alloc, graph)?;
         let mut windows = FoundWindows::new(alloc);
-        sweep_windows(alloc, graph, &live, &mut windows, savings)
+        sweep_windows(
+            alloc,
+            graph,
+            &live,
+            &mut windows,
+            Asking::BehindEach,
+            savings,
+        )
     }
 }

@@ -23,7 +23,7 @@ ghost use Rattle.sq_outline.specs.WindowsTaken.{is_free_place, IsTakenOf, MayBeM
 
 use crate::plain::are_plain;
 use crate::sites::Site;
-use crate::windows::earlier::Earlier;
+use crate::windows::earlier::{Asking, Earlier};
 use crate::windows::found::{Found, found_with_sites, items_at};
 use crate::windows::heads::heads;
 use crate::windows::inside::procedure_inside;
@@ -403,13 +403,14 @@ fn sweep_both(
 
 /// Rewrites the graph, of which these are the live registers, by rows V and W, where no earlier row has a candidate. It looks for
 /// candidates of V once, and for those of W and for live registers a few times. It ends where an earlier row may have a candidate,
-/// and leaves the windows that it didn't try, and why it ended: given them, the next sweep goes on with them. It may leave
-/// candidates.
+/// if these are asked behind each, and leaves the windows that it didn't try, and why it ended: given them, the next sweep goes on
+/// with them. It may leave candidates.
 pub fn sweep_windows(
     alloc: Global,
     graph: &mut Graph,
     live: &Liveness,
     windows: &mut FoundWindows,
+    asking: Asking,
     savings: Savings,
 ) -> Result<Savings, Memory>
     requires canonical { IsCanonical graph.old.graph }
@@ -419,7 +420,7 @@ pub fn sweep_windows(
     ensures follows { Follows graph.old.graph graph.new.graph }
 {
     windows.forget_places();
-    let mut earlier = Earlier::look(alloc, graph)?;
+    let mut earlier = Earlier::look(alloc, graph, asking)?;
     let after = sweep_both(alloc, graph, live, &mut earlier, windows, savings)?;
     windows.tell(earlier.news());
     Ok(after)

@@ -18,7 +18,6 @@ use Rattle.sq_chain.specs.Moves.{chain_end, IsMovable, fallen, fallen_before, ca
 use Rattle.sq_chain.specs.Surveys.{IsPlaced, NoneFalls}
 use Rattle.sq_chain.specs.declared.survey.Places.{Places}
 use Rattle.sq_lookup.specs.Counts.{AreUses}
-use Rattle.sq_chain.specs.Places.{placed_at}
 use Rattle.sq_chain.proofs.Carried.{carried_words}
 use Rattle.sq_chain.proofs.Orders.{last_has}
 use Rattle.sq_chain.proofs.Reordered.{chain_run, jumping_outside, chain_moved_rules}
@@ -83,7 +82,7 @@ pub seams_of-seams-requires-clause-end : goal.seams_of-seams-requires-clause-end
 seams_of-seams-requires-clause-end c = c.end_of_chain.ensures.some c.in-Some.end c.in-Some.is
 
 pub seams_of-seams-requires-clause-addresses : goal.seams_of-seams-requires-clause-addresses
-seams_of-seams-requires-clause-addresses c = λ n. ap (λ t. placed_at t n) c.deref.ensures.value ∙ c.requires.placed.addresses n
+seams_of-seams-requires-clause-addresses c = c.requires.placed.addresses
 
 pub fall_before-second-requires-clause-uses : goal.fall_before-second-requires-clause-uses
 fall_before-second-requires-clause-uses c =

@@ -1,4 +1,4 @@
-use Rattle.std.proofs.Common.{◌≡◌, ◌-◌, arith, false, get_or, Some, sym, ap, ◌∙◌, subst}
+use Rattle.std.proofs.Common.{◌≡◌, ◌-◌, arith, false, Some, sym, ap, ◌∙◌, subst}
 use Rattle.sq_graph.specs.declared.item.Term.TheVariants.{Fall, Jump}
 use Rattle.sq_graph.specs.Graph.{Graph}
 use Rattle.sq_graph.specs.Blocks.{HasBlock, term_of, items_of}
@@ -6,7 +6,6 @@ use Rattle.sq_graph.specs.Leaders.{has_no_items}
 use Rattle.sq_graph.specs.Operations.{with_term}
 use Rattle.sq_lookup.proofs.Targets.{has_term}
 use Rattle.sq_lookup.specs.Counts.{AreUses}
-use Rattle.sq_chain.specs.Places.{nowhere}
 use Rattle.sq_chain.specs.Bare.{IsBareAt, AreSolidBut}
 use Rattle.sq_chain.specs.Surveys.{IsPlaced}
 use Rattle.sq_chain.specs.declared.survey.Places.{Places}
@@ -130,7 +129,7 @@ returns-then-is_empty-clause-placed c =
     let fewer = fell_words g.blocks c.in-Some.block c.args.name jump in
     let new : Places = record { addresses = c.lower_behind.new.addresses; words = c.args.places.now.words - 1 } in
     subst (λ (k : Graph). IsPlaced k new) (sym c.set_term.ensures.graph)
-    (placed_fell g c.in-Some.block c.args.name c.words_before-start.result c.args.places.now new jump c.requires.placed (c.words_before-start.ensures ∙ ap (λ t. get_or t c.in-Some.block nowhere) c.deref.ensures.value) c.lower_behind.ensures (omega (arith, fewer, c.requires.placed.words)))
+    (placed_fell g c.in-Some.block c.args.name c.get-start.result c.args.places.now new jump c.requires.placed c.get-start.ensures c.lower_behind.ensures (omega (arith, fewer, c.requires.placed.words)))
 
 pub returns-else-is_empty-clause-placed : goal.returns-else-is_empty-clause-placed
 returns-else-is_empty-clause-placed c =
@@ -140,4 +139,4 @@ returns-else-is_empty-clause-placed c =
     let fewer = fell_words g.blocks c.in-Some.block c.args.name jump in
     let new : Places = record { addresses = c.lower_behind.new.addresses; words = c.args.places.now.words - 1 } in
     subst (λ (k : Graph). IsPlaced k new) (sym c.set_term.ensures.graph)
-    (placed_fell g c.in-Some.block c.args.name c.words_before-start.result c.args.places.now new jump c.requires.placed (c.words_before-start.ensures ∙ ap (λ t. get_or t c.in-Some.block nowhere) c.deref.ensures.value) c.lower_behind.ensures (omega (arith, fewer, c.requires.placed.words)))
+    (placed_fell g c.in-Some.block c.args.name c.get-start.result c.args.places.now new jump c.requires.placed c.get-start.ensures c.lower_behind.ensures (omega (arith, fewer, c.requires.placed.words)))

@@ -8,7 +8,7 @@ use Rattle.sq_chain.proofs.placing.exchange.Given as goal
 abbrev pub invariant-loop-place : goal.invariant-loop-place
 invariant-loop-place l = record {
   place : IsPlace (named l.graph.graph.blocks) l.place;
-  passed : ArePassed l.graph.graph l.seams (placed_at l.fn.addresses.items) (placed_at l.addresses.items) l.place;
+  passed : ArePassed l.graph.graph l.seams (placed_at l.fn.addresses) (placed_at l.addresses) l.place;
 }
 
 abbrev pub decreases-loop-place : goal.decreases-loop-place

@@ -57,7 +57,7 @@ overflow_sub-at c =
 pub loop-i-init : goal.loop-i-init
 loop-i-init c = record {
   room = refl;
-  placed = λ h laid room. none_placed_by block_words (fallen_blocks h.blocks) (placed_at c.args.room.items) room.none;
+  placed = λ h laid room. none_placed_by block_words (fallen_blocks h.blocks) (placed_at c.args.room) room.none;
   falls = λ h laid. omega arith;
 }
 
@@ -69,9 +69,9 @@ loop-i-preserved c = record {
       let fall = c.fall_of-fall.ensures h f.here.at.block f.block f.here.is (f.here.next ∙ sym c.name_at-next.ensures) f.here.found f.found in
       let rules = (fallen_keeps h laid.rules).rules in
       let size : 4 * (c.loop-i.at + (c.index-order-i.result.words - c.fall_of-fall.result)) ≡ 4 * c.loop-i.at + 4 * block_words f.block = omega (arith, fall, ap (λ (x : Extent). x.words) f.here.is) in
-      let placed = subst (λ bs. IsPlacedBy block_words (fallen_blocks h.blocks) (placed_at c.loop-i.addresses.items) bs (4 * c.loop-i.at)) f.rest (c.loop-i.invariant.placed h laid room) in
-      subst (λ n. IsPlacedBy block_words (fallen_blocks h.blocks) (placed_at c.put.new.addresses.items) (drop (c.loop-i.i + 1) (fallen_blocks h.blocks)) n) (sym size)
-      (one_placed_by block_words (fallen_blocks h.blocks) (4 * c.loop-i.at) (placed_at c.loop-i.addresses.items) (placed_at c.put.new.addresses.items) f.block (drop (c.loop-i.i + 1) (fallen_blocks h.blocks)) placed
+      let placed = subst (λ bs. IsPlacedBy block_words (fallen_blocks h.blocks) (placed_at c.loop-i.addresses) bs (4 * c.loop-i.at)) f.rest (c.loop-i.invariant.placed h laid room) in
+      subst (λ n. IsPlacedBy block_words (fallen_blocks h.blocks) (placed_at c.put.new.addresses) (drop (c.loop-i.i + 1) (fallen_blocks h.blocks)) n) (sym size)
+      (one_placed_by block_words (fallen_blocks h.blocks) (4 * c.loop-i.at) (placed_at c.loop-i.addresses) (placed_at c.put.new.addresses) f.block (drop (c.loop-i.i + 1) (fallen_blocks h.blocks)) placed
       (drop_distinct (fallen h) c.loop-i.i f.block (drop (c.loop-i.i + 1) (fallen_blocks h.blocks)) rules f.rest) (λ n. rw f.named (c.put.ensures.value n)));
   falls = λ h laid.
       let f = falling_at h c.args.order.now c.loop-i.i c.index-order-i.result laid.rules laid.listed (omega (arith, c.loop-i-test.true)) c.index-order-i.is in
@@ -90,8 +90,8 @@ fallen_length (b ∷ next ∷ rest) = omega (arith, fallen_length (next ∷ rest
 pub returns-clause-addresses : goal.returns-clause-addresses
 returns-clause-addresses c = λ h laid room.
     let all = drop_all c.loop-i.i (fallen_blocks h.blocks) (omega (arith, c.loop-i-test.false, extents_length h c.args.order.now laid.listed, fallen_length h.blocks)) in
-    all_placed_by block_words (fallen_blocks h.blocks) (4 * c.loop-i.at) (placed_at c.loop-i.addresses.items)
-    (subst (λ bs. IsPlacedBy block_words (fallen_blocks h.blocks) (placed_at c.loop-i.addresses.items) bs (4 * c.loop-i.at)) all (c.loop-i.invariant.placed h laid room))
+    all_placed_by block_words (fallen_blocks h.blocks) (4 * c.loop-i.at) (placed_at c.loop-i.addresses)
+    (subst (λ bs. IsPlacedBy block_words (fallen_blocks h.blocks) (placed_at c.loop-i.addresses) bs (4 * c.loop-i.at)) all (c.loop-i.invariant.placed h laid room))
 
 pub returns-clause-falls : goal.returns-clause-falls
 returns-clause-falls c = λ h laid room.
@@ -107,4 +107,4 @@ returns-clause-small c =
     let laid = c.requires.1 in
     let are = returns-clause-addresses c h laid c.requires.2 in
     let falls = returns-clause-falls c h laid c.requires.2 in
-    addresses_small (placed_at c.loop-i.addresses.items) (fallen h) (λ n. are n ∙ by_words (fallen_blocks h.blocks) 0 n) (omega (arith, falls, laid.few))
+    addresses_small (placed_at c.loop-i.addresses) (fallen h) (λ n. are n ∙ by_words (fallen_blocks h.blocks) 0 n) (omega (arith, falls, laid.few))

@@ -9,7 +9,7 @@ use Rattle.sq_chain.proofs.placing.fallen_addresses.Given as goal
 
 abbrev pub invariant-loop-i : goal.invariant-loop-i
 invariant-loop-i l = record {
-  room : length l.addresses.items ≡ length l.fn.room.items;
-  placed : (h : Graph) → IsLaidOut h l.order → IsRoom h l.fn.room.items → IsPlacedBy block_words (fallen_blocks h.blocks) (placed_at l.addresses.items) (drop l.i (fallen_blocks h.blocks)) (4 * l.at);
+  room : length l.addresses ≡ length l.fn.room;
+  placed : (h : Graph) → IsLaidOut h l.order → IsRoom h l.fn.room → IsPlacedBy block_words (fallen_blocks h.blocks) (placed_at l.addresses) (drop l.i (fallen_blocks h.blocks)) (4 * l.at);
   falls : (h : Graph) → IsLaidOut h l.order → l.at + l.falls + sum_by block_words (drop l.i h.blocks) ≡ sum_by block_words h.blocks;
 }

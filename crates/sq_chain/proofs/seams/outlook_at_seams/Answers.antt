@@ -1,6 +1,5 @@
-use Rattle.std.proofs.Common.{◌∙◌, ℕ, List, refl, sym, ap, subst}
+use Rattle.std.proofs.Common.{refl, sym, subst}
 use Rattle.sq_graph.specs.Blocks.{HasBlock}
-use Rattle.sq_chain.specs.Places.{placed_at}
 use Rattle.sq_chain.proofs.Distant.{addresses_stay, still_there}
 use Rattle.sq_chain.proofs.FallenNear.{reach_there, near_there}
 use Rattle.sq_chain.proofs.Orders.{last_has}
@@ -11,8 +10,7 @@ pub end_of_chain-requires-clause-to : goal.end_of_chain-requires-clause-to
 end_of_chain-requires-clause-to c = to_has c.args.graph.now.graph c.args.from c.args.to c.learn.ensures.rules c.requires.movable
 
 pub seams_of-seams-requires-clause-addresses : goal.seams_of-seams-requires-clause-addresses
-seams_of-seams-requires-clause-addresses c = λ n.
-    ap (λ (table : List ℕ). placed_at table n) c.deref-addresses.ensures.value ∙ addresses_stay c.args.graph.now.graph c.args.survey.now c.requires.survey c.if-survey-ne0.false n
+seams_of-seams-requires-clause-addresses c = addresses_stay c.args.graph.now.graph c.args.survey.now c.requires.survey c.if-survey-ne0.false
 
 pub look_around-requires-clause-to : goal.look_around-requires-clause-to
 look_around-requires-clause-to c = to_has c.args.graph.now.graph c.args.from c.args.to c.learn.ensures.rules c.requires.movable
@@ -23,8 +21,7 @@ look_around-requires-clause-end c =
     subst (HasBlock g) (sym (c.in-Some.ensures.some c.in-Some.end refl)) (last_has g c.args.from c.args.to c.learn.ensures.rules c.requires.movable)
 
 pub look_around-requires-clause-addresses : goal.look_around-requires-clause-addresses
-look_around-requires-clause-addresses c = λ n.
-    ap (λ (table : List ℕ). placed_at table n) c.deref-addresses.ensures.value ∙ addresses_stay c.args.graph.now.graph c.args.survey.now c.requires.survey c.if-survey-ne0.false n
+look_around-requires-clause-addresses c = addresses_stay c.args.graph.now.graph c.args.survey.now c.requires.survey c.if-survey-ne0.false
 
 pub look_around-requires-clause-reach : goal.look_around-requires-clause-reach
 look_around-requires-clause-reach c = reach_there c.args.graph.now.graph c.args.survey.now c.requires.survey c.if-survey-ne0.false c.if-not-survey.false
