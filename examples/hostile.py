@@ -24,11 +24,15 @@ KIND is one of:
     tables     1,000 relocation sections over one table of COUNT entries
     nearby     COUNT branches to a lone jump of their own, whose target comes near only once others' words went
     nearinvert COUNT branches over a lone jump, whose target comes near only once others' words went
+    nearmoved  the same, but it comes near only once chains moved, one after another
     asked      COUNT windows, and one procedure whose body may not come in place of its call, since a branch wouldn't reach
     waits      COUNT branches over a lone jump, whose targets come near one after another, each once one more window became calls
+    likened    COUNT windows, each of which is by renaming the body of a block: once it became calls, row O2 makes a call of that
     once       COUNT procedures that a note lists, each called once: row O4 puts their bodies in place
     blocked    the same, but between branches that just reach: row O4 may put none in place
     doubles    COUNT procedures that a note lists, with equal bodies, each called twice: row O3 leaves one of them
+    strangers  COUNT procedures that a note lists, and COUNT blocks, alike but for registers: none stands for the items of a block
+    heads      COUNT procedures that a note lists, which begin with two items as twice as many places do: none stands there
     rows       COUNT groups, each with a candidate of every row of the cost rule
 
 The text has at most 262,144 words, or Squeeze refuses it. Each kind ends with an exit, which every way through it reaches.
@@ -273,6 +277,27 @@ def nearinvert(p, count):
             p.items(addi(A2, A2, 1), addi(A2, A2, 1))
 
 
+def nearmoved(p, count):
+    items = itertools.count()
+    for group in range(-(-count // 300)):
+        numbers = [(group, number) for number in range(min(300, count - 300 * group))]
+        for number in numbers:
+            p.branch(("over", number))
+            p.jump(("target", number))
+            p.mark(("over", number))
+            p.items(only(next(items)))
+        for number in numbers:
+            p.branch(("lone", number))
+            p.items(addi(A2, A2, 1))
+            p.jump(("next", number))
+            p.mark(("lone", number))
+            p.jump("exit")
+            p.mark(("next", number))
+        for number in numbers:
+            p.mark(("target", number))
+            p.items(only(next(items)))
+
+
 def function(p):
     p.jump("exit")
     p.mark("function")
@@ -352,6 +377,22 @@ def waits(p, count):
         for number in numbers:
             p.mark(("target", number))
             p.items(*[only(next(items)) for _ in range(12)])
+
+
+def likened(p, count):
+    items = itertools.count()
+    for number in range(count):
+        for register in [T1, T1, T2]:
+            if register == T1:
+                p.items(only(next(items)))
+            else:
+                p.branch(("body", number))
+                p.mark(("body", number))
+            p.items(lui(register, number), addi(register, register, 1 + number % 2039))
+            p.items(addi(register, register, 1 + number % 1999), addi(A2, register, 3))
+        p.branch(("behind", number))
+        p.items(only(next(items)))
+        p.mark(("behind", number))
 
 
 def equal(p, count):
@@ -458,6 +499,41 @@ def doubles(p, count):
     procedures(p, count, 2, lambda _: [addi(A2, A2, 1), addi(A1, A1, 1), addi(A2, A2, 3), addi(A1, A1, 5)])
 
 
+def twice(p, count, body):
+    """Two calls of each of so many procedures, and behind the exit the procedures."""
+    for number in range(count):
+        p.jump(("procedure", number), T0)
+        p.items(only(number))
+        p.jump(("procedure", number), T0)
+    p.jump("exit")
+    for number in range(count):
+        p.procedure(("procedure", number), body(number))
+
+
+def strangers(p, count):
+    registers = [1, *range(7, 32)]
+    chosen = random.Random(2)
+
+    def body(_):
+        return [other << 20 | rs << 15 | rd << 7 | 0x33 for rd, rs, other in [chosen.choices(registers, k=3) for _ in range(3)]]
+
+    for number in range(count):
+        p.word(number)
+        p.mark(number)
+        p.items(*body(number))
+        p.jump("common")
+    p.mark("common")
+    p.items(*[store(register, A0, 0) for register in registers])
+    twice(p, count, body)
+
+
+def heads(p, count):
+    first = [addi(A2, A2, 1), addi(A1, A1, 1)]
+    for number in range(2 * count):
+        p.items(*first, only(count + number))
+    twice(p, count, lambda number: [*first, only(3 * count + number)])
+
+
 class Group:
     """Names of places and items that no other group of kind `rows` has."""
 
@@ -553,6 +629,7 @@ KINDS = {
     "windows": (windows, 15),
     "asked": (asked, 15),
     "waits": (waits, 30),
+    "likened": (likened, 17),
     "equal": (equal, 2),
     "renamed": (renamed, 4),
     "unmatched": (unmatched, 3),
@@ -561,9 +638,12 @@ KINDS = {
     "tables": (tables, 1),
     "nearby": (nearby, 7),
     "nearinvert": (nearinvert, 8),
+    "nearmoved": (nearmoved, 8),
     "once": (once, 4),
     "blocked": (blocked, 5),
     "doubles": (doubles, 7),
+    "strangers": (strangers, 11),
+    "heads": (heads, 13),
     "rows": (rows, 73),
 }
 
