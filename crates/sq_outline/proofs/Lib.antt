@@ -30,7 +30,7 @@ pub mod WindowsStanding
 pub mod WindowsLining
 pub mod WindowsListed
 pub mod WindowsCalling
-pub mod WindowsHeading
+pub mod WindowsReading
 pub mod WindowsApplying
 pub mod WindowsApart
 pub mod WindowsLast

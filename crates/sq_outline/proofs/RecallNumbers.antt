@@ -135,7 +135,7 @@ one_beginning pairs n link link' (key ∷ keys) (key' ∷ keys') l l' is is' =
     (rest.0, ap (λ k. k ∷ keys) same ∙ ap (λ ks. key' ∷ ks) rest.1)
 
 -- one beginning, one number
-one_number : (pairs : List (ℕ × ItemKey)) (n n' link : ℕ) (keys : List ItemKey) → StandOnce pairs → IsNumber pairs n link keys → IsNumber pairs n' link keys → n ≡ n'
+pub one_number : (pairs : List (ℕ × ItemKey)) (n n' link : ℕ) (keys : List ItemKey) → StandOnce pairs → IsNumber pairs n link keys → IsNumber pairs n' link keys → n ≡ n'
 one_number pairs n n' link [] once is is' = is ∙ sym is'
 one_number pairs n n' link (key ∷ keys) once is is' =
     let number = one_number pairs is.0 is'.0 link keys once is.4 is'.4 in

@@ -15,11 +15,11 @@ pub mod Spans
 pub mod Prints
 pub mod WindowsPlaces
 pub mod WindowsInside
-pub mod WindowsHeads
 pub mod WindowsMade
 pub mod WindowsSearch
 pub mod WindowsTaken
 pub mod WindowsKinds
+pub mod WindowsBodies
 pub mod WindowsCandidates
 pub mod WindowsProposed
 pub mod WindowsSwept

@@ -49,8 +49,8 @@ fn number_after(
     Ok(at as u32 + 32)
 }
 
-// The number of a link and a body.
-fn body_number(
+/// The number of a link and a body.
+pub(crate) fn body_number(
     pairs: &mut IndexSet<(u32, ItemKey)>,
     link: Reg,
     body: &[Item],

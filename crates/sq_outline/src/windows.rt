@@ -1,10 +1,10 @@
 //! The rows on windows: items inside bodies that become calls.
 
+mod bodies;
 mod doubles;
 mod earlier;
 mod endings;
 mod found;
-mod heads;
 mod inside;
 mod joins;
 mod kinds;

@@ -4,7 +4,7 @@
 //!              p: ..                            p: ..
 //!                 jr l                             jr l
 
-ghost use Rattle.std.specs.Prelude.{◌≡◌, ◌<◌, ◌+◌, ◌↔◌, ℕ, nat_eq, None, Ok, IsTrue, IfOk, IfSome, length};
+ghost use Rattle.std.specs.Prelude.{◌≡◌, ◌<◌, ◌+◌, ◌↔◌, ◌⊎◌, ℕ, nat_eq, None, Ok, IsTrue, IfOk, IfSome, length};
 ghost use Rattle.std.specs.HashMap.{get};
 ghost use Rattle.sq_graph.specs.Blocks.{HasBlock, HasProcedure};
 ghost use Rattle.sq_finger.specs.Lines.{line_of};
@@ -12,11 +12,11 @@ ghost use Rattle.sq_live.specs.Liveness.{IsLivenessOf};
 ghost use Rattle.sq_pass.specs.declared.cut.Cut.{Cut as Told};
 ghost use Rattle.sq_pass.specs.declared.cut.Row.TheVariants.{V as Inside};
 ghost use Rattle.sq_pass.specs.Cuts.{IsCompleted};
-ghost use Rattle.sq_outline.specs.WindowsHeads.{HasHeads};
+ghost use Rattle.sq_outline.specs.Spans.{IsIn};
+ghost use Rattle.sq_outline.specs.WindowsBodies.{HasBodies};
 ghost use Rattle.sq_outline.specs.WindowsInside.{StandsInside, MayCallInside, IsInsideCut};
 
-use crate::spans::Span;
-use crate::windows::heads::{heads, span_at};
+use crate::windows::bodies::{Bodies, read_bodies};
 use crate::windows::stands::stand_at;
 use sq_finger::{WindowAt, all_places};
 use sq_graph::Graph;
@@ -27,7 +27,6 @@ use sq_num::Memory;
 use sq_pass::{Blocks, Cut, Row};
 use sq_rename::has_no_reservations;
 use std::alloc::Global;
-use std::collections::HashMap;
 
 /// Whether the items of a procedure's body stand inside a block, and a call of it saves a word. It looks at no registers.
 fn stands_inside(graph: &Graph, block: u32, at: u32, procedure: u32) -> bool
@@ -70,20 +69,21 @@ pub(crate) fn may_call_inside(
     live.dead_at(block, at + count, graph.link(procedure))
 }
 
-/// The first procedure of which a call may stand for items from a place on.
-pub(crate) fn procedure_inside(
+/// The first procedure whose body has this number and of which a call may stand for items from a place on.
+fn procedure_ending(
     graph: &Graph,
     live: &Liveness,
-    heads: &HashMap<u64, Span>,
+    bodies: &Bodies,
+    number: u32,
     place: WindowAt,
 ) -> Option<u32>
-    requires heads { HasHeads graph.now.graph (get nat_eq heads.now) }
     requires block { HasBlock graph.now.graph place.block }
     requires live { IsLivenessOf graph.now.graph live.now }
     ensures some { IfSome result (λ procedure. HasProcedure graph.now.graph procedure × MayCallInside graph.now.graph place.block place.at procedure) }
-    ensures none { result ≡ None → (procedure : ℕ) → HasProcedure graph.now.graph procedure → ¬ MayCallInside graph.now.graph place.block place.at procedure }
+    ensures none { result ≡ None → (procedure : ℕ) → HasProcedure graph.now.graph procedure → IsIn (get nat_eq bodies.now.ends number) procedure → ¬ MayCallInside graph.now.graph place.block place.at procedure }
 {
-    let span = span_at(graph, heads, place)?;
+    graph.learn();
+    let span = bodies.ending(number)?;
     for procedure in span.first..span.end.min(graph.procedures()) {
         if may_call_inside(graph, live, place.block, place.at, procedure) {
             return Some(procedure);
@@ -92,14 +92,54 @@ pub(crate) fn procedure_inside(
     None
 }
 
+/// The lesser of two procedures, if there are both.
+fn lesser(one: Option<u32>, other: Option<u32>) -> Option<u32>
+    ensures either { (result ≡ one) ⊎ (result ≡ other) }
+    ensures none { result ≡ None → (one ≡ None) × (other ≡ None) }
+{
+    match (one, other) {
+        (Some(a), Some(b)) => Some(a.min(b)),
+        (None, other) => other,
+        (one, None) => one,
+    }
+}
+
+/// The first procedure of which a call may stand for items from a place on. It goes along the items there as long as a body begins
+/// so.
+pub(crate) fn procedure_inside(
+    graph: &Graph,
+    live: &Liveness,
+    bodies: &Bodies,
+    place: WindowAt,
+) -> Option<u32>
+    requires bodies { HasBodies graph.now.graph bodies.now.pairs.keys (get nat_eq bodies.now.ends) }
+    requires block { HasBlock graph.now.graph place.block }
+    requires live { IsLivenessOf graph.now.graph live.now }
+    ensures some { IfSome result (λ procedure. HasProcedure graph.now.graph procedure × MayCallInside graph.now.graph place.block place.at procedure) }
+    ensures none { result ≡ None → (procedure : ℕ) → HasProcedure graph.now.graph procedure → ¬ MayCallInside graph.now.graph place.block place.at procedure }
+{
+    graph.learn();
+    let items = graph.items(place.block);
+    let mut number = 0;
+    let mut found = None;
+    for at in place.at as usize..items.len() {
+        let Some(after) = bodies.with(number, &items[at]) else {
+            return found;
+        };
+        number = after;
+        found = lesser(found, procedure_ending(graph, live, bodies, number, place));
+    }
+    found
+}
+
 /// The first place from which on a call may stand for items, and the procedure.
 fn find_place(
     graph: &Graph,
     live: &Liveness,
-    heads: &HashMap<u64, Span>,
+    bodies: &Bodies,
     line: &[WindowAt],
 ) -> Option<(WindowAt, u32)>
-    requires heads { HasHeads graph.now.graph (get nat_eq heads.now) }
+    requires bodies { HasBodies graph.now.graph bodies.now.pairs.keys (get nat_eq bodies.now.ends) }
     requires live { IsLivenessOf graph.now.graph live.now }
     requires line { line.now ≡ line_of graph.now.graph }
     ensures some { IfSome result (λ found. HasProcedure graph.now.graph found.1 × MayCallInside graph.now.graph found.0.block found.0.at found.1) }
@@ -107,7 +147,7 @@ fn find_place(
 {
     graph.learn();
     for place in line {
-        if let Some(procedure) = procedure_inside(graph, live, heads, *place) {
+        if let Some(procedure) = procedure_inside(graph, live, bodies, *place) {
             return Some((*place, procedure));
         }
     }
@@ -150,9 +190,9 @@ pub(crate) fn find_inside(
     ensures some { IfOk result (λ found. IfSome found (IsInsideCut graph.now.graph)) }
     ensures none { result ≡ Ok None → (cut : Told) → ¬ IsInsideCut graph.now.graph cut }
 {
-    let heads = heads(alloc, graph)?;
+    let bodies = read_bodies(alloc, graph)?;
     let line = all_places(alloc, graph)?;
-    match find_place(graph, live, &heads, &line) {
+    match find_place(graph, live, &bodies, &line) {
         Some((place, procedure)) => Ok(Some(inside_cut(alloc, graph, place, procedure)?)),
         None => Ok(None),
     }

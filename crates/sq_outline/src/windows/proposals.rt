@@ -7,8 +7,8 @@ ghost use Rattle.sq_outline.specs.WindowsCandidates.{IsWindowsCandidate};
 ghost use Rattle.sq_outline.specs.WindowsProposed.{IsFoundWindow, IsPlacedIn};
 ghost use Rattle.sq_outline.specs.WindowsSearch.{AreWindowClasses};
 
+use crate::windows::bodies::read_bodies;
 use crate::windows::found::{Found, found_at};
-use crate::windows::heads::heads;
 use crate::windows::inside::{inside_cut, procedure_inside};
 use crate::windows::search::{classes_in_line, window_cut};
 use sq_finger::{Groups, WindowAt, all_places, number_items, number_longer_runs, window_laws};
@@ -150,10 +150,10 @@ fn push_calls(
     ensures { OnOk result (All (IsWindowsCandidate graph.now.graph) cuts.new.items) }
 {
     graph.learn();
-    let heads = heads(alloc, graph)?;
+    let bodies = read_bodies(alloc, graph)?;
     let line = all_places(alloc, graph)?;
     for place in &line {
-        if let Some(procedure) = procedure_inside(graph, live, &heads, *place) {
+        if let Some(procedure) = procedure_inside(graph, live, &bodies, *place) {
             cuts.push(inside_cut(alloc, graph, *place, procedure)?)?;
         }
     }

@@ -23,9 +23,9 @@ ghost use Rattle.sq_outline.specs.WindowsTaken.{is_free_place, IsTakenOf, MayBeM
 
 use crate::plain::are_plain;
 use crate::sites::Site;
+use crate::windows::bodies::read_bodies;
 use crate::windows::earlier::{Asking, Earlier};
 use crate::windows::found::{Found, found_with_sites, items_at};
-use crate::windows::heads::heads;
 use crate::windows::inside::procedure_inside;
 use crate::windows::kinds::{BlockKinds, block_kinds};
 use crate::windows::left::FoundWindows;
@@ -53,11 +53,11 @@ fn calls_to_try(alloc: Global, graph: &Graph, live: &Liveness) -> Result<Vec<Cal
     ensures { IfOk result (λ calls. All (λ call. MayCallInside graph.now.graph call.place.block call.place.at call.procedure) calls.items) }
 {
     graph.learn();
-    let heads = heads(alloc, graph)?;
+    let bodies = read_bodies(alloc, graph)?;
     let line = all_places(alloc, graph)?;
     let mut calls = Vec::new(alloc);
     for place in &line {
-        if let Some(procedure) = procedure_inside(graph, live, &heads, *place) {
+        if let Some(procedure) = procedure_inside(graph, live, &bodies, *place) {
             calls.push(Call {
                 place: *place,
                 procedure,
