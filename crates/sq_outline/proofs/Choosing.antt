@@ -1,5 +1,5 @@
 -- The blocks that are chosen for a register are as many as any that may be called through it.
-use Rattle.std.proofs.Common.{◌≡◌, ◌≢◌, ℕ, zero, suc, nat_eq, false, ◌↔◌, ◌+◌, ◌*◌, ◌-◌, ◌≤◌, ◌<◌, List, [], ◌∷◌, ◌++◌, length, get_or, ◌^◌, ◌==◌, Option, None, Some, inl, inr, refl, sym, ap, ◌∙◌, subst, arith}
+use Rattle.std.proofs.Common.{◌≡◌, ◌≢◌, ℕ, zero, suc, nat_eq, false, ◌↔◌, ◌+◌, ◌*◌, ◌-◌, ◌≤◌, ◌<◌, List, [], ◌∷◌, length, get_or, ◌^◌, ◌==◌, Option, None, Some, inl, inr, refl, sym, ap, ◌∙◌, subst, arith}
 use Rattle.std.specs.Prelude.{MatchOption, IfSome}
 use Rattle.std.specs.List.{All, AllByRecursion, Contains, IsDistinct}
 use Rattle.std.proofs.Math.Nat.{mul-le-mul_right}
@@ -23,7 +23,7 @@ use Rattle.sq_pass.specs.declared.cut.Row.TheVariants.{U, O1}
 use Rattle.sq_pass.specs.Cuts.{IsCompleted}
 use Rattle.sq_outline.specs.Made.{HasBody, ends_of, IsMade, AreMade, make_cut, IsMadeCut}
 use Rattle.sq_outline.specs.Sites.{IsPlace}
-use Rattle.sq_outline.specs.Sets.{Keeps, AreDeadBehind, AreDeadSets, IsOther, AreOthers, IsGroupOf, IsDeadBehind, Pays, IsTried, CanMake, HaveLink}
+use Rattle.sq_outline.specs.Sets.{Keeps, IsOther, AreOthers, IsGroupOf, IsDeadBehind, Pays, IsTried, CanMake, HaveLink}
 use Rattle.sq_outline.proofs.Keeping.{each_in, keeps_from, keeps_each, keeps_distinct, keeps_fewer, no_more}
 use Rattle.sq_outline.proofs.Linking.{link_may}
 use Rattle.sq_outline.proofs.Making.{each_mapped, made_applied}
@@ -155,27 +155,6 @@ two_in_group g first group rest of can few =
     pays_two zero n paid under = omega (arith, paid)
     pays_two (suc zero) n paid under = omega (arith, paid)
     pays_two (suc (suc calls)) n paid under = omega (arith, under)
-
--- what is dead behind blocks, one more at the end, and at a place
-module _ (g : Graph) where
-  pub sets_push : (blocks sets : List ℕ) (block set : ℕ) → AreDeadSets g blocks sets → AreDeadBehind set g block → AreDeadSets g (blocks ++ block ∷ []) (sets ++ set ∷ [])
-  sets_push [] [] block set are own = (own, tt)
-  sets_push [] (s ∷ sets) block set are own = absurd are
-  sets_push (b ∷ blocks) [] block set are own = absurd are
-  sets_push (b ∷ blocks) (s ∷ sets) block set are own = (are.0, sets_push blocks sets block set are.1 own)
-
-  pub sets_long : (blocks sets : List ℕ) → AreDeadSets g blocks sets → length sets ≡ length blocks
-  sets_long [] [] are = refl
-  sets_long [] (s ∷ sets) are = absurd are
-  sets_long (b ∷ blocks) [] are = absurd are
-  sets_long (b ∷ blocks) (s ∷ sets) are = ap suc (sets_long blocks sets are.1)
-
-  pub set_at : (blocks sets : List ℕ) (i : ℕ) → AreDeadSets g blocks sets → i < length blocks → AreDeadBehind (get_or sets i 0) g (get_or blocks i 0)
-  set_at [] [] i are there = absurd (omega (arith, there))
-  set_at [] (s ∷ sets) i are there = absurd are
-  set_at (b ∷ blocks) [] i are there = absurd are
-  set_at (b ∷ blocks) (s ∷ sets) zero are there = are.0
-  set_at (b ∷ blocks) (s ∷ sets) (suc i) are there = set_at blocks sets i are.1 (omega (arith, there))
 
 -- a candidate is such a choice
 

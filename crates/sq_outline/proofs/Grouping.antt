@@ -79,7 +79,7 @@ module _ (g : Graph) (classes : List (List ℕ)) (are : AreClasses (print_of g) 
           (members_distinct k numbers (names_of g) (names_distinct g rules));
       whole = λ b body.
           let every = are.every b body.there in
-          let kinds : print_of g first ≡ print_of g b = one_print g b first body.match.match in
+          let kinds : print_of g first ≡ print_of g b = one_print g b first rules body.match in
           let same : k ≡ every.0 = (are.same k every.0 first b (group, (is, own)) every.1).1 kinds in
           let other = every.1 in
           let groups : other.0 ≡ group = let e : Some other.0 ≡ Some group = sym (subst (λ n. slice_get classes n ≡ Some other.0) (sym same) other.1.0) ∙ is in cc in

@@ -7,6 +7,8 @@ pub mod Calling
 pub mod Making
 pub mod Applying
 pub mod Printing
+mod Marking
+mod MarkWrites
 pub mod Keeping
 pub mod Choosing
 pub mod Grouping

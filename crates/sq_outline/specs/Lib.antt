@@ -13,6 +13,8 @@ pub mod Blocked
 pub mod Still
 pub mod Spans
 pub mod Prints
+pub mod Marks
+pub mod Callees
 pub mod WindowsPlaces
 pub mod WindowsInside
 pub mod WindowsMade

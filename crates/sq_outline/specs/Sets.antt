@@ -1,7 +1,6 @@
 -- How blocks are searched whose bodies may become calls of one new procedure.
-use Rattle.std.specs.Prelude.{◌≡◌, ◌≢◌, ◌↔◌, ℕ, nat_eq, true, ◌+◌, ◌*◌, ◌-◌, ◌≤◌, ◌<◌, List, [], ◌∷◌, length, slice_index}
+use Rattle.std.specs.Prelude.{◌≡◌, ◌≢◌, ℕ, nat_eq, ◌+◌, ◌*◌, ◌-◌, ◌≤◌, ◌<◌, List, [], ◌∷◌, length, slice_index}
 use Rattle.std.specs.List.{All, Contains, IsDistinct}
-use Rattle.sq_isa.specs.Registers.{is_member}
 use Rattle.sq_graph.specs.Graph.{Graph}
 use Rattle.sq_graph.specs.Blocks.{HasBlock, items_of}
 use Rattle.sq_rename.specs.Bodies.{IsLiveBehind}
@@ -29,17 +28,6 @@ pub record IsGroupOf (g : Graph) (first : ℕ) (group : List ℕ) : Type 0 where
   pub there : All (HasBlock g) group
   pub distinct : IsDistinct nat_eq group
   pub whole : (block : ℕ) → HasBody g (items_of g first) block → Contains group block
-
--- these are the registers that are dead behind the items of a block
-abbrev pub AreDeadBehind : ℕ → Graph → ℕ → Type 0
-AreDeadBehind dead g block = (r : ℕ) → 0 < r → r < 32 → (is_member dead r ≡ true) ↔ ¬ IsLiveBehind g block r
-
--- and those of each of these blocks
-abbrev pub AreDeadSets : Graph → List ℕ → List ℕ → Type 0
-AreDeadSets g [] [] = Unit {0}
-AreDeadSets g [] (set ∷ sets) = ⊥
-AreDeadSets g (block ∷ blocks) [] = ⊥
-AreDeadSets g (block ∷ blocks) (set ∷ sets) = AreDeadBehind set g block × AreDeadSets g blocks sets
 
 abbrev pub IsDeadBehind : Graph → ℕ → ℕ → Type 0
 IsDeadBehind g r block = ¬ IsLiveBehind g block r

@@ -16,10 +16,13 @@ ghost use Rattle.sq_pass.specs.declared.cut.Cut.{Cut as Told};
 ghost use Rattle.sq_pass.specs.declared.cut.Row.TheVariants.{O2 as Called};
 ghost use Rattle.sq_pass.specs.Cuts.{IsCompleted};
 ghost use Rattle.sq_outline.specs.Called.{MayCall, call_saving, IsCalledCut};
-ghost use Rattle.sq_outline.specs.Prints.{HasPrints};
+ghost use Rattle.sq_outline.specs.Callees.{AreCallees};
+ghost use Rattle.sq_outline.specs.Marks.{IsMark, AreWrites};
 ghost use Rattle.sq_outline.specs.Spans.{IsIn};
 
-use crate::groups::{procedure_prints, span_of};
+use crate::callees::{Callees, callees_of};
+use crate::groups::span_of;
+use crate::marks::{Mark, Writes, are_apart, mark_of};
 use crate::plain::are_plain;
 use crate::spans::Span;
 use sq_graph::{Graph, Item};
@@ -30,7 +33,6 @@ use sq_num::Memory;
 use sq_pass::{Blocks, Cut, Row};
 use sq_rename::matches_body;
 use std::alloc::Global;
-use std::collections::HashMap;
 
 /// Makes items that match the body of a procedure a call of it.
 pub(crate) fn call(graph: &mut Graph, block: u32, at: u32, procedure: u32)
@@ -69,54 +71,82 @@ pub(crate) fn may_call(graph: &Graph, live: &Liveness, block: u32, procedure: u3
     matches_body(graph, live, block, procedure).is_some()
 }
 
+/// The same, which the mark of the body and the procedure's writes mostly tell.
+fn may_call_marked(
+    graph: &Graph,
+    live: &Liveness,
+    block: u32,
+    mark: &Mark,
+    procedure: u32,
+    writes: &Writes,
+) -> bool
+    requires block { HasBlock graph.now.graph block }
+    requires procedure { HasProcedure graph.now.graph procedure }
+    requires live { IsLivenessOf graph.now.graph live.now }
+    requires mark { IsMark graph.now.graph block mark.now }
+    requires writes { AreWrites (body_of graph.now.graph procedure) writes.now }
+    ensures { IsTrue result ↔ MayCall graph.now.graph block procedure }
+{
+    graph.learn();
+    if are_apart(mark, writes) {
+        return false;
+    }
+    may_call(graph, live, block, procedure)
+}
+
 /// The first procedure of the span of which a call may stand for the body of the block.
-fn procedure_for(graph: &Graph, live: &Liveness, span: Span, block: u32) -> Option<u32>
+fn procedure_for(
+    graph: &Graph,
+    live: &Liveness,
+    callees: &Callees,
+    span: Span,
+    block: u32,
+) -> Option<u32>
     requires block { HasBlock graph.now.graph block }
     requires live { IsLivenessOf graph.now.graph live.now }
+    requires callees { AreCallees graph.now.graph callees.now }
     ensures some { IfSome result (λ procedure. HasProcedure graph.now.graph procedure × MayCall graph.now.graph block procedure) }
     ensures none { result ≡ None → (procedure : ℕ) → IsIn (Some span) procedure → HasProcedure graph.now.graph procedure → ¬ MayCall graph.now.graph block procedure }
 {
+    let mark = mark_of(graph, live, block);
     for procedure in span.first..span.end.min(graph.procedures()) {
-        if may_call(graph, live, block, procedure) {
+        let writes = &callees.writes[procedure as usize];
+        if may_call_marked(graph, live, block, &mark, procedure, writes) {
             return Some(procedure);
         }
     }
     None
 }
 
-/// The same of all procedures, where these are their prints.
+/// The same of all procedures, where these are they.
 pub(crate) fn procedure_by_print(
     graph: &Graph,
     live: &Liveness,
-    prints: &HashMap<u64, Span>,
+    callees: &Callees,
     block: u32,
 ) -> Option<u32>
     requires block { HasBlock graph.now.graph block }
     requires live { IsLivenessOf graph.now.graph live.now }
-    requires prints { HasPrints graph.now.graph (get nat_eq prints.now) }
+    requires callees { AreCallees graph.now.graph callees.now }
     ensures some { IfSome result (λ procedure. HasProcedure graph.now.graph procedure × MayCall graph.now.graph block procedure) }
     ensures none { result ≡ None → (procedure : ℕ) → HasProcedure graph.now.graph procedure → ¬ MayCall graph.now.graph block procedure }
 {
-    let span = span_of(graph, prints, block)?;
-    procedure_for(graph, live, span, block)
+    graph.learn();
+    let span = span_of(graph, &callees.spans, block)?;
+    procedure_for(graph, live, callees, span, block)
 }
 
 /// The first block for whose body a call may stand, and the procedure.
-fn find_call(
-    graph: &Graph,
-    live: &Liveness,
-    prints: &HashMap<u64, Span>,
-    names: &[u32],
-) -> Option<(u32, u32)>
+fn find_call(graph: &Graph, live: &Liveness, callees: &Callees, names: &[u32]) -> Option<(u32, u32)>
     requires live { IsLivenessOf graph.now.graph live.now }
-    requires prints { HasPrints graph.now.graph (get nat_eq prints.now) }
+    requires callees { AreCallees graph.now.graph callees.now }
     requires names { names.now ≡ names_of graph.now.graph }
     ensures some { IfSome result (λ found. HasProcedure graph.now.graph found.1 × MayCall graph.now.graph found.0 found.1) }
     ensures none { result ≡ None → All (λ block. (procedure : ℕ) → HasProcedure graph.now.graph procedure → ¬ MayCall graph.now.graph block procedure) names.now }
 {
     graph.learn();
     for name in names {
-        if let Some(procedure) = procedure_by_print(graph, live, prints, *name) {
+        if let Some(procedure) = procedure_by_print(graph, live, callees, *name) {
             return Some((*name, procedure));
         }
     }
@@ -171,8 +201,8 @@ pub(crate) fn find_called(
     ensures some { IfOk result (λ found. IfSome found (IsCalledCut graph.now.graph)) }
     ensures none { result ≡ Ok None → (cut : Told) → ¬ IsCalledCut graph.now.graph cut }
 {
-    let prints = procedure_prints(alloc, graph)?;
-    match find_call(graph, live, &prints, names) {
+    let callees = callees_of(alloc, graph)?;
+    match find_call(graph, live, &callees, names) {
         Some((block, procedure)) => Ok(Some(call_cut(alloc, graph, block, procedure)?)),
         None => Ok(None),
     }

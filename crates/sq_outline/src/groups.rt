@@ -1,97 +1,32 @@
 //! Blocks in groups, such that all blocks whose bodies match are in one.
 
-ghost use Rattle.std.specs.Prelude.{◌≡◌, ◌+◌, ◌*◌, ◌≤◌, ◌<◌, ◌^◌, nat_eq, Some, map, IfOk};
+ghost use Rattle.std.specs.Prelude.{◌≡◌, ◌<◌, ◌^◌, nat_eq, Some, length, map, IfOk};
 ghost use Rattle.std.specs.HashMap.{get};
 ghost use Rattle.std.specs.List.{All};
-ghost use Rattle.sq_isa.specs.Forms.{first_of, second_of};
 ghost use Rattle.sq_graph.specs.Blocks.{HasBlock, HasProcedure, body_of};
 ghost use Rattle.sq_graph.specs.Parts.{names_of};
 ghost use Rattle.sq_graph.specs.Rules.{ItemFits};
-ghost use Rattle.sq_rename.specs.Shapes.{shape_of};
 ghost use Rattle.sq_finger.specs.Groups.{AreClasses};
-ghost use Rattle.sq_outline.specs.Prints.{item_number, mixed, first_sources, print_of_items, print_of, print_groups, HasPrints};
+ghost use Rattle.sq_outline.specs.Prints.{print_of_items, print_of, print_groups, HasPrints};
 
 use crate::spans::{Span, note};
-use sq_encode::encode;
 use sq_finger::number_all;
 use sq_graph::{Graph, Item};
-use sq_isa::Insn;
+use sq_isa::RegSet;
 use sq_live::block_names;
 use sq_num::Memory;
-use sq_rename::shape;
+use sq_rename::items_print;
 use std::alloc::Global;
 use std::collections::HashMap;
 use std::marker::Model;
 
-/// The number of an item's shape.
-fn shape_number(item: &Item) -> u64
-    requires { ItemFits item.now }
-    ensures value { result ≡ item_number (shape_of item.now) }
-    ensures small { result < 2 ^ 34 }
-{
-    match shape(item) {
-        Item::Op(insn) => u64::from(encode(&insn)),
-        Item::Hi { to, .. } => (1 << 32) + u64::from(to),
-        Item::Lo { to, .. } => (1 << 33) + u64::from(to),
-        Item::Out { procedure } => (3 << 32) + u64::from(procedure),
-    }
-}
-
-/// A print with one number more.
-fn mixed(print: u64, number: u64) -> u64
-    requires print { print ≤ 2 ^ 32 }
-    requires number { number < 2 ^ 34 }
-    ensures value { result ≡ mixed print number }
-    ensures small { result ≤ 2 ^ 32 }
-{
-    (print * 1_540_483_477 + number) % 4_294_967_291
-}
-
-/// The number of the registers that an instruction reads, one source or two.
-fn insn_sources(insn: &Insn) -> u64
-    ensures value { result ≡ first_of insn.now + 32 * second_of insn.now }
-    ensures small { result < 2 ^ 10 }
-{
-    let (a, b) = match *insn {
-        Insn::Jalr { rs, .. } | Insn::Load { rs, .. } | Insn::OpImm { rs, .. } => (rs.number(), 0),
-        Insn::Store { rs, src, .. } | Insn::Atomic { rs, src, .. } => (rs.number(), src.number()),
-        Insn::Op { a, b, .. } | Insn::Branch { a, b, .. } => (a.number(), b.number()),
-        Insn::Lui { .. }
-        | Insn::Auipc { .. }
-        | Insn::Jal { .. }
-        | Insn::Fence { .. }
-        | Insn::Ecall
-        | Insn::Ebreak
-        | Insn::Unimp { .. } => (0, 0),
-    };
-    u64::from(a) + 32 * u64::from(b)
-}
-
-/// The number of the registers that the first of the items reads.
-fn first_sources(items: &[Item]) -> u64
-    ensures value { result ≡ first_sources items.now }
-    ensures small { result < 2 ^ 10 }
-{
-    if items.is_empty() {
-        return 0;
-    }
-    match items[0] {
-        Item::Op(insn) => insn_sources(&insn),
-        Item::Lo { rs, .. } => u64::from(rs.number()),
-        Item::Hi { .. } | Item::Out { .. } => 0,
-    }
-}
-
 /// The print of items: items that match have one.
 fn print(items: &[Item]) -> u64
-    requires { All ItemFits items.now }
+    requires fit { All ItemFits items.now }
+    requires few { length items.now < 2 ^ 31 }
     ensures { result ≡ print_of_items items.now }
 {
-    let mut print = first_sources(items);
-    for item in items {
-        print = mixed(print, shape_number(item));
-    }
-    print
+    items_print(0, items, RegSet::new())
 }
 
 /// The print of a block: blocks whose bodies match have one.

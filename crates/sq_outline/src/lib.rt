@@ -7,6 +7,7 @@
 #![tactic(auto)]
 
 mod call;
+mod callees;
 mod callers;
 mod ends;
 mod filed;
@@ -14,6 +15,7 @@ mod groups;
 mod inline;
 mod link;
 mod make;
+mod marks;
 mod outlines;
 mod plain;
 mod proposals;

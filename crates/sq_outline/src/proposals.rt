@@ -8,8 +8,9 @@ ghost use Rattle.sq_outline.specs.Made.{IsMadeCut};
 ghost use Rattle.sq_outline.specs.Still.{IsDying};
 
 use crate::call::{call_cut, procedure_by_print};
+use crate::callees::callees_of;
 use crate::callers::{Body, bodies_of, proposal};
-use crate::groups::{Groups, body_groups, procedure_prints};
+use crate::groups::{Groups, body_groups};
 use sq_graph::Graph;
 use sq_live::{Liveness, block_names};
 use sq_num::Memory;
@@ -62,9 +63,9 @@ pub fn propose(alloc: Global, graph: &Graph, live: &Liveness) -> Result<Vec<Cut>
     let mut cuts = propose_made(alloc, graph, live, &groups)?;
     graph.learn();
     let names = block_names(alloc, graph)?;
-    let prints = procedure_prints(alloc, graph)?;
+    let callees = callees_of(alloc, graph)?;
     for name in &names {
-        if let Some(procedure) = procedure_by_print(graph, live, &prints, *name) {
+        if let Some(procedure) = procedure_by_print(graph, live, &callees, *name) {
             cuts.push(call_cut(alloc, graph, *name, procedure)?)?;
         }
     }

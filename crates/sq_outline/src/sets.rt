@@ -5,19 +5,20 @@ ghost use Rattle.std.specs.List.{All};
 ghost use Rattle.sq_graph.specs.Blocks.{HasBlock, items_of};
 ghost use Rattle.sq_finger.specs.Groups.{AreClasses};
 ghost use Rattle.sq_live.specs.Liveness.{IsLivenessOf};
-ghost use Rattle.sq_rename.specs.Bodies.{IsBodyMatch, IsLiveBehind};
+ghost use Rattle.sq_outline.specs.Marks.{AreMarks, AreWrites, IsMark};
 ghost use Rattle.sq_outline.specs.Made.{HasBody};
 ghost use Rattle.sq_outline.specs.Prints.{print_of, print_groups};
-ghost use Rattle.sq_outline.specs.Sets.{Keeps, AreDeadBehind, AreDeadSets, IsOther, AreOthers, IsGroupOf, IsDeadBehind, Pays, IsTried, CanMake};
+ghost use Rattle.sq_outline.specs.Sets.{Keeps, IsOther, AreOthers, IsGroupOf, IsDeadBehind, Pays, IsTried, CanMake};
 
 use crate::groups::{Groups, body_groups};
 use crate::link::{ORDER, is_unmentioned};
+use crate::marks::{Mark, Writes, are_apart, marks_of};
 use crate::plain::are_plain;
 use sq_graph::Graph;
-use sq_isa::{Reg, RegSet};
+use sq_isa::Reg;
 use sq_live::Liveness;
 use sq_num::Memory;
-use sq_rename::{dead_registers, match_items, matches};
+use sq_rename::matches;
 use std::alloc::Global;
 
 /// Whether the body of a block matches that of the first.
@@ -37,74 +38,53 @@ pub(crate) fn has_body(graph: &Graph, live: &Liveness, block: u32, first: u32) -
     matches(graph, live, block, first).is_some()
 }
 
-/// Whether the items of one block match those of another, where these are the registers that are dead behind the first.
-fn items_match(graph: &Graph, a: u32, b: u32, dead: RegSet) -> bool
-    requires first { HasBlock graph.now.graph a }
-    requires second { HasBlock graph.now.graph b }
-    requires dead { AreDeadBehind dead graph.now.graph a }
-    ensures { IsTrue result ↔ IsBodyMatch graph.now.graph.procedures (items_of graph.now.graph a) (items_of graph.now.graph b) (IsLiveBehind graph.now.graph a) }
-{
-    match_items(graph, graph.items(a), graph.items(b), dead).is_some()
-}
-
-/// Whether the block, behind whose items these registers are dead, is another than the first, whose body it matches.
-fn is_other(graph: &Graph, block: u32, first: u32, dead: RegSet) -> bool
+/// Whether the block is another than the first, whose body it matches. The mark of its body and the writes of the first mostly
+/// tell.
+fn is_other(
+    graph: &Graph,
+    live: &Liveness,
+    block: u32,
+    first: u32,
+    mark: &Mark,
+    writes: &Writes,
+) -> bool
     requires block { HasBlock graph.now.graph block }
     requires first { HasBlock graph.now.graph first }
-    requires dead { AreDeadBehind dead graph.now.graph block }
+    requires live { IsLivenessOf graph.now.graph live.now }
+    requires mark { IsMark graph.now.graph block mark.now }
+    requires writes { AreWrites (items_of graph.now.graph first) writes.now }
     ensures { IsTrue result ↔ IsOther graph.now.graph first block }
 {
+    graph.learn();
     if block == first {
         return false;
     }
-    items_match(graph, block, first, dead) && are_plain(graph.items(block))
+    if are_apart(mark, writes) {
+        return false;
+    }
+    has_body(graph, live, block, first)
 }
 
-/// The registers that are dead behind the items of a block, without x0.
-fn dead_set(graph: &Graph, live: &Liveness, block: u32) -> RegSet
-    requires live { IsLivenessOf graph.now.graph live.now }
-    requires block { HasBlock graph.now.graph block }
-    ensures { AreDeadBehind result graph.now.graph block }
-{
-    graph.learn();
-    dead_registers(live, block, graph.items(block).len() as u32)
-}
-
-/// The same for each of these blocks.
-fn dead_sets(
+/// Those of a group that are other blocks than the first, whose body they match. These are their marks.
+fn others_of(
     alloc: Global,
     graph: &Graph,
     live: &Liveness,
     group: &[u32],
-) -> Result<Vec<RegSet>, Memory>
-    requires live { IsLivenessOf graph.now.graph live.now }
-    requires group { All (HasBlock graph.now.graph) group.now }
-    ensures { IfOk result (λ sets. AreDeadSets graph.now.graph group.now sets.items) }
-{
-    let mut sets = Vec::new(alloc);
-    for name in group {
-        sets.push(dead_set(graph, live, *name))?;
-    }
-    Ok(sets)
-}
-
-/// Those of a group that are other blocks than the first, whose body they match. These are what is dead behind them.
-fn others_of(
-    alloc: Global,
-    graph: &Graph,
-    group: &[u32],
-    sets: &[RegSet],
+    marks: &[Mark],
     first: u32,
 ) -> Result<Vec<u32>, Memory>
     requires first { HasBlock graph.now.graph first }
     requires group { All (HasBlock graph.now.graph) group.now }
-    requires sets { AreDeadSets graph.now.graph group.now sets.now }
+    requires live { IsLivenessOf graph.now.graph live.now }
+    requires marks { AreMarks graph.now.graph group.now marks.now }
     ensures { IfOk result (λ others. Keeps (IsOther graph.now.graph first) group.now others.items) }
 {
+    graph.learn();
+    let writes = Writes::of(graph.items(first));
     let mut others = Vec::new(alloc);
     for i in 0..group.len() {
-        let dead = sets[i];
-        if is_other(graph, group[i], first, dead) {
+        if is_other(graph, live, group[i], first, &marks[i], &writes) {
             others.push(group[i])?;
         }
     }
@@ -224,13 +204,13 @@ fn others_for(
     graph: &Graph,
     live: &Liveness,
     group: &[u32],
-    sets: &[RegSet],
+    marks: &[Mark],
     first: u32,
 ) -> Result<Option<Vec<u32>>, Memory>
     requires first { HasBlock graph.now.graph first }
     requires live { IsLivenessOf graph.now.graph live.now }
     requires group { IsGroupOf graph.now.graph first group.now }
-    requires sets { AreDeadSets graph.now.graph group.now sets.now }
+    requires marks { AreMarks graph.now.graph group.now marks.now }
     ensures some { IfOk result (λ found. IfSome found (λ chosen. CanMake graph.now.graph first chosen.items)) }
     ensures none { result ≡ Ok None → (rest : List ℕ) → ¬ CanMake graph.now.graph first rest }
 {
@@ -243,7 +223,7 @@ fn others_for(
     if !has_body(graph, live, first, first) {
         return Ok(None);
     }
-    let others = others_of(alloc, graph, group, sets, first)?;
+    let others = others_of(alloc, graph, live, group, marks, first)?;
     if others.len() + 1 < fewest {
         return Ok(None);
     }
@@ -265,9 +245,9 @@ fn find_in(
     if group.len() < 2 {
         return Ok(None);
     }
-    let sets = dead_sets(alloc, graph, live, group)?;
+    let marks = marks_of(alloc, graph, live, group)?;
     for name in group {
-        if let Some(others) = others_for(alloc, graph, live, group, &sets, *name)? {
+        if let Some(others) = others_for(alloc, graph, live, group, &marks, *name)? {
             return Ok(Some((*name, others)));
         }
     }
@@ -297,7 +277,7 @@ fn find_among(
 }
 
 /// A block, and others with which its body may become a procedure, where there are such. It compares the bodies of each
-/// group of blocks of one print with each other.
+/// group of blocks of one print with each other, where their marks don't tell them apart.
 pub(crate) fn find_set(
     alloc: Global,
     graph: &Graph,

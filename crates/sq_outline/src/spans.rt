@@ -2,7 +2,7 @@
 
 ghost use Rattle.std.specs.Prelude.{◌+◌, ◌<◌, ◌^◌, ℕ, Some, nat_eq, OnOk};
 ghost use Rattle.std.specs.HashMap.{get};
-ghost use Rattle.sq_outline.specs.Spans.{IsIn};
+ghost use Rattle.sq_outline.specs.Spans.{IsIn, StillIn};
 
 use sq_num::Memory;
 use std::collections::HashMap;
@@ -41,7 +41,7 @@ pub(crate) fn note(
 ) -> Result<(), Memory>
     requires { procedure + 1 < 2 ^ 32 }
     ensures here { OnOk result (IsIn (get nat_eq spans.new number) procedure) }
-    ensures others { OnOk result ((n p : ℕ) → IsIn (get nat_eq spans.old n) p → IsIn (get nat_eq spans.new n) p) }
+    ensures others { OnOk result (StillIn (get nat_eq spans.old) (get nat_eq spans.new)) }
 {
     let span = widened(spans.get(&number).copied(), procedure);
     spans.insert(number, span)?;

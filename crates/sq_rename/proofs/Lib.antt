@@ -7,3 +7,5 @@ pub mod Bodies
 mod Dead
 mod Sizes
 mod LiveApart
+pub mod Prints
+mod Started

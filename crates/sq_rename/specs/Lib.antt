@@ -4,3 +4,5 @@ pub mod Bodies
 pub mod Reservations
 pub mod Pairs
 pub mod Inverses
+pub mod Prints
+pub mod Walks

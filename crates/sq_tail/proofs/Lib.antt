@@ -13,7 +13,6 @@ pub mod Searching
 pub mod Words
 pub mod Fitting
 pub mod BodiesEqual
-pub mod BodiesWalked
 pub mod BodiesPrinted
 pub mod BodiesEarlier
 pub mod BodiesFound

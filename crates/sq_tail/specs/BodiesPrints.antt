@@ -1,30 +1,16 @@
 -- Prints: numbers that are equal for blocks whose bodies match.
-use Rattle.std.specs.Prelude.{ℕ, ◌+◌, ◌*◌, ◌%◌, ◌^◌, ◌==◌, ◌||◌, ◌≡◌, ◌≤◌, ◌<◌, Bool, false, if◌then◌else◌, List, [], ◌∷◌, length, Option, None, Some, option_to_list, unwrap_or, slice_get, slice_index, get_or}
-use Rattle.sq_isa.specs.Encoding.{word_of}
+use Rattle.std.specs.Prelude.{ℕ, ◌+◌, ◌||◌, ◌≡◌, ◌<◌, Bool, false, List, [], ◌∷◌, length, Option, None, Some, option_to_list, slice_get, slice_index}
 use Rattle.sq_isa.specs.Registers.{is_member}
 use Rattle.sq_graph.specs.declared.item.Item.{Item}
 use Rattle.sq_graph.specs.declared.item.Item.TheVariants.{Op, Hi, Lo, Out}
 use Rattle.sq_graph.specs.Graph.{Procedure, Graph}
 use Rattle.sq_graph.specs.Blocks.{items_of}
-use Rattle.sq_graph.specs.Matches.{item_registers, item_reads, item_writes}
+use Rattle.sq_graph.specs.Matches.{item_reads, item_writes}
 use Rattle.sq_graph.specs.Resolve.{ResolvedTerm, resolved_term_of}
 use Rattle.sq_graph.specs.Uses.{term_uses}
 use Rattle.sq_graph.specs.Walks.{is_register}
-use Rattle.sq_live.specs.Liveness.{places_of}
-use Rattle.sq_rename.specs.Pairs.{padded}
-use Rattle.sq_rename.specs.Shapes.{shape_of}
-use Rattle.sq_tail.specs.declared.bodies.walks.Walk.{Walk}
-
--- the number of an item: of an instruction its word, and else the block or the procedure that it names
-abbrev pub item_number : Item → ℕ
-item_number (Op insn) = word_of insn
-item_number (Hi rd to) = 2 ^ 32 + to
-item_number (Lo rd rs to) = 2 ^ 33 + to
-item_number (Out procedure) = 3 * 2 ^ 32 + procedure
-
--- a print with one number more
-abbrev pub mixed : ℕ → ℕ → ℕ
-mixed print number = (print * 1540483477 + number) % 4294967291
+use Rattle.sq_rename.specs.Bodies.{live_behind}
+use Rattle.sq_rename.specs.Prints.{mixed, print_from}
 
 -- one more than the block that is named, and 0 where none is
 abbrev pub number_of_uses : List ℕ → ℕ
@@ -35,43 +21,6 @@ number_of_uses (to ∷ rest) = to + 1
 abbrev pub end_number : Option ResolvedTerm → ℕ
 end_number None = 0
 end_number (Some resolved) = mixed (number_of_uses (term_uses resolved.term)) (number_of_uses (option_to_list resolved.next))
-
--- a walk over a body: the print so far, and the codes of the registers that have been met
-pub record Walked : Type 0 where
-  pub print : ℕ
-  pub codes : ℕ → Option ℕ
-
--- the code of a register: where it is met first its number if it is kept, and else another
-abbrev pub code_of : Walked → (ℕ → Bool) → ℕ → ℕ → ℕ
-code_of walk kept other r = unwrap_or (walk.codes r) (if kept r then r else other)
-
-abbrev pub met : Walked → (ℕ → Bool) → ℕ → ℕ → Walked
-met walk kept other r =
-    record {
-      print = mixed walk.print (code_of walk kept other r);
-      codes = λ q. if r == q then Some (code_of walk kept other r) else walk.codes q;
-    }
-
-abbrev pub met_all : Walked → (ℕ → Bool) → ℕ → List ℕ → Walked
-met_all walk kept other [] = walk
-met_all walk kept other (r ∷ rs) = met_all (met walk kept other r) kept other rs
-
--- those registers are kept that are read by the item in which they are met first
-abbrev pub met_item : Walked → (ℕ → Bool) → ℕ → Item → Walked
-met_item walk keeps other item =
-    met_all (record { print = mixed walk.print (item_number (shape_of item)); codes = walk.codes }) (λ r. keeps r || item_reads item r) other (padded 5 (item_registers item))
-
-abbrev pub walked : Walked → (ℕ → Bool) → ℕ → List Item → Walked
-walked walk keeps other [] = walk
-walked walk keeps other (item ∷ items) = walked (met_item walk keeps other item) keeps (other + 1) items
-
--- x0 has been met
-abbrev pub started : ℕ → Walked
-started print = record { print = print; codes = λ r. if 0 == r then Some 0 else None }
-
--- the registers that are live behind the items of a block
-abbrev pub live_behind : List (ℕ × List ℕ) → Graph → ℕ → ℕ
-live_behind live g block = slice_index (places_of live block) (length (items_of g block))
 
 -- the registers that items read or write, and those that a procedure names: its link, and those of its body
 abbrev pub are_named : List Item → ℕ → Bool
@@ -102,14 +51,6 @@ pub record AreNamed (g : Graph) (sets : List ℕ) : Type 0 where
 abbrev pub is_kept : List (ℕ × List ℕ) → Graph → ℕ → ℕ → Bool
 is_kept live g block r = is_member (live_behind live g block) r || is_called g.procedures (items_of g block) r
 
--- the print of a block: of its end, and of a walk over its items. The others' codes are no registers
+-- the print of a block: of its end, and of its items
 abbrev pub print_of : List (ℕ × List ℕ) → Graph → ℕ → ℕ
-print_of live g block = (walked (started (end_number (resolved_term_of g block))) (is_kept live g block) 32 (items_of g block)).print
-
--- walks as the code holds them
-abbrev pub walk_of : Walk → Walked
-walk_of walk = record { print = walk.print; codes = λ r. get_or walk.codes r None }
-
-pub record IsWalk (walk : Walk) : Type 0 where
-  pub small : walk.print ≤ 2 ^ 32
-  pub count : length walk.codes ≡ 32
+print_of live g block = print_from (end_number (resolved_term_of g block)) (is_kept live g block) (items_of g block)

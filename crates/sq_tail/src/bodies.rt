@@ -8,7 +8,6 @@
 mod calls;
 mod earlier;
 mod prints;
-mod walks;
 
 ghost use Rattle.std.specs.Prelude.{◌≡◌, ◌↔◌, ◌<◌, ℕ, None, Ok, IsTrue, map, length, slice_index, IfOk, IfSome, MatchOption};
 ghost use Rattle.std.specs.List.{All};

@@ -9,13 +9,13 @@ ghost use Rattle.sq_lookup.specs.Resolutions.{AreResolutions};
 ghost use Rattle.sq_tail.specs.BodiesPrints.{number_of_uses, end_number, AreNamed, print_of};
 
 use super::calls::{all_named, called};
-use super::walks::{Walk, mixed};
 use crate::resolved::resolved_term_by;
 use sq_graph::Graph;
 use sq_isa::RegSet;
 use sq_live::Liveness;
 use sq_lookup::{Resolutions, resolve_all};
 use sq_num::Memory;
+use sq_rename::{items_print, mixed};
 use std::alloc::Global;
 
 /// One more than a block, and 0 where there is none.
@@ -52,11 +52,7 @@ fn print(graph: &Graph, live: &Liveness, table: &Resolutions, sets: &[RegSet], b
     let items = graph.items(block);
     let live = live.live_at(block, items.len() as u32);
     let kept = live.union(called(graph, sets, block));
-    let mut walk = Walk::new(end_number(graph, table, block));
-    for (place, item) in items.iter().enumerate() {
-        walk.meet_item(item, kept, 32 + place as u32);
-    }
-    walk.print
+    items_print(end_number(graph, table, block), items, kept)
 }
 
 /// The prints of these blocks.

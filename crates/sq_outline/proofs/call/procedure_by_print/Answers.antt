@@ -6,8 +6,8 @@ use Rattle.sq_outline.proofs.call.procedure_by_print.Goals as goal
 
 pub returns-in_err-span-clause-none : goal.returns-in_err-span-clause-none
 returns-in_err-span-clause-none c = λ none procedure there may.
-    subst (λ span. IsIn span procedure) (sym c.span_of.ensures ∙ c.in_err-span.was) (in_span c.args.graph.now.graph c.args.block (get nat_eq c.args.prints.now) c.requires.prints procedure there may)
+    subst (λ span. IsIn span procedure) (sym c.span_of.ensures ∙ c.in_err-span.was) (in_span c.args.graph.now.graph c.args.block (get nat_eq c.args.callees.now.spans) c.learn.ensures.rules c.requires.callees.spans procedure there may)
 
 pub returns-clause-none : goal.returns-clause-none
 returns-clause-none c = λ none procedure there may.
-    c.procedure_for.ensures.none none procedure (subst (λ span. IsIn span procedure) (sym c.span_of.ensures ∙ c.in_ok-span.was) (in_span c.args.graph.now.graph c.args.block (get nat_eq c.args.prints.now) c.requires.prints procedure there may)) there may
+    c.procedure_for.ensures.none none procedure (subst (λ span. IsIn span procedure) (sym c.span_of.ensures ∙ c.in_ok-span.was) (in_span c.args.graph.now.graph c.args.block (get nat_eq c.args.callees.now.spans) c.learn.ensures.rules c.requires.callees.spans procedure there may)) there may

@@ -1,6 +1,9 @@
-use Rattle.std.proofs.Common.{sym, subst}
-use Rattle.sq_graph.specs.Rules.{ItemFits}
+use Rattle.std.proofs.Common.{◌≡◌, ℕ, false, ◌∙◌}
+use Rattle.sq_isa.specs.Registers.{is_member}
+use Rattle.sq_rename.specs.Prints.{print_from}
 use Rattle.sq_outline.proofs.groups.print.Goals as goal
 
-pub shape_number-requires : goal.shape_number-requires
-shape_number-requires c = subst ItemFits (sym c.item-item.is) (c.requires c.loop-item.item-index c.item-item.result c.loop-item-test.true)
+pub returns : goal.returns
+returns c =
+    let none : (r : ℕ) → is_member c.new.result r ≡ false = c.new.ensures in
+    c.items_print.ensures ∙ (λ i. print_from 0 (λ r. none r i) c.args.items.now)

@@ -1,8 +1,8 @@
-use Rattle.std.proofs.Common.{List, ℕ, [], ◌+◌, take, get_or, sym, ap, ◌∙◌, subst, arith}
-use Rattle.std.proofs.lemmas.List.{get_or_default}
-use Rattle.sq_outline.specs.Sets.{Keeps, nothing, AreDeadBehind, IsOther}
+use Rattle.std.proofs.Common.{List, ℕ, [], ◌+◌, take, sym, ap, ◌∙◌, subst}
+use Rattle.sq_graph.specs.declared.item.Item.{Item}
+use Rattle.sq_outline.specs.Marks.{AreWrites}
+use Rattle.sq_outline.specs.Sets.{Keeps, nothing, IsOther}
 use Rattle.sq_outline.proofs.Keeping.{keeps_next, leaves_next}
-use Rattle.sq_outline.proofs.Choosing.{set_at, sets_long}
 use Rattle.sq_outline.proofs.sets.others_of.Goals as goal
 use Rattle.sq_outline.proofs.sets.others_of.Goals.{then-is_other+in_ok-push, else-is_other}
 
@@ -12,20 +12,8 @@ loop-i-init c = subst (λ (ys : List ℕ). Keeps (IsOther c.args.graph.now.graph
 pub is_other-requires-clause-block : goal.is_other-requires-clause-block
 is_other-requires-clause-block c = c.requires.group c.loop-i.i 0 c.loop-i-test.true
 
-pub bounds-sets-i : goal.bounds-sets-i
-bounds-sets-i c =
-    let long = sets_long c.args.graph.now.graph c.args.group.now c.args.sets.now c.requires.sets in
-    let there = c.loop-i-test.true in
-    omega arith
-
-pub is_other-requires-clause-dead : goal.is_other-requires-clause-dead
-is_other-requires-clause-dead c =
-    let g = c.args.graph.now.graph in
-    let i = c.loop-i.i in
-    let long = sets_long g c.args.group.now c.args.sets.now c.requires.sets in
-    let there = c.loop-i-test.true in
-    subst (λ set. AreDeadBehind set g (get_or c.args.group.now i 0)) (get_or_default c.args.sets.now i 0 c.index-sets-i.result (omega (arith, there, long)) ∙ sym c.index-sets-i.is)
-    (set_at g c.args.group.now c.args.sets.now i c.requires.sets there)
+pub is_other-requires-clause-writes : goal.is_other-requires-clause-writes
+is_other-requires-clause-writes c = subst (λ (items : List Item). AreWrites items c.of-writes.result) c.items.ensures c.of-writes.ensures
 
 pub loop-i-preserved : goal.loop-i-preserved
 loop-i-preserved c =

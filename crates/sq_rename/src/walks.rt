@@ -1,18 +1,21 @@
-//! Walks over bodies, by which their prints are made.
+//! Prints of items: numbers that are equal for items that match, and mostly differ for others.
 
-ghost use Rattle.std.specs.Prelude.{◌≡◌, ◌≤◌, ◌<◌, ◌^◌, ℕ};
+ghost use Rattle.std.specs.Prelude.{◌≡◌, ◌≤◌, ◌<◌, ◌^◌, ℕ, length};
+ghost use Rattle.std.specs.List.{All};
 ghost use Rattle.sq_isa.specs.Registers.{is_member};
 ghost use Rattle.sq_graph.specs.Rules.{ItemFits};
+ghost use Rattle.sq_rename.specs.Prints.{item_number, mixed, started, met, met_item, print_from};
 ghost use Rattle.sq_rename.specs.Shapes.{shape_of};
-ghost use Rattle.sq_tail.specs.BodiesPrints.{item_number, mixed, started, met, met_item, walk_of, IsWalk};
+ghost use Rattle.sq_rename.specs.Walks.{walk_of, IsWalk};
 
+use crate::items::{item_reads, registers};
+use crate::shapes::shape;
 use sq_encode::encode;
 use sq_graph::Item;
 use sq_isa::{Reg, RegSet};
-use sq_rename::{item_reads, registers, shape};
 
 /// The number of an item's shape.
-fn shape_number(item: &Item) -> u64
+pub fn shape_number(item: &Item) -> u64
     requires { ItemFits item.now }
     ensures value { result ≡ item_number (shape_of item.now) }
     ensures small { result < 2 ^ 34 }
@@ -26,7 +29,7 @@ fn shape_number(item: &Item) -> u64
 }
 
 /// A print with one number more.
-pub(crate) fn mixed(print: u64, number: u64) -> u64
+pub fn mixed(print: u64, number: u64) -> u64
     requires print { print ≤ 2 ^ 32 }
     requires number { number < 2 ^ 34 }
     ensures value { result ≡ mixed print number }
@@ -35,17 +38,17 @@ pub(crate) fn mixed(print: u64, number: u64) -> u64
     (print * 1_540_483_477 + number) % 4_294_967_291
 }
 
-/// The print of what has been walked over, and the codes of the registers that have been met. Bodies that match give equal
+/// The print of what has been walked over, and the codes of the registers that have been met. Items that match give equal
 /// codes to registers in equal places.
 #[derive(Clone, Copy)]
-pub(crate) struct Walk {
-    pub(crate) print: u64,
+struct Walk {
+    print: u64,
     codes: [Option<u32>; 32],
 }
 
 impl Walk {
     /// The walk that goes on from this print, and has met x0.
-    pub(crate) fn new(print: u64) -> Walk
+    fn new(print: u64) -> Walk
         requires { print ≤ 2 ^ 32 }
         ensures fits { IsWalk result }
         ensures value { walk_of result ≡ started print }
@@ -69,7 +72,7 @@ impl Walk {
     }
 
     /// Goes over an item. These registers are kept, and those that the item reads.
-    pub(crate) fn meet_item(&mut self, item: &Item, keeps: RegSet, other: u32)
+    fn meet_item(&mut self, item: &Item, keeps: RegSet, other: u32)
         requires walk { IsWalk self.old }
         requires item { ItemFits item.now }
         ensures fits { IsWalk self.new }
@@ -81,4 +84,18 @@ impl Walk {
             self.meet(*r, kept, other);
         }
     }
+}
+
+/// The print of items behind what has this print. Items that match have one, where these registers go with themselves.
+pub fn items_print(print: u64, items: &[Item], keeps: RegSet) -> u64
+    requires print { print ≤ 2 ^ 32 }
+    requires items { All ItemFits items.now }
+    requires few { length items.now < 2 ^ 31 }
+    ensures { result ≡ print_from print (is_member keeps) items.now }
+{
+    let mut walk = Walk::new(print);
+    for (place, item) in items.iter().enumerate() {
+        walk.meet_item(item, keeps, 32 + place as u32);
+    }
+    walk.print
 }

@@ -1,9 +1,8 @@
 use Rattle.std.proofs.Common.{◌≡◌, drop}
 use Rattle.sq_isa.specs.Registers.{is_member}
-use Rattle.sq_graph.specs.Matches.{item_registers}
-use Rattle.sq_rename.specs.Pairs.{padded}
-use Rattle.sq_tail.specs.BodiesPrints.{met_all, met_item, walk_of, IsWalk}
-use Rattle.sq_tail.proofs.bodies.walks.Walk.meet_item.Given as goal
+use Rattle.sq_rename.specs.Prints.{met_all, met_item}
+use Rattle.sq_rename.specs.Walks.{walk_of, IsWalk}
+use Rattle.sq_rename.proofs.walks.Walk.meet_item.Given as goal
 
 abbrev pub invariant-loop-r : goal.invariant-loop-r
 invariant-loop-r l = record {

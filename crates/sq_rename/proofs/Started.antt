@@ -1,7 +1,7 @@
 -- How a walk begins.
-use Rattle.std.proofs.Common.{◌≡◌, ℕ, zero, suc, ◌==◌, Bool, false, if◌then◌else◌, List, ◌∷◌, Option, Some, None, get_or, replicate, refl, sym, ap, ◌∙◌, arith}
+use Rattle.std.proofs.Common.{◌≡◌, ℕ, zero, suc, ◌==◌, Bool, false, if◌then◌else◌, ◌∷◌, Option, Some, None, get_or, replicate, refl, sym, ap, ◌∙◌}
 use Rattle.std.proofs.lemmas.Bool.{ne_eqb}
-use Rattle.sq_tail.specs.BodiesPrints.{started}
+use Rattle.sq_rename.specs.Prints.{started}
 
 none_met : (n r : ℕ) → get_or (replicate n (let o : Option ℕ = None in o)) r None ≡ None
 none_met zero r = refl

@@ -2,8 +2,8 @@ use Rattle.std.proofs.Common.{◌≡◌, ◌∙◌, ◌||◌, ℕ, None, get_or,
 use Rattle.sq_isa.specs.Registers.{is_member}
 use Rattle.sq_graph.specs.Matches.{item_reads}
 use Rattle.sq_rename.specs.Shapes.{shape_of}
-use Rattle.sq_tail.specs.BodiesPrints.{item_number, mixed, met_all}
-use Rattle.sq_tail.proofs.bodies.walks.Walk.meet_item.Goals as goal
+use Rattle.sq_rename.specs.Prints.{item_number, mixed, met_all}
+use Rattle.sq_rename.proofs.walks.Walk.meet_item.Goals as goal
 
 pub loop-r-init : goal.loop-r-init
 loop-r-init c =
