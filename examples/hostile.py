@@ -32,6 +32,7 @@ KIND is one of:
     blocked    the same, but between branches that just reach: row O4 may put none in place
     doubles    COUNT procedures that a note lists, with equal bodies, each called twice: row O3 leaves one of them
     strangers  COUNT procedures that a note lists, and COUNT blocks, alike but for registers: none stands for the items of a block
+    outlived   COUNT blocks that are alike but for registers, with an eighth as many sets of registers that are live behind them: none match
     heads      COUNT procedures that a note lists, which begin with two items as twice as many places do: none stands there
     rows       COUNT groups, each with a candidate of every row of the cost rule
 
@@ -527,6 +528,27 @@ def strangers(p, count):
     twice(p, count, body)
 
 
+def outlived(p, count):
+    """The first two registers that a body writes are dead behind all of them, the others are live behind it and a few more."""
+    chosen = random.Random(4)
+    readers = [chosen.sample(range(9, 32), 8) for _ in range(count // 8 + 1)]
+    seen = set()
+    for number in range(count):
+        reader = number % len(readers)
+        kept = tuple(chosen.sample(readers[reader], 5))
+        while kept in seen:
+            kept = tuple(chosen.sample(readers[reader], 5))
+        seen.add(kept)
+        p.word(number)
+        p.mark(number)
+        p.items(*[addi(register, 0, 5) for register in [*chosen.sample(range(5, 9), 2), *kept]])
+        p.jump(("reader", reader))
+    for number, read in enumerate(readers):
+        p.mark(("reader", number))
+        p.items(*[store(register, A0, 4 * chosen.randrange(512)) for register in read])
+        p.jump("exit")
+
+
 def heads(p, count):
     first = [addi(A2, A2, 1), addi(A1, A1, 1)]
     for number in range(2 * count):
@@ -644,6 +666,7 @@ KINDS = {
     "doubles": (doubles, 7),
     "strangers": (strangers, 11),
     "heads": (heads, 13),
+    "outlived": (outlived, 9),
     "rows": (rows, 73),
 }
 
