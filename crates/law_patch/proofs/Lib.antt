@@ -31,7 +31,9 @@ pub mod Exchanging
 mod Replacing
 pub mod Calls
 mod Matching
+pub mod MatchedBack
 pub mod MatchedCalls
+pub mod MatchedItems
 pub mod OneBlock
 mod Leading
 mod Meeting

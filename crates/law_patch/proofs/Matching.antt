@@ -72,7 +72,7 @@ written_same (suc d) (suc e) r s z y h k =
     (cases_eq s (suc e))
 
 -- an instruction with other registers has as many sources
-same_count : (d x y : ℕ) (insn : Insn) → length (sources_of (with_registers d x y insn)) ≡ length (sources_of insn)
+pub same_count : (d x y : ℕ) (insn : Insn) → length (sources_of (with_registers d x y insn)) ≡ length (sources_of insn)
 same_count d x y (Lui rd upper) = refl
 same_count d x y (Auipc rd upper) = refl
 same_count d x y (Jal rd offset) = refl
