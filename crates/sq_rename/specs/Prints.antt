@@ -1,5 +1,5 @@
 -- Prints of items: numbers that are equal for items that match.
-use Rattle.std.specs.Prelude.{ℕ, ◌+◌, ◌*◌, ◌%◌, ◌^◌, ◌==◌, ◌||◌, Bool, if◌then◌else◌, List, [], ◌∷◌, Option, None, Some, unwrap_or}
+use Rattle.std.specs.Prelude.{ℕ, ◌+◌, ◌*◌, ◌/◌, ◌%◌, ◌^◌, bit_xor, ◌==◌, ◌||◌, Bool, if◌then◌else◌, List, [], ◌∷◌, Option, None, Some, unwrap_or}
 use Rattle.sq_isa.specs.Encoding.{word_of}
 use Rattle.sq_graph.specs.declared.item.Item.{Item}
 use Rattle.sq_graph.specs.declared.item.Item.TheVariants.{Op, Hi, Lo, Out}
@@ -16,7 +16,9 @@ item_number (Out procedure) = 3 * 2 ^ 32 + procedure
 
 -- a print with one number more
 abbrev pub mixed : ℕ → ℕ → ℕ
-mixed print number = (print * 1540483477 + number) % 4294967291
+mixed print number =
+    let product = (print + number) * 11400714819323198485 % 2 ^ 64 in
+    bit_xor product (product / 2 ^ 32)
 
 -- a walk over items: the print so far, and the codes of the registers that have been met
 pub record Walked : Type 0 where

@@ -1,5 +1,5 @@
 -- Walks as the code holds them. No public clause cites this module.
-use Rattle.std.specs.Prelude.{◌≡◌, ◌≤◌, ◌^◌, None, length, get_or}
+use Rattle.std.specs.Prelude.{◌≡◌, None, length, get_or}
 use Rattle.sq_rename.specs.Prints.{Walked}
 use Rattle.sq_rename.specs.declared.walks.Walk.{Walk}
 
@@ -7,5 +7,4 @@ abbrev pub walk_of : Walk → Walked
 walk_of walk = record { print = walk.print; codes = λ r. get_or walk.codes r None }
 
 pub record IsWalk (walk : Walk) : Type 0 where
-  pub small : walk.print ≤ 2 ^ 32
   pub count : length walk.codes ≡ 32

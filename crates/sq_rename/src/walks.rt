@@ -1,6 +1,6 @@
 //! Prints of items: numbers that are equal for items that match, and mostly differ for others.
 
-ghost use Rattle.std.specs.Prelude.{◌≡◌, ◌≤◌, ◌<◌, ◌^◌, ℕ, length};
+ghost use Rattle.std.specs.Prelude.{◌≡◌, ◌<◌, ◌^◌, ℕ, length};
 ghost use Rattle.std.specs.List.{All};
 ghost use Rattle.sq_isa.specs.Registers.{is_member};
 ghost use Rattle.sq_graph.specs.Rules.{ItemFits};
@@ -28,14 +28,14 @@ pub fn shape_number(item: &Item) -> u64
     }
 }
 
-/// A print with one number more.
+/// A print with one number more. The mix isn't linear, so that bodies that differ hardly ever have one print.
 pub fn mixed(print: u64, number: u64) -> u64
-    requires print { print ≤ 2 ^ 32 }
-    requires number { number < 2 ^ 34 }
-    ensures value { result ≡ mixed print number }
-    ensures small { result ≤ 2 ^ 32 }
+    ensures { result ≡ mixed print number }
 {
-    (print * 1_540_483_477 + number) % 4_294_967_291
+    let product = print
+        .wrapping_add(number)
+        .wrapping_mul(11_400_714_819_323_198_485);
+    product ^ (product >> 32)
 }
 
 /// The print of what has been walked over, and the codes of the registers that have been met. Items that match give equal
@@ -49,7 +49,6 @@ struct Walk {
 impl Walk {
     /// The walk that goes on from this print, and has met x0.
     fn new(print: u64) -> Walk
-        requires { print ≤ 2 ^ 32 }
         ensures fits { IsWalk result }
         ensures value { walk_of result ≡ started print }
     {
@@ -88,7 +87,6 @@ impl Walk {
 
 /// The print of items behind what has this print. Items that match have one, where these registers go with themselves.
 pub fn items_print(print: u64, items: &[Item], keeps: RegSet) -> u64
-    requires print { print ≤ 2 ^ 32 }
     requires items { All ItemFits items.now }
     requires few { length items.now < 2 ^ 31 }
     ensures { result ≡ print_from print (is_member keeps) items.now }

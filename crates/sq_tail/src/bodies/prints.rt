@@ -1,6 +1,6 @@
 //! Prints of blocks: numbers that are equal for bodies that match, and mostly differ for others.
 
-ghost use Rattle.std.specs.Prelude.{◌≡◌, ◌≤◌, ◌^◌, map, option_to_list, IfOk};
+ghost use Rattle.std.specs.Prelude.{◌≡◌, map, option_to_list, IfOk};
 ghost use Rattle.std.specs.List.{All};
 ghost use Rattle.sq_graph.specs.Blocks.{HasBlock};
 ghost use Rattle.sq_graph.specs.Resolve.{resolved_term_of};
@@ -20,8 +20,7 @@ use std::alloc::Global;
 
 /// One more than a block, and 0 where there is none.
 fn block_number(block: Option<u32>) -> u64
-    ensures value { result ≡ number_of_uses (option_to_list block) }
-    ensures small { result ≤ 2 ^ 32 }
+    ensures { result ≡ number_of_uses (option_to_list block) }
 {
     match block {
         Some(block) => u64::from(block) + 1,
@@ -33,8 +32,7 @@ fn block_number(block: Option<u32>) -> u64
 fn end_number(graph: &Graph, table: &Resolutions, block: u32) -> u64
     requires table { AreResolutions graph.now.graph table.now }
     requires block { HasBlock graph.now.graph block }
-    ensures value { result ≡ end_number (resolved_term_of graph.now.graph block) }
-    ensures small { result ≤ 2 ^ 32 }
+    ensures { result ≡ end_number (resolved_term_of graph.now.graph block) }
 {
     let end = resolved_term_by(graph, table, block);
     mixed(block_number(end.term.target()), block_number(end.next))

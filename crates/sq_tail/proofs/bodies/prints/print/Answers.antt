@@ -32,6 +32,6 @@ returns c =
     let kept : (r : ℕ) → is_member c.union-kept.result r ≡ is_kept c.args.live.now c.args.graph.now.graph c.args.block r =
     λ r. c.union-kept.ensures r ∙ ap (λ set. is_member set r || is_member c.called.result r) same ∙ ap (λ b. is_member (live_behind live g c.args.block) r || b) (c.called.ensures r) in
     c.items_print.ensures
-    ∙ ap (λ n. print_from n (is_member c.union-kept.result) c.items-items.result.now) c.end_number.ensures.value
+    ∙ ap (λ n. print_from n (is_member c.union-kept.result) c.items-items.result.now) c.end_number.ensures
     ∙ (λ i. print_from print (λ r. kept r i) c.items-items.result.now)
     ∙ ap (print_from print (is_kept live g c.args.block)) c.items-items.ensures
