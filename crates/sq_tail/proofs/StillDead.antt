@@ -1,28 +1,24 @@
 -- What is dead behind a block stays so while the whole body of another goes.
-use Rattle.std.proofs.Common.{Result, Ok, Err, ◌≡◌, ◌≢◌, ℕ, zero, suc, ◌+◌, ◌-◌, ◌<◌, ◌≤◌, ◌==◌, Bool, true, false, List, [], ◌∷◌, ◌++◌, Option, None, Some, IsSome, is_some, length, slice_get, refl, sym, ap, ◌∙◌, subst, arith}
-use Rattle.std.specs.Prelude.{slice_index, IfOk, IfSome, MatchOption}
-use Rattle.std.proofs.lemmas.Bool.{eq-eqb, eqb-false}
-use Rattle.std.proofs.lemmas.Map.Keys.{apart_from_distinct}
+use Rattle.std.proofs.Common.{Result, Ok, Err, ◌≡◌, ◌≢◌, ℕ, zero, suc, ◌+◌, ◌-◌, ◌<◌, ◌≤◌, ◌==◌, Bool, true, false, List, [], ◌∷◌, ◌++◌, Option, None, Some, IsSome, is_some, length, slice_get, inl, inr, refl, sym, ap, ◌∙◌, subst, arith}
+use Rattle.std.specs.Prelude.{IfOk, MatchOption}
+use Rattle.std.proofs.lemmas.Bool.{cases_eq, eq-eqb, ne_eqb}
 use Rattle.std.proofs.lemmas.Option.{get_or_from_slice_get, slice_get_within}
 use Rattle.sq_num.specs.declared.memory.Memory.{Memory}
 use Rattle.sq_num.specs.declared.packed.Savings.{Savings}
-use Rattle.std.specs.List.{IsDistinct}
 use Rattle.sq_isa.specs.Registers.{is_member}
 use Rattle.sq_graph.specs.Graph.{Block, Graph}
 use Rattle.sq_graph.specs.Blocks.{HasBlock, block_of, block_items, items_of}
 use Rattle.sq_graph.specs.Canonical.{canonical_of}
 use Rattle.sq_graph.specs.Matches.{IsPair}
-use Rattle.sq_graph.specs.Parts.{names_of}
 use Rattle.sq_graph.specs.Rules.{IsGraph}
 use Rattle.sq_graph.specs.Resolve.{resolved_term_of}
 use Rattle.sq_layout.proofs.Standing.{block_of-changed}
-use Rattle.sq_live.proofs.Layouts.{keys-named}
 use Rattle.law_patch.specs.Bodies.{HaveBodies}
 use Rattle.law_patch.specs.Merges.{merged}
 use Rattle.law_patch.proofs.StayingDead.{body_dead, canonical_dead}
 use Rattle.sq_rename.specs.Bodies.{IsBodyMatch, IsMatchBy, MayLive, IsLiveBehind}
 use Rattle.sq_tail.specs.Bodies.{IsBodyPair, MayDrop}
-use Rattle.sq_tail.specs.StillDead.{AreDead, IsDeadBehind, IsStillDead, AreStillDead, KeepsDeadElsewhere, IsJoinedWhole}
+use Rattle.sq_tail.specs.StillDead.{AreDead, IsDeadBehind, IsStillDead, AreTold, KeepsDeadElsewhere, IsJoinedWhole}
 use Rattle.sq_tail.specs.Tails.{joined}
 use Rattle.sq_tail.specs.declared.sweep.bodies.Behind.{Behind}
 use Rattle.sq_tail.proofs.Applying.{body_ends}
@@ -116,26 +112,23 @@ module _ (g : Graph) (dropped kept dead : ℕ) (apart : kept ≢ dropped) (may :
   pair_by None none sure = absurd (cc)
   pair_by (Some to) m sure = pair_of g dropped kept may (bodies_of g dropped kept apart may terms (body_by to m))
 
--- THE BLOCKS AHEAD
+-- WHAT IS TOLD UNDER NAMES
 
-names_apart : (g : Graph) (names : List ℕ) (i j : ℕ) → IsGraph g → names ≡ names_of g → i < j → j < length names → slice_index names i ≢ slice_index names j
-names_apart g names i j rules is ahead below =
-    let distinct : IsDistinct (λ a b. a == b) (names_of g) = subst (IsDistinct (λ a b. a == b)) (keys-named g.blocks) rules.distinct in
-    let apart = apart_from_distinct (λ a b. a == b) names i j 0 (subst (IsDistinct (λ a b. a == b)) (sym is) distinct) ahead below in
-    eqb-false (slice_index names i) (slice_index names j) apart
+-- of one block more
+pub told_more : (g : Graph) {block : ℕ} (own : Behind) (before after : ℕ → Option Behind) → AreTold g before → IsStillDead g block own.items own.dead → after block ≡ Some own → ((other : ℕ) → (block == other) ≡ false → after other ≡ before other) → AreTold g after
+told_more g {block} own before after told dead here others other b is =
+    elim (cases_eq other block) [
+      | inl same ↦
+          let one : Some own ≡ Some b = sym here ∙ subst (λ k. after k ≡ Some b) same is in
+          let equal : own ≡ b = cc in
+          subst (λ k. IsStillDead g k b.items b.dead) (sym same) (subst (λ (c : Behind). IsStillDead g block c.items c.dead) equal dead)
+      | inr apart ↦ told other b (sym (others other (ne_eqb block other (λ e. apart (sym e)))) ∙ is)
+    ]
 
--- one block less is told of
-pub still_dead_ahead : (g h : Graph) (first : Graph) (names : List ℕ) (told : List (Option Behind)) (place : ℕ) → IsGraph first → names ≡ names_of first → place < length names → AreStillDead g names told (place + 1) → KeepsDeadElsewhere g h (slice_index names place) → AreStillDead h names told place
-still_dead_ahead g h first names told place rules is below dead keeps = record {
-  many = dead.many;
-  each = λ i b ahead there.
-      keeps (slice_index names i) b.items b.dead (names_apart first names i place rules is ahead below) (dead.each i b (omega (arith, ahead)) there);
-}
-
--- what is told of a block where something is
-pub told_where : (P : Behind → Type 0) (told : Option Behind) → IfSome told P → (b : Behind) → told ≡ Some b → P b
-told_where P None some b is = absurd (cc)
-told_where P (Some t) some b is = subst P (cc) some
-
-pub all_told : (g : Graph) (names : List ℕ) (told : List (Option Behind)) (count : ℕ) → length told ≡ length names → ((i : ℕ) (b : Behind) → slice_get told i ≡ Some (Some b) → IsStillDead g (slice_index names i) b.items b.dead) → AreStillDead g names told count
-all_told g names told count many each = record { many = many; each = λ i b ahead there. each i b there }
+-- no more of the block that goes, and what is told of the others holds still
+pub told_still : (g h : Graph) (gone : ℕ) (before after : ℕ → Option Behind) → AreTold g before → after gone ≡ None → ((other : ℕ) → (gone == other) ≡ false → after other ≡ before other) → KeepsDeadElsewhere g h gone → AreTold h after
+told_still g h gone before after told none others keeps block b is =
+    elim (cases_eq block gone) [
+      | inl same ↦ absurd (let e : None ≡ Some b = sym none ∙ subst (λ k. after k ≡ Some b) same is in cc)
+      | inr apart ↦ keeps block b.items b.dead apart (told block b (sym (others block (ne_eqb gone block (λ e. apart (sym e)))) ∙ is))
+    ]

@@ -1,5 +1,5 @@
 -- Registers that are dead behind a block while other blocks are rewritten.
-use Rattle.std.specs.Prelude.{◌≡◌, ◌≢◌, ℕ, ◌<◌, ◌≤◌, true, List, Option, Some, length, slice_get, slice_index}
+use Rattle.std.specs.Prelude.{◌≡◌, ◌≢◌, ℕ, ◌<◌, ◌≤◌, true, Option, Some, length}
 use Rattle.sq_isa.specs.Registers.{is_member}
 use Rattle.sq_graph.specs.Graph.{Graph}
 use Rattle.sq_graph.specs.Blocks.{HasBlock, items_of}
@@ -22,10 +22,9 @@ pub record IsDeadBehind (g : Graph) (block items set : ℕ) : Type 0 where
 abbrev pub IsStillDead : Graph → ℕ → ℕ → ℕ → Type 0
 IsStillDead g block items dead = HasBlock g block → IsDeadBehind g block items dead
 
--- so it is for the first blocks of a list, as far as it is told of them
-pub record AreStillDead (g : Graph) (names : List ℕ) (told : List (Option Behind)) (count : ℕ) : Type 0 where
-  pub many : length told ≡ length names
-  pub each : (i : ℕ) (b : Behind) → i < count → slice_get told i ≡ Some (Some b) → IsStillDead g (slice_index names i) b.items b.dead
+-- so it is for each name under which something is told
+abbrev pub AreTold : Graph → (ℕ → Option Behind) → Type 0
+AreTold g told = (block : ℕ) (b : Behind) → told block ≡ Some b → IsStillDead g block b.items b.dead
 
 -- what is still dead stays so, but behind this block
 abbrev pub KeepsDeadElsewhere : Graph → Graph → ℕ → Type 0

@@ -7,6 +7,7 @@
 
 mod calls;
 mod earlier;
+pub(crate) mod onward;
 mod prints;
 
 ghost use Rattle.std.specs.Prelude.{◌≡◌, ◌↔◌, ◌<◌, ℕ, None, Ok, IsTrue, map, length, slice_index, IfOk, IfSome, MatchOption};
