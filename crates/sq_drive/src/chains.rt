@@ -116,7 +116,7 @@ impl Watch for RowWatch {
             News::Nothing => false,
             News::Reach => true,
             News::Items => {
-                self.patience.spend_look(graph);
+                self.patience.spend_look(alloc, graph)?;
                 find_one(alloc, graph, &AllRows)?.is_some()
             }
         };

@@ -2,11 +2,14 @@
 //! chains move only where no row has one.
 //!
 //! A file may be such that each window and each move gives a row before a candidate, and the whole graph is looked at for each. Once
-//! that is much, sweeps of windows and of moves go on to their end, and the rows before are asked then.
+//! that is much, sweeps of windows and of moves go on to their end, and the rows before are asked then. Pairs of bodies that are
+//! compared count, too.
 
 use sq_graph::Graph;
 use sq_layout::words_of;
-use sq_outline::Asking;
+use sq_num::Memory;
+use sq_outline::{Asking, count_pairs};
+use std::alloc::Global;
 
 /// So many words may be gone over, which takes a few seconds.
 const WORDS: u64 = 300_000_000;
@@ -19,6 +22,9 @@ const JUMP: u32 = 3;
 
 /// An exact look for candidates of all rows takes as long as so many.
 const LOOK: u32 = 96;
+
+/// So many pairs of bodies are compared in the time of a word that is gone over.
+const PAIRS: u64 = 4;
 
 /// How many words may still be gone over for the order of the rows.
 #[derive(Clone, Copy, Debug)]
@@ -52,9 +58,14 @@ impl Patience {
         self.spend_passes(graph, words.saturating_mul(JUMP));
     }
 
-    /// Takes note of an exact look for candidates of all rows.
-    pub(crate) fn spend_look(&mut self, graph: &Graph) {
+    /// Takes note of an exact look for candidates of all rows, and of the pairs of bodies that row O1's compares.
+    pub(crate) fn spend_look(&mut self, alloc: Global, graph: &Graph) -> Result<(), Memory> {
         self.spend_passes(graph, LOOK);
+        if self.words > 0 {
+            let pairs = count_pairs(alloc, graph)?;
+            self.words = self.words.saturating_sub(pairs / PAIRS);
+        }
+        Ok(())
     }
 
     /// Takes note of so many passes over the graph.

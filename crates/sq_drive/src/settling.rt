@@ -160,7 +160,7 @@ fn settle_from(
         if !are_lone_jumps(saved, savings, gone) {
             left.moves.ask_windows();
         }
-        patience.spend_look(graph);
+        patience.spend_look(alloc, graph)?;
         let Some(after) = rewrite_late(alloc, graph, &live, &mut left, patience, savings)? else {
             return Ok(savings);
         };

@@ -22,6 +22,7 @@ pub mod InlineSearch
 pub mod Blocked
 pub mod Kept
 pub mod Undone
+pub mod StayingLive
 pub mod Still
 pub mod Sweeping
 pub mod Ranks

@@ -1,5 +1,5 @@
 -- The link is one of x1 to x31, and may be the link.
-use Rattle.std.proofs.Common.{◌≡◌, ◌≢◌, ℕ, zero, suc, ◌+◌, ◌<◌, ◌≤◌, ◌%◌, drop, length, get_or, nat_lt, ◌&&◌, Bool, true, List, [], ◌∷◌, inl, inr, refl, sym, subst, arith}
+use Rattle.std.proofs.Common.{◌≡◌, ◌≢◌, ℕ, zero, suc, ◌↔◌, ◌+◌, ◌<◌, ◌≤◌, ◌%◌, drop, length, get_or, nat_lt, ◌&&◌, Bool, true, List, [], ◌∷◌, inl, inr, refl, sym, subst, arith}
 use Rattle.std.proofs.lemmas.Bool.Decides.{nat_tests}
 use Rattle.std.proofs.lemmas.List.{drop_all}
 use Rattle.std.proofs.lemmas.Bool.{and_parts}
@@ -24,6 +24,22 @@ first_register (x ∷ xs) P r all (inl is) =
     subst (λ y. (nat_lt 0 y && nat_lt y 32) ≡ true) (sym is.0) (and_parts (nat_lt 0 x && nat_lt x 32) (all_registers xs) all).0
 first_register (x ∷ xs) P r all (inr later) =
     first_register xs P r (and_parts (nat_lt 0 x && nat_lt x 32) (all_registers xs) all).1 later.1
+
+first_as : (xs : List ℕ) (P Q : ℕ → Type 0) (r : ℕ) → all_registers xs ≡ true → ((x : ℕ) → 0 < x → x < 32 → P x ↔ Q x) → IsFirstOf xs P r → IsFirstOf xs Q r
+first_as [] P Q r all same first = absurd first
+first_as (x ∷ xs) P Q r all same first =
+    let parts = and_parts (nat_lt 0 x && nat_lt x 32) (all_registers xs) all in
+    let own = and_parts (nat_lt 0 x) (nat_lt x 32) parts.0 in
+    let above : 0 < x = let e = own.0 in grind (arith, nat_tests) in
+    let below : x < 32 = let e = own.1 in grind (arith, nat_tests) in
+    elim first [
+      | inl is ↦ inl (is.0, (same x above below).0 is.1)
+      | inr later ↦ inr ((λ holds. later.0 ((same x above below).1 holds)), first_as xs P Q r parts.1 same later.1)
+    ]
+
+-- of two that hold of the same registers the first is the same
+pub link_as : (P Q : ℕ → Type 0) (r : ℕ) → ((x : ℕ) → 0 < x → x < 32 → P x ↔ Q x) → IsFirstOf link_order P r → IsFirstOf link_order Q r
+link_as P Q r same first = first_as link_order P Q r refl same first
 
 -- the walk over the registers in their order
 pub first_here : (xs : List ℕ) (P : ℕ → Type 0) (i : ℕ) → i < length xs → P (get_or xs i 0) → IsFirstOf (drop i xs) P (get_or xs i 0)

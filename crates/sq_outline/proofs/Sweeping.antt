@@ -112,7 +112,7 @@ module _ (g h : Graph) (block procedure : ℕ) (rules : IsGraph g) (there : HasP
   is_cut = record { block = block; called = may; is = refl }
 
   pub called_still : IsStill g h
-  called_still = subst (IsStill g) (sym is) (call_still g (record { block = block; at = 0 }) procedure rules matching)
+  called_still = subst (IsStill g) (sym is) (call_still g (record { block = block; at = 0 }) procedure rules matching (let some = may.some in let saves = may.saves in omega arith))
 
   pub call_rewritten : (before after : Savings) → IsCanonical g → after ≡ counted before O2 (call_saving g procedure) → IsRewritten IsCandidate described before after g h
   call_rewritten before after canonical counts =

@@ -1,6 +1,7 @@
 -- The register through which a new procedure is called.
-use Rattle.std.specs.Prelude.{◌≡◌, ℕ, false, ◌⊎◌, List, [], ◌∷◌}
+use Rattle.std.specs.Prelude.{◌≡◌, ℕ, true, false, ◌⊎◌, List, [], ◌∷◌}
 use Rattle.std.specs.List.{All}
+use Rattle.sq_isa.specs.Registers.{is_member}
 use Rattle.sq_graph.specs.declared.item.Item.{Item}
 use Rattle.sq_graph.specs.Graph.{Graph}
 use Rattle.sq_graph.specs.Lines.{place_lines}
@@ -29,3 +30,12 @@ IsFirstOf (x ∷ xs) P r = ((r ≡ x) × P x) ⊎ ((¬ P x) × IsFirstOf xs P r)
 -- the link: the first register in that order that may be it
 abbrev pub IsLink : Graph → List Item → List Site → ℕ → Type 0
 IsLink g body places link = IsFirstOf link_order (MayLink g body places) link
+
+-- the register isn't mentioned in the body, and is in the set
+pub record MayLinkBy (body : List Item) (set r : ℕ) : Type 0 where
+  pub free : All (λ item. mentions item r ≡ false) body
+  pub dead : is_member set r ≡ true
+
+-- the first register in that order of which this holds
+abbrev pub IsLinkBy : List Item → ℕ → ℕ → Type 0
+IsLinkBy body set link = IsFirstOf link_order (MayLinkBy body set) link

@@ -1,11 +1,12 @@
 -- How blocks are searched whose bodies may become calls of one new procedure.
-use Rattle.std.specs.Prelude.{◌≡◌, ◌≢◌, ℕ, nat_eq, ◌+◌, ◌*◌, ◌-◌, ◌≤◌, ◌<◌, List, [], ◌∷◌, length, slice_index}
-use Rattle.std.specs.List.{All, Contains, IsDistinct}
+use Rattle.std.specs.Prelude.{◌≡◌, ◌≢◌, ℕ, nat_eq, nat_lt, ◌+◌, ◌*◌, ◌-◌, ◌^◌, ◌≤◌, ◌<◌, min, List, [], ◌∷◌, length, slice_index, if◌then◌else◌}
+use Rattle.std.specs.List.{All, Contains, IsDistinct, sum_by}
 use Rattle.sq_graph.specs.Graph.{Graph}
 use Rattle.sq_graph.specs.Blocks.{HasBlock, items_of}
 use Rattle.sq_rename.specs.Bodies.{IsLiveBehind}
 use Rattle.sq_outline.specs.Links.{link_order, MayLink, IsLink}
 use Rattle.sq_outline.specs.Made.{HasBody, ends_of}
+use Rattle.sq_outline.specs.Prints.{print_groups}
 
 -- the second list has exactly those of the first for which P holds, in their order
 pub data Keeps (P : ℕ → Type 0) : List ℕ → List ℕ → Type 0 where
@@ -55,3 +56,13 @@ pub record HaveLink (g : Graph) (first : ℕ) (blocks : List ℕ) (link : ℕ) :
   pub bodies : All (HasBody g (items_of g first)) blocks
   pub pays : Pays (length blocks) (length (items_of g first))
   pub linked : IsLink g (items_of g first) (ends_of g blocks) link
+
+-- So many pairs of a group's members are compared at most, counted in a u64 that stays at its last value. Where the body of the first
+-- has fewer than two items none are: no set of such bodies pays.
+abbrev pub pairs_in : Graph → List ℕ → ℕ
+pairs_in g [] = 0
+pairs_in g (first ∷ group) = if nat_lt (length (items_of g first)) 2 then 0 else min (length (first ∷ group) * length (first ∷ group)) (2 ^ 64 - 1)
+
+-- those of all groups of one print
+abbrev pub count_pairs : Graph → ℕ
+count_pairs g = min (sum_by (pairs_in g) (print_groups g)) (2 ^ 64 - 1)

@@ -10,6 +10,7 @@ ghost use Rattle.std.specs.List.{All};
 ghost use Rattle.sq_graph.specs.Blocks.{HasBlock, HasProcedure, body_of};
 ghost use Rattle.sq_graph.specs.Parts.{names_of};
 ghost use Rattle.sq_graph.specs.Room.{KeepsTotal};
+ghost use Rattle.sq_graph.specs.Rules.{IsGraph};
 ghost use Rattle.sq_live.specs.Liveness.{IsLivenessOf};
 ghost use Rattle.law_patch.specs.Calls.{IsMatching, called_there};
 ghost use Rattle.sq_pass.specs.declared.cut.Cut.{Cut as Told};
@@ -80,6 +81,7 @@ fn may_call_marked(
     procedure: u32,
     writes: &Writes,
 ) -> bool
+    requires rules { IsGraph graph.now.graph }
     requires block { HasBlock graph.now.graph block }
     requires procedure { HasProcedure graph.now.graph procedure }
     requires live { IsLivenessOf graph.now.graph live.now }
@@ -87,7 +89,6 @@ fn may_call_marked(
     requires writes { AreWrites (body_of graph.now.graph procedure) writes.now }
     ensures { IsTrue result ↔ MayCall graph.now.graph block procedure }
 {
-    graph.learn();
     if are_apart(mark, writes) {
         return false;
     }
@@ -108,6 +109,7 @@ fn procedure_for(
     ensures some { IfSome result (λ procedure. HasProcedure graph.now.graph procedure × MayCall graph.now.graph block procedure) }
     ensures none { result ≡ None → (procedure : ℕ) → IsIn (Some span) procedure → HasProcedure graph.now.graph procedure → ¬ MayCall graph.now.graph block procedure }
 {
+    graph.learn();
     let mark = mark_of(graph, live, block);
     for procedure in span.first..span.end.min(graph.procedures()) {
         let writes = &callees.writes[procedure as usize];

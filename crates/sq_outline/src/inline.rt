@@ -4,6 +4,7 @@
 //!              p: add a0,a0,a1; jr x5
 
 mod blocked;
+mod fitting;
 mod sweep;
 mod waiting;
 

@@ -32,5 +32,6 @@ mod windows;
 pub use ends::Ends;
 pub use outlines::Outlines;
 pub use proposals::propose;
+pub use sets::count_pairs;
 pub use unmoved::{News, Unmoved};
 pub use windows::{Asking, FoundWindows, Windows, propose_windows, sweep_windows};

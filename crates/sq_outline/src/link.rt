@@ -5,11 +5,11 @@ ghost use Rattle.std.specs.List.{All};
 ghost use Rattle.sq_graph.specs.Rules.{mentions};
 ghost use Rattle.sq_live.specs.Liveness.{IsLivenessOf};
 ghost use Rattle.sq_outline.specs.Sites.{IsPlace};
-ghost use Rattle.sq_outline.specs.Links.{IsDeadAt, MayLink, IsLink};
+ghost use Rattle.sq_outline.specs.Links.{IsDeadAt, MayLink, IsLink, MayLinkBy, IsLinkBy};
 
 use crate::sites::Site;
 use sq_graph::{Graph, Item};
-use sq_isa::Reg;
+use sq_isa::{Reg, RegSet};
 use sq_live::Liveness;
 
 /// The registers in the order in which they are tried: temporaries first, then ra, sp, gp and tp, then the others.
@@ -93,4 +93,36 @@ pub(crate) fn find_link(
         }
     }
     None
+}
+
+/// Whether the items don't mention the register, and it is in the set.
+fn may_link_by(items: &[Item], dead: RegSet, r: Reg) -> bool
+    ensures { IsTrue result ↔ MayLinkBy items.now dead r }
+{
+    dead.has(r) && is_unmentioned(items, r)
+}
+
+/// The first register, in the fixed order, that the items don't mention and that is in the set; None where there is none.
+pub(crate) fn link_by(items: &[Item], dead: RegSet) -> Option<Reg>
+    ensures { MatchOption result ((r : ℕ) → ¬ IsLinkBy items.now dead r) (λ r. IsLinkBy items.now dead r) }
+{
+    for number in &ORDER {
+        let r = Reg::from_low_bits(*number);
+        if may_link_by(items, dead, r) {
+            return Some(r);
+        }
+    }
+    None
+}
+
+/// All registers that may be the link of a procedure of these items, which is called where those of the set are dead.
+pub(crate) fn links(items: &[Item], dead: RegSet) -> RegSet {
+    let mut links = RegSet::new();
+    for number in &ORDER {
+        let r = Reg::from_low_bits(*number);
+        if may_link_by(items, dead, r) {
+            links = links.with(r);
+        }
+    }
+    links
 }

@@ -81,6 +81,22 @@ pub(crate) struct Mark {
     writes: Writes,
 }
 
+impl Mark {
+    ghost use Rattle.std.specs.Prelude.{◌≡◌};
+    ghost use Rattle.sq_outline.specs.Marks.{AreWrites};
+
+    /// That of a body with these items, behind which these registers are dead.
+    pub(crate) fn of(items: &[Item], dead: RegSet) -> Mark
+        ensures dead { result.dead ≡ dead }
+        ensures writes { AreWrites items.now result.writes }
+    {
+        Mark {
+            dead,
+            writes: Writes::of(items),
+        }
+    }
+}
+
 /// The mark of a block's body.
 pub(crate) fn mark_of(graph: &Graph, live: &Liveness, block: u32) -> Mark
     requires block { HasBlock graph.now.graph block }
@@ -89,10 +105,7 @@ pub(crate) fn mark_of(graph: &Graph, live: &Liveness, block: u32) -> Mark
 {
     graph.learn();
     let items = graph.items(block);
-    Mark {
-        dead: dead_registers(live, block, items.len() as u32),
-        writes: Writes::of(items),
-    }
+    Mark::of(items, dead_registers(live, block, items.len() as u32))
 }
 
 /// The marks of the bodies of these blocks.

@@ -9,7 +9,7 @@ ghost use Rattle.sq_outline.specs.Still.{IsDying};
 
 use crate::call::{call_cut, procedure_by_print};
 use crate::callees::callees_of;
-use crate::callers::{Body, bodies_of, proposal};
+use crate::callers::{Body, bodies_of, body_marks, proposal};
 use crate::groups::{Groups, body_groups};
 use sq_graph::Graph;
 use sq_live::{Liveness, block_names};
@@ -17,16 +17,14 @@ use sq_num::Memory;
 use sq_pass::Cut;
 use std::alloc::Global;
 
-/// How many bodies of a group are tried as that of a procedure.
-const TRIED: usize = 64;
-
 /// A candidate of O1 for the first body of these for which there is one, and others.
 fn made_cut(alloc: Global, graph: &Graph, bodies: &[Body]) -> Result<Option<Cut>, Memory>
     requires { All (IsDying graph.now.graph) bodies.now }
     ensures { IfOk result (λ found. IfSome found (IsMadeCut graph.now.graph)) }
 {
-    for at in 0..bodies.len().min(TRIED) {
-        if let Some(cut) = proposal(alloc, graph, bodies, &bodies[at])? {
+    let marks = body_marks(alloc, graph, bodies)?;
+    for at in 0..bodies.len() {
+        if let Some(cut) = proposal(alloc, graph, bodies, &marks, &bodies[at])? {
             return Ok(Some(cut));
         }
     }
@@ -54,7 +52,7 @@ fn propose_made(
 }
 
 /// Candidates of O1 and O2 that one look finds: of O2 for each block that has one, and of O1 one for each group of blocks with
-/// equal prints, the last to be taken first. It compares the bodies of each group with its first ones.
+/// equal prints, the last to be taken first. It compares the bodies of each group with each other.
 pub fn propose(alloc: Global, graph: &Graph, live: &Liveness) -> Result<Vec<Cut>, Memory>
     requires { IsLivenessOf graph.now.graph live.now }
     ensures { IfOk result (λ cuts. All (IsCandidate graph.now.graph) cuts.items) }

@@ -3,12 +3,13 @@
 ghost use Rattle.std.specs.Prelude.{◌≡◌, ◌↔◌, ◌<◌, ◌≤◌, ◌^◌, ℕ, List, None, Ok, IsTrue, IfOk, IfSome, MatchOption};
 ghost use Rattle.std.specs.List.{All};
 ghost use Rattle.sq_graph.specs.Blocks.{HasBlock, items_of};
+ghost use Rattle.sq_graph.specs.Rules.{IsGraph};
 ghost use Rattle.sq_finger.specs.Groups.{AreClasses};
 ghost use Rattle.sq_live.specs.Liveness.{IsLivenessOf};
 ghost use Rattle.sq_outline.specs.Marks.{AreMarks, AreWrites, IsMark};
 ghost use Rattle.sq_outline.specs.Made.{HasBody};
 ghost use Rattle.sq_outline.specs.Prints.{print_of, print_groups};
-ghost use Rattle.sq_outline.specs.Sets.{Keeps, IsOther, AreOthers, IsGroupOf, IsDeadBehind, Pays, IsTried, CanMake};
+ghost use Rattle.sq_outline.specs.Sets.{Keeps, IsOther, AreOthers, IsGroupOf, IsDeadBehind, Pays, IsTried, CanMake, pairs_in, count_pairs};
 
 use crate::groups::{Groups, body_groups};
 use crate::link::{ORDER, is_unmentioned};
@@ -48,6 +49,7 @@ fn is_other(
     mark: &Mark,
     writes: &Writes,
 ) -> bool
+    requires rules { IsGraph graph.now.graph }
     requires block { HasBlock graph.now.graph block }
     requires first { HasBlock graph.now.graph first }
     requires live { IsLivenessOf graph.now.graph live.now }
@@ -55,7 +57,6 @@ fn is_other(
     requires writes { AreWrites (items_of graph.now.graph first) writes.now }
     ensures { IsTrue result ↔ IsOther graph.now.graph first block }
 {
-    graph.learn();
     if block == first {
         return false;
     }
@@ -289,4 +290,41 @@ pub(crate) fn find_set(
 {
     let groups = body_groups(alloc, graph)?;
     find_among(alloc, graph, live, &groups)
+}
+
+/// How many pairs of the group's members the look for a set compares at most, or `u64::MAX` where they are more: none where their
+/// bodies have fewer than two items.
+fn pairs_in(graph: &Graph, group: &[u32]) -> u64
+    requires { All (HasBlock graph.now.graph) group.now }
+    ensures { result ≡ pairs_in graph.now.graph group.now }
+{
+    if group.is_empty() {
+        return 0;
+    }
+    if graph.items(group[0]).len() < 2 {
+        return 0;
+    }
+    let members = group.len() as u64;
+    members.saturating_mul(members)
+}
+
+/// The same over all groups of blocks.
+fn pairs_among(graph: &Graph, groups: &Groups) -> u64
+    requires value { groups.now ≡ print_groups graph.now.graph }
+    requires classes { AreClasses (print_of graph.now.graph) (HasBlock graph.now.graph) groups.now }
+    ensures { result ≡ count_pairs graph.now.graph }
+{
+    let mut count = 0u64;
+    for number in 0..groups.len() {
+        count = count.saturating_add(pairs_in(graph, groups.members(number)));
+    }
+    count
+}
+
+/// How many pairs of bodies an exact look for candidates of row O1 compares at most, or `u64::MAX` where they are more.
+pub fn count_pairs(alloc: Global, graph: &Graph) -> Result<u64, Memory>
+    ensures { IfOk result (λ count. count ≡ count_pairs graph.now.graph) }
+{
+    let groups = body_groups(alloc, graph)?;
+    Ok(pairs_among(graph, &groups))
 }

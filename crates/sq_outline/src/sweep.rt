@@ -14,9 +14,10 @@ ghost use Rattle.sq_outline.specs.Made.{IsMadeCut};
 ghost use Rattle.sq_outline.specs.Still.{IsStill, IsStillDead, IsDying};
 
 use crate::call::{call, call_saving};
-use crate::callers::{Body, bodies_of, body_of, callee_of, proposal};
+use crate::callers::{Body, bodies_of, body_marks, body_of, callee_of, proposal};
 use crate::groups::{Groups, body_groups, procedure_prints, span_of};
 use crate::make::make;
+use crate::marks::Mark;
 use crate::spans::Span;
 use sq_graph::{Graph, Room};
 use sq_live::{Liveness, block_names, live};
@@ -25,9 +26,6 @@ use sq_num::{Memory, Savings};
 use sq_pass::{Cut, Rewrite, Row};
 use std::alloc::Global;
 use std::collections::HashMap;
-
-/// How many bodies of a group the sweep tries as that of a procedure.
-const TRIED: usize = 64;
 
 /// Rewrites the graph by a cut of row O1, which leaves it canonical.
 fn rewrite_made(graph: &mut Graph, cut: &Cut, savings: Savings) -> Result<Savings, Memory>
@@ -60,6 +58,7 @@ fn make_for(
     alloc: Global,
     graph: &mut Graph,
     bodies: &[Body],
+    marks: &[Mark],
     first: &Body,
     savings: Savings,
 ) -> Result<Savings, Memory>
@@ -71,18 +70,19 @@ fn make_for(
     ensures follows { Follows graph.old.graph graph.new.graph }
     ensures still { IsStill graph.old.graph graph.new.graph }
 {
-    let Some(cut) = proposal(alloc, graph, bodies, first)? else {
+    let Some(cut) = proposal(alloc, graph, bodies, marks, first)? else {
         return Ok(savings);
     };
     rewrite_made(graph, &cut, savings)
 }
 
-/// The same for the first bodies of a group, one after another.
+/// The same for the bodies of a group, one after another. These are their marks.
 #[tactic(auto, using(law_follow::proofs::Following::graph_follows_through))]
 fn make_each(
     alloc: Global,
     graph: &mut Graph,
     bodies: &[Body],
+    marks: &[Mark],
     savings: Savings,
 ) -> Result<Savings, Memory>
     requires canonical { IsCanonical graph.old.graph }
@@ -93,8 +93,8 @@ fn make_each(
     ensures still { IsStill graph.old.graph graph.new.graph }
 {
     let mut after = savings;
-    for at in 0..bodies.len().min(TRIED) {
-        after = make_for(alloc, graph, bodies, &bodies[at], after)?;
+    for at in 0..bodies.len() {
+        after = make_for(alloc, graph, bodies, marks, &bodies[at], after)?;
     }
     Ok(after)
 }
@@ -118,7 +118,8 @@ fn make_groups(
     let mut after = savings;
     for group in 0..groups.len() {
         let bodies = bodies_of(alloc, graph, live, groups.members(group))?;
-        after = make_each(alloc, graph, &bodies, after)?;
+        let marks = body_marks(alloc, graph, &bodies)?;
+        after = make_each(alloc, graph, &bodies, &marks, after)?;
     }
     Ok(after)
 }
@@ -192,8 +193,8 @@ fn call_each(
     after
 }
 
-/// Rewrites the graph by rows O1 and O2. It looks for live registers once, and again where a procedure's link isn't sure
-/// without them; of each group of blocks it compares all bodies with the first ones. It may leave candidates.
+/// Rewrites the graph by rows O1 and O2. It looks for live registers once; of each group of blocks it compares all bodies with
+/// the first ones. It may leave candidates.
 pub(crate) fn sweep(alloc: Global, graph: &mut Graph, savings: Savings) -> Result<Savings, Memory>
     requires canonical { IsCanonical graph.old.graph }
     requires words { words_of graph.old.graph + words_saved savings ≤ most_words }

@@ -89,7 +89,7 @@ impl Places {
 }
 
 /// How many words more stand between two addresses if the body stands in place of this call.
-fn growth_at(low: u64, high: u64, call: u64, more: u64) -> u64
+pub(crate) fn growth_at(low: u64, high: u64, call: u64, more: u64) -> u64
     ensures value { result ≡ growth_at low high call more }
     ensures few { result ≤ more }
 {
@@ -216,17 +216,17 @@ fn is_far(graph: &Graph, addresses: &Table, procedure: u32, spread: Spread, bloc
 }
 
 /// How many slots a look for Branches around a call goes along at most, and how many bytes.
-const NEAR_SLOTS: u32 = 1200;
+pub(crate) const NEAR_SLOTS: u32 = 1200;
 
 const NEAR: u64 = 4200;
 
 /// Whether two addresses are further apart than a Branch reaches.
-fn are_apart(one: u64, other: u64) -> bool {
+pub(crate) fn are_apart(one: u64, other: u64) -> bool {
     one.saturating_sub(other).max(other.saturating_sub(one)) > NEAR
 }
 
 /// Where a look from a block on goes on.
-fn beside(graph: &Graph, block: u32, ahead: bool) -> Option<u32>
+pub(crate) fn beside(graph: &Graph, block: u32, ahead: bool) -> Option<u32>
     requires { HasBlock graph.now.graph block }
 {
     if ahead {

@@ -14,16 +14,23 @@ ghost use Rattle.sq_outline.specs.Inlined.{call_count, WouldSave};
 ghost use Rattle.sq_outline.specs.InlineSteps.{counted};
 ghost use Rattle.sq_outline.specs.InlineSweeps.{IsTried};
 
-use crate::inline::{count_calls, would_save};
+use crate::inline::fitting::unfitting;
+use crate::inline::{any_would_save, count_calls, would_save};
 use sq_graph::{Fate, Graph};
-use sq_lookup::{Table, in_reach};
+use sq_lookup::{Names, Table, in_reach};
 use sq_num::{Memory, Savings};
 use sq_pass::{Rewrite, Row};
 use std::alloc::Global;
 
 // How many words are saved by a procedure of some items, no more than `most`, whose body comes in place of its calls, or `None`
-// where that is none.
-fn saving_within(graph: &Graph, calls: &Table, procedure: u32, most: usize) -> Option<u32>
+// where that is none or the procedure is left out.
+fn saving_within(
+    graph: &Graph,
+    calls: &Table,
+    procedure: u32,
+    most: usize,
+    left_out: &Names,
+) -> Option<u32>
     requires there { HasProcedure graph.now.graph procedure }
     requires calls { counted calls.now procedure ≡ call_count graph.now.graph procedure }
     ensures some { IfSome result (λ _. 0 < length (body_of graph.now.graph procedure)) }
@@ -33,15 +40,19 @@ fn saving_within(graph: &Graph, calls: &Table, procedure: u32, most: usize) -> O
     if size == 0 || size > most {
         return None;
     }
+    if left_out.has(procedure) {
+        return None;
+    }
     would_save(graph, calls, procedure)
 }
 
 // The fates of procedures whose bodies come in place of their calls where they have some items, no more than `most`, and that
-// saves words, whether or not each Branch reaches then; and the savings then.
+// saves words, whether or not each Branch reaches then, but for those that are left out; and the savings then.
 fn inline_fates(
     alloc: Global,
     graph: &Graph,
     most: usize,
+    left_out: &Names,
     savings: Savings,
 ) -> Result<(Vec<Fate>, Savings), Memory>
     requires canonical { IsCanonical graph.now.graph }
@@ -55,7 +66,7 @@ fn inline_fates(
     let mut fates = vec![in alloc; Fate::Stays; graph.procedures() as usize]?;
     let mut after = savings;
     for procedure in 0..graph.procedures() {
-        let Some(saving) = saving_within(graph, &calls, procedure, most) else {
+        let Some(saving) = saving_within(graph, &calls, procedure, most, left_out) else {
             continue;
         };
         fates[procedure as usize] = Fate::Inlined;
@@ -74,6 +85,7 @@ fn try_each(
     alloc: Global,
     graph: &mut Graph,
     most: usize,
+    left_out: &Names,
     savings: Savings,
 ) -> Result<Savings, Memory>
     requires canonical { IsCanonical graph.old.graph }
@@ -81,7 +93,7 @@ fn try_each(
     ensures rewritten { IfOk result (λ after. IsRewritten IsCandidate described savings after graph.old.graph graph.new.graph) }
     ensures follows { Follows graph.old.graph graph.new.graph }
 {
-    let (fates, after) = inline_fates(alloc, graph, most, savings)?;
+    let (fates, after) = inline_fates(alloc, graph, most, left_out, savings)?;
     if after == savings {
         return Ok(savings);
     }
@@ -93,8 +105,8 @@ fn try_each(
     Ok(after)
 }
 
-/// Puts bodies in place of calls, by row O4: all that save words, or, where some Branch doesn't reach then, those of one item,
-/// which move no Branch. It looks at each word a few times.
+/// Puts bodies in place of calls, by row O4: of those that save words one after another, as long as each Branch reaches, and then
+/// those of one item, which move no Branch. It looks at each word a few times, and for each of them at the blocks around its calls.
 #[tactic(auto, using(law_follow::proofs::Following::graph_follows_through))]
 pub(crate) fn sweep_inlines(
     alloc: Global,
@@ -106,6 +118,11 @@ pub(crate) fn sweep_inlines(
     ensures rewritten { IfOk result (λ after. IsRewritten IsCandidate described savings after graph.old.graph graph.new.graph) }
     ensures follows { Follows graph.old.graph graph.new.graph }
 {
-    let after = try_each(alloc, graph, usize::MAX, savings)?;
-    try_each(alloc, graph, 1, after)
+    if !any_would_save(alloc, graph)? {
+        return Ok(savings);
+    }
+    let unfitting = unfitting(alloc, graph)?;
+    let none = Names::new(alloc);
+    let after = try_each(alloc, graph, usize::MAX, &unfitting, savings)?;
+    try_each(alloc, graph, 1, &none, after)
 }

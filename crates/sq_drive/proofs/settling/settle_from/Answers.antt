@@ -64,6 +64,10 @@ pub returns-in_err-block_count-clause-follows : goal.returns-in_err-block_count-
 returns-in_err-block_count-clause-follows c =
     graph_follows_through c.args.graph.now.graph c.loop-left.graph.graph c.settle_earlier.new.graph.graph c.loop-left.invariant.lighter.follows c.settle_earlier.ensures.follows
 
+pub returns-in_err-spend_look-clause-follows : goal.returns-in_err-spend_look-clause-follows
+returns-in_err-spend_look-clause-follows c =
+    graph_follows_through c.args.graph.now.graph c.loop-left.graph.graph c.settle_earlier.new.graph.graph c.loop-left.invariant.lighter.follows c.settle_earlier.ensures.follows
+
 pub returns-in_err-saved-clause-follows : goal.returns-in_err-saved-clause-follows
 returns-in_err-saved-clause-follows c =
     let old = c.args.graph.now.graph in

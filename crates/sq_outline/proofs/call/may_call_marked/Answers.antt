@@ -7,7 +7,7 @@ pub returns-then-are_apart : goal.returns-then-are_apart
 returns-then-are_apart c =
     let g = c.args.graph.now.graph in
     let p = c.args.procedure in
-    let rules = c.learn.ensures.rules in (
+    let rules = c.requires.rules in (
       λ no. absurd (cc),
       λ may. absurd (c.are_apart.ensures c.if-are_apart.true (marks_alike g c.args.block c.args.mark.now (body_of g p) c.args.writes.now rules (body_fits g p rules) c.requires.mark c.requires.writes may.body)),
     )

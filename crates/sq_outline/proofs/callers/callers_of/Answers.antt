@@ -8,17 +8,18 @@ use Rattle.sq_outline.specs.Made.{HasBody}
 use Rattle.sq_outline.specs.Still.{IsDying, IsCaller}
 use Rattle.sq_outline.proofs.Still.{pushed, is_caller}
 use Rattle.sq_outline.proofs.callers.callers_of.Goals as goal
-use Rattle.sq_outline.proofs.callers.callers_of.Goals.{then-body-first+then-has_items+in_ok-push, else-body-first}
+use Rattle.sq_outline.proofs.callers.callers_of.Goals.{then-body-first+then-calls_as_well+in_ok-push, else-body-first}
 
-pub loop-body-preserved : goal.loop-body-preserved
-loop-body-preserved c =
+pub loop-i-preserved : goal.loop-i-preserved
+loop-i-preserved c =
     let g = c.args.graph.now.graph in
     let P = IsCaller g (items_of g c.args.first) in
-    let dying : IsDying g c.body-item.result = subst (IsDying g) (sym c.body-item.is) (c.requires.bodies c.loop-body.body-index c.body-item.result c.loop-body-test.true) in
+    let body = c.index-bodies-i.result in
+    let dying : IsDying g body = subst (IsDying g) (sym c.index-bodies-i.is) (c.requires.bodies c.loop-i.i body c.loop-i-test.true) in
     elim c.if-body-first.branch [
-      | then-body-first+then-has_items+in_ok-push w ↦
-          pushed P c.loop-body.callers.items c.if-body-first.callers.items c.body-item.result (ap (λ callers. callers.items) w.callers-is ∙ w.in_ok-push.ensures.items) c.loop-body.invariant
-          (is_caller g (items_of g c.args.first) c.body-item.result dying
-          (subst (λ (items : List Item). HasBody g items c.body-item.result.block) c.items-items.ensures (w.has_items.ensures w.if-has_items.true)))
-      | else-body-first w ↦ subst (λ (ys : List Body). All P ys) (sym (ap (λ callers. callers.items) w.callers-is)) c.loop-body.invariant
+      | then-body-first+then-calls_as_well+in_ok-push w ↦
+          pushed P c.loop-i.callers.items c.if-body-first.callers.items body (ap (λ callers. callers.items) w.callers-is ∙ w.in_ok-push.ensures.items) c.loop-i.invariant
+          (is_caller g (items_of g c.args.first) body dying
+          (subst (λ (items : List Item). HasBody g items body.block) c.items-items.ensures (w.calls_as_well.ensures w.if-calls_as_well.true)))
+      | else-body-first w ↦ subst (λ (ys : List Body). All P ys) (sym (ap (λ callers. callers.items) w.callers-is)) c.loop-i.invariant
     ]

@@ -3,5 +3,5 @@ use Rattle.sq_graph.specs.Blocks.{items_of}
 use Rattle.sq_outline.specs.Still.{IsCaller}
 use Rattle.sq_outline.proofs.callers.callers_of.Given as goal
 
-abbrev pub invariant-loop-body : goal.invariant-loop-body
-invariant-loop-body l = All (IsCaller l.graph.graph (items_of l.graph.graph l.first)) l.callers.items
+abbrev pub invariant-loop-i : goal.invariant-loop-i
+invariant-loop-i l = All (IsCaller l.graph.graph (items_of l.graph.graph l.first)) l.callers.items
