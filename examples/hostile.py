@@ -30,9 +30,15 @@ KIND is one of:
     likened    COUNT windows, each of which is by renaming the body of a block: once it became calls, row O2 makes a call of that
     once       COUNT procedures that a note lists, each called once: row O4 puts their bodies in place
     blocked    the same, but between branches that just reach: row O4 may put none in place
+    allbutone  the same, but between branches that reach with room to spare, but for one: row O4 puts all but one in place
+    crowded    the same, but eight each between a branch and where it leads, with room for four
     doubles    COUNT procedures that a note lists, with equal bodies, each called twice: row O3 leaves one of them
     strangers  COUNT procedures that a note lists, and COUNT blocks, alike but for registers: none stands for the items of a block
     outlived   COUNT blocks that are alike but for registers, with an eighth as many sets of registers that are live behind them: none match
+    links      COUNT pairs of equal bodies, behind which the first register that might be the link of a procedure is live
+    halves     COUNT pairs of bodies that match, with a 32nd as many sets of registers that are live behind them
+    ladder     COUNT rungs of two ladders: a block equals another once those that they lead to are one
+    rungs      the same, of blocks that are equal but for a register
     heads      COUNT procedures that a note lists, which begin with two items as twice as many places do: none stands there
     rows       COUNT groups, each with a candidate of every row of the cost rule
 
@@ -496,6 +502,35 @@ def blocked(p, count):
         p.procedure(("procedure", number), two_items(number))
 
 
+def between(p, name, calls, words):
+    """A Branch over these calls and so many other words."""
+    p.branch((name, "end"))
+    for number in calls:
+        p.jump(("procedure", number), T0)
+    for number in range(words):
+        p.items(only(1024 * name + number))
+    p.mark((name, "end"))
+    p.items(only(1024 * name + words))
+
+
+def allbutone(p, count):
+    between(p, 0, [0], 1021)
+    for number in range(1, count):
+        p.jump(("procedure", number), T0)
+        p.items(only(1024 + number))
+    p.jump("exit")
+    for number in range(count):
+        p.procedure(("procedure", number), two_items(number))
+
+
+def crowded(p, count):
+    for number in range(0, count, 8):
+        between(p, number // 8, range(number, number + 8), 1010)
+    p.jump("exit")
+    for number in range(0, count + -count % 8):
+        p.procedure(("procedure", number), two_items(number))
+
+
 def doubles(p, count):
     procedures(p, count, 2, lambda _: [addi(A2, A2, 1), addi(A1, A1, 1), addi(A2, A2, 3), addi(A1, A1, 5)])
 
@@ -547,6 +582,63 @@ def outlived(p, count):
         p.mark(("reader", number))
         p.items(*[store(register, A0, 4 * chosen.randrange(512)) for register in read])
         p.jump("exit")
+
+
+def links(p, count):
+    """t0 is read at the end, and each body falls into the next one."""
+    for number in range(2 * count):
+        p.word(number)
+        p.mark(number)
+        first, second = (A1, A2) if number % 2 else (A2, A1)
+        low, high = number // 2 & 2047, (number // 2 >> 11) + 1
+        p.items(addi(first, 0, low), addi(second, first, high), addi(first, second, 7), addi(first, first, 9))
+    p.items(store(T0, A0, 0))
+
+
+def halves(p, count):
+    """Of each pair t1 is live behind the first, which writes it, and dead behind the second, which writes t2."""
+    chosen = random.Random(4)
+    readers = [chosen.sample(range(9, 32), 8) for _ in range(count // 64 + 1)]
+    seen = set()
+    for number in range(count):
+        reader = number % len(readers)
+        kept = tuple(chosen.sample(readers[reader], 5))
+        while kept in seen:
+            kept = tuple(chosen.sample(readers[reader], 5))
+        seen.add(kept)
+        for half, own in enumerate((T1, T2)):
+            p.word((half, number))
+            p.mark((half, number))
+            p.items(*[addi(register, 0, 5) for register in [own, *kept]])
+            p.jump(("reader", half, reader))
+    for number, read in enumerate(readers):
+        for half, more in enumerate(([T1], [])):
+            p.mark(("reader", half, number))
+            p.items(*[store(register, A0, 4 * chosen.randrange(512)) for register in [*read, *more]])
+            p.jump("exit")
+
+
+def ladder_of(p, count, items):
+    """What a rung has is given by its side, and two parts of its number."""
+    for number in range(count):
+        for side in range(2):
+            p.word((side, number))
+            p.mark((side, number))
+            p.items(*items(side, number & 2047, number >> 11))
+            p.jump((side, number + 1) if number + 1 < count else "exit")
+
+
+def ladder(p, count):
+    ladder_of(p, count, lambda side, low, high: [addi(A1, A1, low), addi(A2, A1, high + 1)])
+
+
+def rungs(p, count):
+    own = (T1, T2)
+    ladder_of(
+        p,
+        count,
+        lambda side, low, high: [addi(own[side], 0, low), addi(own[side], own[side], high), store(own[side], 2, 0)],
+    )
 
 
 def heads(p, count):
@@ -663,10 +755,16 @@ KINDS = {
     "nearmoved": (nearmoved, 8),
     "once": (once, 4),
     "blocked": (blocked, 5),
+    "allbutone": (allbutone, 5),
+    "crowded": (crowded, 131),
     "doubles": (doubles, 7),
     "strangers": (strangers, 11),
     "heads": (heads, 13),
     "outlived": (outlived, 9),
+    "links": (links, 8),
+    "halves": (halves, 15),
+    "ladder": (ladder, 6),
+    "rungs": (rungs, 8),
     "rows": (rows, 73),
 }
 
