@@ -7,8 +7,8 @@ ghost use Rattle.sq_live.specs.Liveness.{IsLivenessOf};
 ghost use Rattle.sq_lookup.specs.Resolutions.{AreResolutions};
 ghost use Rattle.sq_tail.specs.BodiesPrints.{AreNamed};
 
-use super::BodyPair;
 use super::calls::{all_named, called};
+use super::{BodyPair, may_drop};
 use crate::resolved::resolved_term_by;
 use sq_finger::{TermKey, term_key};
 use sq_graph::{Graph, Term};
@@ -145,6 +145,23 @@ fn rung(
     (term_key(&stand_in_term(same, end.term)), next, print)
 }
 
+/// Two blocks as a pair of which the later one goes, or the earlier one where that may not.
+fn pair_of(graph: &Graph, earlier: u32, block: u32) -> BodyPair
+    requires { HasBlock graph.now.graph block }
+{
+    if may_drop(graph, block) {
+        BodyPair {
+            dropped: block,
+            kept: earlier,
+        }
+    } else {
+        BodyPair {
+            dropped: earlier,
+            kept: block,
+        }
+    }
+}
+
 /// Blocks with others that may match them, where those that the two go on to may match as well. Each pair comes behind those.
 pub(crate) fn pairs_onward(
     alloc: Global,
@@ -167,12 +184,11 @@ pub(crate) fn pairs_onward(
         }
         let rung = rung(graph, live, &table, &sets, &same, *block);
         match first.get(&rung).copied() {
-            Some(kept) => {
-                same.insert(*block, u64::from(kept))?;
-                pairs.push(BodyPair {
-                    dropped: *block,
-                    kept,
-                })?;
+            Some(earlier) => {
+                same.insert(*block, u64::from(stand_in(&same, earlier)))?;
+                let pair = pair_of(graph, earlier, *block);
+                first.insert(rung, pair.kept)?;
+                pairs.push(pair)?;
             }
             None => {
                 first.insert(rung, *block)?;
