@@ -1,88 +1,190 @@
 -- What the fields show once the next slot is joined to a block.
-use Rattle.std.proofs.Common.{◌≡◌, ℕ, ◌+◌, List, ◌∷◌, ◌++◌, length, Some, refl, sym, ap, ◌∙◌, arith, length-append}
+use Rattle.std.proofs.Common.{◌≡◌, ℕ, ◌+◌, ◌≤◌, ◌==◌, true, List, [], ◌∷◌, ◌++◌, length, take, drop, Vec, Global, vec_capacity, Some, refl, sym, ap, ◌∙◌, inl, inr, arith, length-append, length-drop}
+use Rattle.std.proofs.lemmas.Bool.{cases_Bool, eqb-true}
+use Rattle.std.proofs.lemmas.List.{length-take-le, take-append-drop, take-take, drop-take, drop-drop, drop_at}
 use Rattle.sq_arena.specs.Arena.{Arena as Listed}
 use Rattle.sq_arena.specs.Entries.{value_of, before, behind, next_key}
+use Rattle.sq_arena.proofs.EntriesLemmas.{split_at as split_at_key}
+use Rattle.sq_graph.specs.declared.item.Item.{Item}
 use Rattle.sq_graph.specs.declared.slot.Slot.{Slot}
 use Rattle.sq_graph.specs.declared.graph.Graph.TheInside.{Inside}
 use Rattle.sq_graph.specs.Graph.{Block}
-use Rattle.sq_graph.specs.Blocks.{items_of_blocks, all_items}
+use Rattle.sq_graph.specs.Cursor.{length_of_slots}
+use Rattle.sq_graph.specs.Packed.{AreApart}
 use Rattle.sq_graph.specs.Rules.{IsGraph}
-use Rattle.sq_graph.specs.Canonical.{all_but}
-use Rattle.sq_graph.specs.Operations.{joined_with_next}
-use Rattle.sq_graph.specs.Slots.{slot_of, slots_from}
+use Rattle.sq_graph.specs.Operations.{replaced_items, with_next_taken, joined_at, joined_with_next}
 use Rattle.sq_graph.specs.CanonicalSlots.{both}
-use Rattle.sq_graph.specs.Layout.{graph_of}
-use Rattle.sq_graph.proofs.Located.{slots_from-append}
-use Rattle.sq_graph.proofs.Changes.{distinct_slots, start_at, around}
-use Rattle.sq_graph.proofs.Numbering.{same_head, same_tail}
-use Rattle.sq_graph.proofs.SlotPasses.{pair_of, pair_less}
-use Rattle.sq_graph.proofs.Joined.{items_of_blocks-joined}
-use Rattle.sq_graph.proofs.CanonicalLaws.{all_items-joined_by}
-use Rattle.sq_graph.proofs.JoinedAt.{FallsToNext, pair_joined, joined_by_others}
-use Rattle.sq_graph.proofs.Held.{Shows, shows}
-use Rattle.sq_graph.proofs.Tight.{IsTight}
+use Rattle.sq_graph.specs.Layout.{graph_of, IsSound}
+use Rattle.sq_graph.proofs.Packing.{later_same, length-replaced_items, ahead_written, upto_written, behind_written}
+use Rattle.sq_graph.proofs.SlotPasses.{some_same, IsPair, pair_of, pair_less, length_of_slots-append}
+use Rattle.sq_graph.proofs.SlotReads.{apart_found}
+use Rattle.sq_graph.proofs.Laid.{Stands, Lies, lies_lower, lies_behind, lies_found, piece_ahead}
+use Rattle.sq_graph.proofs.Held.{Shows, laid, laid_shows, limits_of}
 
--- the slots of two blocks that are joined, and of those behind them
-joined_slots_from : (n : ℕ) (front : List Block) (b next : Block) (back : List Block) (start : ℕ) → start ≡ n + length (items_of_blocks front)
-    → slots_from n (front ++ record b { items = b.items ++ next.items; term = next.term } ∷ back) ≡ slots_from n front ++ (b.name, both (slot_of start b) (slot_of (start + length b.items) next)) ∷ slots_from (start + length b.items + length next.items) back
-joined_slots_from n front b next back start is =
-    let c : Block = record b { items = b.items ++ next.items; term = next.term } in
-    let long = length-append b.items next.items in
-    let ends : n + length (items_of_blocks front) + length (b.items ++ next.items) ≡ start + length b.items + length next.items = omega (arith, is, long) in
-    slots_from-append n front (c ∷ back)
-    ∙ ap (λ k. slots_from n front ++ (b.name, slot_of k c) ∷ slots_from (n + length (items_of_blocks front) + length (b.items ++ next.items)) back) (sym is)
-    ∙ ap (λ k. slots_from n front ++ (b.name, record { start = start; length = k; term = next.term }) ∷ slots_from (n + length (items_of_blocks front) + length (b.items ++ next.items)) back) long
-    ∙ ap (λ k. slots_from n front ++ (b.name, both (slot_of start b) (slot_of (start + length b.items) next)) ∷ slots_from k back) ends
+-- THE ITEMS
 
-module _ (inside : Inside) (tight : IsTight inside) (name : ℕ) (pair : FallsToNext (graph_of inside) name) (next : ℕ) (next_is : next_key inside.slots.entries name ≡ Some next) (slots : Listed Slot) (entries_are : (first second : Slot) → value_of inside.slots.entries name ≡ Some first → value_of inside.slots.entries next ≡ Some second → slots.entries ≡ before inside.slots.entries name ++ (name, both first second) ∷ behind inside.slots.entries next) where
-  abbrev start : ℕ
-  start = start_at (graph_of inside).blocks name pair.at
+-- the items of the second slot have come down right behind those of the first
+pub record ComesDown (xs ys : List Item) (first second : Slot) : Type 0 where
+  pub ahead : take (first.start + first.length) ys ≡ take (first.start + first.length) xs
+  pub moved : take second.length (drop (first.start + first.length) ys) ≡ take second.length (drop second.start xs)
+  pub later : drop (second.start + second.length) ys ≡ drop (second.start + second.length) xs
+  pub long : length ys ≡ length xs
 
-  entries_joined : slots.entries ≡ slots_from 0 (joined_with_next (graph_of inside) name).blocks
-  entries_joined =
-      let g = graph_of inside in
-      let b = pair.at.block in
-      let a = around inside.slots.entries (graph_of inside).blocks name pair.at tight.holds.slots in
-      let two = pair_of inside.slots.entries name (slot_of start b) next (distinct_slots inside tight) a.slot next_is in
-      let same : (next, two.value) ∷ two.rest ≡ (pair.next.name, slot_of (start + length b.items) pair.next) ∷ slots_from (start + length b.items + length pair.next.items) pair.back =
-      sym two.behind_is ∙ a.back ∙ ap (slots_from (start + length b.items)) pair.back_is in
-      let value = ap (λ e. e.1) (same_head _ _ _ _ same) in
-      let rest = same_tail _ _ _ _ same in
-      entries_are (slot_of start b) two.value a.slot two.at.found
-      ∙ ap (λ es. es ++ (name, both (slot_of start b) two.value) ∷ behind inside.slots.entries next) a.front
-      ∙ ap (λ es. slots_from 0 pair.at.front ++ (name, both (slot_of start b) two.value) ∷ es) (two.at.behind_is ∙ rest)
-      ∙ ap (λ s. slots_from 0 pair.at.front ++ (name, both (slot_of start b) s) ∷ slots_from (start + length b.items + length pair.next.items) pair.back) value
-      ∙ ap (λ k. slots_from 0 pair.at.front ++ (k, both (slot_of start b) (slot_of (start + length b.items) pair.next)) ∷ slots_from (start + length b.items + length pair.next.items) pair.back) (sym pair.at.has_name)
-      ∙ sym (joined_slots_from 0 pair.at.front b pair.next pair.back start (omega arith))
-      ∙ ap (slots_from 0) (sym (pair_joined g name tight.rules pair))
+pub comes_down : (xs ys : List Item) (first second : Slot) → first.start + first.length ≤ second.start → second.start + second.length ≤ length xs
+    → ys ≡ replaced_items xs (first.start + first.length) second.length (take second.length (drop second.start xs)) → ComesDown xs ys first second
+comes_down xs ys first second down within is =
+    let end = first.start + first.length in
+    let by = take second.length (drop second.start xs) in
+    let size : length (take second.length (drop second.start xs)) ≡ second.length = length-take-le second.length (drop second.start xs) (omega (arith, within, length-drop second.start xs)) in
+    let at : first.start + first.length ≤ length xs = omega (arith, down, within) in
+    record {
+      ahead = ap (take end) is ∙ ahead_written xs by end end second.length (omega arith) at;
+      moved =
+          sym (drop-take end second.length ys)
+          ∙ ap (drop end) (ap (take (end + second.length)) is ∙ upto_written xs by end second.length at size)
+          ∙ drop_at (take end xs) by end (length-take-le end xs at);
+      later = ap (drop (second.start + second.length)) is ∙ behind_written xs by end second.length (second.start + second.length) at size (omega (arith, down));
+      long = omega (arith, ap (λ zs. length zs) is, length-replaced_items xs by end second.length (omega (arith, down, within)), size);
+    }
 
-  -- one slot less
-  entries_less : length slots.entries + 1 ≡ length inside.slots.entries
-  entries_less =
-      let b = pair.at.block in
-      let a = around inside.slots.entries (graph_of inside).blocks name pair.at tight.holds.slots in
-      let two = pair_of inside.slots.entries name (slot_of start b) next (distinct_slots inside tight) a.slot next_is in
-      pair_less inside.slots.entries slots.entries name (slot_of start b) next two.value a.slot two (entries_are (slot_of start b) two.value a.slot two.at.found)
+take_more_items : (m n : ℕ) (xs : List Item) → take (m + n) xs ≡ take m xs ++ take n (drop m xs)
+take_more_items m n xs =
+    sym (take-append-drop m (take (m + n) xs))
+    ∙ ap (λ ys. ys ++ drop m (take (m + n) xs)) (take-take m (m + n) xs (omega arith))
+    ∙ ap (λ ys. take m xs ++ ys) (drop-take m n xs)
 
-  pub join_shows : slots.spare ≡ inside.slots.spare + 1 → IsGraph (joined_with_next (graph_of inside) name) → Shows (record inside { slots = slots }) (joined_with_next (graph_of inside) name)
-  join_shows spare rules =
-      let g = graph_of inside in
-      let leads = all_but pair.next.name in
-      let is = joined_by_others g name tight.rules pair in
-      shows (record inside { slots = slots }) (joined_with_next g name)
-      (record {
-        slots = entries_joined;
-        items = tight.holds.items ∙ sym (ap all_items is ∙ all_items-joined_by leads g);
-        blocks_end = tight.holds.blocks_end ∙ sym (ap (λ h. length (items_of_blocks h.blocks)) is ∙ ap (λ is. length is) (items_of_blocks-joined leads g.blocks));
-        gaps = tight.holds.gaps;
-        entry = refl;
-        code_words = refl;
-        bodies = tight.holds.bodies;
-      })
-      rules
-      (record { items = tight.room.items; item_room = tight.room.item_room; bodies = tight.room.bodies; body_room = tight.room.body_room })
-      (record {
-        blocks = omega (arith, entries_less, spare, tight.limits.blocks);
-        item_room = tight.limits.item_room;
-        body_room = tight.limits.body_room;
-      })
+-- THE BLOCKS
+
+module _ (xs ys : List Item) (name next : ℕ) (first second : Slot) (rest : List (ℕ × Slot)) (end : ℕ) (down : first.start + first.length ≤ second.start) (comes : ComesDown xs ys first second) where
+  lies_both : (low : ℕ) (b : Block) (bs : List Block) → Stands xs low (name, first) b → Lies xs (first.start + first.length) ((next, second) ∷ rest) bs end
+      → Lies ys low ((name, both first second) ∷ rest) (with_next_taken b bs) end
+  lies_both low b [] stands lies = absurd lies
+  lies_both low b (c ∷ bs) stands lies =
+      let st = lies.0 in (
+        record {
+          name = stands.name;
+          term = st.term;
+          counted = omega (arith, stands.counted, st.counted, length-append b.items c.items);
+          above = stands.above;
+          items = take_more_items first.length second.length (drop first.start ys)
+              ∙ ap (λ zs. zs ++ take second.length (drop first.length (drop first.start ys))) (piece_ahead xs ys (first.start + first.length) first.start first.length (omega arith) comes.ahead ∙ stands.items)
+              ∙ ap (λ zs. b.items ++ zs) (ap (take second.length) (drop-drop first.length first.start ys) ∙ comes.moved ∙ st.items);
+        },
+        lies_lower ys (second.start + second.length) (first.start + (first.length + second.length)) rest bs end (omega (arith, down))
+            (lies_behind xs ys (second.start + second.length) (second.start + second.length) rest bs end (omega arith) comes.later lies.1),
+      )
+
+  -- the slot of the block has the items of both, from where its own start
+  lies_joined : (low : ℕ) (es : List (ℕ × Slot)) (bs : List Block) → Lies xs low es bs end → value_of es name ≡ Some first → behind es name ≡ (next, second) ∷ rest
+      → Lies ys low (before es name ++ (name, both first second) ∷ rest) (joined_at bs name) end
+  lies_joined low [] bs lies found back = absurd (cc)
+  lies_joined low (e ∷ es) [] lies found back = absurd lies
+  lies_joined low (e ∷ es) (b ∷ bs) lies found back =
+      elim (cases_Bool (e.0 == name)) [
+        | inl here ↦
+            let value : e.1 ≡ first = cc (rw here at found) in
+            let st = lies.0 in
+            let too : (b.name == name) ≡ true = ap (λ k. k == name) (sym st.name) ∙ here in
+            let stands : Stands xs low (name, first) b = record {
+              name = sym (eqb-true e.0 name here) ∙ st.name;
+              term = ap (λ s. s.term) (sym value) ∙ st.term;
+              counted = ap (λ s. s.length) (sym value) ∙ st.counted;
+              above = omega (arith, st.above, ap (λ s. s.start) value);
+              items = ap (λ s. take s.length (drop s.start xs)) (sym value) ∙ st.items;
+            } in
+            rw (here, too) (lies_both low b bs stands (rw (value, (rw here at back)) at lies.1))
+        | inr apart ↦
+            let st = lies.0 in
+            let too = ap (λ k. k == name) (sym st.name) ∙ apart in
+            let found' = rw apart at found in
+            let fits = lies_found xs (e.1.start + e.1.length) es bs end name first lies.1 found' in
+            rw (apart, too) (
+              record {
+                name = st.name;
+                term = st.term;
+                counted = st.counted;
+                above = st.above;
+                items = piece_ahead xs ys (first.start + first.length) e.1.start e.1.length (omega (arith, fits)) comes.ahead ∙ st.items;
+              },
+              lies_joined (e.1.start + e.1.length) es bs lies.1 found' (rw apart at back),
+            )
+      ]
+
+-- THE FIELDS
+
+apart_next : (es : List (ℕ × Slot)) (low end name next : ℕ) (first second : Slot) (rest : List (ℕ × Slot)) → AreApart es low end → value_of es name ≡ Some first → behind es name ≡ (next, second) ∷ rest → first.start + first.length ≤ second.start
+apart_next [] low end name next first second rest apart found back = absurd (cc)
+apart_next (e ∷ es) low end name next first second rest apart found back =
+    elim (cases_Bool (e.0 == name)) [
+      | inl here ↦
+          let value : e.1 ≡ first = cc (rw here at found) in
+          let there = rw (value, (rw here at back)) at apart.1 in
+          there.0
+      | inr elsewhere ↦ apart_next es (e.1.start + e.1.length) end name next first second rest apart.1 (rw elsewhere at found) (rw elsewhere at back)
+    ]
+
+-- the slots of a block and of the next one
+pub record AreNext (inside : Inside) (name : ℕ) (first : Slot) (next : ℕ) (second : Slot) : Type 0 where
+  pub found : value_of inside.slots.entries name ≡ Some first
+  pub found_next : value_of inside.slots.entries next ≡ Some second
+  pub pair : IsPair inside.slots.entries name first next
+  pub back : behind inside.slots.entries name ≡ (next, second) ∷ pair.rest
+  pub down : first.start + first.length ≤ second.start
+  pub fits : second.start + second.length ≤ inside.blocks_end
+  pub within : second.start + second.length ≤ length inside.items.items
+
+pub are_next : (inside : Inside) (name : ℕ) (first : Slot) (next : ℕ) (second : Slot) → IsSound inside → value_of inside.slots.entries name ≡ Some first → next_key inside.slots.entries name ≡ Some next → value_of inside.slots.entries next ≡ Some second → AreNext inside name first next second
+are_next inside name first next second sound found next_is found_next =
+    let pair = pair_of inside.slots.entries name first next sound.gaps.distinct found next_is in
+    let same = some_same pair.value second (sym pair.at.found ∙ found_next) in
+    let back : behind inside.slots.entries name ≡ (next, second) ∷ pair.rest = pair.behind_is ∙ ap (λ s. (next, s) ∷ pair.rest) same in
+    let fits = apart_found inside.slots.entries 0 inside.blocks_end next second sound.gaps.apart found_next in
+    record {
+      found = found;
+      found_next = found_next;
+      pair = pair;
+      back = back;
+      down = apart_next inside.slots.entries 0 inside.blocks_end name next first second pair.rest sound.gaps.apart found back;
+      fits = fits;
+      within = omega (arith, fits, sound.gaps.within);
+    }
+
+pub join_shows : (inside : Inside) (name : ℕ) (first : Slot) (next : ℕ) (second : Slot) (slots : Listed Slot) (items : Vec Item Global) → IsSound inside → (two : AreNext inside name first next second)
+    → slots.entries ≡ before inside.slots.entries name ++ (name, both first second) ∷ behind inside.slots.entries next → slots.spare ≡ inside.slots.spare + 1
+    → ComesDown inside.items.items items.items first second → vec_capacity items ≡ vec_capacity inside.items
+    → IsGraph (joined_with_next (graph_of inside) name) → Shows (record inside { slots = slots; items = items }) (joined_with_next (graph_of inside) name)
+join_shows inside name first next second slots items sound two entries spare comes capacity rules =
+    let es = inside.slots.entries in
+    let g = graph_of inside in
+    let lays = laid inside sound in
+    let limits = limits_of inside sound in
+    let less = pair_less es slots.entries name first next second two.found two.pair entries in
+    let parts : slots.entries ≡ before inside.slots.entries name ++ (name, both first second) ∷ two.pair.rest = entries ∙ ap (λ back. before es name ++ (name, both first second) ∷ back) two.pair.at.behind_is in
+    let lies = lies_joined inside.items.items items.items name next first second two.pair.rest inside.blocks_end two.down comes 0 es g.blocks lays.blocks two.found two.back in
+    let was : length_of_slots inside.slots.entries ≡ length_of_slots (before inside.slots.entries name) + (first.length + (second.length + length_of_slots two.pair.rest)) =
+    ap length_of_slots (split_at_key es name first two.found)
+    ∙ length_of_slots-append (before es name) ((name, first) ∷ behind es name)
+    ∙ ap (λ back. length_of_slots (before es name) + (first.length + length_of_slots back)) two.back in
+    let now = ap length_of_slots parts ∙ length_of_slots-append (before es name) ((name, both first second) ∷ two.pair.rest) in
+    laid_shows (record inside { slots = slots; items = items }) (joined_with_next g name)
+    (record {
+      blocks = rw parts lies;
+      within = omega (arith, lays.within, comes.long);
+      counted = omega (arith, lays.counted, was, now);
+      behind = later_same inside.items.items items.items (second.start + second.length) inside.blocks_end two.fits comes.later ∙ lays.behind;
+      entry = refl;
+      code_words = refl;
+      bodies = lays.bodies;
+    })
+    rules
+    (record {
+      items = omega (arith, comes.long, sound.room.items);
+      item_room = omega (arith, capacity, sound.room.item_room);
+      bodies = sound.room.bodies;
+      body_room = sound.room.body_room;
+    })
+    (record {
+      blocks = omega (arith, less, spare, limits.blocks);
+      item_room = limits.item_room;
+      body_room = limits.body_room;
+    })

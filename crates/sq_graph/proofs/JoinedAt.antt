@@ -104,12 +104,12 @@ module _ (g : Graph) (name : ℕ) (rules : IsGraph g) (pair : FallsToNext g name
   pair_whole : g.blocks ≡ pair.at.front ++ pair.at.block ∷ pair.next ∷ pair.back
   pair_whole = pair.at.whole ∙ ap (λ bs. pair.at.front ++ pair.at.block ∷ bs) pair.back_is
 
-  pub pair_joined : joined_at g.blocks name ≡ pair.at.front ++ with_next_taken pair.at.block (pair.next ∷ pair.back)
+  pair_joined : joined_at g.blocks name ≡ pair.at.front ++ with_next_taken pair.at.block (pair.next ∷ pair.back)
   pair_joined =
       ap (λ bs. joined_at bs name) pair_whole
       ∙ joined_at_parts pair.at.front pair.at.block (pair.next ∷ pair.back) name pair.at.has_name pair.at.ahead
 
-  pub joined_by_others : joined_with_next g name ≡ joined_by (all_but pair.next.name) g
+  joined_by_others : joined_with_next g name ≡ joined_by (all_but pair.next.name) g
   joined_by_others =
       let front = pair.at.front in
       let b = pair.at.block in

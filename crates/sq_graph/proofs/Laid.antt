@@ -159,7 +159,7 @@ lies_tight xs low (e ∷ es) (b ∷ bs) end lies full =
 
 -- ONE BLOCK
 
-piece_ahead : (xs ys : List Item) (m start n : ℕ) → start + n ≤ m → take m ys ≡ take m xs → take n (drop start ys) ≡ take n (drop start xs)
+pub piece_ahead : (xs ys : List Item) (m start n : ℕ) → start + n ≤ m → take m ys ≡ take m xs → take n (drop start ys) ≡ take n (drop start xs)
 piece_ahead xs ys m start n fits same =
     sym (drop-take start n ys)
     ∙ ap (drop start) (sym (take-take (start + n) m ys fits) ∙ ap (take (start + n)) same ∙ take-take (start + n) m xs fits)
@@ -171,7 +171,7 @@ lies_append xs low mid end [] cs (b ∷ bs) ds front back = absurd front
 lies_append xs low mid end (e ∷ fs) cs [] ds front back = absurd front
 lies_append xs low mid end (e ∷ fs) cs (b ∷ bs) ds front back = (front.0, lies_append xs (e.1.start + e.1.length) mid end fs cs bs ds front.1 back)
 
-lies_behind : (xs ys : List Item) (m low : ℕ) (es : List (ℕ × Slot)) (bs : List Block) (end : ℕ) → m ≤ low → drop m ys ≡ drop m xs → Lies xs low es bs end → Lies ys low es bs end
+pub lies_behind : (xs ys : List Item) (m low : ℕ) (es : List (ℕ × Slot)) (bs : List Block) (end : ℕ) → m ≤ low → drop m ys ≡ drop m xs → Lies xs low es bs end → Lies ys low es bs end
 lies_behind xs ys m low [] [] end later same lies = lies
 lies_behind xs ys m low [] (b ∷ bs) end later same lies = absurd lies
 lies_behind xs ys m low (e ∷ es) [] end later same lies = absurd lies
@@ -203,7 +203,7 @@ lies_ahead xs ys m low (e ∷ es) (b ∷ bs) end before same lies =
       lies_ahead xs ys m (e.1.start + e.1.length) es bs end before same lies.1,
     )
 
-lies_found : (xs : List Item) (low : ℕ) (es : List (ℕ × Slot)) (bs : List Block) (end name : ℕ) (slot : Slot) → Lies xs low es bs end → value_of es name ≡ Some slot → low ≤ slot.start
+pub lies_found : (xs : List Item) (low : ℕ) (es : List (ℕ × Slot)) (bs : List Block) (end name : ℕ) (slot : Slot) → Lies xs low es bs end → value_of es name ≡ Some slot → low ≤ slot.start
 lies_found xs low [] bs end name slot lies found = absurd (cc)
 lies_found xs low (e ∷ es) [] end name slot lies found = absurd lies
 lies_found xs low (e ∷ es) (b ∷ bs) end name slot lies found =

@@ -10,10 +10,10 @@ use Rattle.sq_graph.proofs.CursorLaws.{steps, from_first}
 use Rattle.sq_graph.proofs.SlotPasses.{length_of_slots-append}
 use Rattle.sq_graph.proofs.SlotWalks.{Renumbers, started}
 
-pub same_head : (x y : ℕ × Slot) (xs ys : List (ℕ × Slot)) → x ∷ xs ≡ y ∷ ys → x ≡ y
+same_head : (x y : ℕ × Slot) (xs ys : List (ℕ × Slot)) → x ∷ xs ≡ y ∷ ys → x ≡ y
 same_head x y xs ys same = cc
 
-pub same_tail : (x y : ℕ × Slot) (xs ys : List (ℕ × Slot)) → x ∷ xs ≡ y ∷ ys → xs ≡ ys
+same_tail : (x y : ℕ × Slot) (xs ys : List (ℕ × Slot)) → x ∷ xs ≡ y ∷ ys → xs ≡ ys
 same_tail x y xs ys same = cc
 
 none_more : (n : ℕ) → n ≡ n + 0

@@ -14,7 +14,7 @@ use crate::graph::Graph;
 use crate::item::Term;
 use crate::rename::{self, Rename, Swap};
 use crate::slot::Slot;
-use crate::slots;
+use crate::{pieces, slots};
 
 impl Graph {
     /// Gives the block another term.
@@ -78,7 +78,7 @@ impl Graph {
     }
 
     /// Joins the next slot, whose name isn't used, to the block, which falls into it: the block takes over its items and its
-    /// term. Where there are no gaps, it looks at these two alone.
+    /// term. It looks at these two alone.
     pub fn join(&mut self, block: u32)
         requires falls { term_of self.old.graph block ≡ Some Fall }
         requires unused { All (λ name. next_of self.old.graph block ≢ Some name) (uses self.old.graph) }
@@ -87,13 +87,11 @@ impl Graph {
         ensures rules { IsGraph self.new.graph }
         ensures words { words_of self.new.graph ≡ words_of self.old.graph }
     {
-        close_gaps(
-            &mut self.slots,
-            &mut self.items,
-            &mut self.blocks_end,
-            &mut self.gaps,
-        );
+        let first = slots::slot(&self.slots, block);
         let next = self.slots.next(block).unwrap();
+        let second = slots::slot(&self.slots, next);
+        let end = first.start + first.length;
+        pieces::copy_down(&mut self.items, second.start, second.length, end);
         slots::take_next(&mut self.slots, block, next);
     }
 

@@ -37,13 +37,16 @@ pub(crate) fn cut(items: &mut Vec<Item>, at: u32, count: u32)
     items.truncate(len - count);
 }
 
-/// Copies so many items to a place that isn't behind them.
+/// Copies so many items to a place that isn't behind them. Where they lie there already, it looks at none.
 pub(crate) fn copy_down(items: &mut Vec<Item>, from: u32, count: u32, to: u32)
     requires down { to ≤ from }
     requires there { from + count ≤ vec_len items.old }
     ensures items { items.new.items ≡ replaced_items items.old.items to count (take count (drop from items.old.items)) }
     ensures capacity { vec_capacity items.new ≡ vec_capacity items.old }
 {
+    if to == from {
+        return;
+    }
     let from = from as usize;
     items.copy_within(from..from + count as usize, to as usize);
 }
