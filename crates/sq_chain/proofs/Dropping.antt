@@ -1,7 +1,7 @@
 -- A block that is empty with Fall and that nothing names goes, and the canonical graph stays.
-use Rattle.std.proofs.Common.{◌≡◌, ◌≢◌, ℕ, ◌==◌, Bool, true, false, ◌&&◌, not, List, [], ◌∷◌, ◌++◌, map, None, Some, is_some, inl, inr, refl, sym, ap, ◌∙◌, subst}
+use Rattle.std.proofs.Common.{◌≡◌, ◌≢◌, ◌⊎◌, ℕ, ◌==◌, Bool, true, false, ◌&&◌, ◌||◌, not, if◌then◌else◌, List, [], ◌∷◌, ◌++◌, map, None, Some, is_some, inl, inr, refl, sym, ap, ◌∙◌, subst}
 use Rattle.std.specs.List.{All}
-use Rattle.std.proofs.lemmas.Bool.{cases_Bool, or_parts, eqb-true, eqb-false, ne_eqb}
+use Rattle.std.proofs.lemmas.Bool.{cases_Bool, or_parts, eqb-true, eqb-false, eq-eqb, ne_eqb}
 use Rattle.std.proofs.lemmas.List.Elements.{All-nil, All-cons, All-head, All-tail, All-weaker}
 use Rattle.sq_arena.specs.Entries.{HasDistinctKeys, value_of}
 use Rattle.sq_arena.proofs.EntriesLaws.{distinct_back}
@@ -13,18 +13,19 @@ use Rattle.sq_graph.specs.declared.item.Term.TheVariants.{Fall, Jump, Branch, Ca
 use Rattle.sq_graph.specs.declared.parts.CodeRef.{CodeRef}
 use Rattle.sq_graph.specs.Graph.{Block, Procedure, Graph}
 use Rattle.sq_graph.specs.Blocks.{named, HasBlock, HasProcedure, block_term, term_of, all_items, items_of_bodies}
-use Rattle.sq_graph.specs.Canonical.{bypassed_to, bypassed, bypassed_each, joined, canonical_of}
+use Rattle.sq_graph.specs.Bypasses.{first_name, kept, passed}
+use Rattle.sq_graph.specs.Canonical.{joined, canonical_of}
 use Rattle.sq_graph.specs.Leaders.{is_fall, is_bare, FallsIntoLeaders}
 use Rattle.sq_graph.specs.Operations.{with_blocks, without_block}
 use Rattle.sq_graph.specs.Renames.{retargeted_items, retargeted_term, retargeted_block, retargeted_procedure, retargeted_words, retargeted, swapped}
-use Rattle.sq_graph.specs.Rules.{IsGraph}
+use Rattle.sq_graph.specs.Rules.{IsGraph, last_goes_on}
 use Rattle.sq_graph.specs.Uses.{items_uses, term_uses, terms_uses, code_word_uses, uses}
-use Rattle.sq_graph.proofs.Bypassing.{bare_falls, bare_items}
-use Rattle.sq_graph.proofs.CanonicalLaws.{none_bypassed}
+use Rattle.sq_graph.proofs.Bypassing.{retargeted_twice, falls_on, bare_falls, bare_items, passed-other, passed-bare}
+use Rattle.sq_graph.proofs.CanonicalLaws.{canonical_is_joined}
 use Rattle.sq_graph.proofs.Changes.{items_of_blocks-kept}
 use Rattle.sq_graph.proofs.Held.{same_graph}
 use Rattle.sq_graph.proofs.JoinedAt.{falls_to_next}
-use Rattle.sq_graph.proofs.Kept.{absent_behind}
+use Rattle.sq_graph.proofs.Kept.{kept-other, absent_behind}
 use Rattle.sq_graph.proofs.Located.{IsAt, located}
 use Rattle.sq_graph.proofs.OperationRules.{without_block_rules}
 use Rattle.sq_graph.proofs.RulesByBlock.{ItemStands, BlockStands, BodyStands, by_block}
@@ -34,7 +35,9 @@ use Rattle.sq_lookup.specs.Counts.{times_named, AreUses}
 use Rattle.sq_lookup.specs.declared.counts.Uses.{Uses}
 use Rattle.sq_lookup.proofs.Counting.{uses_keep}
 use Rattle.sq_lookup.proofs.JoiningBefore.{fall_is}
-use Rattle.sq_chain.specs.Bare.{IsBareAt, AreSolidBut}
+use Rattle.sq_chain.specs.Bare.{IsBareAt, AreSolidBut, AreLed}
+use Rattle.sq_chain.specs.Passing.{IsPassed}
+use Rattle.sq_chain.proofs.PassedOn.{names_go, next_apart, passed_bare, passed_led, passed_used}
 
 -- NAMES THAT STAY
 
@@ -99,48 +102,113 @@ graph_stays f g rules used =
 
 -- ONE BLOCK ALONE
 
--- where it isn't, all are solid
-solid_absent : (bs : List Block) (n : ℕ) → value_of (named bs) n ≡ None → All (λ b. (not (b.name == n) && is_bare b) ≡ false) bs → All (λ b. is_bare b ≡ false) bs
-solid_absent [] n none but = All-nil (λ b. is_bare b ≡ false)
-solid_absent (b ∷ bs) n none but =
-    let P : Block → Type 0 = λ b. (not (b.name == n) && is_bare b) ≡ false in
-    elim (cases_Bool (b.name == n)) [
-      | inl here ↦ absurd (cc (rw here at none))
-      | inr apart ↦
-          All-cons (λ b. is_bare b ≡ false) b bs (let own = All-head P b bs but in rw apart at own)
-          (solid_absent bs n (rw apart at none) (All-tail P b bs but))
-    ]
-
 module _ (n : ℕ) where
-  abbrev P : Block → Type 0
-  P b = (not (b.name == n) && is_bare b) ≡ false
+  abbrev without : List Block → List Block
+  without bs = with_blocks (λ _. []) bs n
 
   behind_here : (b : Block) (bs : List Block) → (b.name == n) ≡ true → HasDistinctKeys (named (b ∷ bs)) → value_of (named bs) n ≡ None
   behind_here b bs here distinct = subst (λ k. value_of (named bs) k ≡ None) (eqb-true b.name n here) (absent_behind (b.name, b) (named bs) distinct)
 
-  each_but : (bs : List Block) (h : Graph) (block : Block) → HasDistinctKeys (named bs) → value_of (named bs) n ≡ Some block → is_bare block ≡ true → All P bs → bypassed_each bs h ≡ bypassed h n
-  each_but [] h block distinct there bare but = absurd (cc)
-  each_but (b ∷ bs) h block distinct there bare but =
+  pub gone : (bs : List Block) → HasDistinctKeys (named bs) → value_of (named (with_blocks (λ _. []) bs n)) n ≡ None
+  gone [] distinct = refl
+  gone (b ∷ bs) distinct =
       elim (cases_Bool (b.name == n)) [
-        | inl here ↦
-            let some : Some b ≡ Some block = rw here at there in
-            let same : b ≡ block = cc in
-            rw (ap is_bare same ∙ bare)
-            (none_bypassed bs (bypassed h b.name) (solid_absent bs n (behind_here b bs here distinct) (All-tail P b bs but)) ∙ ap (bypassed h) (eqb-true b.name n here))
-        | inr apart ↦
-            let solid : is_bare b ≡ false = let own = All-head P b bs but in rw apart at own in
-            rw solid (each_but bs h block (distinct_back ((b.name, b) ∷ []) (named bs) distinct) (rw apart at there) bare (All-tail P b bs but))
+        | inl here ↦ rw here (behind_here b bs here distinct)
+        | inr apart ↦ rw apart (rw apart (gone bs (distinct_back ((b.name, b) ∷ []) (named bs) distinct)))
       ]
 
-  solid_without : (bs : List Block) → HasDistinctKeys (named bs) → All P bs → All (λ b. is_bare b ≡ false) (with_blocks (λ _. []) bs n)
-  solid_without [] distinct but = All-nil (λ b. is_bare b ≡ false)
-  solid_without (b ∷ bs) distinct but =
+  kept_without : (bs : List Block) → ((b : Block) → value_of (named bs) n ≡ Some b → is_bare b ≡ true) → kept (with_blocks (λ _. []) bs n) ≡ kept bs
+  kept_without [] bare = refl
+  kept_without (b ∷ bs) bare =
       elim (cases_Bool (b.name == n)) [
-        | inl here ↦ rw here (solid_absent bs n (behind_here b bs here distinct) (All-tail P b bs but))
+        | inl here ↦ let own : is_bare b ≡ true = bare b (rw here refl) in rw (here, own) refl
+        | inr apart ↦ rw apart (ap (λ cs. if not (is_bare b) then b ∷ cs else cs) (kept_without bs (λ c there. bare c (rw apart there))))
+      ]
+
+  -- another name goes where it went
+  passed_without : (bs : List Block) → HasDistinctKeys (named bs) → ((b : Block) → value_of (named bs) n ≡ Some b → is_bare b ≡ true) → last_goes_on bs ≡ false → (k : ℕ) → k ≢ n → passed bs k ≡ passed (with_blocks (λ _. []) bs n) k
+  passed_without [] distinct bare ends k other = refl
+  passed_without (b ∷ []) distinct bare ends k other =
+      elim (cases_Bool (b.name == n)) [
+        | inl here ↦ let own : is_bare b ≡ true = bare b (rw here refl) in absurd (cc (falls_on b.term (bare_falls b own), ends))
+        | inr apart ↦ rw apart refl
+      ]
+  passed_without (b ∷ c ∷ rest) distinct bare ends k other =
+      elim (cases_Bool (b.name == n)) [
+        | inl here ↦ rw here (passed-other b (c ∷ rest) k (ne_eqb b.name k (λ same. other (sym same ∙ eqb-true b.name n here))))
         | inr apart ↦
+            let distinct_rest = distinct_back ((b.name, b) ∷ []) (named (c ∷ rest)) distinct in
+            let rest_bare : (d : Block) → value_of (named (c ∷ rest)) n ≡ Some d → is_bare d ≡ true = λ d there. bare d (rw apart there) in
+            let before = passed_without (c ∷ rest) distinct_rest rest_bare ends in
+            let later = with_blocks (λ _. []) (c ∷ rest) n in
             rw apart
-            (All-cons (λ b. is_bare b ≡ false) b (with_blocks (λ _. []) bs n) (let own = All-head P b bs but in rw apart at own)
-            (solid_without bs (distinct_back ((b.name, b) ∷ []) (named bs) distinct) (All-tail P b bs but)))
+            (elim (cases_Bool (b.name == k)) [
+              | inr away ↦ passed-other b (c ∷ rest) k away ∙ before k other ∙ sym (passed-other b later k away)
+              | inl own ↦
+                  elim (cases_Bool (is_bare b)) [
+                    | inr solid ↦ solid_goes b (c ∷ rest) k solid ∙ before k other ∙ sym (solid_goes b later k solid)
+                    | inl empty ↦ bare_goes b (c ∷ rest) k empty own ∙ first_goes c rest distinct_rest rest_bare ends k before ∙ sym (bare_goes b later k empty own)
+                  ]
+            ])
+      ]
+    where
+      solid_goes : (b : Block) (bs : List Block) (k : ℕ) → is_bare b ≡ false → passed (b ∷ bs) k ≡ passed bs k
+      solid_goes b bs k solid = rw solid refl
+
+      bare_goes : (b : Block) (bs : List Block) (k : ℕ) → is_bare b ≡ true → (b.name == k) ≡ true → passed (b ∷ bs) k ≡ passed bs (first_name bs k)
+      bare_goes b bs k empty own = rw (empty, eq-eqb k b.name (sym (eqb-true b.name k own))) refl
+
+      first_goes : (c : Block) (rest : List Block) → HasDistinctKeys (named (c ∷ rest)) → ((d : Block) → value_of (named (c ∷ rest)) n ≡ Some d → is_bare d ≡ true) → last_goes_on (c ∷ rest) ≡ false → (k : ℕ) → ((m : ℕ) → m ≢ n → passed (c ∷ rest) m ≡ passed (with_blocks (λ _. []) (c ∷ rest) n) m)
+          → passed (c ∷ rest) c.name ≡ passed (with_blocks (λ _. []) (c ∷ rest) n) (first_name (with_blocks (λ _. []) (c ∷ rest) n) k)
+      first_goes c [] distinct bare ends k before =
+          elim (cases_Bool (c.name == n)) [
+            | inl here ↦ let own : is_bare c ≡ true = bare c (rw here refl) in absurd (cc (falls_on c.term (bare_falls c own), ends))
+            | inr apart ↦ rw apart refl
+          ]
+      first_goes c (d ∷ more) distinct bare ends k before =
+          elim (cases_Bool (c.name == n)) [
+            | inl here ↦ let own : is_bare c ≡ true = bare c (rw here refl) in rw here (passed-bare c d more own)
+            | inr apart ↦ let goes = before c.name (eqb-false c.name n apart) in rw apart (rw apart at goes)
+          ]
+
+  -- none but some is empty with Fall, and this one goes or isn't
+  solid_still : (may : ℕ → Bool) (bs : List Block) → HasDistinctKeys (named bs) → ((b : Block) → value_of (named bs) n ≡ Some b → is_bare b ≡ false) → All (λ b. (not (n == b.name || may b.name) && is_bare b) ≡ false) bs → All (λ b. (not (may b.name) && is_bare b) ≡ false) bs
+  solid_still may [] distinct solid but = All-nil (λ b. (not (may b.name) && is_bare b) ≡ false)
+  solid_still may (b ∷ bs) distinct solid but =
+      let P : Block → Type 0 = λ c. (not (may c.name) && is_bare c) ≡ false in
+      let Q : Block → Type 0 = λ c. (not (n == c.name || may c.name) && is_bare c) ≡ false in
+      let own = All-head Q b bs but in
+      let later = All-tail Q b bs but in
+      let distinct_rest = distinct_back ((b.name, b) ∷ []) (named bs) distinct in
+      elim (cases_Bool (b.name == n)) [
+        | inl here ↦
+            let none = behind_here b bs here distinct in
+            All-cons P b bs (ap (λ t. not (may b.name) && t) (solid b (rw here refl)) ∙ neither (not (may b.name)))
+            (solid_still may bs distinct_rest (λ c there. absurd (cc (none, there))) later)
+        | inr apart ↦
+            let away : (n == b.name) ≡ false = ne_eqb n b.name (λ same. eqb-false b.name n apart (sym same)) in
+            All-cons P b bs (rw away at own) (solid_still may bs distinct_rest (λ c there. solid c (rw apart there)) later)
+      ]
+    where
+      neither : (a : Bool) → (a && false) ≡ false
+      neither true = refl
+      neither false = refl
+
+  solid_without : (may : ℕ → Bool) (bs : List Block) → HasDistinctKeys (named bs) → All (λ b. (not (n == b.name || may b.name) && is_bare b) ≡ false) bs → All (λ b. (not (may b.name) && is_bare b) ≡ false) (with_blocks (λ _. []) bs n)
+  solid_without may [] distinct but = All-nil (λ b. (not (may b.name) && is_bare b) ≡ false)
+  solid_without may (b ∷ bs) distinct but =
+      let P : Block → Type 0 = λ c. (not (may c.name) && is_bare c) ≡ false in
+      let Q : Block → Type 0 = λ c. (not (n == c.name || may c.name) && is_bare c) ≡ false in
+      let own = All-head Q b bs but in
+      let later = All-tail Q b bs but in
+      let distinct_rest = distinct_back ((b.name, b) ∷ []) (named bs) distinct in
+      elim (cases_Bool (b.name == n)) [
+        | inl here ↦
+            let none = behind_here b bs here distinct in
+            rw here (solid_still may bs distinct_rest (λ c there. absurd (cc (none, there))) later)
+        | inr apart ↦
+            let away : (n == b.name) ≡ false = ne_eqb n b.name (λ same. eqb-false b.name n apart (sym same)) in
+            rw apart (All-cons P b (with_blocks (λ _. []) bs n) (rw away at own) (solid_without may bs distinct_rest later))
       ]
 
   -- what fell into it falls into the next one
@@ -170,7 +238,7 @@ module _ (g : Graph) (n : ℕ) (rules : IsGraph g) (bare : IsBareAt g n) where
   pub bare_there : HasBlock g n
   bare_there = ap is_some bare.there
 
-  bare_term : term_of g n ≡ Some Fall
+  pub bare_term : term_of g n ≡ Some Fall
   bare_term = ap block_term bare.there ∙ ap Some (fall_is bare.block.term (bare_falls bare.block bare.bare))
 
   at : IsAt g.blocks n
@@ -211,21 +279,85 @@ module _ (g : Graph) (n : ℕ) (rules : IsGraph g) (bare : IsBareAt g n) where
         let pair = falls_to_next g n rules bare_term in
         without_block_rules g n rules bare_there others (ap is_some pair.slot)
 
-    bypassed_is : bypassed g n ≡ without_block g n
-    bypassed_is =
+    pub bare_canonical : canonical_of (without_block g n) ≡ canonical_of g
+    bare_canonical =
         let pair = falls_to_next g n rules bare_term in
-        let f = swapped n pair.next.name in
-        ap (bypassed_to g n) pair.slot
-        ∙ ap (λ (h : Graph). without_block h n) (graph_stays f g rules (All-weaker (λ k. k ≢ n) (λ k. swapped n pair.next.name k ≡ k) (λ k apart. rw (ne_eqb k n apart) refl) (uses g) others))
+        let next = pair.next.name in
+        let to = λ (k : ℕ). swapped n pair.next.name k in
+        let g' : Graph = without_block g n in
+        let is_it : (b : Block) → value_of (named g.blocks) n ≡ Some b → is_bare b ≡ true = λ b there.
+        let both : Some b ≡ Some bare.block = sym there ∙ bare.there in
+        let same : b ≡ bare.block = cc in
+        ap is_bare same ∙ bare.bare in
+        let stays : retargeted (λ k. swapped n pair.next.name k) g ≡ g = graph_stays to g rules (All-weaker (λ k. k ≢ n) (λ k. swapped n pair.next.name k ≡ k) (λ k apart. rw (ne_eqb k n apart) refl) (uses g) others) in
+        let goes : passed g.blocks ≡ (λ (k : ℕ). passed (without_block g n).blocks (swapped n pair.next.name k)) = λ i k. name_goes k i in
+        let kept_stays : map (retargeted_block (λ k. swapped n pair.next.name k)) (kept g.blocks) ≡ kept g.blocks = sym (kept-other to g.blocks) ∙ ap (λ (h : Graph). kept h.blocks) stays in
+        canonical_is_joined g' bare_rules
+        ∙ ap joined
+        (sym
+        (ap (λ f. retargeted f (record g { blocks = kept g.blocks })) goes
+        ∙ sym (retargeted_twice to (passed g'.blocks) (record g { blocks = kept g.blocks }))
+        ∙ ap (retargeted (passed g'.blocks))
+        (same_graph (retargeted to (record g { blocks = kept g.blocks })) (record g { blocks = kept g'.blocks })
+        (kept_stays ∙ sym (kept_without n g.blocks is_it)) (ap (λ (h : Graph). h.entry) stays) (ap (λ (h : Graph). h.code_words) stays) (ap (λ (h : Graph). h.procedures) stays))))
+        ∙ sym (canonical_is_joined g rules)
+      where
+        name_goes : (k : ℕ) → passed g.blocks k ≡ passed (without_block g n).blocks (swapped n (falls_to_next g n rules bare_term).next.name k)
+        name_goes k =
+            let pair = falls_to_next g n rules bare_term in
+            let next = pair.next.name in
+            let is_it : (b : Block) → value_of (named g.blocks) n ≡ Some b → is_bare b ≡ true = λ b there.
+            let both : Some b ≡ Some bare.block = sym there ∙ bare.there in
+            let same : b ≡ bare.block = cc in
+            ap is_bare same ∙ bare.bare in
+            let before = passed_without n g.blocks rules.distinct is_it rules.ends in
+            elim (cases_Bool (k == n)) [
+              | inr apart ↦ rw apart (before k (eqb-false k n apart))
+              | inl here ↦
+                  rw here
+                  (ap (passed g.blocks) (eqb-true k n here) ∙ names_go g n next rules bare pair.slot ∙ before next (next_apart g n next rules bare pair.slot))
+            ]
 
-    module _ (but : AreSolidBut (λ m. m == n) g) where
-      pub bare_solid : All (λ b. is_bare b ≡ false) (without_block g n).blocks
-      bare_solid = solid_without n g.blocks rules.distinct but
+  pub bare_solid : (may : ℕ → Bool) → AreSolidBut (λ m. n == m || may m) g → AreSolidBut may (without_block g n)
+  bare_solid may but = solid_without n may g.blocks rules.distinct but
 
-      pub bare_canonical : canonical_of g ≡ canonical_of (without_block g n)
-      bare_canonical =
-          ap joined (each_but n g.blocks g bare.block rules.distinct bare.there bare.bare but ∙ bypassed_is)
-          ∙ sym (ap joined (none_bypassed (without_block g n).blocks (without_block g n) bare_solid))
+  pub bare_led : (leads : ℕ → Bool) → FallsIntoLeaders leads g.blocks → FallsIntoLeaders leads (without_block g n).blocks
+  bare_led leads led = falls_without n leads g.blocks bare_term led
 
-      pub bare_led : (leads : ℕ → Bool) → FallsIntoLeaders leads g.blocks → FallsIntoLeaders leads (without_block g n).blocks
-      bare_led leads led = falls_without n leads g.blocks bare_term led
+-- a block that isn't there, or isn't empty with Fall
+pub solid_but : (g : Graph) (n : ℕ) → IsGraph g → ¬ IsBareAt g n → (may : ℕ → Bool) → AreSolidBut (λ m. n == m || may m) g → AreSolidBut may g
+solid_but g n rules solid may but = solid_still n may g.blocks rules.distinct (λ b there. by_block b there (cases_Bool (is_bare b))) but
+  where
+    by_block : (b : Block) → value_of (named g.blocks) n ≡ Some b → (is_bare b ≡ true) ⊎ (is_bare b ≡ false) → is_bare b ≡ false
+    by_block b there (inl empty) = absurd (solid (record { block = b; there = there; bare = empty }))
+    by_block b there (inr full) = full
+
+-- what leads under another name than the one that went
+led_but : (leads others : ℕ → Bool) (n : ℕ) (bs : List Block) → value_of (named bs) n ≡ None → ((m : ℕ) → m ≢ n → leads m ≡ true → others m ≡ true) → FallsIntoLeaders leads bs → FallsIntoLeaders others bs
+led_but leads others n [] none more led = tt
+led_but leads others n (b ∷ []) none more led = tt
+led_but leads others n (b ∷ c ∷ rest) none more led =
+    elim (cases_Bool (b.name == n)) [
+      | inl here ↦ absurd (cc (rw here at none))
+      | inr apart ↦
+          let later : value_of (named (c ∷ rest)) n ≡ None = rw apart at none in
+          elim (cases_Bool (c.name == n)) [
+            | inl here ↦ absurd (cc (rw here at later))
+            | inr away ↦ (λ fall. more c.name (eqb-false c.name n away) (led.0 fall), led_but leads others n (c ∷ rest) later more led.1)
+          ]
+    ]
+
+-- the Branches to it go to the next one, and it goes
+module _ (g mid : Graph) (n : ℕ) (passed_to : IsPassed n g mid) (rules : IsGraph g) (mid_rules : IsGraph mid) (bare : IsBareAt g n) where
+  pub taken_led : (leads : ℕ → Bool) → AreLed leads g → AreLed leads (without_block mid n)
+  taken_led leads led =
+      let mid_bare = passed_bare n g mid passed_to bare in
+      let led_mid = passed_led n g mid passed_to (λ m. leads m || is_among (uses g) m) led in
+      let led_without = bare_led mid n mid_rules mid_bare (λ m. leads m || is_among (uses g) m) led_mid in
+      subst (λ us. FallsIntoLeaders (λ m. leads m || is_among us m) (without_block mid n).blocks) (sym (uses_without mid n mid_rules mid_bare))
+      (led_but (λ m. leads m || is_among (uses g) m) (λ m. leads m || is_among (uses mid) m) n (without_block mid n).blocks (gone n mid.blocks mid_rules.distinct)
+      (λ m other lead. more (leads m) (is_among (uses g) m) (is_among (uses mid) m) (λ used. passed_used n g mid passed_to m other used) lead) led_without)
+    where
+      more : (a u v : Bool) → (u ≡ true → v ≡ true) → (a || u) ≡ true → (a || v) ≡ true
+      more true u v goes lead = refl
+      more false u v goes lead = goes lead

@@ -31,4 +31,4 @@ pub mod Swept
 pub mod Resurveyed
 pub mod Tabled
 pub mod Replaced
-pub mod Passed
+pub mod PassedOn

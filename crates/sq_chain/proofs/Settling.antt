@@ -1,20 +1,19 @@
 -- A moved chain: falling and joining at its seams alone makes the graph canonical.
-use Rattle.std.proofs.Common.{◌≡◌, ℕ, ◌+◌, ◌≤◌, ◌==◌, Bool, true, false, ◌&&◌, ◌||◌, not, if◌then◌else◌, List, [], ◌∷◌, ◌++◌, length, Option, None, Some, IsSome, IfSome, inl, inr, refl, sym, ap, ◌∙◌, subst, arith}
+use Rattle.std.proofs.Common.{◌≡◌, ℕ, ◌+◌, ◌≤◌, ◌==◌, Bool, true, false, ◌&&◌, ◌||◌, not, if◌then◌else◌, List, [], ◌∷◌, ◌++◌, None, Some, IsSome, inl, inr, refl, sym, ap, ◌∙◌, subst, arith}
 use Rattle.std.proofs.lemmas.Bool.{cases_Bool, eqb-true, eqb-false, eq-eqb, ne_eqb}
 use Rattle.std.proofs.lemmas.List.{append-nil}
-use Rattle.std.proofs.lemmas.List.Elements.{All-cons, All-tail, All-append}
+use Rattle.std.proofs.lemmas.List.Elements.{All-cons, All-tail, All-append, All-weaker}
 use Rattle.std.specs.List.{All, flat_map}
 use Rattle.sq_arena.specs.Entries.{HasDistinctKeys, value_of, first_key, next_key}
 use Rattle.sq_arena.proofs.EntriesLaws.{distinct_back}
 use Rattle.sq_isa.specs.Registers.{is_among}
-use Rattle.sq_graph.specs.declared.item.Item.{Item}
 use Rattle.sq_graph.specs.declared.item.Term.{Term}
 use Rattle.sq_graph.specs.declared.item.Term.TheVariants.{Fall, Jump, Branch, Call, PartJump, Indirect, Stop}
 use Rattle.sq_graph.specs.Graph.{Block, Graph}
-use Rattle.sq_graph.specs.Blocks.{named, block_term, block_items, items_of, term_of, next_of, all_items, items_of_bodies}
+use Rattle.sq_graph.specs.Blocks.{named, block_term, term_of, next_of, all_items, items_of_bodies}
 use Rattle.sq_graph.specs.Canonical.{canonical_of}
-use Rattle.sq_graph.specs.Leaders.{has_no_items, is_bare, FallsIntoLeaders, IsCanonical}
-use Rattle.sq_graph.specs.Operations.{with_blocks, with_term, without_block}
+use Rattle.sq_graph.specs.Leaders.{is_bare, FallsIntoLeaders, IsCanonical}
+use Rattle.sq_graph.specs.Operations.{with_blocks, with_term}
 use Rattle.sq_graph.specs.Rules.{IsGraph}
 use Rattle.sq_graph.specs.Uses.{term_uses, items_uses, terms_uses, code_word_uses, uses}
 use Rattle.sq_graph.specs.Words.{words_of}
@@ -24,7 +23,7 @@ use Rattle.sq_graph.proofs.Changes.{with_blocks-at, items_of_blocks-kept}
 use Rattle.sq_graph.proofs.Eachs.{All-left, All-right}
 use Rattle.sq_graph.proofs.JoinedBefore.{joined_before_each, canonical_before}
 use Rattle.sq_graph.proofs.Kept.{absent_behind}
-use Rattle.sq_graph.proofs.Located.{IsAt, located}
+use Rattle.sq_graph.proofs.Located.{located}
 use Rattle.sq_graph.proofs.SlotReads.{block_at}
 use Rattle.sq_graph.proofs.SplitRules.{flat_map-at, flat_map-changed}
 use Rattle.sq_lookup.proofs.Adding.{uses_of_blocks}
@@ -34,11 +33,9 @@ use Rattle.sq_chain.specs.Moves.{chain_end, IsMovable, JumpsTo, fallen_term, fal
 use Rattle.sq_lookup.specs.Counts.{count_at, times_named, AreUses, IsCounted}
 use Rattle.sq_lookup.specs.declared.counts.Uses.{Uses}
 use Rattle.sq_lookup.proofs.Counting.{times-append, times_held, used_same, uses_keep}
-use Rattle.sq_chain.specs.Bare.{IsBareAt, AreSolidBut, dropped}
-use Rattle.sq_chain.proofs.Dropping.{uses_without, bare_rules, bare_solid, bare_canonical, bare_led}
-use Rattle.sq_chain.proofs.Fallen.{fall_keeps, fallen_keeps}
+use Rattle.sq_chain.specs.Bare.{AreSolidBut, AreLed}
+use Rattle.sq_chain.proofs.Fallen.{fall_keeps}
 use Rattle.sq_lookup.proofs.Previous.{one_before}
-use Rattle.sq_chain.proofs.Reordered.{chain_moved_rules}
 use Rattle.sq_chain.proofs.Seaming.{times_exchanged, all_exchanged, Seamed, seamed_exchanged, seamed_more, seamed_first, falls_at_seams, falls_led, fallen_none, fallen_same, fallen_twice, fallen_items, times_fallen, IsMovedAt, moved_at}
 
 -- ONE SEAM AFTER ANOTHER
@@ -140,19 +137,9 @@ module _ (g : Graph) (from to after behind : ℕ) (rules : IsGraph g) (canonical
       falls_agree (λ n. is_among seams n || is_among (uses g) n) (λ n. is_among seams n || is_among (uses (fallen u)) n) (fallen u).blocks more
       (falls_led (is_among seams) (is_among (uses g)) u.blocks seamed)
 
-  -- where at most this block is empty with Fall, and nothing names it
-  pub joined_is : (bare : Option ℕ) → IfSome bare (IsBareAt (fallen (carried g from to))) → IfSome bare (λ n. is_among (uses (fallen (carried g from to))) n ≡ false) → ((may : ℕ → Bool) → IfSome bare (λ n. may n ≡ true) → AreSolidBut may (fallen (carried g from to))) → canonical_of (fallen (carried g from to)) ≡ joined_before_each seams (dropped (fallen (carried g from to)) bare)
-  joined_is None bare unused solid =
-      let h = fallen (carried g from to) in
-      canonical_before seams h (fallen_keeps (carried g from to) (chain_moved_rules g from to rules movable)).rules (solid (λ _. false) tt) led
-  joined_is (Some n) bare unused solid =
-      let h = fallen (carried g from to) in
-      let keeps = (fallen_keeps (carried g from to) (chain_moved_rules g from to rules movable)).rules in
-      let but = solid (λ m. m == n) (eq-eqb n n refl) in
-      bare_canonical h n keeps bare unused but
-      ∙ canonical_before seams (without_block h n) (bare_rules h n keeps bare unused) (bare_solid h n keeps bare unused but)
-      (subst (λ us. FallsIntoLeaders (λ m. is_among seams m || is_among us m) (without_block h n).blocks) (sym (uses_without h n keeps bare))
-      (bare_led h n keeps bare unused but (λ m. is_among seams m || is_among (uses h) m) led))
+  -- where a graph has the same canonical graph, no block that is empty with Fall, and blocks that are led as in this one
+  pub joined_is : (d : Graph) → IsGraph d → canonical_of d ≡ canonical_of (fallen (carried g from to)) → AreSolidBut (λ n. false) d → ((leads : ℕ → Bool) → AreLed leads (fallen (carried g from to)) → AreLed leads d) → canonical_of (fallen (carried g from to)) ≡ joined_before_each seams d
+  joined_is d d_rules same solid leds = sym same ∙ canonical_before seams d d_rules solid (leds (is_among seams) led)
 
 -- ONE BLOCK
 
@@ -295,37 +282,24 @@ module _ (g : Graph) (m n : ℕ) (rules : IsGraph g) (slot : next_of g m ≡ Som
       let one : ◌≡◌ {A = ℕ} (if n == n then 1 else 0) 1 = ap (λ t. if t then 1 else 0) (eq-eqb n n refl) in
       omega (arith, are.terms n, times_fell n, one)
 
-  -- and the block is empty then where it has no items; no other one comes to be
-  abbrev fell_at : IsAt (with_term g m Fall).blocks m
-  fell_at =
-      let at = located g.blocks m (has_term g m (Jump n) jump) in
-      record { front = at.front; block = record at.block { term = Fall }; back = at.back; whole = with_blocks-at (λ b. record b { term = Fall } ∷ []) g.blocks m at; has_name = at.has_name; ahead = at.ahead }
-
-  fell_empty : has_no_items fell_at.block.items ≡ has_no_items (items_of (with_term g m Fall) m)
-  fell_empty = sym (ap (λ o. has_no_items (block_items o)) (block_at (with_term g m Fall).blocks m fell_at))
-
-  pub fell_bare : has_no_items (items_of (with_term g m Fall) m) ≡ true → IsBareAt (with_term g m Fall) m
-  fell_bare empty = record {
-    block = fell_at.block;
-    there = block_at (with_term g m Fall).blocks m fell_at;
-    bare = ap (λ t. t && true) (fell_empty ∙ empty);
-  }
-
-  pub solid_fell : (may : ℕ → Bool) → (has_no_items (items_of (with_term g m Fall) m) ≡ true → may m ≡ true) → AreSolidBut may g → AreSolidBut may (with_term g m Fall)
-  solid_fell may empty solid =
+  -- no other block comes to be empty with Fall
+  pub solid_fell : (may : ℕ → Bool) → AreSolidBut may g → AreSolidBut (λ k. m == k || may k) (with_term g m Fall)
+  solid_fell may solid =
       let at = located g.blocks m (has_term g m (Jump n) jump) in
       let P : Block → Type 0 = λ b. (not (may b.name) && is_bare b) ≡ false in
+      let Q : Block → Type 0 = λ b. (not (m == b.name || may b.name) && is_bare b) ≡ false in
+      let more : (b : Block) → (not (may b.name) && is_bare b) ≡ false → (not (m == b.name || may b.name) && is_bare b) ≡ false = λ b own. weaker (m == b.name) (may b.name) (is_bare b) own in
       let all : All P (at.front ++ at.block ∷ at.back) = subst (λ (bs : List Block). All P bs) at.whole solid in
       let c : Block = record at.block { term = Fall } in
       let now = with_blocks-at (λ b. record b { term = Fall } ∷ []) g.blocks m at in
-      subst (λ (bs : List Block). All P bs) (sym now)
-      (All-append P at.front (c ∷ at.back) (All-left P at.front (at.block ∷ at.back) all)
-      (All-cons P c at.back (own (may at.block.name) (has_no_items at.block.items) (λ none. ap may at.has_name ∙ empty (sym fell_empty ∙ none))) (All-tail P at.block at.back (All-right P at.front (at.block ∷ at.back) all))))
+      let here : (m == at.block.name) ≡ true = eq-eqb m at.block.name (sym at.has_name) in
+      subst (λ (bs : List Block). All Q bs) (sym now)
+      (All-append Q at.front (c ∷ at.back) (All-weaker P Q more at.front (All-left P at.front (at.block ∷ at.back) all))
+      (All-cons Q c at.back (rw here refl) (All-weaker P Q more at.back (All-tail P at.block at.back (All-right P at.front (at.block ∷ at.back) all)))))
     where
-      own : (a e : Bool) → (e ≡ true → a ≡ true) → (not a && (e && true)) ≡ false
-      own true e is = refl
-      own false false is = refl
-      own false true is = absurd (let wrong = is refl in cc)
+      weaker : (a b e : Bool) → (not b && e) ≡ false → (not (a || b) && e) ≡ false
+      weaker true b e own = refl
+      weaker false b e own = own
 
 pub jump_here : (g : Graph) (m n : ℕ) (t : Term) → term_of g m ≡ Some t → JumpsTo t (Some n) → term_of g m ≡ Some (Jump n)
 jump_here g m n t is j =
@@ -334,11 +308,3 @@ jump_here g m n t is j =
 
 pub jumps_here : (g : Graph) (m n : ℕ) (t : Term) → term_of g m ≡ Some t → term_of g m ≡ Some (Jump n) → JumpsTo t (Some n)
 jumps_here g m n t is jump = let same : Some t ≡ Some (Jump n) = sym is ∙ jump in record { to = n; jump = cc; slot = refl }
-
-pub filled : (items : List Item) → (length items == 0) ≡ false → has_no_items items ≡ false
-filled [] some = absurd (cc)
-filled (item ∷ rest) some = refl
-
-pub emptied : (items : List Item) → (length items == 0) ≡ true → has_no_items items ≡ true
-emptied [] none = refl
-emptied (item ∷ rest) none = let zero = eqb-true (length (item ∷ rest)) 0 none in absurd (omega (arith, zero))

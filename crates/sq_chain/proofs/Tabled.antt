@@ -1,11 +1,15 @@
 -- Tables of where blocks stand: one more is put there, one goes, and all are moved.
-use Rattle.std.proofs.Common.{◌≡◌, ◌≢◌, ℕ, zero, suc, ◌*◌, ◌≤◌, ◌<◌, ◌==◌, nat_eq, true, false, if◌then◌else◌, List, [], ◌∷◌, map, length, get_or, set, None, Some, inl, inr, refl, sym, ap, ◌∙◌, arith}
+use Rattle.std.proofs.Common.{◌≡◌, ◌≢◌, ℕ, zero, suc, ◌-◌, ◌*◌, ◌≤◌, ◌<◌, ◌==◌, nat_eq, true, false, if◌then◌else◌, List, [], ◌∷◌, map, length, get_or, set, None, Some, inl, inr, refl, sym, ap, ◌∙◌, arith}
 use Rattle.std.specs.Prelude.{option_map, nat_lt}
 use Rattle.std.specs.Map.{update}
-use Rattle.std.proofs.lemmas.Bool.{cases_Bool, lt-ltb, le-ltb, ltb-true, ltb-false, eqb-true, eqb-false}
+use Rattle.std.proofs.lemmas.Bool.{cases_Bool, cases_lt, lt-ltb, le-ltb, ltb-true, ltb-false, eqb-true, eqb-false}
+use Rattle.sq_lookup.specs.declared.parts.Pieces.{Pieces}
+use Rattle.sq_lookup.specs.Exchanging.{AreInOrder, exchanged_word}
 use Rattle.sq_lookup.specs.Lowering.{nowhere, lowered_word}
+use Rattle.sq_lookup.proofs.Exchanging.{stays_behind}
 use Rattle.sq_chain.specs.Places.{address_behind, placed_at}
-use Rattle.sq_chain.specs.Shifts.{lowered_to}
+use Rattle.sq_chain.specs.Shifts.{exchanged_to, lowered_to}
+use Rattle.sq_chain.specs.declared.seams.Seams.{Seams}
 
 -- an address is that behind so many words
 pub behind_is : (words at : ℕ) → address_behind words ≡ Some at → 4 * words ≡ at
@@ -106,3 +110,40 @@ lowered_at start t n = mapped_at (lowered_word start) (lowered_to (4 * start)) s
               let after' : nat_lt (4 * start) (4 * w) ≡ false = le-ltb (4 * start) (4 * w) (let more = ltb-false start w after in omega (arith, more)) in
               rw (here, after, after') (there, refl)
         ]
+
+-- AN EXCHANGE
+
+module _ (pieces : Pieces) (seams : Seams) (order : AreInOrder pieces) (few : pieces.end ≤ nowhere) (first : 4 * pieces.first ≡ seams.first) (second : 4 * pieces.second ≡ seams.second) (end : 4 * pieces.end ≡ seams.end) where
+  scaled : (w : ℕ) → w < nowhere → (exchanged_word pieces w < nowhere) × (4 * exchanged_word pieces w ≡ exchanged_to seams (4 * w))
+  scaled w there =
+      elim (cases_lt w pieces.first) [
+        | inl ahead ↦
+            let is = lt-ltb w pieces.first ahead in
+            let is' : nat_lt (4 * w) seams.first ≡ true = lt-ltb (4 * w) seams.first (omega (arith, ahead, first)) in
+            rw (is, is') (there, refl)
+        | inr past ↦
+            let not : nat_lt w pieces.first ≡ false = le-ltb w pieces.first past in
+            let not' : nat_lt (4 * w) seams.first ≡ false = le-ltb (4 * w) seams.first (omega (arith, past, first)) in
+            rw (not, not') (elim (cases_lt w pieces.second) [
+              | inl within ↦
+                  let is = lt-ltb w pieces.second within in
+                  let is' : nat_lt (4 * w) seams.second ≡ true = lt-ltb (4 * w) seams.second (omega (arith, within, second)) in
+                  rw (is, is') (omega (arith, within, order.second, few), omega (arith, order.second, second, end))
+              | inr after ↦
+                  let later : nat_lt w pieces.second ≡ false = le-ltb w pieces.second after in
+                  let later' : nat_lt (4 * w) seams.second ≡ false = le-ltb (4 * w) seams.second (omega (arith, after, second)) in
+                  rw (later, later') (elim (cases_lt w pieces.end) [
+                    | inl inside ↦
+                        let is = lt-ltb w pieces.end inside in
+                        let is' : nat_lt (4 * w) seams.end ≡ true = lt-ltb (4 * w) seams.end (omega (arith, inside, end)) in
+                        rw (is, is') (omega (arith, there), omega (arith, order.first, after, first, second))
+                    | inr behind ↦
+                        let is : nat_lt w pieces.end ≡ false = le-ltb w pieces.end behind in
+                        let is' : nat_lt (4 * w) seams.end ≡ false = le-ltb (4 * w) seams.end (omega (arith, behind, end)) in
+                        rw (is, is') (there, refl)
+                  ])
+            ])
+      ]
+
+  pub exchanged_at : (t : List ℕ) (n : ℕ) → placed_at (map (exchanged_word pieces) t) n ≡ option_map (exchanged_to seams) (placed_at t n)
+  exchanged_at t n = mapped_at (exchanged_word pieces) (exchanged_to seams) (λ w far. stays_behind pieces w order (omega (arith, few, far))) scaled t n

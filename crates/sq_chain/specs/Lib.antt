@@ -9,3 +9,4 @@ pub mod Places
 pub mod Around
 pub mod Candidates
 pub mod Bare
+pub mod Passing

@@ -1,8 +1,7 @@
 -- Two pieces of the blocks that follow each other and are exchanged, and the Branches that don't reach then.
 use Rattle.std.specs.Prelude.{◌≡◌, ℕ, ◌+◌, ◌≤◌, ◌<◌, ◌^◌, true, Some}
-use Rattle.sq_arena.specs.Entries.{ContainsKey, before}
 use Rattle.sq_graph.specs.Graph.{Graph}
-use Rattle.sq_graph.specs.Blocks.{named, HasBlock, block_of, term_of}
+use Rattle.sq_graph.specs.Blocks.{HasBlock, block_of, term_of}
 use Rattle.sq_graph.specs.Words.{block_words, words_of}
 use Rattle.sq_layout.specs.Weights.{address_by}
 use Rattle.sq_chain.specs.Least.{stands_at, is_short}
@@ -23,11 +22,6 @@ pub record IsExchanged (g h : Graph) (seams : Seams) : Type 0 where
   pub few : seams.end < 2 ^ 34
   pub same : (n : ℕ) → block_of h n ≡ block_of g n
   pub shifted : (n at to : ℕ) → address_by block_words g.blocks 0 n ≡ Some at → IsShifted seams at to → address_by block_words h.blocks 0 n ≡ Some to
-
--- the first of the pieces begins with a block, and each before it stands before the first seam
-pub record Begins (g : Graph) (seams : Seams) : Type 0 where
-  pub has : HasBlock g seams.begin
-  pub ahead : (n : ℕ) → ContainsKey (before (named g.blocks) seams.begin) n → stands_at block_words g n < seams.first
 
 -- at most one block jumps to the next slot
 abbrev pub FallsOnce : Graph → Type 0

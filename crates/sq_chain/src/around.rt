@@ -19,7 +19,7 @@ use sq_layout::{distance, reaches};
 use sq_lookup::WordsBefore;
 
 /// How many slots a look goes along at most.
-const SLOTS: u32 = 4800;
+pub(crate) const SLOTS: u32 = 4800;
 
 /// How many bytes from a seam it goes: more than a Branch reaches.
 const REACH: u64 = 4200;
@@ -76,7 +76,12 @@ fn look_at(graph: &Graph, addresses: &WordsBefore, seams: Seams, block: u32) -> 
 
 /// The nearest block from this one back before which each Branch is further ahead of the seam than it reaches. None where that
 /// is too many slots back.
-fn far_before(graph: &Graph, addresses: &WordsBefore, seam: u64, from: u32) -> Option<u32>
+pub(crate) fn far_before(
+    graph: &Graph,
+    addresses: &WordsBefore,
+    seam: u64,
+    from: u32,
+) -> Option<u32>
     requires block { HasBlock graph.now.graph from }
     requires addresses { (n : ℕ) → placed_at addresses.now n ≡ address_by words_in graph.now.graph.blocks 0 n }
     ensures { IfSome result (λ first. HasBlock graph.now.graph first × AreFarBefore graph.now.graph seam first) }
@@ -177,7 +182,7 @@ pub(crate) fn look_around(
 {
     graph.learn();
     // Which block is near which seam decides only where a look begins.
-    let (from_first, from_second, from_end) = if seams.begin == to {
+    let (from_first, from_second, from_end) = if address(addresses, to) == seams.first {
         (to, end, from)
     } else {
         (from, to, end)

@@ -16,6 +16,7 @@ mod local;
 mod moving;
 mod order;
 mod outlook;
+mod passing;
 mod placing;
 mod seams;
 mod short;

@@ -1,33 +1,38 @@
-//! Moves of chains that look at their seams alone.
+//! Moves of chains that look at their seams and the Branches around them alone.
 
-ghost use Rattle.std.specs.Prelude.{◌≡◌, ℕ, Bool, true, false, IfSome};
-ghost use Rattle.sq_isa.specs.Registers.{is_among};
+ghost use Rattle.std.specs.Prelude.{◌≡◌, ◌↔◌, ℕ, Bool, true, false, ◌||◌, IsTrue};
 ghost use Rattle.sq_graph.specs.Blocks.{HasBlock};
 ghost use Rattle.sq_graph.specs.Canonical.{joined_before, canonical_of};
 ghost use Rattle.sq_graph.specs.Leaders.{IsCanonical};
-ghost use Rattle.sq_graph.specs.Uses.{uses as uses_in};
 ghost use Rattle.sq_chain.specs.Moves.{IsMovable, fallen, fallen_before, carried};
-ghost use Rattle.sq_chain.specs.Bare.{IsBareAt, IsSpanned, AreSolidBut, dropped};
+ghost use Rattle.sq_chain.specs.Bare.{IsBareAt, IsSpanned, AreSolidBut, AreLed, is_it};
 ghost use Rattle.sq_chain.specs.Surveys.{IsPlaced, NoneFalls};
 ghost use Rattle.sq_lookup.specs.Counts.{AreUses};
 
 use crate::chain::end_of_chain;
+use crate::passing::pass_branches;
 use crate::placing::{exchange, forget, jumps_to, lower_behind};
 use crate::seams::seams_of;
 use crate::survey::Places;
 use sq_graph::{Graph, Term};
 use sq_lookup::{Uses, block_before, is_block};
 
-/// Makes the Jump of the block before this one Fall, where it is one to this block. The answer is the block before, where it is
-/// empty then.
+/// The blocks before the seams of a move whose Jumps became Fall.
+#[derive(Clone, Copy)]
+struct Fell {
+    first: Option<u32>,
+    second: Option<u32>,
+    third: Option<u32>,
+}
+
+/// Makes the Jump of the block before this one Fall, where it is one to this block. The answer is the block before then.
 fn fall_before(graph: &mut Graph, uses: &mut Uses, places: &mut Places, name: u32) -> Option<u32>
     requires uses { AreUses graph.old.graph uses.old }
     requires placed { IsPlaced graph.old.graph places.old }
     ensures graph { graph.new.graph ≡ fallen_before graph.old.graph name }
     ensures uses { AreUses graph.new.graph uses.new }
     ensures placed { IsPlaced graph.new.graph places.new }
-    ensures bare { IfSome result (IsBareAt graph.new.graph) }
-    ensures solid { (may : ℕ → Bool) → IfSome result (λ block. may block ≡ true) → AreSolidBut may graph.old.graph → AreSolidBut may graph.new.graph }
+    ensures solid { (may : ℕ → Bool) → AreSolidBut may graph.old.graph → AreSolidBut (λ n. is_it result n || may n) graph.new.graph }
 {
     graph.learn();
     let Some(block) = block_before(graph, name) else {
@@ -41,11 +46,16 @@ fn fall_before(graph: &mut Graph, uses: &mut Uses, places: &mut Places, name: u3
     let start = places.addresses.get(block);
     lower_behind(&mut places.addresses, start);
     places.words -= 1;
-    if graph.items(block).is_empty() {
-        Some(block)
-    } else {
-        None
-    }
+    Some(block)
+}
+
+/// Whether this block is there, and empty with Fall.
+fn is_bare(graph: &Graph, block: u32) -> bool
+    ensures { IsTrue result ↔ IsBareAt graph.now.graph block }
+{
+    is_block(graph, block)
+        && graph.items(block).is_empty()
+        && matches!(graph.term(block), Term::Fall)
 }
 
 /// Whether the block before this one jumps to the one behind it.
@@ -60,29 +70,53 @@ fn jumps_over(graph: &Graph, block: u32) -> bool
     }
 }
 
-/// Takes out this block, if there is one, which is empty with Fall. Where its name is used, or the block before it jumps over it,
-/// it leaves it, and answers false.
-fn drop_bare(graph: &mut Graph, uses: &Uses, places: &mut Places, bare: Option<u32>) -> bool
-    requires uses { AreUses graph.old.graph uses.now }
+/// Takes out this block, if there is one and it is empty with Fall, once the Branches to it go to the next one. Where its name is
+/// used otherwise, or the block before it jumps over it, it leaves it, and answers false.
+fn drop_bare(graph: &mut Graph, uses: &mut Uses, places: &mut Places, fell: Option<u32>) -> bool
+    requires uses { AreUses graph.old.graph uses.old }
     requires placed { IsPlaced graph.old.graph places.old }
-    requires bare { IfSome bare (IsBareAt graph.old.graph) }
-    ensures graph { result ≡ true → graph.new.graph ≡ dropped graph.old.graph bare }
-    ensures same { result ≡ false → graph.new.graph ≡ graph.old.graph }
-    ensures unused { result ≡ true → IfSome bare (λ block. is_among (uses_in graph.old.graph) block ≡ false) }
-    ensures uses { AreUses graph.new.graph uses.now }
+    ensures same { canonical_of graph.new.graph ≡ canonical_of graph.old.graph }
+    ensures uses { result ≡ true → AreUses graph.new.graph uses.new }
     ensures placed { result ≡ true → IsPlaced graph.new.graph places.new }
     ensures falls { result ≡ true → NoneFalls graph.old.graph → NoneFalls graph.new.graph }
+    ensures solid { result ≡ true → (may : ℕ → Bool) → AreSolidBut (λ n. is_it fell n || may n) graph.old.graph → AreSolidBut may graph.new.graph }
+    ensures led { result ≡ true → (leads : ℕ → Bool) → AreLed leads graph.old.graph → AreLed leads graph.new.graph }
 {
     graph.learn();
-    let Some(block) = bare else {
+    let Some(block) = fell else {
         return true;
     };
-    if uses.has(block) || jumps_over(graph, block) {
+    if !is_bare(graph, block) {
+        return true;
+    }
+    let unused = pass_branches(graph, uses, &places.addresses, block);
+    graph.learn();
+    if !unused || jumps_over(graph, block) {
         return false;
     }
     graph.remove(block);
     forget(&mut places.addresses, block);
     true
+}
+
+/// The same of the blocks that fell at the seams.
+fn drop_at_seams(graph: &mut Graph, uses: &mut Uses, places: &mut Places, fell: Fell) -> bool
+    requires uses { AreUses graph.old.graph uses.old }
+    requires placed { IsPlaced graph.old.graph places.old }
+    ensures same { canonical_of graph.new.graph ≡ canonical_of graph.old.graph }
+    ensures uses { result ≡ true → AreUses graph.new.graph uses.new }
+    ensures placed { result ≡ true → IsPlaced graph.new.graph places.new }
+    ensures falls { result ≡ true → NoneFalls graph.old.graph → NoneFalls graph.new.graph }
+    ensures solid { result ≡ true → (may : ℕ → Bool) → AreSolidBut (λ n. is_it fell.first n || (is_it fell.third n || (is_it fell.second n || may n))) graph.old.graph → AreSolidBut may graph.new.graph }
+    ensures led { result ≡ true → (leads : ℕ → Bool) → AreLed leads graph.old.graph → AreLed leads graph.new.graph }
+{
+    if !drop_bare(graph, uses, places, fell.first) {
+        return false;
+    }
+    if !drop_bare(graph, uses, places, fell.third) {
+        return false;
+    }
+    drop_bare(graph, uses, places, fell.second)
 }
 
 /// Joins this block to the one before, where that falls into it and its name isn't used.
@@ -102,9 +136,9 @@ fn join_before(graph: &mut Graph, uses: &Uses, places: &mut Places, name: u32)
 }
 
 /// Moves the chain of `to` behind `from`, makes each Jump to the next slot Fall, and makes the graph canonical, where no block
-/// jumps to its next slot before. It looks at the three seams alone, but where more than `from` is empty then, or its name is
-/// used, or the block before it jumps to `to`. Whether uses and places are still those of the graph, in which no block jumps to
-/// its next slot then: they are where it looks at the seams alone.
+/// jumps to its next slot before. It looks at the seams and the Branches around them alone, but where the name of a block that is
+/// empty then is used otherwise, or the block before it jumps over it. Whether uses and places are still those of the graph, in
+/// which no block jumps to its next slot then: they are where it looks no further.
 pub(crate) fn carry_joined(
     graph: &mut Graph,
     uses: &mut Uses,
@@ -130,19 +164,21 @@ pub(crate) fn carry_joined(
     let after = graph.next(from).unwrap_or(to);
     let behind = graph.next(end).unwrap_or(to);
     let seams = seams_of(graph, &places.addresses, from, to, end);
-    exchange(graph, &mut places.addresses, seams);
+    exchange(&mut places.addresses, seams);
     graph.move_after(to, end, from);
     let second = fall_before(graph, uses, places, after);
     let third = fall_before(graph, uses, places, behind);
     let first = fall_before(graph, uses, places, to);
-    if second.is_some() || third.is_some() {
+    let fell = Fell {
+        first,
+        second,
+        third,
+    };
+    if !drop_at_seams(graph, uses, places, fell) {
         graph.canonical();
         return false;
     }
-    if !drop_bare(graph, uses, places, first) {
-        graph.canonical();
-        return false;
-    }
+    graph.learn();
     join_before(graph, uses, places, after);
     join_before(graph, uses, places, behind);
     join_before(graph, uses, places, to);

@@ -10,14 +10,13 @@ ghost use Rattle.sq_lookup.specs.Addresses.{address_at};
 ghost use Rattle.sq_lookup.specs.Lowering.{nowhere};
 ghost use Rattle.sq_chain.specs.Places.{placed_at};
 ghost use Rattle.sq_chain.specs.Moves.{JumpsTo, fallen_blocks, fallen};
-ghost use Rattle.sq_chain.specs.Seams.{Begins};
 ghost use Rattle.sq_chain.specs.Shifts.{AreWhole, exchanged_to, lowered_to};
 ghost use Rattle.sq_chain.specs.Surveys.{extent_of, IsRoom, IsLaidOut};
 
 use crate::seams::Seams;
 use crate::survey::Extent;
-use sq_graph::{Graph, Term};
-use sq_lookup::{NOWHERE, WordsBefore};
+use sq_graph::Term;
+use sq_lookup::{NOWHERE, Pieces, WordsBefore};
 
 /// Where blocks stand once each Jump to the next slot is Fall, and how many words that saves.
 #[derive(Drop)]
@@ -99,25 +98,18 @@ pub(crate) fn address(addresses: &WordsBefore, name: u32) -> u64
 }
 
 /// Moves the addresses of the blocks between the seams to where the exchange puts them.
-pub(crate) fn exchange(graph: &Graph, addresses: &mut WordsBefore, seams: Seams)
-    requires addresses { (n : ℕ) → placed_at addresses.old n ≡ address_by words_in graph.now.graph.blocks 0 n }
-    requires begins { Begins graph.now.graph seams }
+pub(crate) fn exchange(addresses: &mut WordsBefore, seams: Seams)
     requires first { seams.first ≤ seams.second }
     requires second { seams.second ≤ seams.end }
     requires few { seams.end < 2 ^ 34 }
     requires whole { AreWhole seams }
     ensures { (n : ℕ) → placed_at addresses.new n ≡ option_map (exchanged_to seams) (placed_at addresses.old n) }
 {
-    graph.learn();
-    let mut place = Some(seams.begin);
-    while let Some(block) = place {
-        let at = address(addresses, block);
-        if seams.end <= at {
-            return;
-        }
-        put(addresses, block, (seams.shifted(at) / 4) as u32);
-        place = graph.next(block);
-    }
+    addresses.exchange(Pieces {
+        first: (seams.first / 4) as u32,
+        second: (seams.second / 4) as u32,
+        end: (seams.end / 4) as u32,
+    });
 }
 
 /// Lowers each address behind this word by one.

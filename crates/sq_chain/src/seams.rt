@@ -7,7 +7,7 @@ ghost use Rattle.sq_graph.specs.Words.{block_words as words_in, words_of};
 ghost use Rattle.sq_layout.specs.Weights.{address_by};
 ghost use Rattle.sq_chain.specs.Places.{placed_at};
 ghost use Rattle.sq_chain.specs.Moves.{chain_end, IsMovable, fallen, carried, moved};
-ghost use Rattle.sq_chain.specs.Seams.{IsShifted, IsExchanged, Begins, FallsOnce};
+ghost use Rattle.sq_chain.specs.Seams.{IsShifted, IsExchanged, FallsOnce};
 ghost use Rattle.sq_chain.specs.Shifts.{AreWhole};
 ghost use Rattle.sq_chain.specs.Surveys.{IsSurvey};
 ghost use Rattle.sq_chain.specs.declared.outlook.Outlook.TheVariants.{Near, Still};
@@ -21,11 +21,9 @@ use sq_graph::Graph;
 use sq_layout::block_words;
 use sq_lookup::WordsBefore;
 
-/// The block with which the first of the pieces begins, the addresses at which it does, and the second one, and at which this one
-/// ends.
+/// The addresses at which the first of the pieces begins, and the second one, and at which this one ends.
 #[derive(Clone, Copy)]
 pub(crate) struct Seams {
-    pub begin: u32,
     pub first: u64,
     pub second: u64,
     pub end: u64,
@@ -64,7 +62,6 @@ pub(crate) fn seams_of(
     requires addresses { (n : ℕ) → placed_at addresses.now n ≡ address_by words_in graph.now.graph.blocks 0 n }
     ensures exchanged { IsExchanged graph.now.graph (carried graph.now.graph from to) result }
     ensures whole { AreWhole result }
-    ensures begins { Begins graph.now.graph result }
 {
     graph.learn();
     let start = address(addresses, to);
@@ -72,14 +69,12 @@ pub(crate) fn seams_of(
     let after = address(addresses, from) + 4 * u64::from(block_words(graph, from));
     if after <= start {
         return Seams {
-            begin: graph.next(from).unwrap_or(to),
             first: after,
             second: start,
             end: behind,
         };
     }
     Seams {
-        begin: to,
         first: start,
         second: behind,
         end: after,

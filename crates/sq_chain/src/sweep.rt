@@ -68,8 +68,8 @@ fn known_uses(alloc: Global, graph: &Graph, uses: Option<Uses>) -> Result<Uses, 
     }
 }
 
-/// Moves the chain of `to` behind `from` and makes the graph canonical, by a look at the seams of the move alone, or where a
-/// block is empty then by looks at all.
+/// Moves the chain of `to` behind `from` and makes the graph canonical, by a look at the seams of the move alone, or where that
+/// leaves a block empty whose name is used far away by looks at all.
 fn sweep_near(
     alloc: Global,
     graph: &mut Graph,

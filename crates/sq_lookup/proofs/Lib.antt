@@ -10,3 +10,4 @@ pub mod Previous
 pub mod Counting
 pub mod JoiningBefore
 pub mod Lowering
+pub mod Exchanging

@@ -4,3 +4,4 @@ pub mod Resolutions
 pub mod Addresses
 pub mod Counts
 pub mod Lowering
+pub mod Exchanging

@@ -23,7 +23,7 @@ pub use blocks::{block_before, is_block};
 pub use counts::{Uses, uses_of};
 pub use lone_jumps::{jump_from, resolve};
 pub use names::Names;
-pub use parts::NOWHERE;
+pub use parts::{NOWHERE, Pieces};
 pub use reach::in_reach;
 pub use resolutions::{Resolutions, resolve_all};
 pub use table::Table;

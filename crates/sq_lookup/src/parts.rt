@@ -2,6 +2,7 @@
 
 ghost use Rattle.std.specs.Prelude.{◌≡◌, ℕ, map};
 ghost use Rattle.std.specs.List.{All};
+ghost use Rattle.sq_lookup.specs.Exchanging.{AreInOrder, exchanged_word};
 ghost use Rattle.sq_lookup.specs.Lowering.{fewer, lowered_word, IsBetween};
 
 use std::marker::Model;
@@ -11,6 +12,14 @@ pub const NOWHERE: u32 = u32::MAX;
 
 /// How many names a part has.
 pub(crate) const NAMES: usize = 256;
+
+/// Two pieces of a text that follow each other: how many words are before the first, before the second, and up to its end.
+#[derive(Clone, Copy, Debug, PartialEq, Eq)]
+pub struct Pieces {
+    pub first: u32,
+    pub second: u32,
+    pub end: u32,
+}
 
 /// How many words are before each block at least and at most.
 #[derive(Clone, Copy, Debug, PartialEq, Eq)]
@@ -47,6 +56,30 @@ fn lower_each(words: &mut [u32; 256], late: u32, start: u32)
 {
     for place in words.iter_mut() {
         *place = lowered(start, fewer(late, *place));
+    }
+}
+
+/// How many words are before what so many are before, once the pieces are exchanged.
+fn exchanged(pieces: Pieces, words: u32) -> u32
+    requires { AreInOrder pieces }
+    ensures { result ≡ exchanged_word pieces words }
+{
+    if words < pieces.first || pieces.end <= words {
+        words
+    } else if words < pieces.second {
+        words + (pieces.end - pieces.second)
+    } else {
+        words - (pieces.second - pieces.first)
+    }
+}
+
+/// Takes off from each what is late, and then exchanges the pieces.
+fn exchange_each(words: &mut [u32; 256], late: u32, pieces: Pieces)
+    requires { AreInOrder pieces }
+    ensures { words.new ≡ map (λ w. exchanged_word pieces (fewer late w)) words.old }
+{
+    for place in words.iter_mut() {
+        *place = exchanged(pieces, fewer(late, *place));
     }
 }
 
@@ -113,6 +146,7 @@ impl Model for Part {
 
 impl Part {
     ghost use Rattle.std.specs.Prelude.{◌≡◌, ◌<◌, get_or, map, replicate, set};
+    ghost use Rattle.sq_lookup.specs.Exchanging.{AreInOrder, exchanged_word};
     ghost use Rattle.sq_lookup.specs.Lowering.{nowhere, lowered_word};
 
     /// No blocks.
@@ -155,6 +189,22 @@ impl Part {
             return;
         }
         lower_each(&mut self.words, self.late, start);
+        self.late = 0;
+        self.bounds = bounds_of(&self.words);
+    }
+
+    /// Exchanges the pieces.
+    pub(crate) fn exchange(&mut self, pieces: Pieces)
+        requires { AreInOrder pieces }
+        ensures { self.new ≡ map (exchanged_word pieces) self.old }
+    {
+        if self.bounds.most.saturating_sub(self.late) < pieces.first {
+            return;
+        }
+        if pieces.end <= self.bounds.least.saturating_sub(self.late) {
+            return;
+        }
+        exchange_each(&mut self.words, self.late, pieces);
         self.late = 0;
         self.bounds = bounds_of(&self.words);
     }

@@ -1,6 +1,6 @@
 //! How many words are before blocks, by their names.
 
-use crate::parts::{NAMES, NOWHERE, Part};
+use crate::parts::{NAMES, NOWHERE, Part, Pieces};
 use sq_num::Memory;
 use std::alloc::Global;
 use std::marker::Model;
@@ -25,6 +25,7 @@ impl Model for WordsBefore {
 
 impl WordsBefore {
     ghost use Rattle.std.specs.Prelude.{◌≡◌, ◌≤◌, ◌<◌, ◌^◌, ℕ, get_or, length, map, set, IfOk};
+    ghost use Rattle.sq_lookup.specs.Exchanging.{AreInOrder, exchanged_word};
     ghost use Rattle.sq_lookup.specs.Lowering.{nowhere, lowered_word};
 
     /// Room for each name below this number.
@@ -82,6 +83,16 @@ impl WordsBefore {
     {
         for part in self.parts.iter_mut() {
             part.lower_behind(start);
+        }
+    }
+
+    /// Exchanges two pieces of the text. It looks at the names of those parts alone of which some blocks may stand in them.
+    pub fn exchange(&mut self, pieces: Pieces)
+        requires { AreInOrder pieces }
+        ensures { self.new ≡ map (exchanged_word pieces) self.old }
+    {
+        for part in self.parts.iter_mut() {
+            part.exchange(pieces);
         }
     }
 }

@@ -1,19 +1,16 @@
-use Rattle.std.proofs.Common.{◌≡◌, ◌-◌, arith, false, Some, sym, ap, ◌∙◌, subst}
-use Rattle.sq_graph.specs.declared.item.Term.TheVariants.{Fall, Jump}
+use Rattle.std.proofs.Common.{◌≡◌, ◌-◌, ◌==◌, ◌||◌, arith, Some, sym, ap, ◌∙◌, subst}
+use Rattle.sq_graph.specs.declared.item.Term.TheVariants.{Jump}
 use Rattle.sq_graph.specs.Graph.{Graph}
-use Rattle.sq_graph.specs.Blocks.{HasBlock, term_of, items_of}
-use Rattle.sq_graph.specs.Leaders.{has_no_items}
-use Rattle.sq_graph.specs.Operations.{with_term}
-use Rattle.sq_lookup.proofs.Targets.{has_term}
+use Rattle.sq_graph.specs.Blocks.{term_of}
 use Rattle.sq_lookup.specs.Counts.{AreUses}
-use Rattle.sq_chain.specs.Bare.{IsBareAt, AreSolidBut}
+use Rattle.sq_chain.specs.Bare.{AreSolidBut}
 use Rattle.sq_chain.specs.Surveys.{IsPlaced}
 use Rattle.sq_chain.specs.declared.survey.Places.{Places}
 use Rattle.sq_chain.proofs.Fallen.{fall_keeps}
 use Rattle.sq_chain.proofs.Replaced.{placed_fell}
 use Rattle.sq_chain.proofs.Resurveyed.{fell_words}
 use Rattle.sq_lookup.proofs.Previous.{next_has, one_before}
-use Rattle.sq_chain.proofs.Settling.{fallen_stays, fell_term, fell, uses_fell, counted, fell_bare, solid_fell, jump_here, jumps_here, filled, emptied}
+use Rattle.sq_chain.proofs.Settling.{fallen_stays, fell, uses_fell, counted, solid_fell, jump_here, jumps_here}
 use Rattle.sq_chain.proofs.local.fall_before.Goals as goal
 
 pub returns-in_default-clause-graph : goal.returns-in_default-clause-graph
@@ -50,68 +47,28 @@ take-requires c =
     let jump = jump_here g c.in-Some.block c.args.name c.term.result c.term.ensures (c.jumps_to.ensures.0 c.if-not-jumps_to.false) in
     counted g c.in-Some.block c.args.name c.learn.ensures.rules next jump c.args.uses.now c.requires.uses
 
-pub items-requires : goal.items-requires
-items-requires c =
-    let g = c.args.graph.now.graph in
-    let next = c.block_before.ensures.some c.in-Some.block c.in-Some.is in
-    let jump = jump_here g c.in-Some.block c.args.name c.term.result c.term.ensures (c.jumps_to.ensures.0 c.if-not-jumps_to.false) in
-    subst (λ (k : Graph). HasBlock k c.in-Some.block) (sym c.set_term.ensures.graph)
-    (has_term (with_term g c.in-Some.block Fall) c.in-Some.block Fall (fell_term g c.in-Some.block c.args.name c.learn.ensures.rules next jump))
-
-pub returns-then-is_empty-clause-graph : goal.returns-then-is_empty-clause-graph
-returns-then-is_empty-clause-graph c =
+pub returns-clause-graph : goal.returns-clause-graph
+returns-clause-graph c =
     let g = c.args.graph.now.graph in
     let next = c.block_before.ensures.some c.in-Some.block c.in-Some.is in
     let jump = jump_here g c.in-Some.block c.args.name c.term.result c.term.ensures (c.jumps_to.ensures.0 c.if-not-jumps_to.false) in
     c.set_term.ensures.graph ∙ fell g c.in-Some.block c.args.name c.learn.ensures.rules next jump
 
-pub returns-then-is_empty-clause-uses : goal.returns-then-is_empty-clause-uses
-returns-then-is_empty-clause-uses c =
+pub returns-clause-uses : goal.returns-clause-uses
+returns-clause-uses c =
     let g = c.args.graph.now.graph in
     let next = c.block_before.ensures.some c.in-Some.block c.in-Some.is in
     let jump = jump_here g c.in-Some.block c.args.name c.term.result c.term.ensures (c.jumps_to.ensures.0 c.if-not-jumps_to.false) in
     subst (λ (k : Graph). AreUses k c.take.new.self) (sym c.set_term.ensures.graph)
     (uses_fell g c.in-Some.block c.args.name c.learn.ensures.rules next jump c.args.uses.now c.take.new.self c.requires.uses c.take.ensures)
 
-pub returns-else-is_empty-clause-graph : goal.returns-else-is_empty-clause-graph
-returns-else-is_empty-clause-graph c =
+pub returns-clause-solid : goal.returns-clause-solid
+returns-clause-solid c = λ may solid.
     let g = c.args.graph.now.graph in
     let next = c.block_before.ensures.some c.in-Some.block c.in-Some.is in
     let jump = jump_here g c.in-Some.block c.args.name c.term.result c.term.ensures (c.jumps_to.ensures.0 c.if-not-jumps_to.false) in
-    c.set_term.ensures.graph ∙ fell g c.in-Some.block c.args.name c.learn.ensures.rules next jump
-
-pub returns-else-is_empty-clause-uses : goal.returns-else-is_empty-clause-uses
-returns-else-is_empty-clause-uses c =
-    let g = c.args.graph.now.graph in
-    let next = c.block_before.ensures.some c.in-Some.block c.in-Some.is in
-    let jump = jump_here g c.in-Some.block c.args.name c.term.result c.term.ensures (c.jumps_to.ensures.0 c.if-not-jumps_to.false) in
-    subst (λ (k : Graph). AreUses k c.take.new.self) (sym c.set_term.ensures.graph)
-    (uses_fell g c.in-Some.block c.args.name c.learn.ensures.rules next jump c.args.uses.now c.take.new.self c.requires.uses c.take.ensures)
-
-pub returns-then-is_empty-clause-bare : goal.returns-then-is_empty-clause-bare
-returns-then-is_empty-clause-bare c =
-    let g = c.args.graph.now.graph in
-    let next = c.block_before.ensures.some c.in-Some.block c.in-Some.is in
-    let jump = jump_here g c.in-Some.block c.args.name c.term.result c.term.ensures (c.jumps_to.ensures.0 c.if-not-jumps_to.false) in
-    let empty = ap (λ (k : Graph). has_no_items (items_of k c.in-Some.block)) (sym c.set_term.ensures.graph) ∙ ap has_no_items (sym c.items.ensures) ∙ emptied c.items.result.now (sym c.is_empty.ensures ∙ c.if-is_empty.true) in
-    subst (λ (k : Graph). IsBareAt k c.in-Some.block) (sym c.set_term.ensures.graph) (fell_bare g c.in-Some.block c.args.name c.learn.ensures.rules next jump empty)
-
-pub returns-then-is_empty-clause-solid : goal.returns-then-is_empty-clause-solid
-returns-then-is_empty-clause-solid c = λ may bare solid.
-    let g = c.args.graph.now.graph in
-    let next = c.block_before.ensures.some c.in-Some.block c.in-Some.is in
-    let jump = jump_here g c.in-Some.block c.args.name c.term.result c.term.ensures (c.jumps_to.ensures.0 c.if-not-jumps_to.false) in
-    subst (λ (k : Graph). AreSolidBut may k) (sym c.set_term.ensures.graph)
-    (solid_fell g c.in-Some.block c.args.name c.learn.ensures.rules next jump may (λ _. bare) solid)
-
-pub returns-else-is_empty-clause-solid : goal.returns-else-is_empty-clause-solid
-returns-else-is_empty-clause-solid c = λ may bare solid.
-    let g = c.args.graph.now.graph in
-    let next = c.block_before.ensures.some c.in-Some.block c.in-Some.is in
-    let jump = jump_here g c.in-Some.block c.args.name c.term.result c.term.ensures (c.jumps_to.ensures.0 c.if-not-jumps_to.false) in
-    let full : has_no_items (items_of (with_term c.args.graph.now.graph c.in-Some.block Fall) c.in-Some.block) ≡ false = ap (λ (k : Graph). has_no_items (items_of k c.in-Some.block)) (sym c.set_term.ensures.graph) ∙ ap has_no_items (sym c.items.ensures) ∙ filled c.items.result.now (sym c.is_empty.ensures ∙ c.if-is_empty.false) in
-    subst (λ (k : Graph). AreSolidBut may k) (sym c.set_term.ensures.graph)
-    (solid_fell g c.in-Some.block c.args.name c.learn.ensures.rules next jump may (λ empty. absurd (cc (full, empty))) solid)
+    subst (λ (k : Graph). AreSolidBut (λ n. c.in-Some.block == n || may n) k) (sym c.set_term.ensures.graph)
+    (solid_fell g c.in-Some.block c.args.name c.learn.ensures.rules next jump may solid)
 
 pub overflow_sub-places : goal.overflow_sub-places
 overflow_sub-places c =
@@ -121,18 +78,8 @@ overflow_sub-places c =
     let fewer = fell_words g.blocks c.in-Some.block c.args.name jump in
     omega (arith, fewer, c.requires.placed.words)
 
-pub returns-then-is_empty-clause-placed : goal.returns-then-is_empty-clause-placed
-returns-then-is_empty-clause-placed c =
-    let g = c.args.graph.now.graph in
-    let next = c.block_before.ensures.some c.in-Some.block c.in-Some.is in
-    let jump = jump_here g c.in-Some.block c.args.name c.term.result c.term.ensures (c.jumps_to.ensures.0 c.if-not-jumps_to.false) in
-    let fewer = fell_words g.blocks c.in-Some.block c.args.name jump in
-    let new : Places = record { addresses = c.lower_behind.new.addresses; words = c.args.places.now.words - 1 } in
-    subst (λ (k : Graph). IsPlaced k new) (sym c.set_term.ensures.graph)
-    (placed_fell g c.in-Some.block c.args.name c.get-start.result c.args.places.now new jump c.requires.placed c.get-start.ensures c.lower_behind.ensures (omega (arith, fewer, c.requires.placed.words)))
-
-pub returns-else-is_empty-clause-placed : goal.returns-else-is_empty-clause-placed
-returns-else-is_empty-clause-placed c =
+pub returns-clause-placed : goal.returns-clause-placed
+returns-clause-placed c =
     let g = c.args.graph.now.graph in
     let next = c.block_before.ensures.some c.in-Some.block c.in-Some.is in
     let jump = jump_here g c.in-Some.block c.args.name c.term.result c.term.ensures (c.jumps_to.ensures.0 c.if-not-jumps_to.false) in

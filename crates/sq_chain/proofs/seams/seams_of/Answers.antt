@@ -1,12 +1,10 @@
-use Rattle.std.proofs.Common.{◌*◌, ℕ, Option, refl, sym, ap, ◌∙◌, subst, arith}
-use Rattle.std.specs.Prelude.{unwrap_or}
+use Rattle.std.proofs.Common.{◌*◌, sym, ap, subst, arith}
 use Rattle.sq_arena.specs.Entries.{through}
 use Rattle.sq_graph.specs.Blocks.{named, HasBlock}
 use Rattle.sq_layout.proofs.Walks.{words_here}
 use Rattle.sq_chain.specs.Places.{placed_at}
 use Rattle.sq_chain.proofs.Exchanging.{start_is, end_is, through_few, last_block, seams_back, seams_ahead}
 use Rattle.sq_chain.proofs.Orders.{last_has}
-use Rattle.sq_chain.proofs.Passed.{begins_ahead, begins_back}
 use Rattle.sq_chain.proofs.Reordered.{head, jumping}
 use Rattle.sq_chain.proofs.Standing.{size}
 use Rattle.sq_chain.proofs.seams.seams_of.Goals as goal
@@ -63,26 +61,6 @@ returns-clause-exchanged c =
     let same = ap (λ n. 4 * size (through (named g.blocks) n)) c.requires.end in
     seams_ahead g c.args.from c.args.to rules c.requires.movable _ c.learn.ensures.few
     (omega (arith, start, c.address-start.ensures)) (omega (arith, behind, words, same, c.address.ensures, c.from.ensures)) (omega (arith, after, jump_words, c.address-2.ensures, c.from-2.ensures)) (omega (arith, c.if-after-start.false))
-
-pub returns-then-after-start-clause-begins : goal.returns-then-after-start-clause-begins
-returns-then-after-start-clause-begins c =
-    let g = c.args.graph.now.graph in
-    let rules = c.learn.ensures.rules in
-    let head = head g c.args.from c.args.to rules c.requires.movable in
-    let start = start_is g rules c.args.to head.0 head.1 (placed_at c.args.addresses.now) c.requires.addresses in
-    let jump = jumping g c.args.from c.args.to rules c.requires.movable in
-    let jump_words = words_here g c.args.from c.block_words-2.result jump.0 jump.1 c.block_words-2.ensures in
-    let after = end_is g rules c.args.from jump.0 jump.1 (placed_at c.args.addresses.now) c.requires.addresses in
-    begins_back g c.args.from c.args.to rules c.requires.movable _
-    (c.unwrap_or.ensures ∙ ap (λ (o : Option ℕ). unwrap_or o c.args.to) c.next.ensures)
-    (omega (arith, after, jump_words, c.address-2.ensures, c.from-2.ensures)) (omega (arith, start, c.address-start.ensures)) (omega (arith, c.if-after-start.true))
-
-pub returns-clause-begins : goal.returns-clause-begins
-returns-clause-begins c =
-    let g = c.args.graph.now.graph in
-    let head = head g c.args.from c.args.to c.learn.ensures.rules c.requires.movable in
-    let start = start_is g c.learn.ensures.rules c.args.to head.0 head.1 (placed_at c.args.addresses.now) c.requires.addresses in
-    begins_ahead g c.args.from c.args.to c.learn.ensures.rules c.requires.movable _ refl (omega (arith, start, c.address-start.ensures))
 
 pub returns-then-after-start-clause-whole : goal.returns-then-after-start-clause-whole
 returns-then-after-start-clause-whole c =
