@@ -56,6 +56,7 @@ pub mod WindowsTaken
 pub mod WindowsTaking
 pub mod WindowsTakenOf
 pub mod WindowsPlaced
+pub mod WindowsNarrowed
 pub mod WindowsFree
 pub mod WindowsKeeping
 pub mod WindowsFreePlaces

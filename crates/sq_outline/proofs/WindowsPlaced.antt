@@ -17,6 +17,8 @@ placed_still g places more w placed =
     let within : w.place + w.places ≤ length places = placed.within in
     record {
       within = omega (arith, within, length-append places more);
+      some = placed.some;
+      most = placed.most;
       all = λ some.
           ap (take w.places) (drop-append-le w.place places more (omega (arith, within)))
           ∙ take-append-le w.places (drop w.place places) more (omega (arith, within, length-drop w.place places)) ∙ placed.all some;
@@ -47,12 +49,15 @@ module _ (g : Graph) (n link saving : ℕ) (block at : ℕ) where
       let same = same_first block at p (thinned n (Some (in_block p.block p.at)) rest) made.others (first ∙ made.first) in
       standing_at.all p rest refl ∙ ap (λ b. standing g (items_at g b p.at n)) same.0 ∙ ap (λ a. standing g (items_at g block a n)) same.1
 
-  pub placed_new : (places members : List WindowAt) (w : FoundWindow) (many : Bool) → w.found.first.block ≡ block → w.found.first.at ≡ at → w.n ≡ n → w.place ≡ length places → w.places ≡ cond many 0 (length members) → AreStanding g n members → IsWindowMade g block at n link saving
+  pub placed_new : (places members : List WindowAt) (w : FoundWindow) (many : Bool) → w.found.first.block ≡ block → w.found.first.at ≡ at → w.n ≡ n → w.known ≡ n → w.place ≡ length places → w.places ≡ cond many 0 (length members) → AreStanding g n members → IsWindowMade g block at n link saving
       → thinned n None members ≡ occurrences g (items_at g block at n) → IsPlacedIn g (places ++ take w.places members) w
-  placed_new places members w many in_block_is at_is long place kept standing_there made first =
+  placed_new places members w many in_block_is at_is long known place kept standing_there made first =
       let whole = all_or_none many w.places (length members) kept in
+      let least = made.least in
       record {
         within = omega (arith, place, length-append places (take w.places members), length-take-le w.places members whole.0);
+        some = omega (arith, known, least);
+        most = omega (arith, known, long);
         all = λ some.
             let all = take_all w.places members (omega (arith, whole.1 some)) in
             ap (λ k. take w.places (drop k (places ++ take w.places members))) place
@@ -60,5 +65,5 @@ module _ (g : Graph) (n link saving : ℕ) (block at : ℕ) where
             ∙ ap (take w.places) all
             ∙ all
             ∙ all_first members standing_there made first
-            ∙ rw (in_block_is, at_is, long) refl;
+            ∙ rw (in_block_is, at_is, known) refl;
       }

@@ -151,7 +151,7 @@ module _ (g h : Graph) (same : h.blocks ≡ g.blocks) where
   pub same_found : (found : FoundWindows) → AreFound g found → AreFound h found
   same_found found are =
       let was : AreFound mid found = subst (λ (k : Graph). AreFound k found) mid_is are in
-      λ k d l some. let w = was k d l some in record { within = w.within; all = w.all }
+      λ k d l some. let w = was k d l some in record { within = w.within; some = w.some; most = w.most; all = w.all }
 
 -- there is room for a procedure more
 pub room_for_more : (g : Graph) (taken : Taken) (savings : Savings) (items : ℕ) → IsSweeping g taken savings → length g.blocks < 2 ^ 29 → items ≤ most_words → IsSmall (sum_of (count_of g) (record { blocks = 0; items = items; procedures = 1 }))

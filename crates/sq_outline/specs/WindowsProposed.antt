@@ -16,10 +16,12 @@ IsFoundWindow g w = IsWindowMade g w.found.first.block w.found.first.at w.n w.fo
 abbrev pub places_of : List WindowAt → FoundWindow → List WindowAt
 places_of places w = take w.places (drop w.place places)
 
--- the window's, if there are any, are all places where the items of its first one stand
+-- the window's, if there are any, are all places where the first items of its first one stand, so many as are told
 pub record IsPlacedIn (g : Graph) (places : List WindowAt) (w : FoundWindow) : Type 0 where
   pub within : w.place + w.places ≤ length places
-  pub all : 1 ≤ w.places → places_of places w ≡ standing g (items_at g w.found.first.block w.found.first.at w.n)
+  pub some : 1 ≤ w.known
+  pub most : w.known ≤ w.n
+  pub all : 1 ≤ w.places → places_of places w ≡ standing g (items_at g w.found.first.block w.found.first.at w.known)
 
 -- the same where it is known where windows stand
 abbrev pub IsFoundIn : Graph → List WindowAt → FoundWindow → Type 0

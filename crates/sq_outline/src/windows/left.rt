@@ -84,6 +84,18 @@ impl FoundWindows {
     /// The places where a window stands in this graph, if the look was at it and had room for them.
     pub(crate) fn places_of(&self, window: &FoundWindow) -> Option<&[WindowAt]>
         requires { 1 ≤ length self.now.places.items → window.now.place + window.now.places ≤ length self.now.places.items }
+        ensures known { IfSome result (λ places. window.now.known ≡ window.now.n) }
+        ensures places { IfSome result (λ places. (1 ≤ length self.now.places.items) × (1 ≤ window.now.places) × (places.now ≡ places_of self.now.places.items window.now)) }
+    {
+        if window.known != window.n {
+            return None;
+        }
+        self.first_places_of(window)
+    }
+
+    /// Those where its first items stand, if it had room for them.
+    pub(crate) fn first_places_of(&self, window: &FoundWindow) -> Option<&[WindowAt]>
+        requires { 1 ≤ length self.now.places.items → window.now.place + window.now.places ≤ length self.now.places.items }
         ensures { IfSome result (λ places. (1 ≤ length self.now.places.items) × (1 ≤ window.now.places) × (places.now ≡ places_of self.now.places.items window.now)) }
     {
         if self.places.is_empty() || window.places == 0 {

@@ -1,6 +1,7 @@
 //! The windows of a graph that may become procedures.
 
-ghost use Rattle.std.specs.Prelude.{◌≡◌, ◌≤◌, ◌<◌, ◌^◌, ◌+◌, ◌++◌, ℕ, None, Ok, IsTrue, IfOk, IfSome, OnOk, length, map};
+ghost use Rattle.std.specs.Prelude.{◌≡◌, ◌≤◌, ◌<◌, ◌^◌, ◌+◌, ◌++◌, ℕ, None, Ok, IsTrue, IfOk, IfSome, OnOk, drop, length, map};
+ghost use Rattle.std.specs.List.{All, filter};
 ghost use Rattle.sq_graph.specs.Blocks.{HasBlock, items_of};
 ghost use Rattle.sq_finger.specs.Groups.{group_count};
 ghost use Rattle.sq_finger.specs.Lines.{line_of, AreWindowNumbers};
@@ -10,12 +11,12 @@ ghost use Rattle.sq_pass.specs.declared.cut.Row.TheVariants.{W as Window};
 ghost use Rattle.sq_pass.specs.Cuts.{IsCompleted};
 ghost use Rattle.sq_outline.specs.WindowsKinds.{AreKinds};
 ghost use Rattle.sq_outline.specs.WindowsMade.{items_at, IsWindowMade, IsWindowCut};
-ghost use Rattle.sq_outline.specs.WindowsPlaces.{places_from};
+ghost use Rattle.sq_outline.specs.WindowsPlaces.{begins, places_from};
 ghost use Rattle.sq_outline.specs.WindowsSearch.{place_in, standing, AreWindowClasses};
 
 use crate::windows::found::{Found, found_at, items_at};
 use crate::windows::kinds::{BlockKinds, block_kinds, kinds_of};
-use crate::windows::stands::begins;
+use crate::windows::stands::{begins, stand_at};
 use sq_finger::{Groups, WindowAt, all_places, number_items, number_longer_runs, window_laws};
 use sq_graph::{Graph, Item};
 use sq_live::Liveness;
@@ -146,6 +147,26 @@ fn push_places(
         }
     }
     Ok(())
+}
+
+/// Those of these places where the window stands.
+pub(crate) fn among(
+    alloc: Global,
+    graph: &Graph,
+    window: &[Item],
+    places: &[WindowAt],
+) -> Result<Vec<WindowAt>, Memory>
+    requires some { 1 ≤ length window.now }
+    requires blocks { All (λ place. HasBlock graph.now.graph place.block) places.now }
+    ensures { IfOk result (λ found. found.items ≡ filter (λ place. begins window.now (drop place.at (items_of graph.now.graph place.block))) places.now) }
+{
+    let mut found = Vec::new(alloc);
+    for place in places {
+        if stand_at(graph, place.block, place.at, window) {
+            found.push(*place)?;
+        }
+    }
+    Ok(found)
 }
 
 /// The places where the n items of a place stand. It looks at the items of those blocks alone that may hold them.

@@ -30,7 +30,7 @@ use crate::windows::inside::procedure_inside;
 use crate::windows::kinds::{BlockKinds, block_kinds};
 use crate::windows::left::FoundWindows;
 use crate::windows::proposals::{FoundWindow, sixteenths};
-use crate::windows::search::standing;
+use crate::windows::search::{among, standing};
 use crate::windows::taken::Taken;
 use sq_finger::{WindowAt, all_places};
 use sq_graph::{Graph, Room};
@@ -168,6 +168,29 @@ fn sweep_calls(
     Ok(after)
 }
 
+/// All places where a window stands that a look found. It compares those where its first items stand, if these are known, or else the
+/// items of those blocks that may hold it.
+fn searched(
+    alloc: Global,
+    graph: &Graph,
+    blocks: &[BlockKinds],
+    windows: &FoundWindows,
+    window: &FoundWindow,
+) -> Result<Vec<WindowAt>, Memory>
+    requires kinds { AreKinds graph.now.graph blocks.now }
+    requires found { IsFoundIn graph.now.graph windows.now.places.items window.now }
+    requires block { HasBlock graph.now.graph window.now.found.first.block }
+    requires some { 1 ≤ window.now.n }
+    requires within { window.now.found.first.at + window.now.n ≤ length (items_of graph.now.graph window.now.found.first.block) }
+    ensures { IfOk result (λ places. places.items ≡ standing graph.now.graph (items_at graph.now.graph window.now.found.first.block window.now.found.first.at window.now.n)) }
+{
+    let Site { block, at } = window.found.first;
+    let Some(places) = windows.first_places_of(window) else {
+        return standing(alloc, graph, blocks, block, at, window.n);
+    };
+    among(alloc, graph, items_at(graph, block, at, window.n), places)
+}
+
 /// The places where a window stands that a look found, of those where no item was taken, where its first one is among them and the
 /// window may pay.
 fn places_of(
@@ -203,7 +226,7 @@ fn places_of(
     }
     let places = match windows.places_of(window) {
         Some(places) => taken.free_places(alloc, n, places)?,
-        None => taken.free_places(alloc, n, &standing(alloc, graph, blocks, block, at, n)?)?,
+        None => taken.free_places(alloc, n, &searched(alloc, graph, blocks, windows, window)?)?,
     };
     if places.len() <= ((n + 1) / (n - 1)) as usize {
         return Ok(None);

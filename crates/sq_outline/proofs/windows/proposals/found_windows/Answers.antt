@@ -33,25 +33,25 @@ classes_in_line-requires-clause-numbers c =
     let n = c.loop-n.n in
     let least : 3 ≤ c.loop-n.n = c.loop-n.auto.n in
     let items = c.in_ok-items.items.items in
-    let longer = longer_numbers c.deref-in-loop-n.result.now items c.deref-in-loop-n-2.result.now c.loop-n.numbers.items c.in_ok-numbers-2.numbers.items c.deref-in-loop-n.ensures.value c.deref-in-loop-n-2.ensures.value c.in_ok-numbers-2.ensures (n - 1) c.loop-n.invariant.runs in
+    let longer = longer_numbers c.deref-in-loop-n.result.now items c.deref-in-loop-n-2.result.now c.loop-n.numbers.items c.in_ok-longer.longer.items c.deref-in-loop-n.ensures.value c.deref-in-loop-n-2.ensures.value c.in_ok-longer.ensures (n - 1) c.loop-n.invariant.runs in
     let same : (c.loop-n.n - 1) + 1 ≡ c.loop-n.n = omega (arith, least) in
-    let runs : AreRunNumbers c.loop-n.n c.in_ok-items.items.items c.in_ok-numbers-2.numbers.items = subst (λ k. AreRunNumbers k c.in_ok-items.items.items c.in_ok-numbers-2.numbers.items) same longer in
+    let runs : AreRunNumbers c.loop-n.n c.in_ok-items.items.items c.in_ok-longer.longer.items = subst (λ k. AreRunNumbers k c.in_ok-items.items.items c.in_ok-longer.longer.items) same longer in
     let whole : c.deref.result.now ≡ line_of c.args.graph.now.graph = c.deref.ensures.value ∙ c.in_ok-line.ensures in
     let numbers : AreNumbersOf (map (item_at c.args.graph.now.graph) (line_of c.args.graph.now.graph)) c.in_ok-items.items.items =
     subst (λ (ps : List WindowAt). AreNumbersOf (map (item_at c.args.graph.now.graph) ps) c.in_ok-items.items.items) whole c.in_ok-items.ensures in
-    let windows = c.window_laws.ensures.windows g n items c.in_ok-numbers-2.numbers.items (omega (arith, least)) numbers runs in
-    subst (λ (ps : List WindowAt). AreWindowNumbers c.args.graph.now.graph c.loop-n.n ps c.deref-in-loop-n-4.result.now) (sym (c.deref-in-loop-n-3.ensures.value ∙ c.in_ok-line.ensures))
-    (subst (λ (ns : List (Option ℕ)). AreWindowNumbers c.args.graph.now.graph c.loop-n.n (line_of c.args.graph.now.graph) ns) (sym c.deref-in-loop-n-4.ensures.value) windows)
+    let windows = c.window_laws.ensures.windows g n items c.in_ok-longer.longer.items (omega (arith, least)) numbers runs in
+    subst (λ (ps : List WindowAt). AreWindowNumbers c.args.graph.now.graph c.loop-n.n ps c.deref-in-loop-n-7.result.now) (sym (c.deref-in-loop-n-6.ensures.value ∙ c.in_ok-line.ensures))
+    (subst (λ (ns : List (Option ℕ)). AreWindowNumbers c.args.graph.now.graph c.loop-n.n (line_of c.args.graph.now.graph) ns) (sym c.deref-in-loop-n-7.ensures.value) windows)
 
 pub loop-n-preserved : goal.loop-n-preserved
 loop-n-preserved c =
     let n = c.loop-n.n in
     let least : 3 ≤ c.loop-n.n = c.loop-n.auto.n in
     let items = c.in_ok-items.items.items in
-    let longer = longer_numbers c.deref-in-loop-n.result.now items c.deref-in-loop-n-2.result.now c.loop-n.numbers.items c.in_ok-numbers-2.numbers.items c.deref-in-loop-n.ensures.value c.deref-in-loop-n-2.ensures.value c.in_ok-numbers-2.ensures (n - 1) c.loop-n.invariant.runs in
+    let longer = longer_numbers c.deref-in-loop-n.result.now items c.deref-in-loop-n-2.result.now c.loop-n.numbers.items c.in_ok-longer.longer.items c.deref-in-loop-n.ensures.value c.deref-in-loop-n-2.ensures.value c.in_ok-longer.ensures (n - 1) c.loop-n.invariant.runs in
     let same : (c.loop-n.n - 1) + 1 ≡ (c.loop-n.n + 1) - 1 = omega (arith, least) in
     record {
-      runs = subst (λ k. AreRunNumbers k c.in_ok-items.items.items c.in_ok-numbers-2.numbers.items) same longer;
+      runs = subst (λ k. AreRunNumbers k c.in_ok-items.items.items c.in_ok-longer.longer.items) same longer;
       found = c.in_ok-push_windows.ensures.windows;
       placed = c.in_ok-push_windows.ensures.placed;
     }
