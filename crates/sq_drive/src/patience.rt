@@ -11,8 +11,8 @@ use sq_num::Memory;
 use sq_outline::{Asking, count_pairs};
 use std::alloc::Global;
 
-/// So many words may be gone over, which takes a few seconds.
-const WORDS: u64 = 300_000_000;
+/// So many words may be gone over, which takes a second or two.
+const WORDS: u64 = 150_000_000;
 
 /// A round of sweeps that save little takes as long as so many passes over the graph.
 const ROUND: u32 = 12;
