@@ -1,5 +1,5 @@
 -- What the fields show after a call that changes a block and keeps all other items where they lie.
-use Rattle.std.proofs.Common.{◌≡◌, ℕ, ◌+◌, ◌-◌, ◌≤◌, ◌==◌, List, [], ◌∷◌, ◌++◌, length, take, drop, vec_capacity, Vec, Global, None, Some, refl, sym, ap, ◌∙◌, inl, inr, arith, length-append, length-drop, append_assoc}
+use Rattle.std.proofs.Common.{◌≡◌, ℕ, ◌+◌, ◌-◌, ◌≤◌, ◌==◌, List, [], ◌∷◌, ◌++◌, length, take, drop, vec_capacity, Vec, Global, Option, None, Some, refl, sym, ap, ◌∙◌, subst, inl, inr, arith, length-append, length-drop, append_assoc}
 use Rattle.std.proofs.lemmas.Bool.{cases_Bool, eq-eqb}
 use Rattle.std.proofs.lemmas.List.{append-nil, length-take-le, take-append-drop, drop-append-le, take-take, drop-take, drop-drop}
 use Rattle.sq_arena.specs.Arena.{Arena as Listed}
@@ -13,17 +13,20 @@ use Rattle.sq_graph.specs.declared.graph.Graph.TheInside.{Inside}
 use Rattle.sq_graph.specs.Graph.{Block}
 use Rattle.sq_graph.specs.Blocks.{block_items, items_of, items_of_blocks}
 use Rattle.sq_graph.specs.Cursor.{length_of_slots}
+use Rattle.sq_graph.specs.Packed.{EndBy, AreLaid, blocks_of}
 use Rattle.sq_graph.specs.Rules.{IsGraph}
-use Rattle.sq_graph.specs.Operations.{changed, with_term, inserted_after, halves, split_at, without_block, replaced_items, replaced}
+use Rattle.sq_graph.specs.Operations.{with_blocks, changed, with_term, inserted_after, halves, split_at, without_block, replaced_items, replaced}
 use Rattle.sq_graph.specs.Layout.{graph_of, IsSound}
 use Rattle.sq_graph.proofs.CursorLaws.{value_of-before, with_value-split}
 use Rattle.sq_graph.proofs.Packing.{later_same, ahead_written, length-replaced_items, upto_written, behind_written}
 use Rattle.sq_graph.proofs.SlotPasses.{length_of_slots-append}
-use Rattle.sq_graph.proofs.SlotReads.{reads, apart_found}
-use Rattle.sq_graph.proofs.Laid.{Stands, Lies, lies_changed}
-use Rattle.sq_graph.proofs.Held.{Shows, laid, laid_shows, limits_of}
+use Rattle.sq_graph.proofs.SlotReads.{reads, slot_fits}
+use Rattle.sq_graph.proofs.Laid.{Stands, Lies, lies_changed, lies_blocks, lies_apart, lies_within}
+use Rattle.sq_graph.proofs.Strewn.{ends_raise, ends_append, ends_before, ends_behind, ends_found, apart_ends, strewn_changed}
+use Rattle.sq_graph.proofs.Held.{Shows, laid, laid_shows, limits_of, in_order, in_no_order, ordered, Lie}
 
--- fields in which the slot of a block has made way for others, and other items lie where its items were
+-- fields in which the slot of a block has made way for others, and other items lie where its items were, or, where items
+-- lie in no order, all as before
 pub record Rewrites (old new : Inside) (name : ℕ) (slot : Slot) (mid : List (ℕ × Slot)) : Type 0 where
   pub slots : new.slots.entries ≡ before old.slots.entries name ++ (mid ++ behind old.slots.entries name)
   pub spare : length mid + new.slots.spare ≡ 1 + old.slots.spare
@@ -38,6 +41,48 @@ pub record Rewrites (old new : Inside) (name : ℕ) (slot : Slot) (mid : List (�
   pub bodies : new.bodies ≡ old.bodies
   pub item_room : new.item_room ≡ old.item_room
   pub body_room : new.body_room ≡ old.body_room
+  pub loose : new.loose ≡ old.loose
+  pub strewn : (free : ℕ) → old.loose.free ≡ Some free → new.items.items ≡ old.items.items
+
+relaid : (old new : Inside) (name : ℕ) (slot : Slot) (mid : List (ℕ × Slot)) (f : Block → List Block) (o : Option ℕ) → old.loose.free ≡ o → IsSound old → value_of old.slots.entries name ≡ Some slot → Rewrites old new name slot mid
+    → ((b : Block) → Stands old.items.items slot.start (name, slot) b → Lies new.items.items slot.start mid (f b) (slot.start + slot.length))
+    → length_of_slots old.slots.entries ≡ length_of_slots (before old.slots.entries name) + (slot.length + length_of_slots (behind old.slots.entries name))
+    → length_of_slots new.slots.entries ≡ length_of_slots (before old.slots.entries name) + (length_of_slots mid + length_of_slots (behind old.slots.entries name))
+    → Lie new (with_blocks f (graph_of old).blocks name)
+relaid old new name slot mid f None order sound found change there was is =
+    let lies = lies_changed old.items.items new.items.items f name slot mid old.blocks_end change.ahead change.later there 0 old.slots.entries (graph_of old).blocks (in_order old sound order) found in
+    let now : Lies new.items.items 0 new.slots.entries (with_blocks f (graph_of old).blocks name) new.blocks_end = rw (change.slots, change.blocks_end) lies in
+    record {
+      blocks = lies_blocks new.items.items 0 new.slots.entries (with_blocks f (graph_of old).blocks name) new.blocks_end now;
+      lie = ordered new (ap (λ l. l.free) change.loose ∙ order) (lies_apart new.items.items 0 new.slots.entries (with_blocks f (graph_of old).blocks name) new.blocks_end now);
+    }
+relaid old new name slot mid f (Some free) loose sound found change there was is =
+    let xs = old.items.items in
+    let same : new.items.items ≡ old.items.items = change.strewn free loose in
+    let lie = in_no_order old free sound loose in
+    let fits = ends_found old.slots.entries free name slot lie.0 found in
+    let read = reads old name slot sound found in
+    let stands : Stands old.items.items slot.start (name, slot) read.block = record {
+      name = read.name_is;
+      term = read.term_is;
+      counted = read.length_is;
+      above = omega arith;
+      items = read.slice;
+    } in
+    let lies : Lies old.items.items slot.start mid (f read.block) (slot.start + slot.length) = subst (λ (ys : List Item). Lies ys slot.start mid (f read.block) (slot.start + slot.length)) same (there read.block stands) in
+    let blocks = lies_blocks old.items.items slot.start mid (f read.block) (slot.start + slot.length) lies in
+    let middle : EndBy mid free = ends_raise mid (slot.start + slot.length) free fits (apart_ends mid slot.start (slot.start + slot.length) (lies_apart old.items.items slot.start mid (f read.block) (slot.start + slot.length) lies)) in
+    let ends : EndBy new.slots.entries free =
+    rw change.slots (ends_append (before old.slots.entries name) (mid ++ behind old.slots.entries name) free (ends_before old.slots.entries name free lie.0) (ends_append mid (behind old.slots.entries name) free middle (ends_behind old.slots.entries name free lie.0))) in
+    let less = lies_within old.items.items slot.start mid (f read.block) (slot.start + slot.length) lies in
+    let now : AreLaid new.slots.entries new.blocks_end (Some free) (vec_capacity new.loose.scratch) = (
+      ends,
+      (omega (arith, lie.1.0, change.blocks_end), omega (arith, lie.1.1, was, is, less, ap (λ l. vec_capacity l.scratch) change.loose)),
+    ) in
+    record {
+      blocks = ap (λ ys. blocks_of new.slots.entries ys) same ∙ ap (λ es. blocks_of es xs) change.slots ∙ strewn_changed xs f name slot mid (blocks ∙ ap f read.block_is) old.slots.entries found;
+      lie = subst (λ (o : Option ℕ). AreLaid new.slots.entries new.blocks_end o (vec_capacity new.loose.scratch)) (sym (ap (λ l. l.free) change.loose ∙ loose)) now;
+    }
 
 pub rewrites_shows : (old new : Inside) (name : ℕ) (slot : Slot) (mid : List (ℕ × Slot)) (f : Block → List Block) → IsSound old → value_of old.slots.entries name ≡ Some slot → Rewrites old new name slot mid
     → ((b : Block) → Stands old.items.items slot.start (name, slot) b → Lies new.items.items slot.start mid (f b) (slot.start + slot.length))
@@ -47,16 +92,17 @@ rewrites_shows old new name slot mid f sound found change there rules =
     let lays = laid old sound in
     let limits = limits_of old sound in
     let whole = split_at_key old.slots.entries name slot found in
-    let fits = apart_found old.slots.entries 0 old.blocks_end name slot sound.gaps.apart found in
-    let lies = lies_changed old.items.items new.items.items f name slot mid old.blocks_end change.ahead change.later there 0 old.slots.entries g.blocks lays.blocks found in
+    let fits = slot_fits old name slot sound found in
     let was : length_of_slots old.slots.entries ≡ length_of_slots (before old.slots.entries name) + (slot.length + length_of_slots (behind old.slots.entries name)) =
     ap length_of_slots whole ∙ length_of_slots-append (before old.slots.entries name) ((name, slot) ∷ behind old.slots.entries name) in
     let is : length_of_slots new.slots.entries ≡ length_of_slots (before old.slots.entries name) + (length_of_slots mid + length_of_slots (behind old.slots.entries name)) =
     ap length_of_slots change.slots ∙ length_of_slots-append (before old.slots.entries name) (mid ++ behind old.slots.entries name)
     ∙ ap (λ n. length_of_slots (before old.slots.entries name) + n) (length_of_slots-append mid (behind old.slots.entries name)) in
+    let now = relaid old new name slot mid f old.loose.free refl sound found change there was is in
     laid_shows new (changed f g name)
     (record {
-      blocks = rw (change.slots, change.blocks_end) lies;
+      blocks = now.blocks;
+      lie = now.lie;
       within = omega (arith, lays.within, change.long, change.blocks_end);
       counted = omega (arith, lays.counted, was, is, change.gaps, change.blocks_end);
       behind = rw change.blocks_end (later_same old.items.items new.items.items (slot.start + slot.length) old.blocks_end fits change.later ∙ lays.behind);
@@ -94,6 +140,8 @@ reslots inside name slot mid slots gaps is spare counted = record {
   bodies = refl;
   item_room = refl;
   body_room = refl;
+  loose = refl;
+  strewn = λ _ _. refl;
 }
 
 pub set_term_shows : (inside : Inside) (name : ℕ) (slot : Slot) (term : Term) (slots : Listed Slot) → IsSound inside → value_of inside.slots.entries name ≡ Some slot → slots.entries ≡ with_value inside.slots.entries name (record slot { term = term }) → slots.spare ≡ inside.slots.spare → IsGraph (with_term (graph_of inside) name term) → Shows (record inside { slots = slots }) (with_term (graph_of inside) name term)
@@ -217,13 +265,13 @@ shrunk_piece xs by start at count left fewer fits =
     ∙ ap (λ ys. take at (take (at + count + left) (drop start xs)) ++ (by ++ ys))
     (ap (λ n. take left (drop n xs)) (sym place) ∙ ap (take left) (sym (drop-drop (at + count) start xs)) ∙ sym (drop-take (at + count) left (drop start xs)))
 
-pub replace_less_shows : (old : Inside) (name : ℕ) (slot : Slot) (at count left : ℕ) (by : List Item) (slots : Listed Slot) (items : Vec Item Global) (gaps length_now : ℕ) → IsSound old → value_of old.slots.entries name ≡ Some slot
+pub replace_less_shows : (old : Inside) (name : ℕ) (slot : Slot) (at count left : ℕ) (by : List Item) (slots : Listed Slot) (items : Vec Item Global) (gaps length_now : ℕ) → IsSound old → old.loose.free ≡ None → value_of old.slots.entries name ≡ Some slot
     → length by ≤ count → at + count + left ≡ slot.length → length_now ≡ at + length by + left
     → slots.entries ≡ with_value old.slots.entries name (record slot { length = length_now }) → slots.spare ≡ old.slots.spare
     → items.items ≡ shrunk_items old.items.items (slot.start + at) count by left → vec_capacity items ≡ vec_capacity old.items
     → gaps ≡ old.gaps + (count - length by) → IsGraph (replaced (graph_of old) name at count by)
     → Shows (record old { slots = slots; items = items; gaps = gaps }) (replaced (graph_of old) name at count by)
-replace_less_shows old name slot at count left by slots items gaps length_now sound found fewer size now is spare items_are capacity counted rules =
+replace_less_shows old name slot at count left by slots items gaps length_now sound order found fewer size now is spare items_are capacity counted rules =
     let xs = old.items.items in
     let read = reads old name slot sound found in
     let fits : slot.start + at + count + left ≤ length old.items.items = omega (arith, read.within, size) in
@@ -245,6 +293,8 @@ replace_less_shows old name slot at count left by slots items gaps length_now so
       bodies = refl;
       item_room = refl;
       body_room = refl;
+      loose = refl;
+      strewn = λ free loose. absurd (cc (sym order ∙ loose));
     })
     (λ b st.
     let was : take (at + count + left) (drop slot.start old.items.items) ≡ b.items = ap (λ n. take n (drop slot.start old.items.items)) size ∙ st.items in

@@ -170,12 +170,12 @@ pub calls_show : (new : Inside) (fates : List ItemFate) (g : Graph) (front : Lis
     → IsGraph (with_calls fates g) → length (items_of_blocks g.blocks) + length (items_of_bodies g.procedures) < 2 ^ 29 → length g.blocks + new.slots.spare < 2 ^ 29 → length g.procedures < 2 ^ 29
     → new.slots.entries ≡ slots_from 0 (with_calls fates g).blocks
     → front ≡ items_of_blocks (with_calls fates g).blocks → new.items.items ≡ front ++ items_of_bodies g.procedures
-    → new.blocks_end ≡ length front → new.gaps ≡ 0
+    → new.blocks_end ≡ length front → new.gaps ≡ 0 → new.loose.free ≡ None
     → new.entry ≡ g.entry → new.code_words.items ≡ g.code_words
     → new.bodies.items ≡ bodies_from 0 g.procedures
     → new.item_room ≡ length new.items.items → new.body_room ≡ length new.bodies.items
     → Shows new (with_calls fates g)
-calls_show new fates g front rules few small procedures slots blocks items blocks_end gaps entry words bodies item_room body_room =
+calls_show new fates g front rules few small procedures slots blocks items blocks_end gaps order entry words bodies item_room body_room =
     let all = items ∙ ap (λ is. is ++ items_of_bodies g.procedures) blocks in
     shows new (with_calls fates g)
     (record {
@@ -183,6 +183,7 @@ calls_show new fates g front rules few small procedures slots blocks items block
       items = all;
       blocks_end = blocks_end ∙ ap (λ (is : List Item). length is) blocks;
       gaps = gaps;
+      order = order;
       entry = entry;
       code_words = words;
       bodies = bodies;
@@ -205,15 +206,15 @@ pub copy_shows : (old new : Inside) (v : GraphAndRoom) (fates : List ItemFate) (
     → shown old ≡ v → IsSound old → IsGraph (with_calls fates v.graph)
     → new.slots.spare ≡ old.slots.spare → new.slots.entries ≡ slots_from 0 (with_calls fates v.graph).blocks
     → front ≡ items_of_blocks (with_calls fates v.graph).blocks → new.items.items ≡ front ++ drop old.blocks_end old.items.items
-    → new.blocks_end ≡ length front → new.gaps ≡ 0
+    → new.blocks_end ≡ length front → new.gaps ≡ 0 → new.loose.free ≡ None
     → new.entry ≡ old.entry → new.code_words.items ≡ old.code_words.items → new.bodies.items ≡ old.bodies.items
     → new.item_room ≡ length new.items.items → new.body_room ≡ length new.bodies.items
     → Shows new (with_calls fates v.graph)
-copy_shows old new v fates front view sound rules spare slots blocks items blocks_end gaps entry words bodies item_room body_room =
+copy_shows old new v fates front view sound rules spare slots blocks items blocks_end gaps order entry words bodies item_room body_room =
     let g = v.graph in
     let small : IsSmall (total_of v) = subst (λ (w : GraphAndRoom). IsSmall (total_of w)) view sound.small in
     let behind : drop old.blocks_end old.items.items ≡ items_of_bodies v.graph.procedures = sound.behind ∙ ap (λ (w : GraphAndRoom). items_of_bodies w.graph.procedures) view in
     let all : length (all_items v.graph) ≡ length (items_of_blocks v.graph.blocks) + length (items_of_bodies v.graph.procedures) = length-append (items_of_blocks v.graph.blocks) (items_of_bodies v.graph.procedures) in
     calls_show new fates v.graph front rules (omega (arith, small.items, all)) (omega (arith, small.blocks, spare, ap (λ (w : GraphAndRoom). w.spare.blocks) view)) (omega (arith, small.procedures)) slots blocks
-    (items ∙ ap (λ is. front ++ is) behind) blocks_end gaps (entry ∙ ap (λ (w : GraphAndRoom). w.graph.entry) view) (words ∙ ap (λ (w : GraphAndRoom). w.graph.code_words) view)
+    (items ∙ ap (λ is. front ++ is) behind) blocks_end gaps order (entry ∙ ap (λ (w : GraphAndRoom). w.graph.entry) view) (words ∙ ap (λ (w : GraphAndRoom). w.graph.code_words) view)
     (bodies ∙ sound.bodies ∙ ap (λ (w : GraphAndRoom). bodies_from 0 w.graph.procedures) view) item_room body_room

@@ -146,6 +146,7 @@ module _ (old : Inside) (tight : IsTight old) where
         items = all;
         blocks_end = omega (arith, tight.holds.blocks_end, counted, bodies, ap (λ is. length is) all, ap (λ is. length is) tight.holds.items, length-append (items_of_blocks h.blocks) (items_of_bodies h.procedures), length-append (items_of_blocks g.blocks) (items_of_bodies g.procedures));
         gaps = tight.holds.gaps;
+        order = tight.holds.order;
         entry = entry_is' ∙ entry_is old tight;
         code_words = words_is ∙ words_are old tight;
         bodies = tight.holds.bodies ∙ sym (bodies_from-mapped (retargeted_item f) (λ t. t) 0 g.procedures);

@@ -1,5 +1,5 @@
 -- The fields that are made of parts show the graph of the parts.
-use Rattle.std.proofs.Common.{◌≡◌, ℕ, suc, ◌+◌, ◌≤◌, List, [], ◌∷◌, ◌++◌, length, take, drop, refl, sym, ap, ◌∙◌, arith, length-append, length-drop}
+use Rattle.std.proofs.Common.{◌≡◌, ℕ, suc, ◌+◌, ◌≤◌, List, [], ◌∷◌, ◌++◌, length, take, drop, refl, sym, ap, ◌∙◌, arith, length-append, length-drop, None}
 use Rattle.std.proofs.lemmas.List.{length-take-le, drop-drop, take-append-drop, nil_from_length, append_assoc}
 use Rattle.std.proofs.lemmas.List.Sums.{sum_by-cons}
 use Rattle.sq_arena.specs.Entries.{at_positions}
@@ -86,12 +86,13 @@ pub parts_show : (ps : List BlockPart) (items : List Item) (entry : ℕ) (ws : L
     → new.items.items ≡ items
     → new.blocks_end ≡ length_of_blocks ps
     → new.gaps ≡ 0
+    → new.loose.free ≡ None
     → new.entry ≡ entry
     → new.code_words.items ≡ ws
     → new.bodies.items ≡ part_bodies 0 qs
     → new.item_room ≡ length new.items.items → new.body_room ≡ length new.bodies.items
     → Shows new (graph_of_parts ps items entry ws qs)
-parts_show ps items entry ws qs new fits rules small slots spare items_are blocks_end gaps entry_is words bodies item_room body_room =
+parts_show ps items entry ws qs new fits rules small slots spare items_are blocks_end gaps order entry_is words bodies item_room body_room =
     let g = graph_of_parts ps items entry ws qs in
     let enough : length_of_blocks ps ≤ length items = omega (arith, fits) in
     let rest : length_of_bodies qs ≡ length (drop (length_of_blocks ps) items) = omega (arith, fits, length-drop (length_of_blocks ps) items) in
@@ -104,6 +105,7 @@ parts_show ps items entry ws qs new fits rules small slots spare items_are block
       items = items_are ∙ sym all;
       blocks_end = blocks_end ∙ sym blocks_long;
       gaps = gaps;
+      order = order;
       entry = entry_is;
       code_words = words;
       bodies = bodies ∙ part_bodies-procedures 0 qs (drop (length_of_blocks ps) items) (omega (arith, rest));

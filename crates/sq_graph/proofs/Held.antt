@@ -1,16 +1,20 @@
 -- The graph that the fields hold is the one that they show.
-use Rattle.std.proofs.Common.{suc, ◌≡◌, ℕ, ◌+◌, ◌<◌, ◌^◌, List, [], ◌∷◌, ◌++◌, ◌≤◌, length, drop, refl, sym, ap, ◌∙◌, subst, arith, length-append, length-drop}
+use Rattle.std.proofs.Common.{suc, ◌≡◌, ℕ, ◌+◌, ◌<◌, ◌^◌, List, [], ◌∷◌, ◌++◌, ◌≤◌, length, drop, vec_capacity, Option, None, Some, refl, sym, ap, ◌∙◌, subst, arith, length-append, length-drop}
 use Rattle.std.proofs.lemmas.List.{take_at, drop_at}
 use Rattle.sq_graph.specs.declared.slot.Slot.{Slot}
 use Rattle.sq_graph.specs.declared.graph.Graph.TheInside.{Inside}
-use Rattle.sq_graph.specs.Graph.{Procedure, Graph}
+use Rattle.sq_graph.specs.Graph.{Block, Procedure, Graph}
 use Rattle.sq_graph.specs.Blocks.{items_of_blocks, items_of_bodies, all_items}
 use Rattle.sq_graph.specs.Rules.{IsGraph}
 use Rattle.sq_graph.specs.Room.{IsSmall, count_of, sum_of}
-use Rattle.sq_graph.specs.Slots.{slots_from, bodies_from}
+use Rattle.sq_graph.specs.Slots.{slots_from, slots_of, without_starts, bodies_from}
 use Rattle.sq_graph.specs.Cursor.{length_of_slots}
+use Rattle.sq_arena.specs.Entries.{keys}
+use Rattle.sq_graph.specs.Blocks.{named}
+use Rattle.sq_graph.specs.Packed.{AreApart, AreLaid, blocks_of}
 use Rattle.sq_graph.specs.Layout.{procedures_of, graph_of, spare_of, Holds, HasRoom, IsSound}
-use Rattle.sq_graph.proofs.Laid.{Lies, lies_first, lies_long, lies_count, lies_blocks, lies_keys, lies_apart, apart_lies}
+use Rattle.sq_graph.proofs.Laid.{Lies, lies_first, lies_count, lies_blocks, lies_apart, apart_lies, keys_blocks}
+use Rattle.sq_graph.proofs.Strewn.{laid_ends, strewn_count, strewn_links, length-blocks_of}
 
 pub length-bodies_from : (n : ℕ) (ps : List Procedure) → length (bodies_from n ps) ≡ length ps
 length-bodies_from n [] = refl
@@ -41,9 +45,10 @@ pub record IsLimited (inside : Inside) : Type 0 where
   pub item_room : inside.item_room < 2 ^ 29
   pub body_room : inside.body_room < 2 ^ 29
 
--- the fields hold this graph, with gaps or without
+-- the fields hold this graph, in layout order or not, with gaps or without
 pub record Lays (inside : Inside) (g : Graph) : Type 0 where
-  pub blocks : Lies inside.items.items 0 inside.slots.entries g.blocks inside.blocks_end
+  pub blocks : blocks_of inside.slots.entries inside.items.items ≡ g.blocks
+  pub lie : AreLaid inside.slots.entries inside.blocks_end inside.loose.free (vec_capacity inside.loose.scratch)
   pub within : inside.blocks_end ≤ length inside.items.items
   pub counted : inside.gaps + length_of_slots inside.slots.entries ≡ inside.blocks_end
   pub behind : drop inside.blocks_end inside.items.items ≡ items_of_bodies g.procedures
@@ -59,16 +64,17 @@ pub record HasCounts (inside : Inside) (g : Graph) : Type 0 where
 
 pub counts : (inside : Inside) (g : Graph) → Lays inside g → HasCounts inside g
 counts inside g lays =
+    let ends = laid_ends inside.slots.entries inside.blocks_end inside.loose.free (vec_capacity inside.loose.scratch) lays.lie in
     record {
-      blocks = lies_long inside.items.items 0 inside.slots.entries g.blocks inside.blocks_end lays.blocks;
-      items = omega (arith, lays.within, lays.counted, ap (λ xs. length xs) lays.behind, length-drop inside.blocks_end inside.items.items, lies_count inside.items.items 0 inside.slots.entries g.blocks inside.blocks_end lays.blocks, length-append (items_of_blocks g.blocks) (items_of_bodies g.procedures));
+      blocks = sym (length-blocks_of inside.slots.entries inside.items.items) ∙ ap (λ (bs : List Block). length bs) lays.blocks;
+      items = omega (arith, lays.within, lays.counted, ap (λ xs. length xs) lays.behind, length-drop inside.blocks_end inside.items.items, strewn_count inside.slots.entries inside.items.items inside.blocks_end ends lays.within, ap (λ (bs : List Block). length (items_of_blocks bs)) lays.blocks, length-append (items_of_blocks g.blocks) (items_of_bodies g.procedures));
       bodies = ap (λ bs. length bs) lays.bodies ∙ length-bodies_from 0 g.procedures;
     }
 
 pub graph_of-laid : (inside : Inside) (g : Graph) → Lays inside g → graph_of inside ≡ g
 graph_of-laid inside g lays =
     same_graph (graph_of inside) g
-    (lies_blocks inside.items.items 0 inside.slots.entries g.blocks inside.blocks_end lays.blocks)
+    lays.blocks
     lays.entry
     lays.code_words
     (ap (λ bs. procedures_of bs (drop inside.blocks_end inside.items.items)) lays.bodies
@@ -90,8 +96,8 @@ laid_shows inside g lays rules room limits =
           record {
             gaps =
                 record {
-                  distinct = rw (lies_keys inside.items.items 0 inside.slots.entries g.blocks inside.blocks_end lays.blocks) rules.distinct;
-                  apart = lies_apart inside.items.items 0 inside.slots.entries g.blocks inside.blocks_end lays.blocks;
+                  distinct = rw (keys_blocks inside.slots.entries inside.items.items ∙ ap (λ (bs : List Block). keys (named bs)) lays.blocks) rules.distinct;
+                  lie = lays.lie;
                   within = lays.within;
                   counted = lays.counted;
                 };
@@ -102,6 +108,10 @@ laid_shows inside g lays rules room limits =
             small = subst (λ (h : Graph). IsSmall (sum_of (count_of h) (spare_of inside))) (sym is) small;
           };
     }
+
+-- in layout order
+pub ordered : (inside : Inside) → inside.loose.free ≡ None → AreApart inside.slots.entries 0 inside.blocks_end → AreLaid inside.slots.entries inside.blocks_end inside.loose.free (vec_capacity inside.loose.scratch)
+ordered inside order apart = subst (λ (free : Option ℕ). AreLaid inside.slots.entries inside.blocks_end free (vec_capacity inside.loose.scratch)) (sym order) apart
 
 -- the same of fields without gaps
 pub shows : (inside : Inside) (g : Graph) → Holds inside g → IsGraph g → HasRoom inside → IsLimited inside → Shows inside g
@@ -114,7 +124,8 @@ shows inside g holds rules room limits =
     subst (λ (es : List (ℕ × Slot)). Lies inside.items.items 0 es g.blocks inside.blocks_end) (sym holds.slots) first in
     laid_shows inside g
     (record {
-      blocks = blocks;
+      blocks = lies_blocks inside.items.items 0 inside.slots.entries g.blocks inside.blocks_end blocks;
+      lie = ordered inside holds.order (lies_apart inside.items.items 0 inside.slots.entries g.blocks inside.blocks_end blocks);
       within = omega (arith, holds.blocks_end, ap (λ xs. length xs) holds.items, length-append (items_of_blocks g.blocks) (items_of_bodies g.procedures));
       counted = omega (arith, holds.gaps, holds.blocks_end, lies_count inside.items.items 0 inside.slots.entries g.blocks inside.blocks_end blocks);
       behind =
@@ -130,7 +141,8 @@ shows inside g holds rules room limits =
 pub laid : (inside : Inside) → IsSound inside → Lays inside (graph_of inside)
 laid inside sound =
     record {
-      blocks = apart_lies inside.items.items 0 inside.slots.entries inside.blocks_end sound.gaps.apart sound.gaps.within;
+      blocks = refl;
+      lie = sound.gaps.lie;
       within = sound.gaps.within;
       counted = sound.gaps.counted;
       behind = sound.behind;
@@ -138,6 +150,27 @@ laid inside sound =
       code_words = refl;
       bodies = sound.bodies;
     }
+
+-- where they lie in layout order
+pub in_order : (inside : Inside) → IsSound inside → inside.loose.free ≡ None → Lies inside.items.items 0 inside.slots.entries (graph_of inside).blocks inside.blocks_end
+in_order inside sound order =
+    apart_lies inside.items.items 0 inside.slots.entries inside.blocks_end
+    (subst (λ (free : Option ℕ). AreLaid inside.slots.entries inside.blocks_end free (vec_capacity inside.loose.scratch)) order sound.gaps.lie) sound.gaps.within
+
+-- where they lie in no order
+pub in_no_order : (inside : Inside) (free : ℕ) → IsSound inside → inside.loose.free ≡ Some free → AreLaid inside.slots.entries inside.blocks_end (Some free) (vec_capacity inside.loose.scratch)
+in_no_order inside free sound loose =
+    subst (λ (o : Option ℕ). AreLaid inside.slots.entries inside.blocks_end o (vec_capacity inside.loose.scratch)) loose sound.gaps.lie
+
+-- how blocks lie
+pub record Lie (inside : Inside) (bs : List Block) : Type 0 where
+  pub blocks : blocks_of inside.slots.entries inside.items.items ≡ bs
+  pub lie : AreLaid inside.slots.entries inside.blocks_end inside.loose.free (vec_capacity inside.loose.scratch)
+
+-- the slots but for their starts are those of the blocks
+pub links_shown : (inside : Inside) → IsSound inside → without_starts inside.slots.entries ≡ slots_of (graph_of inside).blocks
+links_shown inside sound =
+    strewn_links inside.slots.entries inside.items.items inside.blocks_end (laid_ends inside.slots.entries inside.blocks_end inside.loose.free (vec_capacity inside.loose.scratch) sound.gaps.lie) sound.gaps.within
 
 pub limits_of : (inside : Inside) → IsSound inside → IsLimited inside
 limits_of inside sound =
@@ -148,12 +181,13 @@ limits_of inside sound =
       body_room = omega (arith, count.bodies, sound.small.procedures, sound.room.bodies);
     }
 
--- fields with the same lists
+-- fields with the same lists, in which the slots lie as well
 pub record SameLists (old new : Inside) : Type 0 where
   pub slots : new.slots.entries ≡ old.slots.entries
   pub items : new.items.items ≡ old.items.items
   pub blocks_end : new.blocks_end ≡ old.blocks_end
   pub gaps : new.gaps ≡ old.gaps
+  pub lie : AreLaid new.slots.entries new.blocks_end new.loose.free (vec_capacity new.loose.scratch)
   pub entry : new.entry ≡ old.entry
   pub code_words : new.code_words.items ≡ old.code_words.items
   pub bodies : new.bodies.items ≡ old.bodies.items
@@ -163,7 +197,8 @@ kept old new sound same room limits =
     let lays = laid old sound in
     laid_shows new (graph_of old)
     (record {
-      blocks = rw (same.slots, same.items, same.blocks_end) lays.blocks;
+      blocks = rw (same.slots, same.items) lays.blocks;
+      lie = same.lie;
       within = omega (arith, lays.within, same.blocks_end, ap (λ xs. length xs) same.items);
       counted = omega (arith, lays.counted, same.gaps, same.blocks_end, ap length_of_slots same.slots);
       behind = rw (same.items, same.blocks_end) lays.behind;

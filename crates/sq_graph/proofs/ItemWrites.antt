@@ -116,6 +116,7 @@ pub record Resizes (old new : Inside) (name : ℕ) (slot : Slot) (items : List I
   pub capacity : vec_capacity old.items ≤ vec_capacity new.items
   pub room : length new.items.items ≤ old.item_room
   pub gaps : new.gaps ≡ old.gaps
+  pub loose : new.loose ≡ old.loose
   pub entry : new.entry ≡ old.entry
   pub code_words : new.code_words ≡ old.code_words
   pub bodies : new.bodies ≡ old.bodies
@@ -151,6 +152,7 @@ resized_shows old new name slot f items p tight found is change rules =
           ∙ ap (λ xs. xs ++ items_of_bodies g.procedures) (sym total);
       blocks_end = omega (arith, change.blocks_end, p.blocks_end, p.start_is, ap (λ xs. length xs) total, length-append (items_of_blocks at.front) (items ++ items_of_blocks at.back), length-append items (items_of_blocks at.back));
       gaps = change.gaps ∙ tight.holds.gaps;
+      order = ap (λ l. l.free) change.loose ∙ tight.holds.order;
       entry = change.entry ∙ tight.holds.entry;
       code_words = ap (λ ws. ws.items) change.code_words ∙ tight.holds.code_words;
       bodies = ap (λ ws. ws.items) change.bodies ∙ tight.holds.bodies;
@@ -202,6 +204,7 @@ replace_shows old name slot at count added by slots items n tight has found fits
       capacity = capacity;
       room = omega (arith, ap (λ zs. length zs) is, length-replaced_items old.items.items by (slot.start + at) count (omega (arith, p.size, there, p.length_is)), room, p.sizes.items);
       gaps = refl;
+      loose = refl;
       entry = refl;
       code_words = refl;
       bodies = refl;

@@ -10,7 +10,7 @@ use Rattle.sq_graph.specs.Blocks.{named, items_of_blocks}
 use Rattle.sq_graph.specs.Operations.{with_blocks}
 use Rattle.sq_graph.specs.Packed.{pieces_of, AreApart, blocks_of}
 use Rattle.sq_graph.specs.Cursor.{renumbered, length_of_slots}
-use Rattle.sq_graph.specs.Slots.{slot_of, slots_from, slots_of, without_starts}
+use Rattle.sq_graph.specs.Slots.{slot_of, slots_from}
 use Rattle.sq_graph.proofs.Located.{middle}
 use Rattle.sq_graph.proofs.Packing.{apart_low, later_same}
 
@@ -75,14 +75,6 @@ lies_slots xs low k (e ∷ es) (b ∷ bs) end lies =
     (λ i. (st.name i, record { start = k; length = st.counted i; term = st.term i }) ∷ renumbered (k + st.counted i) es)
     ∙ ap (λ xs. (b.name, record { start = k; length = length b.items; term = b.term }) ∷ xs) (lies_slots xs (e.1.start + e.1.length) (k + length b.items) es bs end lies.1)
 
-pub lies_links : (xs : List Item) (low : ℕ) (es : List (ℕ × Slot)) (bs : List Block) (end : ℕ) → Lies xs low es bs end → without_starts es ≡ slots_of bs
-lies_links xs low [] [] end lies = refl
-lies_links xs low [] (b ∷ bs) end lies = absurd lies
-lies_links xs low (e ∷ es) [] end lies = absurd lies
-lies_links xs low (e ∷ es) (b ∷ bs) end lies =
-    let st = lies.0 in
-    λ i. (st.name i, record { start = 0; length = st.counted i; term = st.term i }) ∷ lies_links xs (e.1.start + e.1.length) es bs end lies.1 i
-
 pub lies_within : (xs : List Item) (low : ℕ) (es : List (ℕ × Slot)) (bs : List Block) (end : ℕ) → Lies xs low es bs end → low + length_of_slots es ≤ end
 lies_within xs low [] [] end lies = omega (arith, lies)
 lies_within xs low [] (b ∷ bs) end lies = absurd lies
@@ -125,12 +117,6 @@ keys_blocks (e ∷ es) xs = ap (λ ks. e.0 ∷ ks) (keys_blocks es xs)
 
 pub lies_keys : (xs : List Item) (low : ℕ) (es : List (ℕ × Slot)) (bs : List Block) (end : ℕ) → Lies xs low es bs end → keys es ≡ keys (named bs)
 lies_keys xs low es bs end lies = keys_blocks es xs ∙ ap (λ cs. keys (named cs)) (lies_blocks xs low es bs end lies)
-
-pub lies_long : (xs : List Item) (low : ℕ) (es : List (ℕ × Slot)) (bs : List Block) (end : ℕ) → Lies xs low es bs end → length es ≡ length bs
-lies_long xs low [] [] end lies = refl
-lies_long xs low [] (b ∷ bs) end lies = absurd lies
-lies_long xs low (e ∷ es) [] end lies = absurd lies
-lies_long xs low (e ∷ es) (b ∷ bs) end lies = ap suc (lies_long xs (e.1.start + e.1.length) es bs end lies.1)
 
 pub length-renumbered : (n : ℕ) (es : List (ℕ × Slot)) → length (renumbered n es) ≡ length es
 length-renumbered n [] = refl
@@ -185,22 +171,6 @@ lies_behind xs ys m low (e ∷ es) (b ∷ bs) end later same lies =
         items = ap (take e.1.length) (later_same xs ys m e.1.start (omega (arith, later, st.above)) same) ∙ st.items;
       },
       lies_behind xs ys m (e.1.start + e.1.length) es bs end (omega (arith, later, st.above)) same lies.1,
-    )
-
-pub lies_ahead : (xs ys : List Item) (m low : ℕ) (es : List (ℕ × Slot)) (bs : List Block) (end : ℕ) → end ≤ m → take m ys ≡ take m xs → Lies xs low es bs end → Lies ys low es bs end
-lies_ahead xs ys m low [] [] end before same lies = lies
-lies_ahead xs ys m low [] (b ∷ bs) end before same lies = absurd lies
-lies_ahead xs ys m low (e ∷ es) [] end before same lies = absurd lies
-lies_ahead xs ys m low (e ∷ es) (b ∷ bs) end before same lies =
-    let st = lies.0 in (
-      record {
-        name = st.name;
-        term = st.term;
-        counted = st.counted;
-        above = st.above;
-        items = piece_ahead xs ys m e.1.start e.1.length (omega (arith, before, lies_within xs (e.1.start + e.1.length) es bs end lies.1)) same ∙ st.items;
-      },
-      lies_ahead xs ys m (e.1.start + e.1.length) es bs end before same lies.1,
     )
 
 pub lies_found : (xs : List Item) (low : ℕ) (es : List (ℕ × Slot)) (bs : List Block) (end name : ℕ) (slot : Slot) → Lies xs low es bs end → value_of es name ≡ Some slot → low ≤ slot.start

@@ -7,6 +7,8 @@ pub mod BodyReads
 pub mod Sizes
 pub mod Held
 pub mod Laid
+pub mod Strewn
+pub mod Collecting
 pub mod Closing
 pub mod Tight
 mod MatchExamples
@@ -43,6 +45,9 @@ pub mod Numbering
 pub mod Exchanged
 pub mod RunMoves
 pub mod MoveShows
+pub mod StrewnMoves
+pub mod Loosening
+pub mod Carrying
 pub mod RedirectShows
 pub mod LinkReads
 pub mod Bypassing

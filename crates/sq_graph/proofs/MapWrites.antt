@@ -54,11 +54,11 @@ module _ (h : Item → Item) (t : Term → Term) where
   pub mapped_holds : (old new : Inside) (g0 g : Graph) → Holds old g0 → HasRoom old → IsLimited old
       → new.slots.entries ≡ mapped_slots old.slots.entries → new.slots.spare ≡ old.slots.spare
       → new.items.items ≡ map h old.items.items → vec_capacity new.items ≡ vec_capacity old.items
-      → new.blocks_end ≡ old.blocks_end → new.gaps ≡ old.gaps → new.bodies ≡ old.bodies → new.item_room ≡ old.item_room → new.body_room ≡ old.body_room
+      → new.blocks_end ≡ old.blocks_end → new.gaps ≡ old.gaps → new.loose ≡ old.loose → new.bodies ≡ old.bodies → new.item_room ≡ old.item_room → new.body_room ≡ old.body_room
       → g.blocks ≡ map mapped_block g0.blocks → g.procedures ≡ map mapped_procedure g0.procedures
       → new.entry ≡ g.entry → new.code_words.items ≡ g.code_words
       → IsGraph g → Shows new g
-  mapped_holds old new g0 g holds room limits slots spare items capacity blocks_end gaps bodies item_room body_room blocks procedures entry code_words rules =
+  mapped_holds old new g0 g holds room limits slots spare items capacity blocks_end gaps loose bodies item_room body_room blocks procedures entry code_words rules =
       let counted : length new.items.items ≡ length old.items.items = ap (λ is. length is) items ∙ length-map old.items.items h in
       shows new g
       (record {
@@ -68,6 +68,7 @@ module _ (h : Item → Item) (t : Term → Term) where
             ∙ ap (λ ps. items_of_blocks g.blocks ++ items_of_bodies ps) (sym procedures);
         blocks_end = blocks_end ∙ holds.blocks_end ∙ sym (length-map (items_of_blocks g0.blocks) h) ∙ sym (ap (λ is. length is) (items_of_blocks-mapped g0.blocks)) ∙ ap (λ bs. length (items_of_blocks bs)) (sym blocks);
         gaps = gaps ∙ holds.gaps;
+        order = ap (λ l. l.free) loose ∙ holds.order;
         entry = entry;
         code_words = code_words;
         bodies = ap (λ bs. bs.items) bodies ∙ holds.bodies ∙ sym (bodies_from-mapped 0 g0.procedures) ∙ ap (bodies_from 0) (sym procedures);
@@ -88,7 +89,7 @@ module _ (h : Item → Item) (t : Term → Term) where
   pub mapped_shows : (old new : Inside) (g : Graph) → IsTight old
       → new.slots.entries ≡ mapped_slots old.slots.entries → new.slots.spare ≡ old.slots.spare
       → new.items.items ≡ map h old.items.items → vec_capacity new.items ≡ vec_capacity old.items
-      → new.blocks_end ≡ old.blocks_end → new.gaps ≡ old.gaps → new.bodies ≡ old.bodies → new.item_room ≡ old.item_room → new.body_room ≡ old.body_room
+      → new.blocks_end ≡ old.blocks_end → new.gaps ≡ old.gaps → new.loose ≡ old.loose → new.bodies ≡ old.bodies → new.item_room ≡ old.item_room → new.body_room ≡ old.body_room
       → g.blocks ≡ map mapped_block (graph_of old).blocks → g.procedures ≡ map mapped_procedure (graph_of old).procedures
       → new.entry ≡ g.entry → new.code_words.items ≡ g.code_words
       → IsGraph g → Shows new g

@@ -176,7 +176,7 @@ moves ps first last after rest distinct is_run there =
       | inr none ↦ moves_ahead ps first last after rest distinct is_run there none (upto_last ps first last distinct is_run)
     ]
 
-length_moved : (es : List (ℕ × Slot)) (first last after : ℕ) → IsRun es first last → length (move_run_after es first last after) ≡ length es
+pub length_moved : (es : List (ℕ × Slot)) (first last after : ℕ) → IsRun es first last → length (move_run_after es first last after) ≡ length es
 length_moved es first last after is_run =
     let A = before es first in
     let R = run es first last in
@@ -223,6 +223,7 @@ move_shows old first last after start end place slots items tight is_run there s
       items = all;
       blocks_end = omega (arith, tight.holds.blocks_end, counted, ap (λ xs. length xs) all, ap (λ xs. length xs) tight.holds.items, length-append (items_of_blocks (map (λ p. p.1) qs)) (items_of_bodies g.procedures), length-append (items_of_blocks g.blocks) (items_of_bodies g.procedures));
       gaps = tight.holds.gaps;
+      order = tight.holds.order;
       entry = tight.holds.entry;
       code_words = tight.holds.code_words;
       bodies = tight.holds.bodies;

@@ -124,6 +124,7 @@ without_procedure_shows old number body removed mid items bodies tight found rem
           ∙ ap (λ ys. items_of_blocks g.blocks ++ ys) (sym (items_of_bodies-append at.front at.back) ∙ ap items_of_bodies (sym left));
       blocks_end = tight.holds.blocks_end;
       gaps = tight.holds.gaps;
+      order = tight.holds.order;
       entry = tight.holds.entry;
       code_words = tight.holds.code_words;
       bodies = bodies_are
@@ -142,7 +143,7 @@ without_procedure_shows old number body removed mid items bodies tight found rem
       body_room = omega (arith, body_capacity, tight.room.body_room);
     })
     (record { blocks = limits.blocks; item_room = limits.item_room; body_room = limits.body_room })
-    (sym (map-id old.slots.entries)) refl is capacity refl refl refl refl refl refl refl refl refl rules
+    (sym (map-id old.slots.entries)) refl is capacity refl refl refl refl refl refl refl refl refl refl rules
 
 -- what is spare afterwards
 pub record FreesProcedure (old : Inside) (number : ℕ) (items : List Item) (bodies : List Body) : Type 0 where

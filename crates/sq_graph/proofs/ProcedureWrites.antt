@@ -21,7 +21,7 @@ use Rattle.sq_graph.specs.Slots.{bodies_from}
 use Rattle.sq_graph.specs.Layout.{graph_of, IsSound}
 use Rattle.sq_graph.proofs.Eachs.{All-each}
 use Rattle.sq_graph.proofs.SlotReads.{reads}
-use Rattle.sq_graph.proofs.Laid.{lies_ahead}
+use Rattle.sq_graph.proofs.Strewn.{laid_ends, blocks_ahead}
 use Rattle.sq_graph.proofs.BodyReads.{reads_body}
 use Rattle.sq_graph.proofs.Held.{Shows, laid, laid_shows, limits_of}
 use Rattle.sq_graph.proofs.Tight.{IsTight}
@@ -79,7 +79,8 @@ outline_shows old name slot at count link start items bodies sound found fits ro
     laid_shows (record old { items = items; bodies = bodies }) (outlined (graph_of old) name at count link)
     (record {
       blocks =
-          rw all (lies_ahead xs (xs ++ body) old.blocks_end 0 old.slots.entries g.blocks old.blocks_end (omega arith) (take-append-le old.blocks_end xs body lays.within) lays.blocks);
+          rw all (blocks_ahead old.slots.entries xs (xs ++ body) old.blocks_end (laid_ends old.slots.entries old.blocks_end old.loose.free (vec_capacity old.loose.scratch) sound.gaps.lie) (take-append-le old.blocks_end xs body lays.within));
+      lie = sound.gaps.lie;
       within = omega (arith, lays.within, whole);
       counted = lays.counted;
       behind =

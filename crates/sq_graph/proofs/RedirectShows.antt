@@ -120,7 +120,7 @@ module _ (old : Inside) (blocks : List ℕ) (tight : IsTight old) where
       (slots_is ∙ renumbered_from_first terms head head_is ∙ ap (renumbered 0) terms_is ∙ numbered_is)
       spare
       (items_are ∙ ap (λ h. retargeted_items h old.items.items) f)
-      capacity refl refl refl refl refl refl refl
+      capacity refl refl refl refl refl refl refl refl
       (entry_is ∙ ap (λ h. h old.entry) f)
       (words_are ∙ ap (λ h. retargeted_words h old.code_words.items) f)
       rules

@@ -275,12 +275,12 @@ pub settled_shows : (new : Inside) (fates : List Fate) (g : Graph) (front : List
     → IsGraph (settled fates g) → length (all_items (settled fates g)) < 2 ^ 29 → length g.blocks + new.slots.spare < 2 ^ 29 → length g.procedures < 2 ^ 29
     → new.slots.entries ≡ slots_from 0 (settled fates g).blocks
     → front ≡ items_of_blocks (settled fates g).blocks → new.items.items ≡ front ++ items_of_bodies (staying fates g.procedures)
-    → new.blocks_end ≡ length front → new.gaps ≡ 0
+    → new.blocks_end ≡ length front → new.gaps ≡ 0 → new.loose.free ≡ None
     → new.entry ≡ g.entry → new.code_words.items ≡ g.code_words
     → new.bodies.items ≡ bodies_from 0 (staying fates g.procedures)
     → new.item_room ≡ length new.items.items → new.body_room ≡ length new.bodies.items
     → Shows new (settled fates g)
-settled_shows new fates g front rules few small procedures slots blocks items blocks_end gaps entry words bodies item_room body_room =
+settled_shows new fates g front rules few small procedures slots blocks items blocks_end gaps order entry words bodies item_room body_room =
     let all = items ∙ ap (λ is. is ++ items_of_bodies (staying fates g.procedures)) blocks in
     shows new (settled fates g)
     (record {
@@ -288,6 +288,7 @@ settled_shows new fates g front rules few small procedures slots blocks items bl
       items = all;
       blocks_end = blocks_end ∙ ap (λ is. length is) blocks;
       gaps = gaps;
+      order = order;
       entry = entry;
       code_words = words;
       bodies = bodies;

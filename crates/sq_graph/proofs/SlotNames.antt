@@ -220,9 +220,9 @@ module _ (old : Inside) (tight : IsTight old) where
       → new.slots.entries ≡ retargeted_slots new_name (at_positions 0 (values old.slots.entries)) → new.slots.spare ≡ old.slots.spare
       → new.items.items ≡ retargeted_items new_name old.items.items → vec_capacity new.items ≡ vec_capacity old.items
       → new.code_words.items ≡ retargeted_words new_name old.code_words.items → new.entry ≡ new_name old.entry
-      → new.blocks_end ≡ old.blocks_end → new.gaps ≡ old.gaps → new.bodies ≡ old.bodies → new.item_room ≡ old.item_room → new.body_room ≡ old.body_room
+      → new.blocks_end ≡ old.blocks_end → new.gaps ≡ old.gaps → new.loose ≡ old.loose → new.bodies ≡ old.bodies → new.item_room ≡ old.item_room → new.body_room ≡ old.body_room
       → Shows new (slotted (graph_of old))
-  slotted_shows new slots spare items capacity words entry blocks_end gaps bodies item_room body_room =
+  slotted_shows new slots spare items capacity words entry blocks_end gaps loose bodies item_room body_room =
       let same : renamed new_name (graph_of old) ≡ slotted (graph_of old) = renamed_by_same new_name (position_in (names_of (graph_of old))) (graph_of old) tight.rules name_is in
       let rules = renamed_rules (position_in (names_of (graph_of old))) (graph_of old) (positions_apart (graph_of old)) tight.rules in
       let limits = limited old tight in
@@ -235,6 +235,7 @@ module _ (old : Inside) (tight : IsTight old) where
         items = items ∙ ap (retargeted_items new_name) tight.holds.items ∙ sym (all_items-other new_name (λ b. new_name b.name) (graph_of old));
         blocks_end = blocks_end ∙ tight.holds.blocks_end ∙ sym (length-map (items_of_blocks (graph_of old).blocks) (retargeted_item new_name)) ∙ sym (ap length (items_of_blocks-other new_name (λ b. new_name b.name) (graph_of old).blocks));
         gaps = gaps ∙ tight.holds.gaps;
+        order = ap (λ l. l.free) loose ∙ tight.holds.order;
         entry = entry;
         code_words = words;
         bodies = ap (λ (v : _). v.items) bodies ∙ tight.holds.bodies ∙ sym (bodies_from-mapped (retargeted_item new_name) (λ t. t) 0 (graph_of old).procedures);

@@ -1,5 +1,5 @@
 -- What the fields of a graph tell of a block.
-use Rattle.std.proofs.Common.{◌≡◌, ℕ, ◌+◌, ◌≤◌, ◌==◌, false, List, [], ◌∷◌, ◌++◌, length, take, drop, Option, None, Some, is_some, refl, sym, ap, ◌∙◌, subst, inl, inr, arith, length-drop, append_assoc}
+use Rattle.std.proofs.Common.{◌≡◌, ℕ, ◌+◌, ◌≤◌, ◌==◌, false, List, [], ◌∷◌, ◌++◌, length, take, drop, Option, None, Some, is_some, vec_capacity, refl, sym, ap, ◌∙◌, inl, inr, arith, length-drop, append_assoc}
 use Rattle.std.proofs.lemmas.Bool.{cases_Bool, eqb-true}
 use Rattle.std.proofs.lemmas.List.{length-take-le}
 use Rattle.sq_arena.specs.Entries.{value_of, ContainsKey, first_key, next_key}
@@ -9,13 +9,13 @@ use Rattle.sq_graph.specs.declared.graph.Graph.TheInside.{Inside}
 use Rattle.sq_graph.specs.Graph.{Block}
 use Rattle.sq_graph.specs.Blocks.{named, block_of, HasBlock, first_of, next_of, items_of_blocks}
 use Rattle.sq_graph.specs.Operations.{IsNew}
-use Rattle.sq_graph.specs.Packed.{blocks_of, AreApart}
+use Rattle.sq_graph.specs.Packed.{blocks_of}
 use Rattle.sq_graph.specs.Layout.{graph_of, IsSound}
-use Rattle.sq_graph.proofs.Packing.{apart_low}
 use Rattle.sq_graph.proofs.Located.{IsAt, named-append, items_of_blocks-append, value_of-at}
+use Rattle.sq_graph.proofs.Strewn.{laid_ends, ends_found}
 
 -- the arena has the same keys
-value_of-blocks : (es : List (ℕ × Slot)) (xs : List Item) (name : ℕ) → is_some (value_of es name) ≡ is_some (value_of (named (blocks_of es xs)) name)
+pub value_of-blocks : (es : List (ℕ × Slot)) (xs : List Item) (name : ℕ) → is_some (value_of es name) ≡ is_some (value_of (named (blocks_of es xs)) name)
 value_of-blocks [] xs name = refl
 value_of-blocks (e ∷ es) xs name =
     elim (cases_Bool (e.0 == name)) [ inl here ↦ rw here | inr apart ↦ rw apart (value_of-blocks es xs name) ]
@@ -56,6 +56,8 @@ pub record Reads (inside : Inside) (name : ℕ) (slot : Slot) : Type 0 where
   pub is : block_of (graph_of inside) name ≡ Some block
   pub length_is : slot.length ≡ length block.items
   pub term_is : slot.term ≡ block.term
+  pub name_is : name ≡ block.name
+  pub block_is : block ≡ record { name = name; items = take slot.length (drop slot.start inside.items.items); term = slot.term }
   pub within : slot.start + slot.length ≤ length inside.items.items
   pub slice : take slot.length (drop slot.start inside.items.items) ≡ block.items
 
@@ -84,25 +86,22 @@ block_found (e ∷ es) xs name slot found =
       | inr apart ↦ rw apart (block_found es xs name slot (rw apart at found))
     ]
 
-pub apart_found : (es : List (ℕ × Slot)) (low end name : ℕ) (slot : Slot) → AreApart es low end → value_of es name ≡ Some slot → slot.start + slot.length ≤ end
-apart_found [] low end name slot apart found = absurd (cc)
-apart_found (e ∷ es) low end name slot apart found =
-    elim (cases_Bool (e.0 == name)) [
-      | inl here ↦
-          let value : e.1 ≡ slot = cc (rw here at found) in
-          subst (λ (s : Slot). s.start + s.length ≤ end) value (apart_low es (e.1.start + e.1.length) end apart.1)
-      | inr elsewhere ↦ apart_found es (e.1.start + e.1.length) end name slot apart.1 (rw elsewhere at found)
-    ]
+-- the slot of a block lies ahead of the bodies
+pub slot_fits : (inside : Inside) (name : ℕ) (slot : Slot) → IsSound inside → value_of inside.slots.entries name ≡ Some slot → slot.start + slot.length ≤ inside.blocks_end
+slot_fits inside name slot sound found =
+    ends_found inside.slots.entries inside.blocks_end name slot (laid_ends inside.slots.entries inside.blocks_end inside.loose.free (vec_capacity inside.loose.scratch) sound.gaps.lie) found
 
 pub reads : (inside : Inside) (name : ℕ) (slot : Slot) → IsSound inside → value_of inside.slots.entries name ≡ Some slot → Reads inside name slot
 reads inside name slot sound found =
-    let fits = apart_found inside.slots.entries 0 inside.blocks_end name slot sound.gaps.apart found in
+    let fits = slot_fits inside name slot sound found in
     let within : slot.start + slot.length ≤ length inside.items.items = omega (arith, fits, sound.gaps.within) in
     record {
       block = record { name = name; items = take slot.length (drop slot.start inside.items.items); term = slot.term };
       is = block_found inside.slots.entries inside.items.items name slot found;
       length_is = sym (length-take-le slot.length (drop slot.start inside.items.items) (omega (arith, within, length-drop slot.start inside.items.items)));
       term_is = refl;
+      name_is = refl;
+      block_is = refl;
       within = within;
       slice = refl;
     }

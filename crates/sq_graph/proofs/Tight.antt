@@ -1,10 +1,10 @@
 -- Fields that leave no gap between the items of blocks, as they are once the gaps are closed.
-use Rattle.std.proofs.Common.{◌≡◌, ℕ, ◌+◌, List, ◌++◌, Vec, Global, refl, ap, ◌∙◌, subst, arith}
+use Rattle.std.proofs.Common.{◌≡◌, ℕ, ◌+◌, ◌++◌, Vec, Global, None, refl, ap, ◌∙◌, arith}
 use Rattle.sq_arena.specs.Arena.{Arena as Listed}
 use Rattle.sq_graph.specs.declared.item.Item.{Item}
 use Rattle.sq_graph.specs.declared.slot.Slot.{Slot}
+use Rattle.sq_graph.specs.declared.loose.Loose.{Loose}
 use Rattle.sq_graph.specs.declared.graph.Graph.TheInside.{Inside}
-use Rattle.sq_graph.specs.Graph.{Block}
 use Rattle.sq_graph.specs.Blocks.{items_of_blocks}
 use Rattle.sq_graph.specs.Cursor.{length_of_slots}
 use Rattle.sq_graph.specs.Packed.{KeepsBlocks}
@@ -12,8 +12,8 @@ use Rattle.sq_graph.specs.Rules.{IsGraph}
 use Rattle.sq_graph.specs.Room.{GraphAndRoom}
 use Rattle.sq_graph.specs.Layout.{graph_of, spare_of, shown, Holds, HasRoom, IsSound}
 use Rattle.sq_graph.proofs.Sizes.{same_room}
-use Rattle.sq_graph.proofs.Laid.{Lies, lies_tight, lies_count, apart_lies}
-use Rattle.sq_graph.proofs.Held.{IsLimited, Lays, laid, laid_shows, limits_of, counts}
+use Rattle.sq_graph.proofs.Laid.{lies_tight, lies_count}
+use Rattle.sq_graph.proofs.Held.{IsLimited, Lays, laid, laid_shows, limits_of, counts, in_order}
 
 pub record IsTight (inside : Inside) : Type 0 where
   pub holds : Holds inside (graph_of inside)
@@ -25,19 +25,21 @@ pub record IsTight (inside : Inside) : Type 0 where
 pub limited : (inside : Inside) → IsTight inside → IsLimited inside
 limited inside tight = tight.limits
 
-pub tight : (inside : Inside) → IsSound inside → inside.gaps ≡ 0 → IsTight inside
-tight inside sound none =
+pub tight : (inside : Inside) → IsSound inside → inside.gaps ≡ 0 → inside.loose.free ≡ None → IsTight inside
+tight inside sound none order =
     let g = graph_of inside in
     let lays = laid inside sound in
     let full : 0 + length_of_slots inside.slots.entries ≡ inside.blocks_end = omega (arith, none, lays.counted) in
-    let is = lies_tight inside.items.items 0 inside.slots.entries g.blocks inside.blocks_end lays.blocks full in
+    let lies = in_order inside sound order in
+    let is = lies_tight inside.items.items 0 inside.slots.entries g.blocks inside.blocks_end lies full in
     record {
       holds =
           record {
             slots = is.0;
             items = is.1 ∙ ap (λ xs. items_of_blocks g.blocks ++ xs) lays.behind;
-            blocks_end = omega (arith, full, lies_count inside.items.items 0 inside.slots.entries g.blocks inside.blocks_end lays.blocks);
+            blocks_end = omega (arith, full, lies_count inside.items.items 0 inside.slots.entries g.blocks inside.blocks_end lies);
             gaps = none;
+            order = order;
             entry = refl;
             code_words = refl;
             bodies = sound.bodies;
@@ -54,16 +56,15 @@ pub record Still (v : GraphAndRoom) (now : Inside) : Type 0 where
   pub sound : IsSound now
 
 -- other slots and items that keep the blocks
-pub still : {old : Inside} {v : GraphAndRoom} {slots : Listed Slot} {items : Vec Item Global} {blocks_end gaps : ℕ} → shown old ≡ v → IsSound old → KeepsBlocks old.slots old.items old.blocks_end old.gaps slots items blocks_end gaps
-    → Still v (record old { slots = slots; items = items; blocks_end = blocks_end; gaps = gaps })
-still {old = old} {v = v} {slots = slots} {items = items} {blocks_end = blocks_end} {gaps = gaps} view_is sound keeps =
+pub still : {old : Inside} {v : GraphAndRoom} {slots : Listed Slot} {items : Vec Item Global} {blocks_end gaps : ℕ} {loose : Loose} → shown old ≡ v → IsSound old → KeepsBlocks old.slots old.items old.blocks_end old.gaps slots items blocks_end gaps loose
+    → Still v (record old { slots = slots; items = items; blocks_end = blocks_end; gaps = gaps; loose = loose })
+still {old = old} {v = v} {slots = slots} {items = items} {blocks_end = blocks_end} {gaps = gaps} {loose = loose} view_is sound keeps =
     let g = graph_of old in
-    let new : Inside = record old { slots = slots; items = items; blocks_end = blocks_end; gaps = gaps } in
+    let new : Inside = record old { slots = slots; items = items; blocks_end = blocks_end; gaps = gaps; loose = loose } in
     let was = laid old sound in
-    let lies : Lies items.items 0 slots.entries (graph_of old).blocks blocks_end =
-    subst (λ (bs : List Block). Lies items.items 0 slots.entries bs blocks_end) keeps.blocks (apart_lies items.items 0 slots.entries blocks_end keeps.gaps.apart keeps.gaps.within) in
-    let lays : Lays (record old { slots = slots; items = items; blocks_end = blocks_end; gaps = gaps }) (graph_of old) = record {
-      blocks = lies;
+    let lays : Lays (record old { slots = slots; items = items; blocks_end = blocks_end; gaps = gaps; loose = loose }) (graph_of old) = record {
+      blocks = keeps.blocks;
+      lie = keeps.gaps.lie;
       within = keeps.gaps.within;
       counted = keeps.gaps.counted;
       behind = keeps.behind ∙ was.behind;
@@ -97,8 +98,8 @@ pub record Closed (v : GraphAndRoom) (now : Inside) : Type 0 where
   pub view_is : shown now ≡ v
   pub tight : IsTight now
 
-pub closed : {old : Inside} {v : GraphAndRoom} {slots : Listed Slot} {items : Vec Item Global} {blocks_end gaps : ℕ} → shown old ≡ v → IsSound old → KeepsBlocks old.slots old.items old.blocks_end old.gaps slots items blocks_end gaps → gaps ≡ 0
-    → Closed v (record old { slots = slots; items = items; blocks_end = blocks_end; gaps = gaps })
-closed {old = old} {v = v} {slots = slots} {items = items} {blocks_end = blocks_end} {gaps = gaps} view_is sound keeps none =
+pub closed : {old : Inside} {v : GraphAndRoom} {slots : Listed Slot} {items : Vec Item Global} {blocks_end gaps : ℕ} {loose : Loose} → shown old ≡ v → IsSound old → KeepsBlocks old.slots old.items old.blocks_end old.gaps slots items blocks_end gaps loose → gaps ≡ 0 → loose.free ≡ None
+    → Closed v (record old { slots = slots; items = items; blocks_end = blocks_end; gaps = gaps; loose = loose })
+closed {old = old} {v = v} {slots = slots} {items = items} {blocks_end = blocks_end} {gaps = gaps} {loose = loose} view_is sound keeps none order =
     let same = still view_is sound keeps in
-    record { view_is = same.view_is; tight = tight (record old { slots = slots; items = items; blocks_end = blocks_end; gaps = gaps }) same.sound none }
+    record { view_is = same.view_is; tight = tight (record old { slots = slots; items = items; blocks_end = blocks_end; gaps = gaps; loose = loose }) same.sound none order }

@@ -19,7 +19,7 @@ use Rattle.sq_graph.specs.Slots.{bodies_from}
 use Rattle.sq_graph.specs.Layout.{graph_of, spare_of, IsSound}
 use Rattle.sq_graph.proofs.Sizes.{sizes, same_room}
 use Rattle.sq_graph.proofs.Closing.{from_start}
-use Rattle.sq_graph.proofs.Held.{Shows, shows, laid, limits_of}
+use Rattle.sq_graph.proofs.Held.{Shows, shows, limits_of, in_order}
 use Rattle.sq_graph.proofs.Laid.{Stands, Lies, lies_lower, lies_apart, lies_pieces, lies_slots, lies_within, lies_count, length-renumbered}
 use Rattle.sq_graph.proofs.RulesByBlock.{ItemStands}
 use Rattle.sq_graph.proofs.OperationRules.{replaced_rules}
@@ -136,19 +136,19 @@ beside most (n ∷ names) g =
     record { entry = rest.entry; code_words = rest.code_words; procedures = rest.procedures }
 
 -- the slots with shorter lengths show the blocks
-lies : (old : Inside) (most : ℕ) (names : List ℕ) → IsSound old → Lies old.items.items 0 (cut_slots most names old.slots.entries) (trimmed_each most names (graph_of old)).blocks old.blocks_end
-lies old most names sound =
+lies : (old : Inside) (most : ℕ) (names : List ℕ) → IsSound old → old.loose.free ≡ None → Lies old.items.items 0 (cut_slots most names old.slots.entries) (trimmed_each most names (graph_of old)).blocks old.blocks_end
+lies old most names sound order =
     let g = graph_of old in
-    lies_each old.items.items old.blocks_end most 0 names g old.slots.entries (laid old sound).blocks
+    lies_each old.items.items old.blocks_end most 0 names g old.slots.entries (in_order old sound order)
 
-pub cut_apart : (old : Inside) (most : ℕ) (names : List ℕ) → IsSound old → AreApart (cut_slots most names old.slots.entries) 0 old.blocks_end
-cut_apart old most names sound = lies_apart old.items.items 0 _ _ old.blocks_end (lies old most names sound)
+pub cut_apart : (old : Inside) (most : ℕ) (names : List ℕ) → IsSound old → old.loose.free ≡ None → AreApart (cut_slots most names old.slots.entries) 0 old.blocks_end
+cut_apart old most names sound order = lies_apart old.items.items 0 _ _ old.blocks_end (lies old most names sound order)
 
 pub cut_distinct : (old : Inside) (most : ℕ) (names : List ℕ) → IsSound old → HasDistinctKeys (cut_slots most names old.slots.entries)
 cut_distinct old most names sound = distinct_cut most names old.slots.entries sound.gaps.distinct
 
-pub cut_fits : (old : Inside) (most : ℕ) (names : List ℕ) → IsSound old → length_of_slots (cut_slots most names old.slots.entries) ≤ old.blocks_end
-cut_fits old most names sound = omega (arith, lies_within old.items.items 0 _ _ old.blocks_end (lies old most names sound))
+pub cut_fits : (old : Inside) (most : ℕ) (names : List ℕ) → IsSound old → old.loose.free ≡ None → length_of_slots (cut_slots most names old.slots.entries) ≤ old.blocks_end
+cut_fits old most names sound order = omega (arith, lies_within old.items.items 0 _ _ old.blocks_end (lies old most names sound order))
 
 length_cut : (most name : ℕ) (es : List (ℕ × Slot)) → length (cut_slot most es name) ≡ length es
 length_cut most name [] = refl
@@ -167,37 +167,39 @@ pub record Trims (old new : Inside) (most : ℕ) (names : List ℕ) : Type 0 whe
   pub capacity : vec_capacity new.items ≡ vec_capacity old.items
   pub blocks_end : new.blocks_end ≡ length_of_slots (cut_slots most names old.slots.entries)
   pub gaps : new.gaps ≡ 0
+  pub loose : new.loose ≡ old.loose
   pub entry : new.entry ≡ old.entry
   pub code_words : new.code_words ≡ old.code_words
   pub bodies : new.bodies ≡ old.bodies
   pub item_room : new.item_room ≡ old.item_room
   pub body_room : new.body_room ≡ old.body_room
 
-items_left : (old new : Inside) (most : ℕ) (names : List ℕ) → IsSound old → Trims old new most names → new.items.items ≡ all_items (trimmed_each most names (graph_of old))
-items_left old new most names sound change =
+items_left : (old new : Inside) (most : ℕ) (names : List ℕ) → IsSound old → old.loose.free ≡ None → Trims old new most names → new.items.items ≡ all_items (trimmed_each most names (graph_of old))
+items_left old new most names sound order change =
     let g = graph_of old in
     let still = beside most names g in
     let bodies : drop old.blocks_end old.items.items ≡ items_of_bodies (trimmed_each most names g).procedures =
     sound.behind ∙ ap items_of_bodies (sym still.procedures) in
     change.items_are
-    ∙ ap (λ xs. xs ++ drop old.blocks_end old.items.items) (lies_pieces old.items.items 0 _ _ old.blocks_end (lies old most names sound))
+    ∙ ap (λ xs. xs ++ drop old.blocks_end old.items.items) (lies_pieces old.items.items 0 _ _ old.blocks_end (lies old most names sound order))
     ∙ ap (λ xs. items_of_blocks (trimmed_each most names g).blocks ++ xs) bodies
 
-pub trim_shows : (old new : Inside) (most : ℕ) (names : List ℕ) → IsSound old → Trims old new most names → Shows new (trimmed_each most names (graph_of old))
-trim_shows old new most names sound change =
+pub trim_shows : (old new : Inside) (most : ℕ) (names : List ℕ) → IsSound old → old.loose.free ≡ None → Trims old new most names → Shows new (trimmed_each most names (graph_of old))
+trim_shows old new most names sound order change =
     let g = graph_of old in
     let limits = limits_of old sound in
     let size = sizes old sound in
-    let there = lies old most names sound in
+    let there = lies old most names sound order in
     let still = beside most names g in
     let room : length new.items.items ≤ length old.items.items =
-    omega (arith, ap (λ xs. length xs) change.items_are, length-append (pieces_of old.items.items (cut_slots most names old.slots.entries)) (drop old.blocks_end old.items.items), ap (λ xs. length xs) (lies_pieces old.items.items 0 _ _ old.blocks_end there), lies_count old.items.items 0 _ _ old.blocks_end there, cut_fits old most names sound, length-drop old.blocks_end old.items.items, size.blocks_end) in
+    omega (arith, ap (λ xs. length xs) change.items_are, length-append (pieces_of old.items.items (cut_slots most names old.slots.entries)) (drop old.blocks_end old.items.items), ap (λ xs. length xs) (lies_pieces old.items.items 0 _ _ old.blocks_end there), lies_count old.items.items 0 _ _ old.blocks_end there, cut_fits old most names sound order, length-drop old.blocks_end old.items.items, size.blocks_end) in
     shows new (trimmed_each most names g)
     (record {
       slots = change.slots ∙ lies_slots old.items.items 0 0 _ _ old.blocks_end there;
-      items = items_left old new most names sound change;
+      items = items_left old new most names sound order change;
       blocks_end = change.blocks_end ∙ lies_count old.items.items 0 _ _ old.blocks_end there;
       gaps = change.gaps;
+      order = ap (λ l. l.free) change.loose ∙ order;
       entry = change.entry ∙ sym still.entry;
       code_words = ap (λ ws. ws.items) change.code_words ∙ sym still.code_words;
       bodies = ap (λ bs. bs.items) change.bodies ∙ sound.bodies ∙ ap (bodies_from 0) (sym still.procedures);
@@ -215,11 +217,11 @@ trim_shows old new most names sound change =
       body_room = omega (arith, limits.body_room, change.body_room);
     })
 
-pub trim_spare : (old new : Inside) (most : ℕ) (names : List ℕ) → IsSound old → Trims old new most names
+pub trim_spare : (old new : Inside) (most : ℕ) (names : List ℕ) → IsSound old → old.loose.free ≡ None → Trims old new most names
     → spare_of new ≡ record (spare_of old) { items = (spare_of old).items + length (all_items (graph_of old)) - length (all_items (graph_of new)) }
-trim_spare old new most names sound change =
+trim_spare old new most names sound order change =
     let size = sizes old sound in
-    let is : new.items.items ≡ all_items (graph_of new) = items_left old new most names sound change ∙ ap all_items (sym (trim_shows old new most names sound change).is) in
+    let is : new.items.items ≡ all_items (graph_of new) = items_left old new most names sound order change ∙ ap all_items (sym (trim_shows old new most names sound order change).is) in
     same_room _ _ change.spare
     (omega (arith, ap (λ xs. length xs) is, change.item_room, change.gaps, size.items, size.item_count))
     (omega (arith, ap (λ bs. length bs.items) change.bodies, change.body_room))
@@ -238,6 +240,7 @@ trims old most names cut slots items count head entries spare at numbered still 
   capacity = capacity;
   blocks_end = counted ∙ ap length_of_slots entries;
   gaps = refl;
+  loose = refl;
   entry = refl;
   code_words = refl;
   bodies = refl;

@@ -1,5 +1,5 @@
 -- How a `Graph` lies in its fields. No public clause cites this module.
-use Rattle.std.specs.Prelude.{◌≡◌, ◌+◌, ◌-◌, ◌≤◌, List, [], ◌∷◌, take, drop, length, vec_capacity}
+use Rattle.std.specs.Prelude.{◌≡◌, ◌+◌, ◌-◌, ◌≤◌, List, [], ◌∷◌, None, take, drop, length, vec_capacity}
 use Rattle.sq_graph.specs.declared.item.Item.{Item}
 use Rattle.sq_graph.specs.declared.slot.Body.{Body}
 use Rattle.sq_graph.specs.declared.parts.Room.{Room}
@@ -37,12 +37,13 @@ spare_of inside =
 abbrev pub shown : Inside → GraphAndRoom
 shown inside = record { graph = graph_of inside; spare = spare_of inside }
 
--- the fields hold this graph, with no gap
+-- the fields hold this graph, in layout order with no gap
 pub record Holds (inside : Inside) (g : Graph) : Type 0 where
   pub slots : inside.slots.entries ≡ slots_from 0 g.blocks
   pub items : inside.items.items ≡ all_items g
   pub blocks_end : inside.blocks_end ≡ length (items_of_blocks g.blocks)
   pub gaps : inside.gaps ≡ 0
+  pub order : inside.loose.free ≡ None
   pub entry : inside.entry ≡ g.entry
   pub code_words : inside.code_words.items ≡ g.code_words
   pub bodies : inside.bodies.items ≡ bodies_from 0 g.procedures
@@ -54,9 +55,9 @@ pub record HasRoom (inside : Inside) : Type 0 where
   pub bodies : length inside.bodies.items ≤ inside.body_room
   pub body_room : inside.body_room ≤ vec_capacity inside.bodies
 
--- the blocks lie apart, and behind them are the bodies
+-- the blocks lie ahead of the bodies
 pub record IsSound (inside : Inside) : Type 0 where
-  pub gaps : HasGaps inside.slots.entries inside.items.items inside.blocks_end inside.gaps
+  pub gaps : HasGaps inside.slots.entries inside.items.items inside.blocks_end inside.gaps inside.loose
   pub behind : drop inside.blocks_end inside.items.items ≡ items_of_bodies (graph_of inside).procedures
   pub bodies : inside.bodies.items ≡ bodies_from 0 (graph_of inside).procedures
   pub rules : IsGraph (graph_of inside)

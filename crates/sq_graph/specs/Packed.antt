@@ -1,10 +1,11 @@
 -- Slots whose items don't lie one right behind another. No public clause cites this module.
-use Rattle.std.specs.Prelude.{◌≡◌, ℕ, ◌+◌, ◌-◌, ◌≤◌, ◌==◌, if◌then◌else◌, List, [], ◌∷◌, ◌++◌, take, drop, length, Vec, vec_capacity}
+use Rattle.std.specs.Prelude.{◌≡◌, ℕ, ◌+◌, ◌-◌, ◌≤◌, ◌==◌, if◌then◌else◌, List, [], ◌∷◌, ◌++◌, take, drop, length, Option, None, Some, Vec, vec_capacity}
 use Rattle.std.specs.Global.{Global}
 use Rattle.sq_arena.specs.Arena.{Arena}
-use Rattle.sq_arena.specs.Entries.{HasDistinctKeys}
+use Rattle.sq_arena.specs.Entries.{HasDistinctKeys, value_of, with_value}
 use Rattle.sq_graph.specs.declared.item.Item.{Item}
 use Rattle.sq_graph.specs.declared.slot.Slot.{Slot}
+use Rattle.sq_graph.specs.declared.loose.Loose.{Loose}
 use Rattle.sq_graph.specs.Graph.{Block}
 use Rattle.sq_graph.specs.Cursor.{length_of_slots}
 
@@ -35,18 +36,43 @@ blocks_of [] items = []
 blocks_of (e ∷ rest) items =
     record { name = e.0; items = take e.1.length (drop e.1.start items); term = e.1.term } ∷ blocks_of rest items
 
--- the slots lie apart among the items, ahead of `end`, and so many items ahead of `end` lie in none
-pub record HasGaps (entries : List (ℕ × Slot)) (items : List Item) (end gaps : ℕ) : Type 0 where
+-- each slot ends no later than `end`
+abbrev pub EndBy : List (ℕ × Slot) → ℕ → Type 0
+EndBy [] end = Unit {0}
+EndBy (e ∷ rest) end = (e.1.start + e.1.length ≤ end) × EndBy rest end
+
+-- the slots lie apart ahead of `end`, in layout order; or else, where there is a free place, all lie somewhere ahead of
+-- it, and there is room for a copy of their items
+abbrev pub AreLaid : List (ℕ × Slot) → ℕ → Option ℕ → ℕ → Type 0
+AreLaid entries end None room = AreApart entries 0 end
+AreLaid entries end (Some free) room = EndBy entries free × ((free ≤ end) × (length_of_slots entries ≤ room))
+
+-- the slots lie among the items, ahead of `end`, and so many items ahead of `end` are in none
+pub record HasGaps (entries : List (ℕ × Slot)) (items : List Item) (end gaps : ℕ) (loose : Loose) : Type 0 where
   pub distinct : HasDistinctKeys entries
-  pub apart : AreApart entries 0 end
+  pub lie : AreLaid entries end loose.free (vec_capacity loose.scratch)
   pub within : end ≤ length items
   pub counted : gaps + length_of_slots entries ≡ end
 
 -- the blocks are the same with other gaps, and so is what lies behind them
-pub record KeepsBlocks (old : Arena Slot) (old_items : Vec Item Global) (old_end old_gaps : ℕ) (new : Arena Slot) (new_items : Vec Item Global) (new_end new_gaps : ℕ) : Type 0 where
-  pub gaps : HasGaps new.entries new_items.items new_end new_gaps
+pub record KeepsBlocks (old : Arena Slot) (old_items : Vec Item Global) (old_end old_gaps : ℕ) (new : Arena Slot) (new_items : Vec Item Global) (new_end new_gaps : ℕ) (loose : Loose) : Type 0 where
+  pub gaps : HasGaps new.entries new_items.items new_end new_gaps loose
   pub blocks : blocks_of new.entries new_items.items ≡ blocks_of old.entries old_items.items
   pub behind : drop new_end new_items.items ≡ drop old_end old_items.items
   pub fewer : new_gaps ≤ old_gaps
   pub spare : new.spare ≡ old.spare
   pub capacity : vec_capacity new_items ≡ vec_capacity old_items
+
+-- the slot of the name has come to start at the free place, which is behind it now
+pub record Carries (old new : List (ℕ × Slot)) (name : ℕ) (was : Option ℕ) (free : ℕ) : Type 0 where
+  pub place : ℕ
+  pub slot : Slot
+  pub was_free : was ≡ Some place
+  pub found : value_of old name ≡ Some slot
+  pub entries : new ≡ with_value old name (record slot { start = place })
+  pub free_is : free ≡ place + slot.length
+
+-- the items of the second lie right behind those of the first
+abbrev pub Follows : List (ℕ × Slot) → ℕ → ℕ → Type 0
+Follows entries name next =
+    (first second : Slot) → value_of entries name ≡ Some first → value_of entries next ≡ Some second → first.start + first.length ≡ second.start

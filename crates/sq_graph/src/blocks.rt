@@ -12,6 +12,7 @@ ghost use Rattle.sq_graph.specs.Words.{words_of};
 use crate::gaps::close_gaps;
 use crate::graph::Graph;
 use crate::item::Term;
+use crate::loose::approach;
 use crate::rename::{self, Rename, Swap};
 use crate::slot::Slot;
 use crate::{pieces, slots};
@@ -87,8 +88,17 @@ impl Graph {
         ensures rules { IsGraph self.new.graph }
         ensures words { words_of self.new.graph ≡ words_of self.old.graph }
     {
-        let first = slots::slot(&self.slots, block);
         let next = self.slots.next(block).unwrap();
+        approach(
+            &mut self.slots,
+            &mut self.items,
+            &mut self.blocks_end,
+            &mut self.gaps,
+            &mut self.loose,
+            block,
+            next,
+        );
+        let first = slots::slot(&self.slots, block);
         let second = slots::slot(&self.slots, next);
         let end = first.start + first.length;
         pieces::copy_down(&mut self.items, second.start, second.length, end);
@@ -106,6 +116,7 @@ impl Graph {
             &mut self.items,
             &mut self.blocks_end,
             &mut self.gaps,
+            &mut self.loose,
         );
         let swap = Swap { from, to };
         slots::retarget(&mut self.slots, &swap);
@@ -125,6 +136,7 @@ impl Graph {
             &mut self.items,
             &mut self.blocks_end,
             &mut self.gaps,
+            &mut self.loose,
         );
         rename::recall_items(&mut self.items, &Swap { from, to });
     }

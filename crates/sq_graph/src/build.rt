@@ -7,6 +7,7 @@ ghost use Rattle.sq_graph.specs.Parts.{LengthsFit, length_of_blocks, length_of_b
 ghost use Rattle.sq_graph.specs.PartSlots.{part_slots, part_bodies};
 
 use crate::graph::Graph;
+use crate::loose::Loose;
 use crate::parts::{BlockPart, Parts, ProcedurePart};
 use crate::slot::{Body, Slot};
 use crate::vectors;
@@ -37,6 +38,7 @@ impl Graph {
             items,
             blocks_end,
             gaps: 0,
+            loose: Loose::in_order(alloc),
             entry: parts.entry,
             code_words,
             bodies,

@@ -10,6 +10,7 @@ ghost use Rattle.sq_graph.specs.Slots.{slots_from, slots_of, without_starts};
 
 use crate::graph::Graph;
 use crate::item::Item;
+use crate::loose::Loose;
 use crate::slot::Slot;
 use crate::{slots, vectors};
 use sq_arena::Arena;
@@ -52,6 +53,7 @@ impl Graph {
             items,
             blocks_end,
             gaps: 0,
+            loose: Loose::in_order(alloc),
             entry: self.entry,
             code_words,
             bodies,

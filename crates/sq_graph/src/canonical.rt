@@ -39,6 +39,7 @@ impl Graph {
             &mut self.items,
             &mut self.blocks_end,
             &mut self.gaps,
+            &mut self.loose,
         );
         bypass_bare(
             &mut self.slots,

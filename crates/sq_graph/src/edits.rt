@@ -8,7 +8,7 @@ ghost use Rattle.sq_graph.specs.Uses.{calls};
 ghost use Rattle.sq_graph.specs.Rules.{IsGraph};
 ghost use Rattle.sq_graph.specs.Operations.{replaced, call_of, called_at, called_body, inlined, outlined, without_block, without_procedure};
 
-use crate::gaps::{close_gaps, make_room};
+use crate::gaps::{close_gaps, make_room, put_in_order};
 use crate::graph::Graph;
 use crate::item::Item;
 use crate::rename::{self, Lower};
@@ -27,6 +27,13 @@ impl Graph {
         ensures spare { self.new.spare ≡ record self.old.spare { items = self.old.spare.items + count - length by.now } }
     {
         if by.len() <= count as usize {
+            put_in_order(
+                &mut self.slots,
+                &mut self.items,
+                &mut self.blocks_end,
+                &mut self.gaps,
+                &mut self.loose,
+            );
             let slot = slots::slot(&self.slots, block);
             let end = slot.start + slot.length;
             pieces::replace_within(&mut self.items, slot.start + at, count, by, end);
@@ -41,6 +48,7 @@ impl Graph {
             &mut self.items,
             &mut self.blocks_end,
             &mut self.gaps,
+            &mut self.loose,
         );
         let slot = slots::slot(&self.slots, block);
         let added = by.len() as u32;
@@ -64,6 +72,7 @@ impl Graph {
             &mut self.items,
             &mut self.blocks_end,
             &mut self.gaps,
+            &mut self.loose,
         );
         let slot = slots::slot(&self.slots, block);
         let place = slot.start + at;
@@ -94,6 +103,7 @@ impl Graph {
             &mut self.items,
             &mut self.blocks_end,
             &mut self.gaps,
+            &mut self.loose,
             self.item_room,
             count,
         );
@@ -133,6 +143,7 @@ impl Graph {
             &mut self.items,
             &mut self.blocks_end,
             &mut self.gaps,
+            &mut self.loose,
         );
         let body = self.bodies.remove(procedure as usize);
         let from = self.blocks_end + body.start;

@@ -12,6 +12,7 @@ ghost use Rattle.sq_graph.specs.Uses.{item_calls};
 
 use crate::graph::Graph;
 use crate::item::Item;
+use crate::loose::Loose;
 use crate::slot::{Body, Slot};
 use crate::{slots, vectors};
 use sq_arena::Arena;
@@ -63,6 +64,7 @@ impl Graph {
             items,
             blocks_end,
             gaps: 0,
+            loose: Loose::in_order(alloc),
             entry: self.entry,
             code_words,
             bodies,

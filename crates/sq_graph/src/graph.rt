@@ -8,6 +8,7 @@ ghost use Rattle.sq_graph.specs.Slots.{slots_of, without_starts};
 ghost use Rattle.sq_graph.specs.Words.{words_of};
 
 use crate::item::{Item, Term};
+use crate::loose::Loose;
 use crate::parts::{CodeRef, Room};
 use crate::pieces::piece;
 use crate::slot::{Body, Slot};
@@ -23,12 +24,13 @@ use std::marker::Model;
 #[derive(Drop)]
 pub struct Graph {
     pub(crate) slots: Arena<Slot>,
-    // The items of the blocks in layout order, with gaps between them, and behind them the bodies of the procedures.
+    // The items of the blocks, with gaps between them, and behind them the bodies of the procedures.
     pub(crate) items: Vec<Item>,
     // Where the blocks' part of the items ends, and the bodies begin.
     pub(crate) blocks_end: u32,
     // How many of the items in that part are no block's.
     pub(crate) gaps: u32,
+    pub(crate) loose: Loose,
     pub(crate) entry: u32,
     pub(crate) code_words: Vec<CodeRef>,
     pub(crate) bodies: Vec<Body>,
@@ -173,6 +175,7 @@ impl Graph {
             items: vectors::copy(alloc, &self.items, self.item_room)?,
             blocks_end: self.blocks_end,
             gaps: self.gaps,
+            loose: self.loose.copy(alloc, self.blocks_end - self.gaps)?,
             entry: self.entry,
             code_words: vectors::copy(alloc, &self.code_words, 0)?,
             bodies: vectors::copy(alloc, &self.bodies, self.body_room)?,

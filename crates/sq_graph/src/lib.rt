@@ -16,6 +16,7 @@ mod gaps;
 mod graph;
 mod item;
 pub mod laws;
+mod loose;
 mod moves;
 mod naming;
 mod parts;

@@ -11,7 +11,7 @@ use crate::graph::Graph;
 use crate::{pieces, slots};
 
 impl Graph {
-    /// Moves the blocks from `first` to `last` right behind `after`.
+    /// Moves the blocks from `first` to `last` right behind `after`. Where items lie in no order, it looks at none.
     pub fn move_after(&mut self, first: u32, last: u32, after: u32)
         requires run { IsRun (named self.old.graph.blocks) first last }
         requires after { ContainsKey (without_run (named self.old.graph.blocks) first last) after }
@@ -19,11 +19,16 @@ impl Graph {
         ensures graph { self.new.graph ≡ moved_after self.old.graph first last after }
         ensures spare { self.new.spare ≡ self.old.spare }
     {
+        if self.loose.free.is_some() {
+            self.slots.move_range_after(first, last, after);
+            return;
+        }
         close_gaps(
             &mut self.slots,
             &mut self.items,
             &mut self.blocks_end,
             &mut self.gaps,
+            &mut self.loose,
         );
         let first_slot = slots::slot(&self.slots, first);
         let last_slot = slots::slot(&self.slots, last);

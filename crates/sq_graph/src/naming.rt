@@ -27,6 +27,7 @@ impl Graph {
             &mut self.items,
             &mut self.blocks_end,
             &mut self.gaps,
+            &mut self.loose,
         );
         if is_in_order(&self.slots) {
             return Ok(());

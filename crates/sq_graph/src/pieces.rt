@@ -51,8 +51,19 @@ pub(crate) fn copy_down(items: &mut Vec<Item>, from: u32, count: u32, to: u32)
     items.copy_within(from..from + count as usize, to as usize);
 }
 
-// Writes other items over those from this place on.
-fn overwrite(items: &mut Vec<Item>, at: u32, by: &[Item])
+/// Copies so many items to another place.
+pub(crate) fn copy_to(items: &mut Vec<Item>, from: u32, count: u32, to: u32)
+    requires from { from + count ≤ vec_len items.old }
+    requires to { to + count ≤ vec_len items.old }
+    ensures items { items.new.items ≡ replaced_items items.old.items to count (take count (drop from items.old.items)) }
+    ensures capacity { vec_capacity items.new ≡ vec_capacity items.old }
+{
+    let from = from as usize;
+    items.copy_within(from..from + count as usize, to as usize);
+}
+
+/// Writes other items over those from this place on.
+pub(crate) fn overwrite(items: &mut Vec<Item>, at: u32, by: &[Item])
     requires { at + length by.now ≤ vec_len items.old }
     ensures items { items.new.items ≡ replaced_items items.old.items at (length by.now) by.now }
     ensures capacity { vec_capacity items.new ≡ vec_capacity items.old }
@@ -112,6 +123,20 @@ pub(crate) fn append_copy(items: &mut Vec<Item>, from: u32, count: u32)
     if copied.is_err() {
         unreachable!();
     }
+}
+
+/// Makes place for so many items ahead of those from this place on. What lies there is not said.
+pub(crate) fn open(items: &mut Vec<Item>, at: u32, count: u32)
+    requires at { at ≤ vec_len items.old }
+    requires fewer { count ≤ at }
+    requires room { vec_len items.old + count ≤ vec_capacity items.old }
+    ensures ahead { take at items.new.items ≡ take at items.old.items }
+    ensures behind { drop (at + count) items.new.items ≡ drop at items.old.items }
+    ensures len { length items.new.items ≡ length items.old.items + count }
+    ensures capacity { vec_capacity items.old ≤ vec_capacity items.new }
+{
+    append_copy(items, 0, count);
+    raise(items, at, count);
 }
 
 /// Puts a copy of so many items in the place of one.

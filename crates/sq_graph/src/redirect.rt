@@ -28,6 +28,7 @@ impl Graph {
             &mut self.items,
             &mut self.blocks_end,
             &mut self.gaps,
+            &mut self.loose,
         );
         aim_home(&mut self.slots);
         aim_each(&mut self.slots, blocks);

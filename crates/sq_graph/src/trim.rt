@@ -8,7 +8,7 @@ ghost use Rattle.sq_graph.specs.Cursor.{length_of_slots};
 ghost use Rattle.sq_graph.specs.Trimmed.{trimmed_each};
 ghost use Rattle.sq_graph.specs.Packed.{cut_slot, cut_slots, pieces_of, AreApart};
 
-use crate::gaps::pack;
+use crate::gaps::{pack, put_in_order};
 use crate::graph::Graph;
 use crate::slot::Slot;
 use crate::slots;
@@ -22,6 +22,13 @@ impl Graph {
         ensures spare { self.new.spare ≡ record self.old.spare { items = self.old.spare.items + length (all_items self.old.graph) - length (all_items self.new.graph) } }
         ensures rules { IsGraph self.new.graph }
     {
+        put_in_order(
+            &mut self.slots,
+            &mut self.items,
+            &mut self.blocks_end,
+            &mut self.gaps,
+            &mut self.loose,
+        );
         trim_slots(&mut self.slots, blocks, most);
         let end = self.blocks_end;
         self.blocks_end = pack(&mut self.items, &self.slots, end);

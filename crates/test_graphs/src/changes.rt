@@ -225,6 +225,7 @@ pub fn change(graph: &mut Graph, names: &[u32], verb: &str, operands: &[u32]) ->
             graph.canonical();
             Some(())
         }
+        ("loosen", &[]) => graph.loosen().ok(),
         ("move", &[block]) => move_on(graph, name(block)),
         ("split", &[block, at]) => split(graph, name(block), at).map(|_| ()),
         ("split_often", &[times]) => split_often(graph, times),

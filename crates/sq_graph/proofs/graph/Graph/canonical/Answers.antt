@@ -21,35 +21,35 @@ use Rattle.sq_graph.proofs.graph.Graph.canonical.Goals as goal
 
 pub bypass_bare-requires-clause-distinct : goal.bypass_bare-requires-clause-distinct
 bypass_bare-requires-clause-distinct c =
-    let t = closed c.self.view_is c.self.invariant c.close_gaps.ensures.kept c.close_gaps.ensures.gaps in
+    let t = closed c.self.view_is c.self.invariant c.close_gaps.ensures.kept c.close_gaps.ensures.gaps c.close_gaps.ensures.order in
     distinct_slots _ t.tight
 
 pub bypass_bare-requires-clause-known : goal.bypass_bare-requires-clause-known
 bypass_bare-requires-clause-known c =
-    let t = closed c.self.view_is c.self.invariant c.close_gaps.ensures.kept c.close_gaps.ensures.gaps in
+    let t = closed c.self.view_is c.self.invariant c.close_gaps.ensures.kept c.close_gaps.ensures.gaps c.close_gaps.ensures.order in
     known _ t.tight
 
 pub mark-requires : goal.mark-requires
 mark-requires c =
-    let t = closed c.self.view_is c.self.invariant c.close_gaps.ensures.kept c.close_gaps.ensures.gaps in
+    let t = closed c.self.view_is c.self.invariant c.close_gaps.ensures.kept c.close_gaps.ensures.gaps c.close_gaps.ensures.order in
     rw c.bypass_bare.ensures.entries (distinct_full _ t.tight)
 
 pub mark_words-requires : goal.mark_words-requires
 mark_words-requires c =
-    let t = closed c.self.view_is c.self.invariant c.close_gaps.ensures.kept c.close_gaps.ensures.gaps in
+    let t = closed c.self.view_is c.self.invariant c.close_gaps.ensures.kept c.close_gaps.ensures.gaps c.close_gaps.ensures.order in
     let full : HasDistinctKeys c.bypass_bare.new.slots.entries = rw c.bypass_bare.ensures.entries (distinct_full _ t.tight) in
     rw c.mark.ensures.entries (distinct-marked (c.bypass_bare.new.entry ∷ []) c.bypass_bare.new.slots.entries full)
 
 pub mark_terms-requires : goal.mark_terms-requires
 mark_terms-requires c =
-    let t = closed c.self.view_is c.self.invariant c.close_gaps.ensures.kept c.close_gaps.ensures.gaps in
+    let t = closed c.self.view_is c.self.invariant c.close_gaps.ensures.kept c.close_gaps.ensures.gaps c.close_gaps.ensures.order in
     let full : HasDistinctKeys c.bypass_bare.new.slots.entries = rw c.bypass_bare.ensures.entries (distinct_full _ t.tight) in
     let one : HasDistinctKeys c.mark.new.slots.entries = rw c.mark.ensures.entries (distinct-marked (c.bypass_bare.new.entry ∷ []) c.bypass_bare.new.slots.entries full) in
     rw c.mark_words.ensures.entries (distinct-marked (code_word_uses c.deref.result.now) c.mark.new.slots.entries one)
 
 pub mark_items-requires : goal.mark_items-requires
 mark_items-requires c =
-    let t = closed c.self.view_is c.self.invariant c.close_gaps.ensures.kept c.close_gaps.ensures.gaps in
+    let t = closed c.self.view_is c.self.invariant c.close_gaps.ensures.kept c.close_gaps.ensures.gaps c.close_gaps.ensures.order in
     let full : HasDistinctKeys c.bypass_bare.new.slots.entries = rw c.bypass_bare.ensures.entries (distinct_full _ t.tight) in
     let one : HasDistinctKeys c.mark.new.slots.entries = rw c.mark.ensures.entries (distinct-marked (c.bypass_bare.new.entry ∷ []) c.bypass_bare.new.slots.entries full) in
     let two : HasDistinctKeys c.mark_words.new.slots.entries = rw c.mark_words.ensures.entries (distinct-marked (code_word_uses c.deref.result.now) c.mark.new.slots.entries one) in
@@ -57,7 +57,7 @@ mark_items-requires c =
 
 pub join-requires-clause-distinct : goal.join-requires-clause-distinct
 join-requires-clause-distinct c =
-    let t = closed c.self.view_is c.self.invariant c.close_gaps.ensures.kept c.close_gaps.ensures.gaps in
+    let t = closed c.self.view_is c.self.invariant c.close_gaps.ensures.kept c.close_gaps.ensures.gaps c.close_gaps.ensures.order in
     let full : HasDistinctKeys c.bypass_bare.new.slots.entries = rw c.bypass_bare.ensures.entries (distinct_full _ t.tight) in
     let one : HasDistinctKeys c.mark.new.slots.entries = rw c.mark.ensures.entries (distinct-marked (c.bypass_bare.new.entry ∷ []) c.bypass_bare.new.slots.entries full) in
     let two : HasDistinctKeys c.mark_words.new.slots.entries = rw c.mark_words.ensures.entries (distinct-marked (code_word_uses c.deref.result.now) c.mark.new.slots.entries one) in
@@ -66,8 +66,8 @@ join-requires-clause-distinct c =
 
 pub join-requires-clause-fits : goal.join-requires-clause-fits
 join-requires-clause-fits c =
-    let now : Inside = record c.self.inside { slots = c.close_gaps.new.slots; items = c.close_gaps.new.items; blocks_end = c.close_gaps.new.blocks_end; gaps = c.close_gaps.new.gaps } in
-    let t = closed c.self.view_is c.self.invariant c.close_gaps.ensures.kept c.close_gaps.ensures.gaps in
+    let now : Inside = record c.self.inside { slots = c.close_gaps.new.slots; items = c.close_gaps.new.items; blocks_end = c.close_gaps.new.blocks_end; gaps = c.close_gaps.new.gaps; loose = c.close_gaps.new.loose } in
+    let t = closed c.self.view_is c.self.invariant c.close_gaps.ensures.kept c.close_gaps.ensures.gaps c.close_gaps.ensures.order in
     let g = all_bypassed (graph_of now) in
     let full : c.bypass_bare.new.slots.entries ≡ marked_blocks [] g.blocks = c.bypass_bare.ensures.entries ∙ full_are _ t.tight in
     let marks : c.mark_items.new.slots.entries ≡ marked_blocks (uses g) g.blocks =
@@ -81,8 +81,8 @@ join-requires-clause-fits c =
 
 pub renumber-requires-clause-distinct : goal.renumber-requires-clause-distinct
 renumber-requires-clause-distinct c =
-    let now : Inside = record c.self.inside { slots = c.close_gaps.new.slots; items = c.close_gaps.new.items; blocks_end = c.close_gaps.new.blocks_end; gaps = c.close_gaps.new.gaps } in
-    let t = closed c.self.view_is c.self.invariant c.close_gaps.ensures.kept c.close_gaps.ensures.gaps in
+    let now : Inside = record c.self.inside { slots = c.close_gaps.new.slots; items = c.close_gaps.new.items; blocks_end = c.close_gaps.new.blocks_end; gaps = c.close_gaps.new.gaps; loose = c.close_gaps.new.loose } in
+    let t = closed c.self.view_is c.self.invariant c.close_gaps.ensures.kept c.close_gaps.ensures.gaps c.close_gaps.ensures.order in
     let g = all_bypassed (graph_of now) in
     let full : c.bypass_bare.new.slots.entries ≡ marked_blocks [] g.blocks = c.bypass_bare.ensures.entries ∙ full_are _ t.tight in
     let marks : c.mark_items.new.slots.entries ≡ marked_blocks (uses g) g.blocks =
@@ -98,8 +98,8 @@ renumber-requires-clause-distinct c =
 
 pub renumber-requires-clause-fits : goal.renumber-requires-clause-fits
 renumber-requires-clause-fits c =
-    let now : Inside = record c.self.inside { slots = c.close_gaps.new.slots; items = c.close_gaps.new.items; blocks_end = c.close_gaps.new.blocks_end; gaps = c.close_gaps.new.gaps } in
-    let t = closed c.self.view_is c.self.invariant c.close_gaps.ensures.kept c.close_gaps.ensures.gaps in
+    let now : Inside = record c.self.inside { slots = c.close_gaps.new.slots; items = c.close_gaps.new.items; blocks_end = c.close_gaps.new.blocks_end; gaps = c.close_gaps.new.gaps; loose = c.close_gaps.new.loose } in
+    let t = closed c.self.view_is c.self.invariant c.close_gaps.ensures.kept c.close_gaps.ensures.gaps c.close_gaps.ensures.order in
     let g = all_bypassed (graph_of now) in
     let full : c.bypass_bare.new.slots.entries ≡ marked_blocks [] g.blocks = c.bypass_bare.ensures.entries ∙ full_are _ t.tight in
     let marks : c.mark_items.new.slots.entries ≡ marked_blocks (uses g) g.blocks =
@@ -113,8 +113,8 @@ renumber-requires-clause-fits c =
 
 pub invariant_of-self : goal.invariant_of-self
 invariant_of-self c =
-    let now : Inside = record c.self.inside { slots = c.close_gaps.new.slots; items = c.close_gaps.new.items; blocks_end = c.close_gaps.new.blocks_end; gaps = c.close_gaps.new.gaps } in
-    let t = closed c.self.view_is c.self.invariant c.close_gaps.ensures.kept c.close_gaps.ensures.gaps in
+    let now : Inside = record c.self.inside { slots = c.close_gaps.new.slots; items = c.close_gaps.new.items; blocks_end = c.close_gaps.new.blocks_end; gaps = c.close_gaps.new.gaps; loose = c.close_gaps.new.loose } in
+    let t = closed c.self.view_is c.self.invariant c.close_gaps.ensures.kept c.close_gaps.ensures.gaps c.close_gaps.ensures.order in
     let g = all_bypassed (graph_of now) in
     let full : c.bypass_bare.new.slots.entries ≡ marked_blocks [] g.blocks = c.bypass_bare.ensures.entries ∙ full_are _ t.tight in
     let marks : c.mark_items.new.slots.entries ≡ marked_blocks (uses g) g.blocks =
@@ -135,8 +135,8 @@ invariant_of-self c =
 
 pub returns : goal.returns
 returns c =
-    let now : Inside = record c.self.inside { slots = c.close_gaps.new.slots; items = c.close_gaps.new.items; blocks_end = c.close_gaps.new.blocks_end; gaps = c.close_gaps.new.gaps } in
-    let t = closed c.self.view_is c.self.invariant c.close_gaps.ensures.kept c.close_gaps.ensures.gaps in
+    let now : Inside = record c.self.inside { slots = c.close_gaps.new.slots; items = c.close_gaps.new.items; blocks_end = c.close_gaps.new.blocks_end; gaps = c.close_gaps.new.gaps; loose = c.close_gaps.new.loose } in
+    let t = closed c.self.view_is c.self.invariant c.close_gaps.ensures.kept c.close_gaps.ensures.gaps c.close_gaps.ensures.order in
     let g = all_bypassed (graph_of now) in
     let full : c.bypass_bare.new.slots.entries ≡ marked_blocks [] g.blocks = c.bypass_bare.ensures.entries ∙ full_are _ t.tight in
     let marks : c.mark_items.new.slots.entries ≡ marked_blocks (uses g) g.blocks =

@@ -28,6 +28,7 @@ invariant_of-result c =
       items = c.in_ok-items.items;
       blocks_end = c.in_ok-blocks.blocks_end;
       gaps = 0;
+      loose = c.in_order.result;
       entry = c.args.parts.now.entry;
       code_words = c.in_ok-code_words.code_words;
       bodies = c.in_ok-bodies.bodies;
@@ -36,7 +37,7 @@ invariant_of-result c =
     } in
     let values = c.deref.ensures.value ∙ c.in_ok-blocks.ensures.slots in
     (parts_show c.args.parts.now.blocks.now c.args.parts.now.items.now c.args.parts.now.entry c.args.parts.now.code_words.now c.args.parts.now.procedures.now new c.requires.lengths c.requires.rules c.requires.small
-    (rw (← values) c.in-Ok.ensures.entries) c.in-Ok.ensures.spare c.in_ok-items.ensures.items c.in_ok-blocks.ensures.length refl refl c.in_ok-code_words.ensures.items c.in_ok-bodies.ensures
+    (rw (← values) c.in-Ok.ensures.entries) c.in-Ok.ensures.spare c.in_ok-items.ensures.items c.in_ok-blocks.ensures.length refl c.in_order.ensures refl c.in_ok-code_words.ensures.items c.in_ok-bodies.ensures
     (c.len-item_room.ensures ∙ c.in_ok-items.items.ok.0) (c.len-body_room.ensures ∙ c.in_ok-bodies.bodies.ok.0)).sound
 
 pub returns-clause-graph : goal.returns-clause-graph
@@ -46,6 +47,7 @@ returns-clause-graph c =
       items = c.in_ok-items.items;
       blocks_end = c.in_ok-blocks.blocks_end;
       gaps = 0;
+      loose = c.in_order.result;
       entry = c.args.parts.now.entry;
       code_words = c.in_ok-code_words.code_words;
       bodies = c.in_ok-bodies.bodies;
@@ -54,5 +56,5 @@ returns-clause-graph c =
     } in
     let values = c.deref.ensures.value ∙ c.in_ok-blocks.ensures.slots in
     (parts_show c.args.parts.now.blocks.now c.args.parts.now.items.now c.args.parts.now.entry c.args.parts.now.code_words.now c.args.parts.now.procedures.now new c.requires.lengths c.requires.rules c.requires.small
-    (rw (← values) c.in-Ok.ensures.entries) c.in-Ok.ensures.spare c.in_ok-items.ensures.items c.in_ok-blocks.ensures.length refl refl c.in_ok-code_words.ensures.items c.in_ok-bodies.ensures
+    (rw (← values) c.in-Ok.ensures.entries) c.in-Ok.ensures.spare c.in_ok-items.ensures.items c.in_ok-blocks.ensures.length refl c.in_order.ensures refl c.in_ok-code_words.ensures.items c.in_ok-bodies.ensures
     (c.len-item_room.ensures ∙ c.in_ok-items.items.ok.0) (c.len-body_room.ensures ∙ c.in_ok-bodies.bodies.ok.0)).is

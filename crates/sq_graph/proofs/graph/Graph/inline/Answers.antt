@@ -13,40 +13,40 @@ use Rattle.sq_graph.proofs.graph.Graph.inline.Goals as goal
 
 pub slot-slot-requires : goal.slot-slot-requires
 slot-slot-requires c =
-    let t = closed c.self.view_is c.self.invariant c.close_gaps.ensures.kept c.close_gaps.ensures.gaps in
+    let t = closed c.self.view_is c.self.invariant c.close_gaps.ensures.kept c.close_gaps.ensures.gaps c.close_gaps.ensures.order in
     has_slot _ c.args.block t.tight.sound (rw (← t.view_is) at c.requires.block)
 
 pub overflow_add-place : goal.overflow_add-place
 overflow_add-place c =
-    let now : Inside = record c.self.inside { slots = c.close_gaps.new.slots; items = c.close_gaps.new.items; blocks_end = c.close_gaps.new.blocks_end; gaps = c.close_gaps.new.gaps } in
-    let t = closed c.self.view_is c.self.invariant c.close_gaps.ensures.kept c.close_gaps.ensures.gaps in
+    let now : Inside = record c.self.inside { slots = c.close_gaps.new.slots; items = c.close_gaps.new.items; blocks_end = c.close_gaps.new.blocks_end; gaps = c.close_gaps.new.gaps; loose = c.close_gaps.new.loose } in
+    let t = closed c.self.view_is c.self.invariant c.close_gaps.ensures.kept c.close_gaps.ensures.gaps c.close_gaps.ensures.order in
     let p = placed _ c.args.block c.slot-slot.result t.tight (rw (← t.view_is) at c.requires.block) c.slot-slot.ensures in
     let inside = called_inside (graph_of now) c.args.block c.args.at (rw (← t.view_is) at c.requires.out) in
     omega (arith, inside, p.counted, p.size, p.sizes.items, p.sizes.item_room)
 
 pub index-requires : goal.index-requires
 index-requires c =
-    let now : Inside = record c.self.inside { slots = c.close_gaps.new.slots; items = c.close_gaps.new.items; blocks_end = c.close_gaps.new.blocks_end; gaps = c.close_gaps.new.gaps } in
-    let t = closed c.self.view_is c.self.invariant c.close_gaps.ensures.kept c.close_gaps.ensures.gaps in
+    let now : Inside = record c.self.inside { slots = c.close_gaps.new.slots; items = c.close_gaps.new.items; blocks_end = c.close_gaps.new.blocks_end; gaps = c.close_gaps.new.gaps; loose = c.close_gaps.new.loose } in
+    let t = closed c.self.view_is c.self.invariant c.close_gaps.ensures.kept c.close_gaps.ensures.gaps c.close_gaps.ensures.order in
     let p = placed _ c.args.block c.slot-slot.result t.tight (rw (← t.view_is) at c.requires.block) c.slot-slot.ensures in
     let inside = called_inside (graph_of now) c.args.block c.args.at (rw (← t.view_is) at c.requires.out) in
     omega (arith, inside, p.counted, p.size, c.close_gaps.new.items.ok.0)
 
 pub unwrap-procedure-requires : goal.unwrap-procedure-requires
 unwrap-procedure-requires c =
-    let t = closed c.self.view_is c.self.invariant c.close_gaps.ensures.kept c.close_gaps.ensures.gaps in
+    let t = closed c.self.view_is c.self.invariant c.close_gaps.ensures.kept c.close_gaps.ensures.gaps c.close_gaps.ensures.order in
     let called = called_is _ c.args.block c.slot-slot.result c.args.at c.index.result.now c.called.result (placed _ c.args.block c.slot-slot.result t.tight (rw (← t.view_is) at c.requires.block) c.slot-slot.ensures) (rw (← t.view_is) at c.requires.out) c.index.ensures c.called.ensures in
     subst IsSome called (rw (← t.view_is) at c.requires.out)
 
 pub index-body-requires : goal.index-body-requires
 index-body-requires c =
-    let t = closed c.self.view_is c.self.invariant c.close_gaps.ensures.kept c.close_gaps.ensures.gaps in
+    let t = closed c.self.view_is c.self.invariant c.close_gaps.ensures.kept c.close_gaps.ensures.gaps c.close_gaps.ensures.order in
     omega (arith, called_exists _ c.args.block c.slot-slot.result c.args.at c.index.result.now c.called.result c.unwrap-procedure.result t.tight (placed _ c.args.block c.slot-slot.result t.tight (rw (← t.view_is) at c.requires.block) c.slot-slot.ensures) (rw (← t.view_is) at c.requires.out) c.index.ensures c.called.ensures c.unwrap-procedure.ensures, c.self.inside.bodies.ok.0)
 
 pub overflow_add-from : goal.overflow_add-from
 overflow_add-from c =
-    let now : Inside = record c.self.inside { slots = c.close_gaps.new.slots; items = c.close_gaps.new.items; blocks_end = c.close_gaps.new.blocks_end; gaps = c.close_gaps.new.gaps } in
-    let t = closed c.self.view_is c.self.invariant c.close_gaps.ensures.kept c.close_gaps.ensures.gaps in
+    let now : Inside = record c.self.inside { slots = c.close_gaps.new.slots; items = c.close_gaps.new.items; blocks_end = c.close_gaps.new.blocks_end; gaps = c.close_gaps.new.gaps; loose = c.close_gaps.new.loose } in
+    let t = closed c.self.view_is c.self.invariant c.close_gaps.ensures.kept c.close_gaps.ensures.gaps c.close_gaps.ensures.order in
     let p = placed _ c.args.block c.slot-slot.result t.tight (rw (← t.view_is) at c.requires.block) c.slot-slot.ensures in
     let inside = called_inside (graph_of now) c.args.block c.args.at (rw (← t.view_is) at c.requires.out) in
     let there = called_exists _ c.args.block c.slot-slot.result c.args.at c.index.result.now c.called.result c.unwrap-procedure.result t.tight (placed _ c.args.block c.slot-slot.result t.tight (rw (← t.view_is) at c.requires.block) c.slot-slot.ensures) (rw (← t.view_is) at c.requires.out) c.index.ensures c.called.ensures c.unwrap-procedure.ensures in
@@ -58,8 +58,8 @@ overflow_add-from c =
 
 pub replace_by_copy-requires-clause-at : goal.replace_by_copy-requires-clause-at
 replace_by_copy-requires-clause-at c =
-    let now : Inside = record c.self.inside { slots = c.close_gaps.new.slots; items = c.close_gaps.new.items; blocks_end = c.close_gaps.new.blocks_end; gaps = c.close_gaps.new.gaps } in
-    let t = closed c.self.view_is c.self.invariant c.close_gaps.ensures.kept c.close_gaps.ensures.gaps in
+    let now : Inside = record c.self.inside { slots = c.close_gaps.new.slots; items = c.close_gaps.new.items; blocks_end = c.close_gaps.new.blocks_end; gaps = c.close_gaps.new.gaps; loose = c.close_gaps.new.loose } in
+    let t = closed c.self.view_is c.self.invariant c.close_gaps.ensures.kept c.close_gaps.ensures.gaps c.close_gaps.ensures.order in
     let p = placed _ c.args.block c.slot-slot.result t.tight (rw (← t.view_is) at c.requires.block) c.slot-slot.ensures in
     let inside = called_inside (graph_of now) c.args.block c.args.at (rw (← t.view_is) at c.requires.out) in
     let there = called_exists _ c.args.block c.slot-slot.result c.args.at c.index.result.now c.called.result c.unwrap-procedure.result t.tight (placed _ c.args.block c.slot-slot.result t.tight (rw (← t.view_is) at c.requires.block) c.slot-slot.ensures) (rw (← t.view_is) at c.requires.out) c.index.ensures c.called.ensures c.unwrap-procedure.ensures in
@@ -71,8 +71,8 @@ replace_by_copy-requires-clause-at c =
 
 pub replace_by_copy-requires-clause-from : goal.replace_by_copy-requires-clause-from
 replace_by_copy-requires-clause-from c =
-    let now : Inside = record c.self.inside { slots = c.close_gaps.new.slots; items = c.close_gaps.new.items; blocks_end = c.close_gaps.new.blocks_end; gaps = c.close_gaps.new.gaps } in
-    let t = closed c.self.view_is c.self.invariant c.close_gaps.ensures.kept c.close_gaps.ensures.gaps in
+    let now : Inside = record c.self.inside { slots = c.close_gaps.new.slots; items = c.close_gaps.new.items; blocks_end = c.close_gaps.new.blocks_end; gaps = c.close_gaps.new.gaps; loose = c.close_gaps.new.loose } in
+    let t = closed c.self.view_is c.self.invariant c.close_gaps.ensures.kept c.close_gaps.ensures.gaps c.close_gaps.ensures.order in
     let p = placed _ c.args.block c.slot-slot.result t.tight (rw (← t.view_is) at c.requires.block) c.slot-slot.ensures in
     let inside = called_inside (graph_of now) c.args.block c.args.at (rw (← t.view_is) at c.requires.out) in
     let there = called_exists _ c.args.block c.slot-slot.result c.args.at c.index.result.now c.called.result c.unwrap-procedure.result t.tight (placed _ c.args.block c.slot-slot.result t.tight (rw (← t.view_is) at c.requires.block) c.slot-slot.ensures) (rw (← t.view_is) at c.requires.out) c.index.ensures c.called.ensures c.unwrap-procedure.ensures in
@@ -84,8 +84,8 @@ replace_by_copy-requires-clause-from c =
 
 pub replace_by_copy-requires-clause-room : goal.replace_by_copy-requires-clause-room
 replace_by_copy-requires-clause-room c =
-    let now : Inside = record c.self.inside { slots = c.close_gaps.new.slots; items = c.close_gaps.new.items; blocks_end = c.close_gaps.new.blocks_end; gaps = c.close_gaps.new.gaps } in
-    let t = closed c.self.view_is c.self.invariant c.close_gaps.ensures.kept c.close_gaps.ensures.gaps in
+    let now : Inside = record c.self.inside { slots = c.close_gaps.new.slots; items = c.close_gaps.new.items; blocks_end = c.close_gaps.new.blocks_end; gaps = c.close_gaps.new.gaps; loose = c.close_gaps.new.loose } in
+    let t = closed c.self.view_is c.self.invariant c.close_gaps.ensures.kept c.close_gaps.ensures.gaps c.close_gaps.ensures.order in
     let p = placed _ c.args.block c.slot-slot.result t.tight (rw (← t.view_is) at c.requires.block) c.slot-slot.ensures in
     let inside = called_inside (graph_of now) c.args.block c.args.at (rw (← t.view_is) at c.requires.out) in
     let there = called_exists _ c.args.block c.slot-slot.result c.args.at c.index.result.now c.called.result c.unwrap-procedure.result t.tight (placed _ c.args.block c.slot-slot.result t.tight (rw (← t.view_is) at c.requires.block) c.slot-slot.ensures) (rw (← t.view_is) at c.requires.out) c.index.ensures c.called.ensures c.unwrap-procedure.ensures in
@@ -97,8 +97,8 @@ replace_by_copy-requires-clause-room c =
 
 pub replace_by_copy-requires-clause-small : goal.replace_by_copy-requires-clause-small
 replace_by_copy-requires-clause-small c =
-    let now : Inside = record c.self.inside { slots = c.close_gaps.new.slots; items = c.close_gaps.new.items; blocks_end = c.close_gaps.new.blocks_end; gaps = c.close_gaps.new.gaps } in
-    let t = closed c.self.view_is c.self.invariant c.close_gaps.ensures.kept c.close_gaps.ensures.gaps in
+    let now : Inside = record c.self.inside { slots = c.close_gaps.new.slots; items = c.close_gaps.new.items; blocks_end = c.close_gaps.new.blocks_end; gaps = c.close_gaps.new.gaps; loose = c.close_gaps.new.loose } in
+    let t = closed c.self.view_is c.self.invariant c.close_gaps.ensures.kept c.close_gaps.ensures.gaps c.close_gaps.ensures.order in
     let p = placed _ c.args.block c.slot-slot.result t.tight (rw (← t.view_is) at c.requires.block) c.slot-slot.ensures in
     let inside = called_inside (graph_of now) c.args.block c.args.at (rw (← t.view_is) at c.requires.out) in
     let there = called_exists _ c.args.block c.slot-slot.result c.args.at c.index.result.now c.called.result c.unwrap-procedure.result t.tight (placed _ c.args.block c.slot-slot.result t.tight (rw (← t.view_is) at c.requires.block) c.slot-slot.ensures) (rw (← t.view_is) at c.requires.out) c.index.ensures c.called.ensures c.unwrap-procedure.ensures in
@@ -110,8 +110,8 @@ replace_by_copy-requires-clause-small c =
 
 pub overflow_sub-slot : goal.overflow_sub-slot
 overflow_sub-slot c =
-    let now : Inside = record c.self.inside { slots = c.close_gaps.new.slots; items = c.close_gaps.new.items; blocks_end = c.close_gaps.new.blocks_end; gaps = c.close_gaps.new.gaps } in
-    let t = closed c.self.view_is c.self.invariant c.close_gaps.ensures.kept c.close_gaps.ensures.gaps in
+    let now : Inside = record c.self.inside { slots = c.close_gaps.new.slots; items = c.close_gaps.new.items; blocks_end = c.close_gaps.new.blocks_end; gaps = c.close_gaps.new.gaps; loose = c.close_gaps.new.loose } in
+    let t = closed c.self.view_is c.self.invariant c.close_gaps.ensures.kept c.close_gaps.ensures.gaps c.close_gaps.ensures.order in
     let p = placed _ c.args.block c.slot-slot.result t.tight (rw (← t.view_is) at c.requires.block) c.slot-slot.ensures in
     let inside = called_inside (graph_of now) c.args.block c.args.at (rw (← t.view_is) at c.requires.out) in
     let there = called_exists _ c.args.block c.slot-slot.result c.args.at c.index.result.now c.called.result c.unwrap-procedure.result t.tight (placed _ c.args.block c.slot-slot.result t.tight (rw (← t.view_is) at c.requires.block) c.slot-slot.ensures) (rw (← t.view_is) at c.requires.out) c.index.ensures c.called.ensures c.unwrap-procedure.ensures in
@@ -123,8 +123,8 @@ overflow_sub-slot c =
 
 pub overflow_add-slot : goal.overflow_add-slot
 overflow_add-slot c =
-    let now : Inside = record c.self.inside { slots = c.close_gaps.new.slots; items = c.close_gaps.new.items; blocks_end = c.close_gaps.new.blocks_end; gaps = c.close_gaps.new.gaps } in
-    let t = closed c.self.view_is c.self.invariant c.close_gaps.ensures.kept c.close_gaps.ensures.gaps in
+    let now : Inside = record c.self.inside { slots = c.close_gaps.new.slots; items = c.close_gaps.new.items; blocks_end = c.close_gaps.new.blocks_end; gaps = c.close_gaps.new.gaps; loose = c.close_gaps.new.loose } in
+    let t = closed c.self.view_is c.self.invariant c.close_gaps.ensures.kept c.close_gaps.ensures.gaps c.close_gaps.ensures.order in
     let p = placed _ c.args.block c.slot-slot.result t.tight (rw (← t.view_is) at c.requires.block) c.slot-slot.ensures in
     let inside = called_inside (graph_of now) c.args.block c.args.at (rw (← t.view_is) at c.requires.out) in
     let there = called_exists _ c.args.block c.slot-slot.result c.args.at c.index.result.now c.called.result c.unwrap-procedure.result t.tight (placed _ c.args.block c.slot-slot.result t.tight (rw (← t.view_is) at c.requires.block) c.slot-slot.ensures) (rw (← t.view_is) at c.requires.out) c.index.ensures c.called.ensures c.unwrap-procedure.ensures in
@@ -136,8 +136,8 @@ overflow_add-slot c =
 
 pub resize-requires-clause-fits : goal.resize-requires-clause-fits
 resize-requires-clause-fits c =
-    let now : Inside = record c.self.inside { slots = c.close_gaps.new.slots; items = c.close_gaps.new.items; blocks_end = c.close_gaps.new.blocks_end; gaps = c.close_gaps.new.gaps } in
-    let t = closed c.self.view_is c.self.invariant c.close_gaps.ensures.kept c.close_gaps.ensures.gaps in
+    let now : Inside = record c.self.inside { slots = c.close_gaps.new.slots; items = c.close_gaps.new.items; blocks_end = c.close_gaps.new.blocks_end; gaps = c.close_gaps.new.gaps; loose = c.close_gaps.new.loose } in
+    let t = closed c.self.view_is c.self.invariant c.close_gaps.ensures.kept c.close_gaps.ensures.gaps c.close_gaps.ensures.order in
     let p = placed _ c.args.block c.slot-slot.result t.tight (rw (← t.view_is) at c.requires.block) c.slot-slot.ensures in
     let inside = called_inside (graph_of now) c.args.block c.args.at (rw (← t.view_is) at c.requires.out) in
     let there = called_exists _ c.args.block c.slot-slot.result c.args.at c.index.result.now c.called.result c.unwrap-procedure.result t.tight (placed _ c.args.block c.slot-slot.result t.tight (rw (← t.view_is) at c.requires.block) c.slot-slot.ensures) (rw (← t.view_is) at c.requires.out) c.index.ensures c.called.ensures c.unwrap-procedure.ensures in
@@ -149,8 +149,8 @@ resize-requires-clause-fits c =
 
 pub overflow_sub-others : goal.overflow_sub-others
 overflow_sub-others c =
-    let now : Inside = record c.self.inside { slots = c.close_gaps.new.slots; items = c.close_gaps.new.items; blocks_end = c.close_gaps.new.blocks_end; gaps = c.close_gaps.new.gaps } in
-    let t = closed c.self.view_is c.self.invariant c.close_gaps.ensures.kept c.close_gaps.ensures.gaps in
+    let now : Inside = record c.self.inside { slots = c.close_gaps.new.slots; items = c.close_gaps.new.items; blocks_end = c.close_gaps.new.blocks_end; gaps = c.close_gaps.new.gaps; loose = c.close_gaps.new.loose } in
+    let t = closed c.self.view_is c.self.invariant c.close_gaps.ensures.kept c.close_gaps.ensures.gaps c.close_gaps.ensures.order in
     let p = placed _ c.args.block c.slot-slot.result t.tight (rw (← t.view_is) at c.requires.block) c.slot-slot.ensures in
     let inside = called_inside (graph_of now) c.args.block c.args.at (rw (← t.view_is) at c.requires.out) in
     let there = called_exists _ c.args.block c.slot-slot.result c.args.at c.index.result.now c.called.result c.unwrap-procedure.result t.tight (placed _ c.args.block c.slot-slot.result t.tight (rw (← t.view_is) at c.requires.block) c.slot-slot.ensures) (rw (← t.view_is) at c.requires.out) c.index.ensures c.called.ensures c.unwrap-procedure.ensures in
@@ -162,8 +162,8 @@ overflow_sub-others c =
 
 pub overflow_add-self : goal.overflow_add-self
 overflow_add-self c =
-    let now : Inside = record c.self.inside { slots = c.close_gaps.new.slots; items = c.close_gaps.new.items; blocks_end = c.close_gaps.new.blocks_end; gaps = c.close_gaps.new.gaps } in
-    let t = closed c.self.view_is c.self.invariant c.close_gaps.ensures.kept c.close_gaps.ensures.gaps in
+    let now : Inside = record c.self.inside { slots = c.close_gaps.new.slots; items = c.close_gaps.new.items; blocks_end = c.close_gaps.new.blocks_end; gaps = c.close_gaps.new.gaps; loose = c.close_gaps.new.loose } in
+    let t = closed c.self.view_is c.self.invariant c.close_gaps.ensures.kept c.close_gaps.ensures.gaps c.close_gaps.ensures.order in
     let p = placed _ c.args.block c.slot-slot.result t.tight (rw (← t.view_is) at c.requires.block) c.slot-slot.ensures in
     let inside = called_inside (graph_of now) c.args.block c.args.at (rw (← t.view_is) at c.requires.out) in
     let there = called_exists _ c.args.block c.slot-slot.result c.args.at c.index.result.now c.called.result c.unwrap-procedure.result t.tight (placed _ c.args.block c.slot-slot.result t.tight (rw (← t.view_is) at c.requires.block) c.slot-slot.ensures) (rw (← t.view_is) at c.requires.out) c.index.ensures c.called.ensures c.unwrap-procedure.ensures in
@@ -175,18 +175,18 @@ overflow_add-self c =
 
 pub resize-requires-clause-distinct : goal.resize-requires-clause-distinct
 resize-requires-clause-distinct c =
-    let t = closed c.self.view_is c.self.invariant c.close_gaps.ensures.kept c.close_gaps.ensures.gaps in
+    let t = closed c.self.view_is c.self.invariant c.close_gaps.ensures.kept c.close_gaps.ensures.gaps c.close_gaps.ensures.order in
     distinct_slots _ t.tight
 
 pub resize-requires-clause-numbered : goal.resize-requires-clause-numbered
 resize-requires-clause-numbered c =
-    let t = closed c.self.view_is c.self.invariant c.close_gaps.ensures.kept c.close_gaps.ensures.gaps in
+    let t = closed c.self.view_is c.self.invariant c.close_gaps.ensures.kept c.close_gaps.ensures.gaps c.close_gaps.ensures.order in
     (placed _ c.args.block c.slot-slot.result t.tight (rw (← t.view_is) at c.requires.block) c.slot-slot.ensures).numbered
 
 pub invariant_of-self : goal.invariant_of-self
 invariant_of-self c =
-    let now : Inside = record c.self.inside { slots = c.close_gaps.new.slots; items = c.close_gaps.new.items; blocks_end = c.close_gaps.new.blocks_end; gaps = c.close_gaps.new.gaps } in
-    let t = closed c.self.view_is c.self.invariant c.close_gaps.ensures.kept c.close_gaps.ensures.gaps in
+    let now : Inside = record c.self.inside { slots = c.close_gaps.new.slots; items = c.close_gaps.new.items; blocks_end = c.close_gaps.new.blocks_end; gaps = c.close_gaps.new.gaps; loose = c.close_gaps.new.loose } in
+    let t = closed c.self.view_is c.self.invariant c.close_gaps.ensures.kept c.close_gaps.ensures.gaps c.close_gaps.ensures.order in
     let p = placed _ c.args.block c.slot-slot.result t.tight (rw (← t.view_is) at c.requires.block) c.slot-slot.ensures in
     let inside = called_inside (graph_of now) c.args.block c.args.at (rw (← t.view_is) at c.requires.out) in
     let there = called_exists _ c.args.block c.slot-slot.result c.args.at c.index.result.now c.called.result c.unwrap-procedure.result t.tight (placed _ c.args.block c.slot-slot.result t.tight (rw (← t.view_is) at c.requires.block) c.slot-slot.ensures) (rw (← t.view_is) at c.requires.out) c.index.ensures c.called.ensures c.unwrap-procedure.ensures in
@@ -198,8 +198,8 @@ invariant_of-self c =
 
 pub returns-clause-graph : goal.returns-clause-graph
 returns-clause-graph c =
-    let now : Inside = record c.self.inside { slots = c.close_gaps.new.slots; items = c.close_gaps.new.items; blocks_end = c.close_gaps.new.blocks_end; gaps = c.close_gaps.new.gaps } in
-    let t = closed c.self.view_is c.self.invariant c.close_gaps.ensures.kept c.close_gaps.ensures.gaps in
+    let now : Inside = record c.self.inside { slots = c.close_gaps.new.slots; items = c.close_gaps.new.items; blocks_end = c.close_gaps.new.blocks_end; gaps = c.close_gaps.new.gaps; loose = c.close_gaps.new.loose } in
+    let t = closed c.self.view_is c.self.invariant c.close_gaps.ensures.kept c.close_gaps.ensures.gaps c.close_gaps.ensures.order in
     let p = placed _ c.args.block c.slot-slot.result t.tight (rw (← t.view_is) at c.requires.block) c.slot-slot.ensures in
     let inside = called_inside (graph_of now) c.args.block c.args.at (rw (← t.view_is) at c.requires.out) in
     let there = called_exists _ c.args.block c.slot-slot.result c.args.at c.index.result.now c.called.result c.unwrap-procedure.result t.tight (placed _ c.args.block c.slot-slot.result t.tight (rw (← t.view_is) at c.requires.block) c.slot-slot.ensures) (rw (← t.view_is) at c.requires.out) c.index.ensures c.called.ensures c.unwrap-procedure.ensures in
@@ -212,8 +212,8 @@ returns-clause-graph c =
 
 pub returns-clause-spare : goal.returns-clause-spare
 returns-clause-spare c =
-    let now : Inside = record c.self.inside { slots = c.close_gaps.new.slots; items = c.close_gaps.new.items; blocks_end = c.close_gaps.new.blocks_end; gaps = c.close_gaps.new.gaps } in
-    let t = closed c.self.view_is c.self.invariant c.close_gaps.ensures.kept c.close_gaps.ensures.gaps in
+    let now : Inside = record c.self.inside { slots = c.close_gaps.new.slots; items = c.close_gaps.new.items; blocks_end = c.close_gaps.new.blocks_end; gaps = c.close_gaps.new.gaps; loose = c.close_gaps.new.loose } in
+    let t = closed c.self.view_is c.self.invariant c.close_gaps.ensures.kept c.close_gaps.ensures.gaps c.close_gaps.ensures.order in
     let p = placed _ c.args.block c.slot-slot.result t.tight (rw (← t.view_is) at c.requires.block) c.slot-slot.ensures in
     let inside = called_inside (graph_of now) c.args.block c.args.at (rw (← t.view_is) at c.requires.out) in
     let there = called_exists _ c.args.block c.slot-slot.result c.args.at c.index.result.now c.called.result c.unwrap-procedure.result t.tight (placed _ c.args.block c.slot-slot.result t.tight (rw (← t.view_is) at c.requires.block) c.slot-slot.ensures) (rw (← t.view_is) at c.requires.out) c.index.ensures c.called.ensures c.unwrap-procedure.ensures in

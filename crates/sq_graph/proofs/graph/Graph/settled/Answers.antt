@@ -1,16 +1,14 @@
 use Rattle.std.proofs.Common.{◌∙◌, refl, ap, arith}
 use Rattle.sq_graph.specs.Slots.{slots_of, without_starts}
-use Rattle.sq_graph.specs.Layout.{graph_of}
-use Rattle.sq_graph.proofs.Laid.{lies_links}
 use Rattle.sq_graph.specs.declared.graph.Graph.TheInside.{Inside}
-use Rattle.sq_graph.proofs.Held.{laid}
+use Rattle.sq_graph.proofs.Held.{links_shown}
 use Rattle.sq_graph.proofs.Settling.{length-bodies, settled_shows}
 use Rattle.sq_graph.proofs.graph.Graph.settled.Goals as goal
 
 pub settle_blocks-requires-clause-slots : goal.settle_blocks-requires-clause-slots
 settle_blocks-requires-clause-slots c =
     ap (λ slots. without_starts slots.entries) c.in-Ok.ensures
-    ∙ lies_links c.self.inside.items.items 0 c.self.inside.slots.entries (graph_of c.self.inside).blocks c.self.inside.blocks_end (laid c.self.inside c.self.invariant).blocks
+    ∙ links_shown c.self.inside c.self.invariant
     ∙ ap (λ v. slots_of v.graph.blocks) c.self.view_is
 
 pub overflow_cast-body_room : goal.overflow_cast-body_room
@@ -24,6 +22,7 @@ invariant_of-result c =
       items = c.staying_bodies.new.items;
       blocks_end = c.len-blocks_end.result;
       gaps = 0;
+      loose = c.in_order.result;
       entry = c.self.inside.entry;
       code_words = c.in_ok-code_words.code_words;
       bodies = c.in_ok-bodies.bodies;
@@ -32,7 +31,7 @@ invariant_of-result c =
     } in
     let spare = c.settle_blocks.ensures.spare ∙ ap (λ slots. slots.spare) c.in-Ok.ensures ∙ ap (λ v. v.spare.blocks) c.self.view_is in
     (settled_shows new c.args.fates.now c.args.self.now.graph c.in_ok-items.items.items c.requires.rules c.requires.small (omega (arith, c.learn.ensures.small.blocks, spare)) (omega (arith, c.learn.ensures.small.procedures))
-    c.in_ok-items.ensures.entries c.in_ok-items.ensures.items c.in_ok-bodies.ensures.items (c.len-blocks_end.ensures ∙ c.in_ok-items.items.ok.0) refl (ap (λ v. v.graph.entry) c.self.view_is)
+    c.in_ok-items.ensures.entries c.in_ok-items.ensures.items c.in_ok-bodies.ensures.items (c.len-blocks_end.ensures ∙ c.in_ok-items.items.ok.0) refl c.in_order.ensures (ap (λ v. v.graph.entry) c.self.view_is)
     (c.in_ok-code_words.ensures.items ∙ c.deref-2.ensures.value ∙ ap (λ v. v.graph.code_words) c.self.view_is) c.in_ok-bodies.ensures.bodies
     (c.len-item_room.ensures ∙ c.staying_bodies.new.items.ok.0) (c.len-body_room.ensures ∙ c.in_ok-bodies.bodies.ok.0)).sound
 
@@ -43,6 +42,7 @@ returns-clause-graph c =
       items = c.staying_bodies.new.items;
       blocks_end = c.len-blocks_end.result;
       gaps = 0;
+      loose = c.in_order.result;
       entry = c.self.inside.entry;
       code_words = c.in_ok-code_words.code_words;
       bodies = c.in_ok-bodies.bodies;
@@ -51,6 +51,6 @@ returns-clause-graph c =
     } in
     let spare = c.settle_blocks.ensures.spare ∙ ap (λ slots. slots.spare) c.in-Ok.ensures ∙ ap (λ v. v.spare.blocks) c.self.view_is in
     (settled_shows new c.args.fates.now c.args.self.now.graph c.in_ok-items.items.items c.requires.rules c.requires.small (omega (arith, c.learn.ensures.small.blocks, spare)) (omega (arith, c.learn.ensures.small.procedures))
-    c.in_ok-items.ensures.entries c.in_ok-items.ensures.items c.in_ok-bodies.ensures.items (c.len-blocks_end.ensures ∙ c.in_ok-items.items.ok.0) refl (ap (λ v. v.graph.entry) c.self.view_is)
+    c.in_ok-items.ensures.entries c.in_ok-items.ensures.items c.in_ok-bodies.ensures.items (c.len-blocks_end.ensures ∙ c.in_ok-items.items.ok.0) refl c.in_order.ensures (ap (λ v. v.graph.entry) c.self.view_is)
     (c.in_ok-code_words.ensures.items ∙ c.deref-2.ensures.value ∙ ap (λ v. v.graph.code_words) c.self.view_is) c.in_ok-bodies.ensures.bodies
     (c.len-item_room.ensures ∙ c.staying_bodies.new.items.ok.0) (c.len-body_room.ensures ∙ c.in_ok-bodies.bodies.ok.0)).is

@@ -5,18 +5,16 @@ use Rattle.sq_graph.specs.declared.item.Item.{Item}
 use Rattle.sq_graph.specs.declared.slot.Body.{Body}
 use Rattle.sq_graph.specs.Blocks.{items_of_blocks, items_of_bodies}
 use Rattle.sq_graph.specs.Slots.{slots_of, without_starts}
-use Rattle.sq_graph.specs.Layout.{graph_of}
 use Rattle.sq_graph.specs.Room.{GraphAndRoom}
 use Rattle.sq_graph.proofs.CallWrites.{met_blocks_fewer, copy_shows}
-use Rattle.sq_graph.proofs.Held.{laid}
-use Rattle.sq_graph.proofs.Laid.{lies_links}
+use Rattle.sq_graph.proofs.Held.{links_shown}
 use Rattle.sq_graph.proofs.Sizes.{sizes}
 use Rattle.sq_graph.proofs.graph.Graph.with_calls.Goals as goal
 
 pub call_in_blocks-requires-clause-slots : goal.call_in_blocks-requires-clause-slots
 call_in_blocks-requires-clause-slots c =
     ap (λ slots. without_starts slots.entries) c.in-Ok.ensures
-    ∙ lies_links c.self.inside.items.items 0 c.self.inside.slots.entries (graph_of c.self.inside).blocks c.self.inside.blocks_end (laid c.self.inside c.self.invariant).blocks
+    ∙ links_shown c.self.inside c.self.invariant
     ∙ ap (λ v. slots_of v.graph.blocks) c.self.view_is
 
 pub overflow_cast-blocks_end : goal.overflow_cast-blocks_end
@@ -70,6 +68,7 @@ invariant_of-result c =
       items = c.extend_from_slice.new.self;
       blocks_end = c.len-blocks_end.result;
       gaps = 0;
+      loose = c.in_order.result;
       entry = c.self.inside.entry;
       code_words = c.in_ok-code_words.code_words;
       bodies = c.in_ok-bodies.bodies;
@@ -80,7 +79,7 @@ invariant_of-result c =
     take_all (length c.deref.result.now - c.self.inside.blocks_end) (drop c.self.inside.blocks_end c.deref.result.now) (omega (arith, length-drop c.self.inside.blocks_end c.deref.result.now)) ∙ ap (λ is. drop c.self.inside.blocks_end is) c.deref.ensures.value in
     (copy_shows c.self.inside new c.args.self.now c.args.fates.now c.in_ok-items.items.items c.self.view_is c.self.invariant c.requires.rules
     (c.call_in_blocks.ensures.spare ∙ ap (λ slots. slots.spare) c.in-Ok.ensures) c.in_ok-items.ensures.entries c.in_ok-items.ensures.items
-    (c.in_ok-extend_from_slice.ensures.items ∙ ap (λ is. c.in_ok-items.items.items ++ is) rest) (c.len-blocks_end.ensures ∙ c.in_ok-items.items.ok.0) refl refl
+    (c.in_ok-extend_from_slice.ensures.items ∙ ap (λ is. c.in_ok-items.items.items ++ is) rest) (c.len-blocks_end.ensures ∙ c.in_ok-items.items.ok.0) refl c.in_order.ensures refl
     (c.in_ok-code_words.ensures.items ∙ c.deref-2.ensures.value) (c.in_ok-bodies.ensures.items ∙ c.deref-3.ensures.value)
     (c.len-item_room.ensures ∙ c.extend_from_slice.new.self.ok.0) (c.len-body_room.ensures ∙ c.in_ok-bodies.bodies.ok.0)).sound
 
@@ -91,6 +90,7 @@ returns-clause-graph c =
       items = c.extend_from_slice.new.self;
       blocks_end = c.len-blocks_end.result;
       gaps = 0;
+      loose = c.in_order.result;
       entry = c.self.inside.entry;
       code_words = c.in_ok-code_words.code_words;
       bodies = c.in_ok-bodies.bodies;
@@ -101,6 +101,6 @@ returns-clause-graph c =
     take_all (length c.deref.result.now - c.self.inside.blocks_end) (drop c.self.inside.blocks_end c.deref.result.now) (omega (arith, length-drop c.self.inside.blocks_end c.deref.result.now)) ∙ ap (λ is. drop c.self.inside.blocks_end is) c.deref.ensures.value in
     (copy_shows c.self.inside new c.args.self.now c.args.fates.now c.in_ok-items.items.items c.self.view_is c.self.invariant c.requires.rules
     (c.call_in_blocks.ensures.spare ∙ ap (λ slots. slots.spare) c.in-Ok.ensures) c.in_ok-items.ensures.entries c.in_ok-items.ensures.items
-    (c.in_ok-extend_from_slice.ensures.items ∙ ap (λ is. c.in_ok-items.items.items ++ is) rest) (c.len-blocks_end.ensures ∙ c.in_ok-items.items.ok.0) refl refl
+    (c.in_ok-extend_from_slice.ensures.items ∙ ap (λ is. c.in_ok-items.items.items ++ is) rest) (c.len-blocks_end.ensures ∙ c.in_ok-items.items.ok.0) refl c.in_order.ensures refl
     (c.in_ok-code_words.ensures.items ∙ c.deref-2.ensures.value) (c.in_ok-bodies.ensures.items ∙ c.deref-3.ensures.value)
     (c.len-item_room.ensures ∙ c.extend_from_slice.new.self.ok.0) (c.len-body_room.ensures ∙ c.in_ok-bodies.bodies.ok.0)).is
