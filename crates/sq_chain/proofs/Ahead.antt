@@ -13,12 +13,13 @@ use Rattle.sq_graph.specs.Rules.{IsGraph}
 use Rattle.sq_graph.specs.Words.{term_words, block_words}
 use Rattle.sq_graph.proofs.CursorLaws.{behind_parts}
 use Rattle.sq_layout.specs.Weights.{address_by}
+use Rattle.sq_chain.specs.Seams.{size}
 use Rattle.sq_chain.specs.Least.{stands_at}
 use Rattle.sq_chain.specs.Widening.{EndsInBranch}
 use Rattle.sq_chain.proofs.Exchanging.{start_is, term_is}
 use Rattle.sq_chain.proofs.Reordered.{some_or_none}
 use Rattle.sq_chain.proofs.Shortness.{stands_there}
-use Rattle.sq_chain.proofs.Standing.{stands, size, size_one, stands_named, past, inside, from_start}
+use Rattle.sq_chain.proofs.Standing.{stands, size_one, stands_named, past, inside, from_start}
 
 -- a list that ends in this pair
 in_front : (xs : List (ℕ × Block)) (c : ℕ) (b : Block) (n : ℕ) → ContainsKey (xs ++ (c, b) ∷ []) n → ContainsKey xs n ⊎ (c ≡ n)

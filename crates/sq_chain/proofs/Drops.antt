@@ -1,5 +1,5 @@
 -- How many blocks jump to their next slots, when two pieces of them that follow each other are exchanged.
-use Rattle.std.proofs.Common.{◌≡◌, ◌⊎◌, ℕ, ◌+◌, ◌≤◌, ◌==◌, if◌then◌else◌, List, [], ◌∷◌, ◌++◌, sum_by, Option, None, Some, inl, inr, refl, sym, ap, arith}
+use Rattle.std.proofs.Common.{◌≡◌, ◌≢◌, ◌⊎◌, ℕ, ◌+◌, ◌≤◌, ◌==◌, List, [], ◌∷◌, ◌++◌, sum_by, Option, None, Some, inl, inr, refl, sym, ap, ◌∙◌, arith}
 use Rattle.std.proofs.lemmas.Bool.{cases_Bool, eqb-true, eq-eqb}
 use Rattle.std.proofs.lemmas.List.Sums.{sum_by-cons}
 use Rattle.sq_arena.specs.Entries.{first_key, last_key}
@@ -9,11 +9,7 @@ use Rattle.sq_graph.specs.Graph.{Block}
 use Rattle.sq_graph.specs.Blocks.{named}
 use Rattle.sq_graph.specs.Words.{term_words, block_words}
 use Rattle.sq_chain.specs.Moves.{JumpsTo, fallen_term, fallen_blocks}
-
--- 1 for a Jump to this next slot
-abbrev pub drop_of : Term → Option ℕ → ℕ
-drop_of (Jump to) (Some next) = if to == next then 1 else 0
-drop_of term next = 0
+use Rattle.sq_chain.specs.Tests.{drop_of}
 
 drop_none : (t : Term) → drop_of t None ≡ 0
 drop_none Fall = refl
@@ -41,6 +37,9 @@ drop_zero (PartJump link part to) (Some n) other = refl
 drop_zero (Indirect link x offset) (Some n) other = refl
 drop_zero (Stop word) (Some n) other = refl
 
+pub drop_yes : (t : Term) (o : Option ℕ) → JumpsTo t o → drop_of t o ≡ 1
+drop_yes t o j = ap (λ u. drop_of u o) j.jump ∙ ap (drop_of (Jump j.to)) j.slot ∙ drop_one j.to
+
 pub drop_most : (t : Term) (o : Option ℕ) → drop_of t o ≤ 1
 drop_most t None = omega (arith, drop_none t)
 drop_most Fall (Some n) = omega arith
@@ -51,7 +50,7 @@ drop_most (PartJump link part to) (Some n) = omega arith
 drop_most (Indirect link x offset) (Some n) = omega arith
 drop_most (Stop word) (Some n) = omega arith
 
-drop_words : (t : Term) (n : ℕ) → term_words t ≡ term_words (fallen_term n t) + drop_of t (Some n)
+pub drop_words : (t : Term) (n : ℕ) → term_words t ≡ term_words (fallen_term n t) + drop_of t (Some n)
 drop_words Fall n = refl
 drop_words (Jump to) n = elim (cases_Bool (to == n)) [ inl same ↦ rw same refl | inr apart ↦ rw apart refl ]
 drop_words (Branch cond a b to) n = refl
@@ -91,7 +90,7 @@ drops_words (b ∷ next ∷ rest) =
       sum_by-cons block_words (record b { term = fallen_term next.name b.term }) (fallen_blocks (next ∷ rest)),
     )
 
-drops_append : (xs ys : List (ℕ × Block)) (o : Option ℕ) → drops (xs ++ ys) o ≡ drops xs (next_or ys o) + drops ys o
+pub drops_append : (xs ys : List (ℕ × Block)) (o : Option ℕ) → drops (xs ++ ys) o ≡ drops xs (next_or ys o) + drops ys o
 drops_append [] ys o = omega arith
 drops_append (e ∷ []) ys o = omega arith
 drops_append (e ∷ f ∷ xs) ys o = omega (arith, drops_append (f ∷ xs) ys o)
@@ -117,11 +116,11 @@ last_at [] e o = refl
 last_at (x ∷ []) e o = refl
 last_at (x ∷ y ∷ xs) e o = last_at (y ∷ xs) e o
 
-pub last_back : (xs ys : List (ℕ × Block)) (o : Option ℕ) → last_drop ys o ≤ last_drop (xs ++ ys) o
-last_back [] ys o = omega arith
-last_back (e ∷ []) [] o = omega arith
-last_back (e ∷ []) (y ∷ ys) o = omega arith
-last_back (e ∷ f ∷ xs) ys o = omega (arith, last_back (f ∷ xs) ys o)
+pub last_behind : (xs ys : List (ℕ × Block)) (o : Option ℕ) → ys ≢ [] → last_drop ys o ≡ last_drop (xs ++ ys) o
+last_behind [] ys o some = refl
+last_behind (e ∷ []) [] o some = absurd (some refl)
+last_behind (e ∷ []) (y ∷ ys) o some = refl
+last_behind (e ∷ f ∷ xs) ys o some = last_behind (f ∷ xs) ys o some
 
 -- the last of them
 pub record IsLast (xs : List (ℕ × Block)) (n : ℕ) : Type 0 where
@@ -146,22 +145,6 @@ last_none (x ∷ y ∷ xs) o e = last_none (y ∷ xs) o e
 -- THE EXCHANGE
 
 module _ (X Y Z W : List (ℕ × Block)) (none : drops (X ++ (Y ++ (Z ++ W))) None ≡ 0) where
-  pub exchanged_drops : drops (X ++ (Z ++ (Y ++ W))) None ≤ last_drop X (next_or (Z ++ (Y ++ W)) None) + last_drop Z (next_or (Y ++ W) None) + last_drop Y (next_or W None)
-  exchanged_drops =
-      omega (
-        arith,
-        none,
-        drops_append X (Y ++ (Z ++ W)) None,
-        drops_append Y (Z ++ W) None,
-        drops_append Z W None,
-        drops_append X (Z ++ (Y ++ W)) None,
-        drops_append Z (Y ++ W) None,
-        drops_append Y W None,
-        drops_last X (next_or (Z ++ (Y ++ W)) None) (next_or (Y ++ (Z ++ W)) None),
-        drops_last Z (next_or (Y ++ W) None) (next_or W None),
-        drops_last Y (next_or W None) (next_or (Z ++ W) None),
-      )
-
   -- the last of the first piece doesn't jump to the next slot before
   pub first_drop : last_drop X (next_or (Y ++ (Z ++ W)) None) ≡ 0
   first_drop = omega (arith, none, drops_append X (Y ++ (Z ++ W)) None, last_least X (next_or (Y ++ (Z ++ W)) None))

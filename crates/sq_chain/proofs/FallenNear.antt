@@ -8,16 +8,12 @@ use Rattle.sq_graph.specs.Places.{IsInReach}
 use Rattle.sq_graph.specs.Rules.{IsGraph}
 use Rattle.sq_layout.specs.Shrinks.{IsBranch, Shrinks, nothing, kept}
 use Rattle.sq_layout.proofs.Shrinking.{shrunk_in_reach}
-use Rattle.sq_chain.specs.Around.{StillInReach}
-use Rattle.sq_chain.specs.Moves.{IsMovable, fallen_term, fallen_blocks, fallen, carried}
-use Rattle.sq_chain.specs.Seams.{IsExchanged}
+use Rattle.sq_chain.specs.Moves.{fallen_term, fallen_blocks, fallen}
 use Rattle.sq_chain.specs.Surveys.{IsSurvey}
-use Rattle.sq_chain.specs.declared.seams.Seams.{Seams}
 use Rattle.sq_chain.specs.declared.survey.Survey.{Survey}
 use Rattle.sq_chain.proofs.Distant.{stays}
 use Rattle.sq_chain.proofs.Fallen.{fallen_keeps}
 use Rattle.sq_chain.proofs.Lighter.{fallen_light, block_falls}
-use Rattle.sq_chain.proofs.Reordered.{chain_moved_rules}
 
 branch_stays : (n : ℕ) (t : Term) → IsBranch (fallen_term n t) → IsBranch t
 branch_stays n Fall is = is
@@ -51,10 +47,3 @@ fallen_in_reach h rules reach =
 -- by the survey of a graph in which none falls
 pub reach_there : (g : Graph) (survey : Survey) → IsSurvey g survey → survey.falls ≡ 0 → survey.near ≡ true → IsInReach g
 reach_there g survey s none near = subst (λ (bs : List Block). IsInReach (record g { blocks = bs })) (stays g (omega (arith, s.falls, none))) (s.near near)
-
--- so it is in reach once the chain is moved
-pub near_there : (g : Graph) (from to : ℕ) (rules : IsGraph g) (movable : IsMovable g from to) (seams : Seams) → IsExchanged g (carried g from to) seams → StillInReach g seams → IsInReach (fallen (carried g from to))
-near_there g from to rules movable seams x still =
-    let h : Graph = carried g from to in
-    let rules' = chain_moved_rules g from to rules movable in
-    fallen_in_reach h rules' (still h rules' x)

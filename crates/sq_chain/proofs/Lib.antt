@@ -20,11 +20,18 @@ pub mod Moved
 pub mod Standing
 pub mod Drops
 pub mod Exchanging
+pub mod Sunk
+pub mod Swelling
 pub mod Distant
 pub mod Seaming
 pub mod Ahead
 pub mod Seen
 pub mod FallenNear
+pub mod Missed
+pub mod Shifted
+pub mod Found
+pub mod Both
+pub mod Broad
 pub mod Dropping
 pub mod Settling
 pub mod Swept
@@ -32,3 +39,4 @@ pub mod Resurveyed
 pub mod Tabled
 pub mod Replaced
 pub mod PassedOn
+pub mod Spread

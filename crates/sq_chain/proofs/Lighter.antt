@@ -203,7 +203,7 @@ by_items address g h n (Some (PartJump link part to)) e = refl
 by_items address g h n (Some (Indirect link x offset)) e = refl
 by_items address g h n (Some (Stop word)) e = refl
 
-same_short : (address : ℕ → ℕ) (g : Graph) (n : ℕ) → is_short address (fallen g) n (term_of (fallen g) n) ≡ is_short address g n (term_of g n)
+pub same_short : (address : ℕ → ℕ) (g : Graph) (n : ℕ) → is_short address (fallen g) n (term_of (fallen g) n) ≡ is_short address g n (term_of g n)
 same_short address g n =
     elim (block_falls g.blocks n) [
       | inl stays ↦ by_items address (fallen g) g n (term_of (fallen g) n) (ap block_items stays.same) ∙ ap (is_short address g n) (ap block_term stays.same)
@@ -231,14 +231,14 @@ none_valid h reach = record {
       (reach_is h n to at target (length (items_of h n)) at_is aim_is refl).0 (branch_reaches h reach n cond a b to e);
 }
 
-none_least : (h : Graph) → IsGraph h → IsInReach h → (n : ℕ) → least h n ≡ false
+pub none_least : (h : Graph) → IsGraph h → IsInReach h → (n : ℕ) → least h n ≡ false
 none_least h rules reach n =
     elim (cases_Bool (least h n)) [
       | inl listed ↦ absurd (let f = (least_is_least h rules).least (λ k. false) (none_valid h reach) n listed in cc)
       | inr absent ↦ absent
     ]
 
-none_widened : (new : ℕ → ℕ) (bs : List Block) → widened_blocks new (λ n. false) bs ≡ bs
+pub none_widened : (new : ℕ → ℕ) (bs : List Block) → widened_blocks new (λ n. false) bs ≡ bs
 none_widened new [] = refl
 none_widened new (b ∷ []) = refl
 none_widened new (b ∷ next ∷ rest) = ap (λ (cs : List Block). b ∷ cs) (none_widened new (next ∷ rest))

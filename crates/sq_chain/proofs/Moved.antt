@@ -70,7 +70,7 @@ fallen_there (b ∷ next ∷ rest) n some =
       | inr apart ↦ rw apart (fallen_there (next ∷ rest) n (rw apart at some))
     ]
 
-carried_there : (g : Graph) (from to n : ℕ) → IsGraph g → IsMovable g from to → HasBlock g n → HasBlock (fallen (carried g from to)) n
+pub carried_there : (g : Graph) (from to n : ℕ) → IsGraph g → IsMovable g from to → HasBlock g n → HasBlock (fallen (carried g from to)) n
 carried_there g from to n rules movable has =
     fallen_there (carried g from to).blocks n (subst IsSome (sym ((chain_reordered g from to rules movable).same n)) has)
 

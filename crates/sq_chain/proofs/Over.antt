@@ -217,7 +217,7 @@ over_next new next b (PartJump link part to) more n apart differs = rw apart ref
 over_next new next b (Indirect link at offset) more n apart differs = rw apart refl
 over_next new next b (Stop word) more n apart differs = rw apart refl
 
-over_first : (new next : ℕ) (b : Block) (t : Term) (more : List Block) → first_key (named (jumped_over new next b t ++ more)) ≡ Some b.name
+pub over_first : (new next : ℕ) (b : Block) (t : Term) (more : List Block) → first_key (named (jumped_over new next b t ++ more)) ≡ Some b.name
 over_first new next b Fall more = refl
 over_first new next b (Jump to) more = refl
 over_first new next b (Branch cond x y to) more = refl

@@ -1,12 +1,12 @@
--- Branches to a block that is empty with Fall go to the next one in its place, and the canonical graph stays.
-use Rattle.std.proofs.Common.{◌≡◌, ◌≢◌, ◌⊎◌, ℕ, ◌+◌, ◌*◌, ◌≤◌, ◌==◌, Bool, true, false, ◌&&◌, ◌||◌, not, if◌then◌else◌, List, [], ◌∷◌, ◌++◌, map, length, sum_by, Option, None, Some, IsSome, is_some, inl, inr, refl, sym, ap, ◌∙◌, subst, arith, append_assoc}
+-- Branches, Jumps and Calls to a block that is empty with Fall go to the next one in its place, and the canonical graph stays.
+use Rattle.std.proofs.Common.{◌≡◌, ◌≢◌, ◌⊎◌, ℕ, ◌+◌, ◌*◌, ◌≤◌, ◌==◌, Bool, true, false, ◌&&◌, ◌||◌, not, if◌then◌else◌, List, [], ◌∷◌, ◌++◌, map, length, sum_by, Option, None, Some, IsSome, is_some, Result, Ok, Err, OnOk, is_err, inl, inr, refl, sym, ap, ◌∙◌, subst, arith, append_assoc}
 use Rattle.std.specs.List.{All}
 use Rattle.std.specs.Option.{option_map}
 use Rattle.std.proofs.lemmas.Bool.{cases_Bool, eqb-true, eq-eqb, ne_eqb, or_left}
 use Rattle.std.proofs.lemmas.List.{append-nil}
 use Rattle.std.proofs.lemmas.List.Elements.{All-nil, All-cons, All-head, All-map, All-weaker}
 use Rattle.std.proofs.lemmas.List.Sums.{sum_by-cons}
-use Rattle.sq_arena.specs.Entries.{HasDistinctKeys, value_of, first_key}
+use Rattle.sq_arena.specs.Entries.{HasDistinctKeys, value_of, first_key, next_key}
 use Rattle.sq_arena.proofs.EntriesLaws.{absent_ahead, distinct_back}
 use Rattle.sq_isa.specs.Registers.{is_among}
 use Rattle.sq_isa.specs.declared.instructions.Cond.{Cond}
@@ -20,9 +20,10 @@ use Rattle.sq_graph.specs.Leaders.{is_fall, has_no_items, is_bare, FallsIntoLead
 use Rattle.sq_graph.specs.Operations.{with_blocks, with_term}
 use Rattle.sq_graph.specs.Renames.{retargeted_term, retargeted_items, retargeted_block, retargeted, swapped}
 use Rattle.sq_graph.specs.Rules.{IsGraph, TermFits}
+use Rattle.sq_graph.specs.Terms.{goes_on}
 use Rattle.sq_graph.specs.Uses.{term_uses, terms_uses, items_uses, code_word_uses, uses}
 use Rattle.sq_graph.specs.Words.{term_words, block_words}
-use Rattle.sq_graph.proofs.Bypassing.{passed-behind, passed-bare}
+use Rattle.sq_graph.proofs.Bypassing.{passed-behind, passed-bare, bare_falls}
 use Rattle.sq_graph.proofs.CanonicalLaws.{canonical_is_joined}
 use Rattle.sq_graph.proofs.Changes.{items_of_blocks-kept}
 use Rattle.sq_graph.proofs.Eachs.{All-right}
@@ -36,10 +37,11 @@ use Rattle.sq_lookup.specs.Names.{is_listed, held_uses}
 use Rattle.sq_lookup.specs.Counts.{count_at, times_named, AreUses, IsCounted}
 use Rattle.sq_lookup.specs.declared.counts.Uses.{Uses}
 use Rattle.sq_lookup.proofs.Counting.{times-append, some_times, times_some, among_uses}
+use Rattle.sq_lookup.proofs.Previous.{one_before}
 use Rattle.sq_lookup.proofs.Targets.{has_term}
 use Rattle.sq_chain.specs.Bare.{IsBareAt, AreSolidBut}
 use Rattle.sq_chain.specs.Moves.{fallen_term, fallen_blocks}
-use Rattle.sq_chain.specs.Passing.{passed_term, passed_block, passed_on, IsPassedOn, IsPassed}
+use Rattle.sq_chain.specs.Passing.{passed_term, passed_block, passed_on, IsTurned, IsPassedOn, IsPassed}
 use Rattle.sq_chain.specs.Surveys.{IsPlaced, NoneFalls}
 use Rattle.sq_chain.specs.declared.survey.Places.{Places}
 use Rattle.sq_chain.proofs.OneMore.{slot_behind, slot_after}
@@ -96,52 +98,62 @@ module _ (g : Graph) (bare next : ℕ) (rules : IsGraph g) (is : IsBareAt g bare
       behind [] b name = rw (eq-eqb b.name bare name) refl
       behind (x ∷ front) b name = elim (cases_Bool (x.name == bare)) [ inl here ↦ rw here refl | inr apart ↦ rw apart (behind front b name) ]
 
--- SOME OF THE BRANCHES
+-- what a call that was Ok ensures
+pub added : {A E : Type 0} {P : Type 0} (r : Result A E) → OnOk r P → is_err r ≡ false → P
+added (Ok x) one none = one
+added (Err e) one none = absurd (cc)
+
+-- SOME OF THE BRANCHES, JUMPS AND CALLS
 
 module _ (among : ℕ → Bool) (bare next : ℕ) where
   abbrev turned : Block → Block
   turned b = passed_block among bare next b
 
-  -- this is a Branch to the one block, and becomes one to the other
-  record IsTurned (old new : Term) : Type 0 where
-    pub cond : Cond
-    pub a : ℕ
-    pub b : ℕ
-    pub was : old ≡ Branch cond a b bare
-    pub is : new ≡ Branch cond a b next
-
-  by_term : (t : Term) → (passed_term bare next t ≡ t) ⊎ IsTurned t (passed_term bare next t)
+  by_term : (t : Term) → (passed_term bare next t ≡ t) ⊎ IsTurned bare next t (passed_term bare next t)
   by_term Fall = inl refl
-  by_term (Jump to) = inl refl
-  by_term (Branch c x y to) =
+  by_term (Jump to) =
       elim (cases_Bool (to == bare)) [
-        | inl here ↦ inr (record { cond = c; a = x; b = y; was = ap (λ n. Branch c x y n) (eqb-true to bare here); is = rw here refl })
+        | inl here ↦ inr (inr (inl (record { was = ap Jump (eqb-true to bare here); is = rw here refl })))
         | inr apart ↦ inl (rw apart refl)
       ]
-  by_term (Call link to) = inl refl
+  by_term (Branch c x y to) =
+      elim (cases_Bool (to == bare)) [
+        | inl here ↦ inr (inl (record { cond = c; a = x; b = y; was = ap (λ n. Branch c x y n) (eqb-true to bare here); is = rw here refl }))
+        | inr apart ↦ inl (rw apart refl)
+      ]
+  by_term (Call link to) =
+      elim (cases_Bool (to == bare)) [
+        | inl here ↦ inr (inr (inr (record { link = link; was = ap (λ n. Call link n) (eqb-true to bare here); is = rw here refl })))
+        | inr apart ↦ inl (rw apart refl)
+      ]
   by_term (PartJump link part to) = inl refl
   by_term (Indirect link at offset) = inl refl
   by_term (Stop word) = inl refl
 
-  by_block : (b : Block) → ((turned b).term ≡ b.term) ⊎ IsTurned b.term (turned b).term
+  by_block : (b : Block) → ((turned b).term ≡ b.term) ⊎ IsTurned bare next b.term (turned b).term
   by_block b = elim (cases_Bool (among b.name)) [ inl one ↦ rw one (by_term b.term) | inr out ↦ inl (rw out refl) ]
 
-  -- what terms have that is the same of both Branches
-  same_of : {X : Type 0} (f : Term → X) → ((c : Cond) (x y : ℕ) → f (Branch c x y bare) ≡ f (Branch c x y next)) → (b : Block) → f (turned b).term ≡ f b.term
-  same_of f same b =
+  -- what terms have that is the same of both Branches, of both Jumps and of both Calls
+  same_of : {X : Type 0} (f : Term → X) → ((c : Cond) (x y : ℕ) → f (Branch c x y bare) ≡ f (Branch c x y next)) → f (Jump bare) ≡ f (Jump next) → ((link : ℕ) → f (Call link bare) ≡ f (Call link next)) → (b : Block) → f (turned b).term ≡ f b.term
+  same_of f branch jump call b =
       elim (by_block b) [
         | inl stays ↦ ap f stays
-        | inr t ↦ ap f t.is ∙ sym (same t.cond t.a t.b) ∙ sym (ap f t.was)
+        | inr turns ↦
+            elim turns [
+              | inl t ↦ ap f t.is ∙ sym (branch t.cond t.a t.b) ∙ sym (ap f t.was)
+              | inr (inl t) ↦ ap f t.is ∙ sym jump ∙ sym (ap f t.was)
+              | inr (inr t) ↦ ap f t.is ∙ sym (call t.link) ∙ sym (ap f t.was)
+            ]
       ]
 
   falls_same : (b : Block) → is_fall (turned b).term ≡ is_fall b.term
-  falls_same b = same_of is_fall (λ c x y. refl) b
+  falls_same b = same_of is_fall (λ c x y. refl) refl (λ link. refl) b
 
   pub bare_same : (b : Block) → is_bare (turned b) ≡ is_bare b
   bare_same b = ap (λ t. has_no_items b.items && t) (falls_same b)
 
   words_same : (b : Block) → block_words (turned b) ≡ block_words b
-  words_same b = ap (λ n. length b.items + n) (same_of term_words (λ c x y. refl) b)
+  words_same b = ap (λ n. length b.items + n) (same_of term_words (λ c x y. refl) refl (λ link. refl) b)
 
   -- ITS BLOCKS
 
@@ -160,22 +172,43 @@ module _ (among : ℕ → Bool) (bare next : ℕ) where
       let P : Block → Type 0 = λ b. (not (may b.name) && is_bare b) ≡ false in
       All-map P turned bs (All-weaker P (λ b. P (turned b)) (λ b own. ap (λ t. not (may b.name) && t) (bare_same b) ∙ own) bs solid)
 
-  stays_turned : (k : ℕ) (b : Block) → record b { term = fallen_term k b.term } ≡ b → record (turned b) { term = fallen_term k (turned b).term } ≡ turned b
-  stays_turned k b stays =
+  stays_turned : (k : ℕ) (b : Block) → (b.term ≡ Jump bare → k ≢ next) → record b { term = fallen_term k b.term } ≡ b → record (turned b) { term = fallen_term k (turned b).term } ≡ turned b
+  stays_turned k b off stays =
       ap (λ t. record b { term = t })
       (elim (by_block b) [
         | inl same ↦ ap (fallen_term k) same ∙ ap (λ (c : Block). c.term) stays ∙ sym same
-        | inr t ↦ ap (fallen_term k) t.is ∙ sym t.is
+        | inr turns ↦
+            elim turns [
+              | inl t ↦ ap (fallen_term k) t.is ∙ sym t.is
+              | inr (inr t) ↦ ap (fallen_term k) t.is ∙ sym t.is
+              | inr (inl t) ↦
+                  let apart : (next == k) ≡ false = ne_eqb next k (λ same. off t.was (sym same)) in
+                  ap (fallen_term k) t.is ∙ ap (λ e. if e then Fall else Jump next) apart ∙ sym t.is
+            ]
       ])
 
-  pub fallen_turned : (bs : List Block) → fallen_blocks bs ≡ bs → fallen_blocks (map turned bs) ≡ map turned bs
-  fallen_turned [] falls = refl
-  fallen_turned (b ∷ []) falls = refl
-  fallen_turned (b ∷ n ∷ rest) falls =
+  -- no block before the other one jumps to the one
+  abbrev pub IsOff : List Block → Type 0
+  IsOff bs = (m : ℕ) → next_key (named bs) m ≡ Some next → block_term (value_of (named bs) m) ≢ Some (Jump bare)
+
+  off_later : (b : Block) (bs : List Block) → HasDistinctKeys (named (b ∷ bs)) → IsOff (b ∷ bs) → IsOff bs
+  off_later b bs distinct off m slot is =
+      elim (cases_Bool (b.name == m)) [
+        | inr apart ↦ off m (rw apart slot) (rw apart is)
+        | inl same ↦
+            let gone : value_of (named bs) m ≡ None = subst (λ k. value_of (named bs) k ≡ None) (eqb-true b.name m same) (absent_behind (b.name, b) (named bs) distinct) in
+            absurd (cc (ap block_term gone, is))
+      ]
+
+  pub fallen_turned : (bs : List Block) → HasDistinctKeys (named bs) → IsOff bs → fallen_blocks bs ≡ bs → fallen_blocks (map turned bs) ≡ map turned bs
+  fallen_turned [] distinct off falls = refl
+  fallen_turned (b ∷ []) distinct off falls = refl
+  fallen_turned (b ∷ n ∷ rest) distinct off falls =
       let head : record b { term = fallen_term n.name b.term } ≡ b = cc in
       let tail : fallen_blocks (n ∷ rest) ≡ n ∷ rest = cc in
-      ap (λ c. c ∷ fallen_blocks (map turned (n ∷ rest))) (stays_turned n.name b head)
-      ∙ ap (λ cs. turned b ∷ cs) (fallen_turned (n ∷ rest) tail)
+      let own = eq-eqb b.name b.name refl in
+      ap (λ c. c ∷ fallen_blocks (map turned (n ∷ rest))) (stays_turned n.name b (λ jump same. off b.name (rw own (ap Some same)) (rw own (ap Some jump))) head)
+      ∙ ap (λ cs. turned b ∷ cs) (fallen_turned (n ∷ rest) (distinct_back ((b.name, b) ∷ []) (named (n ∷ rest)) distinct) (off_later b (n ∷ rest) distinct off) tail)
 
   pub addresses_turned : (bs : List Block) (at k : ℕ) → address_by block_words (map turned bs) at k ≡ address_by block_words bs at k
   addresses_turned [] at k = refl
@@ -208,9 +241,13 @@ module _ (among : ℕ → Bool) (bare next : ℕ) where
       own =
           elim (by_block b) [
             | inl same ↦ omega (arith, ap (λ t. times_named (term_uses t) m) same)
-            | inr t ↦
+            | inr turns ↦
                 let none : times_named (bare ∷ []) m ≡ 0 = rw (ne_eqb bare m (λ same. other (sym same))) refl in
-                omega (arith, ap (λ u. times_named (term_uses u) m) t.was, none)
+                elim turns [
+                  | inl t ↦ omega (arith, ap (λ u. times_named (term_uses u) m) t.was, none)
+                  | inr (inl t) ↦ omega (arith, ap (λ u. times_named (term_uses u) m) t.was, none)
+                  | inr (inr t) ↦ omega (arith, ap (λ u. times_named (term_uses u) m) t.was, none)
+                ]
           ]
 
   -- WHERE NAMES GO
@@ -227,7 +264,7 @@ module _ (among : ℕ → Bool) (bare next : ℕ) where
       ∙ passed_turned bs (if is_bare b then swapped b.name (first_name bs k) k else k)
 
   block_again : (f : ℕ → ℕ) → f bare ≡ f next → (b : Block) → retargeted_block f (turned b) ≡ retargeted_block f b
-  block_again f same b = ap (λ t. record { name = b.name; items = retargeted_items f b.items; term = t }) (same_of (retargeted_term f) (λ c x y. ap (λ n. Branch c x y n) same) b)
+  block_again f same b = ap (λ t. record { name = b.name; items = retargeted_items f b.items; term = t }) (same_of (retargeted_term f) (λ c x y. ap (λ n. Branch c x y n) same) (ap Jump same) (λ link. ap (λ n. Call link n) same) b)
 
   kept_turned : (f : ℕ → ℕ) → f bare ≡ f next → (bs : List Block) → map (retargeted_block f) (kept (map turned bs)) ≡ map (retargeted_block f) (kept bs)
   kept_turned f same [] = refl
@@ -312,9 +349,9 @@ passed_twice A B bare next b =
 
     term_twice : (t : Term) → passed_term bare next (passed_term bare next t) ≡ passed_term bare next t
     term_twice Fall = refl
-    term_twice (Jump to) = refl
+    term_twice (Jump to) = ap Jump (name_twice to)
     term_twice (Branch c x y to) = ap (λ n. Branch c x y n) (name_twice to)
-    term_twice (Call link to) = refl
+    term_twice (Call link to) = ap (λ n. Call link n) (name_twice to)
     term_twice (PartJump link part to) = refl
     term_twice (Indirect link at offset) = refl
     term_twice (Stop word) = refl
@@ -325,7 +362,7 @@ blocks_twice A B bare next (b ∷ bs) =
     ap (λ c. c ∷ map (passed_block A bare next) (map (passed_block B bare next) bs)) (passed_twice A B bare next b)
     ∙ ap (λ cs. passed_block (λ n. A n || B n) bare next b ∷ cs) (blocks_twice A B bare next bs)
 
--- more of the Branches
+-- more of them
 pub passed_more : (bare next : ℕ) (g h k : Graph) → IsPassedOn bare next g h → IsPassedOn bare next h k → IsPassedOn bare next g k
 passed_more bare next g h k first second = record {
   among = λ n. second.among n || first.among n;
@@ -345,15 +382,41 @@ passed_none bare next g = record { among = λ n. false; is = ap (λ bs. record g
 
 -- ONE OF THEM
 
-module _ (g : Graph) (m bare next : ℕ) (cond : Cond) (a b : ℕ) (rules : IsGraph g) (branch : term_of g m ≡ Some (Branch cond a b bare)) where
+module _ (bare next : ℕ) (t new : Term) where
+  to_next : swapped bare next bare ≡ next
+  to_next = rw (eq-eqb bare bare refl) refl
+
+  turned_is : IsTurned bare next t new → new ≡ passed_term bare next t
+  turned_is (inl b) = b.is ∙ ap (λ n. Branch b.cond b.a b.b n) (sym to_next) ∙ ap (passed_term bare next) (sym b.was)
+  turned_is (inr (inl j)) = j.is ∙ ap Jump (sym to_next) ∙ ap (passed_term bare next) (sym j.was)
+  turned_is (inr (inr c)) = c.is ∙ ap (λ n. Call c.link n) (sym to_next) ∙ ap (passed_term bare next) (sym c.was)
+
+  uses_old : IsTurned bare next t new → term_uses t ≡ bare ∷ []
+  uses_old (inl b) = ap term_uses b.was
+  uses_old (inr (inl j)) = ap term_uses j.was
+  uses_old (inr (inr c)) = ap term_uses c.was
+
+  uses_new : IsTurned bare next t new → term_uses new ≡ next ∷ []
+  uses_new (inl b) = ap term_uses b.is
+  uses_new (inr (inl j)) = ap term_uses j.is
+  uses_new (inr (inr c)) = ap term_uses c.is
+
+  turned_fits : IsTurned bare next t new → TermFits t → TermFits new
+  turned_fits (inl b) fits = subst TermFits (sym b.is) (subst TermFits b.was fits)
+  turned_fits (inr (inl j)) fits = subst TermFits (sym j.is) tt
+  turned_fits (inr (inr c)) fits = subst TermFits (sym c.is) (subst TermFits c.was fits)
+
+  turned_goes : IsTurned bare next t new → goes_on new ≡ true → goes_on t ≡ true
+  turned_goes (inl b) on = ap goes_on b.was
+  turned_goes (inr (inl j)) on = absurd (let off = ap goes_on j.is in cc)
+  turned_goes (inr (inr c)) on = ap goes_on c.was
+
+module _ (g : Graph) (m bare next : ℕ) (t new : Term) (rules : IsGraph g) (was : term_of g m ≡ Some t) (turns : IsTurned bare next t new) where
   abbrev turn : Block → List Block
-  turn x = record x { term = Branch cond a b next } ∷ []
+  turn x = record x { term = new } ∷ []
 
   abbrev one : ℕ → Bool
   one n = n == m
-
-  abbrev turned_one : Graph
-  turned_one = with_term g m (Branch cond a b next)
 
   one_absent : (bs : List Block) → value_of (named bs) m ≡ None → bs ≡ map (passed_block one bare next) bs
   one_absent [] none = refl
@@ -363,52 +426,56 @@ module _ (g : Graph) (m bare next : ℕ) (cond : Cond) (a b : ℕ) (rules : IsGr
         | inr apart ↦ rw apart (ap (λ cs. x ∷ cs) (one_absent bs (rw apart at none)))
       ]
 
-  one_turned : (bs : List Block) → HasDistinctKeys (named bs) → block_term (value_of (named bs) m) ≡ Some (Branch cond a b bare) → with_blocks turn bs m ≡ map (passed_block one bare next) bs
+  one_turned : (bs : List Block) → HasDistinctKeys (named bs) → block_term (value_of (named bs) m) ≡ Some t → with_blocks turn bs m ≡ map (passed_block one bare next) bs
   one_turned [] distinct is = absurd (cc)
   one_turned (x ∷ bs) distinct is =
       elim (cases_Bool (x.name == m)) [
         | inl here ↦
-            let some : Some x.term ≡ Some (Branch cond a b bare) = rw here at is in
-            let term : x.term ≡ Branch cond a b bare = cc in
+            let some : Some x.term ≡ Some t = rw here at is in
+            let term : x.term ≡ t = cc in
             let gone : value_of (named bs) m ≡ None = subst (λ k. value_of (named bs) k ≡ None) (eqb-true x.name m here) (absent_behind (x.name, x) (named bs) distinct) in
-            let to : swapped bare next bare ≡ next = rw (eq-eqb bare bare refl) refl in
-            let new : Branch cond a b next ≡ passed_term bare next x.term = ap (λ n. Branch cond a b n) (sym to) ∙ ap (passed_term bare next) (sym term) in
-            rw here (ap (λ t. record x { term = t } ∷ bs) new ∙ ap (λ cs. record x { term = passed_term bare next x.term } ∷ cs) (one_absent bs gone))
+            let same : new ≡ passed_term bare next x.term = turned_is bare next t new turns ∙ ap (passed_term bare next) (sym term) in
+            rw here (ap (λ u. record x { term = u } ∷ bs) same ∙ ap (λ cs. record x { term = passed_term bare next x.term } ∷ cs) (one_absent bs gone))
         | inr apart ↦ rw apart (ap (λ cs. x ∷ cs) (one_turned bs (distinct_back ((x.name, x) ∷ []) (named bs) distinct) (rw apart at is)))
       ]
 
-  pub passed_one : IsPassedOn bare next g (with_term g m (Branch cond a b next))
-  passed_one = record { among = one; is = ap (λ bs. record g { blocks = bs }) (one_turned g.blocks rules.distinct branch) }
+  pub passed_one : IsPassedOn bare next g (with_term g m new)
+  passed_one = record { among = one; is = ap (λ bs. record g { blocks = bs }) (one_turned g.blocks rules.distinct was) }
 
   at : IsAt g.blocks m
-  at = located g.blocks m (has_term g m (Branch cond a b bare) branch)
+  at = located g.blocks m (has_term g m t was)
 
-  at_term : at.block.term ≡ Branch cond a b bare
-  at_term = let same : Some at.block.term ≡ Some (Branch cond a b bare) = sym (ap block_term (block_at g.blocks m at)) ∙ branch in cc
+  at_term : at.block.term ≡ t
+  at_term = let same : Some at.block.term ≡ Some t = sym (ap block_term (block_at g.blocks m at)) ∙ was in cc
 
-  pub one_rules : HasBlock g next → IsGraph (with_term g m (Branch cond a b next))
+  pub one_rules : HasBlock g next → IsGraph (with_term g m new)
   one_rules has =
       let fits : TermFits at.block.term =
       All-head (λ (x : Block). TermFits x.term) at.block at.back
       (All-right (λ (x : Block). TermFits x.term) at.front (at.block ∷ at.back) (subst (λ (bs : List Block). All (λ x. TermFits x.term) bs) at.whole rules.terms)) in
-      with_term_rules g m (Branch cond a b next) rules (has_term g m (Branch cond a b bare) branch)
-      (subst TermFits at_term fits) (All-cons (HasBlock g) next [] has (All-nil (HasBlock g)))
-      (λ on. slot_after g m (Branch cond a b bare) rules branch refl)
+      with_term_rules g m new rules (has_term g m t was)
+      (turned_fits bare next t new turns (subst TermFits at_term fits))
+      (subst (λ ns. All (HasBlock g) ns) (sym (uses_new bare next t new turns)) (All-cons (HasBlock g) next [] has (All-nil (HasBlock g))))
+      (λ on. slot_after g m t rules was (turned_goes bare next t new turns on))
 
   -- one use more of the one, and one less of the other
-  times_one : (k : ℕ) → (if bare == k then 1 else 0) + times_named (terms_uses (with_term g m (Branch cond a b next)).blocks) k ≡ (if next == k then 1 else 0) + times_named (terms_uses g.blocks) k
+  times_one : (k : ℕ) → (if bare == k then 1 else 0) + times_named (terms_uses (with_term g m new).blocks) k ≡ (if next == k then 1 else 0) + times_named (terms_uses g.blocks) k
   times_one k =
       omega (
         arith,
-        ap (λ t. times_named (term_uses t) k) at_term,
+        ap (λ u. times_named (term_uses u) k) at_term,
+        ap (λ us. times_named us k) (uses_old bare next t new turns),
+        ap (λ us. times_named us k) (uses_new bare next t new turns),
         ap (λ us. times_named us k) (flat_map-at (λ x. term_uses x.term) g.blocks m at),
         ap (λ us. times_named us k) (flat_map-changed (λ x. term_uses x.term) turn g.blocks m at),
         times-append (terms_uses at.front) (term_uses at.block.term ++ terms_uses at.back) k,
         times-append (term_uses at.block.term) (terms_uses at.back) k,
-        times-append (terms_uses at.front) (next ∷ terms_uses at.back) k,
+        times-append (terms_uses at.front) ((term_uses new ++ []) ++ terms_uses at.back) k,
+        times-append (term_uses new ++ []) (terms_uses at.back) k,
+        times-append (term_uses new) [] k,
       )
 
-  items_one : all_items (with_term g m (Branch cond a b next)) ≡ all_items g
+  items_one : all_items (with_term g m new) ≡ all_items g
   items_one = ap (λ is. is ++ items_of_bodies g.procedures) (items_of_blocks-kept turn g.blocks m at (append-nil at.block.items))
 
   module _ (old more : Uses) (are : AreUses g old) (counted : IsCounted next old more) where
@@ -417,8 +484,8 @@ module _ (g : Graph) (m bare next : ℕ) (cond : Cond) (a b : ℕ) (rules : IsGr
         let own : ◌≡◌ {A = ℕ} (if bare == bare then 1 else 0) 1 = ap (λ t. if t then 1 else 0) (eq-eqb bare bare refl) in
         omega (arith, counted.terms bare, are.terms bare, times_one bare, own)
 
-    pub uses_one : (new : Uses) → IsCounted bare new more → AreUses (with_term g m (Branch cond a b next)) new
-    uses_one new less = record {
+    pub uses_one : (they : Uses) → IsCounted bare they more → AreUses (with_term g m new) they
+    uses_one they less = record {
       held = λ k.
           ap (λ ns. is_listed ns k) (sym less.held ∙ counted.held)
           ∙ are.held k
@@ -439,8 +506,17 @@ module _ (bare : ℕ) (g h : Graph) (passed : IsPassed bare g h) where
   pub passed_placed : (places : Places) → IsPlaced g places → IsPlaced h places
   passed_placed places placed = subst (λ (u : Graph). IsPlaced u places) (sym passed.on.is) (placed_on passed.on.among bare passed.next g places placed)
 
-  pub passed_falls : NoneFalls g → NoneFalls h
-  passed_falls falls = subst NoneFalls (sym passed.on.is) (fallen_turned passed.on.among bare passed.next g.blocks falls)
+  -- the block before the next one is the one that is empty with Fall
+  off_next : IsGraph g → IsBareAt g bare → IsOff passed.on.among bare passed.next g.blocks
+  off_next rules is m slot jump =
+      let same : m ≡ bare = one_before g m bare passed.next rules slot passed.slot in
+      let both : Some is.block.term ≡ Some (Jump bare) = sym (ap block_term is.there) ∙ ap (term_of g) (sym same) ∙ jump in
+      let term : is.block.term ≡ Jump bare = cc in
+      let fall = bare_falls is.block is.bare in
+      cc (ap is_fall term, fall)
+
+  pub passed_falls : IsGraph g → IsBareAt g bare → NoneFalls g → NoneFalls h
+  passed_falls rules is falls = subst NoneFalls (sym passed.on.is) (fallen_turned passed.on.among bare passed.next g.blocks rules.distinct (off_next rules is) falls)
 
   pub passed_solid : (may : ℕ → Bool) → AreSolidBut may g → AreSolidBut may h
   passed_solid may solid = subst (λ (u : Graph). AreSolidBut may u) (sym passed.on.is) (solid_turned passed.on.among bare passed.next may g.blocks solid)

@@ -8,15 +8,13 @@ use Rattle.sq_graph.specs.declared.item.Term.{Term}
 use Rattle.sq_graph.specs.declared.item.Term.TheVariants.{Fall, Jump}
 use Rattle.sq_graph.specs.Graph.{Block, Graph}
 use Rattle.sq_graph.specs.Blocks.{named, HasBlock, block_of, block_term, term_of, next_of}
-use Rattle.sq_graph.specs.Canonical.{joined_before, canonical_of}
+use Rattle.sq_graph.specs.Canonical.{joined_before}
 use Rattle.sq_graph.specs.Leaders.{is_fall, is_bare}
 use Rattle.sq_graph.specs.Operations.{with_blocks, with_term, without_block, joined_at, joined_with_next}
 use Rattle.sq_graph.specs.Places.{IsInReach}
 use Rattle.sq_graph.specs.Rules.{IsGraph}
 use Rattle.sq_graph.specs.Uses.{uses}
 use Rattle.sq_graph.specs.Words.{block_words, words_of}
-use Rattle.sq_graph.proofs.AlikeCanonical.{canonical_there}
-use Rattle.sq_graph.proofs.CanonicalReach.{canonical_in_reach}
 use Rattle.sq_graph.proofs.Bypassing.{bare_falls, bare_items}
 use Rattle.sq_graph.proofs.Kept.{absent_behind, fall_words}
 use Rattle.sq_layout.specs.Weights.{address_by}
@@ -26,20 +24,17 @@ use Rattle.sq_lookup.proofs.JoiningBefore.{fall_is, joins, joins_not}
 use Rattle.sq_lookup.proofs.Targets.{has_term}
 use Rattle.sq_lookup.proofs.Previous.{next_has, next_there, one_before, previous_none, before_next}
 use Rattle.sq_chain.specs.Bare.{IsBareAt, IsSpanned}
-use Rattle.sq_chain.specs.Moves.{IsMovable, fallen, carried}
+use Rattle.sq_chain.specs.Moves.{fallen}
 use Rattle.sq_chain.specs.Seams.{IsShifted, IsExchanged}
 use Rattle.sq_chain.specs.Shifts.{exchanged_to, lowered_to}
-use Rattle.sq_chain.specs.Surveys.{IsSurvey, IsPlaced, NoneFalls}
+use Rattle.sq_chain.specs.Surveys.{AreBelow, IsSurvey, IsPlaced, NoneFalls}
 use Rattle.sq_chain.specs.declared.seams.Seams.{Seams}
 use Rattle.sq_chain.specs.declared.survey.Places.{Places}
 use Rattle.sq_chain.specs.declared.survey.Survey.{Survey}
-use Rattle.sq_chain.proofs.Fallen.{fallen_keeps}
-use Rattle.sq_chain.proofs.Lighter.{fallen_there, falls_fewer}
-use Rattle.sq_chain.proofs.Reordered.{chain_moved_rules}
-use Rattle.sq_chain.proofs.Surveyed.{carried_below}
+use Rattle.sq_chain.proofs.Lighter.{falls_fewer}
 use Rattle.sq_chain.proofs.Resurveyed.{apart_from, first_there, rest_distinct, somewhere, absent, fell_words, fell_addresses, fallen_joined, joined_addresses, joined_words, without_addresses, without_words, IsLeft, fallen_without}
 use Rattle.sq_chain.proofs.Shortness.{stands_there}
-use Rattle.sq_chain.proofs.Tabled.{behind_is}
+use Rattle.sq_chain.proofs.Tabled.{behind_is, placed_within}
 use Rattle.sq_chain.specs.Least.{stands_at}
 
 -- WHERE AN EXCHANGE PUTS AN ADDRESS
@@ -250,19 +245,18 @@ module _ (g : Graph) (n : ℕ) (rules : IsGraph g) where
         | inr joined ↦ subst NoneFalls (sym joined.is) (fallen_joined g.blocks joined.before ∙ ap (λ bs. joined_at bs joined.before) falls)
       ]
 
--- A CHAIN THAT HAS MOVED
+-- A SURVEY
 
-pub swept_survey : (g new : Graph) (from to : ℕ) → IsGraph g → IsMovable g from to → IsInReach (fallen (carried g from to)) → new ≡ canonical_of (fallen (carried g from to)) → (old : Survey) (places : Places) → IsSurvey g old → old.falls ≡ 0 → IsPlaced new places → NoneFalls new → IsSurvey new (record old { places = places; near = true })
-swept_survey g new from to rules movable near is old places survey stays placed falls =
-    let u = carried g from to in
-    let keeps = fallen_keeps u (chain_moved_rules g from to rules movable) in
-    record {
-      names = λ n has.
-          let there = subst (λ (h : Graph). HasBlock h n) is has in
-          carried_below g from to rules movable old.names survey.names n (fallen_there u n (canonical_there (fallen u) n keeps.rules there));
-      addresses = λ n. placed.addresses n ∙ ap (λ bs. address_by block_words bs 0 n) (sym falls);
-      falls = omega (arith, none_saved new falls, stays);
-      near = λ _.
-          subst (λ bs. IsInReach (record new { blocks = bs })) (sym falls) (subst IsInReach (sym is) (canonical_in_reach (fallen u) keeps.rules near));
-      words = placed.words;
-    }
+-- there is room for the name of each block
+placed_below : (g : Graph) (places : Places) → IsPlaced g places → AreBelow (length places.addresses) g
+placed_below g places placed n has =
+    placed_within places.addresses n (stands_at block_words g n) (placed.addresses n ∙ stands_there block_words g n has)
+
+pub placed_survey : (g : Graph) (old : Survey) (places : Places) (names : ℕ) → old.falls ≡ 0 → IsInReach g → IsPlaced g places → NoneFalls g → names ≡ length places.addresses → IsSurvey g (record old { names = names; places = places; near = true })
+placed_survey g old places names stays reach placed falls count = record {
+  names = λ n has. subst (λ k. n < k) (sym count) (placed_below g places placed n has);
+  addresses = λ n. placed.addresses n ∙ ap (λ bs. address_by block_words bs 0 n) (sym falls);
+  falls = omega (arith, none_saved g falls, stays);
+  near = λ _. subst (λ bs. IsInReach (record g { blocks = bs })) (sym falls) reach;
+  words = placed.words;
+}

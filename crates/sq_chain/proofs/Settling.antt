@@ -137,9 +137,9 @@ module _ (g : Graph) (from to after behind : ℕ) (rules : IsGraph g) (canonical
       falls_agree (λ n. is_among seams n || is_among (uses g) n) (λ n. is_among seams n || is_among (uses (fallen u)) n) (fallen u).blocks more
       (falls_led (is_among seams) (is_among (uses g)) u.blocks seamed)
 
-  -- where a graph has the same canonical graph, no block that is empty with Fall, and blocks that are led as in this one
-  pub joined_is : (d : Graph) → IsGraph d → canonical_of d ≡ canonical_of (fallen (carried g from to)) → AreSolidBut (λ n. false) d → ((leads : ℕ → Bool) → AreLed leads (fallen (carried g from to)) → AreLed leads d) → canonical_of (fallen (carried g from to)) ≡ joined_before_each seams d
-  joined_is d d_rules same solid leds = sym same ∙ canonical_before seams d d_rules solid (leds (is_among seams) led)
+  -- where a graph has the same canonical graph, no block that is empty with Fall, and blocks that are led as in the fallen one
+  pub joined_is : (w d : Graph) → IsGraph d → canonical_of d ≡ canonical_of w → AreSolidBut (λ n. false) d → ((leads : ℕ → Bool) → AreLed leads (fallen (carried g from to)) → AreLed leads d) → canonical_of w ≡ joined_before_each seams d
+  joined_is w d d_rules same solid leds = sym same ∙ canonical_before seams d d_rules solid (leds (is_among seams) led)
 
 -- ONE BLOCK
 

@@ -12,7 +12,7 @@ use Rattle.sq_graph.specs.Terms.{goes_on}
 use Rattle.sq_graph.specs.Words.{term_words, block_words}
 use Rattle.sq_layout.specs.Weights.{address_by}
 use Rattle.sq_layout.proofs.Shrinking.{some_is}
-use Rattle.sq_chain.specs.Seams.{IsShifted}
+use Rattle.sq_chain.specs.Seams.{size, IsShifted}
 use Rattle.sq_chain.specs.declared.seams.Seams.{Seams}
 use Rattle.sq_chain.proofs.Reordered.{Stops, apart_from, some_or_none}
 
@@ -20,9 +20,6 @@ use Rattle.sq_chain.proofs.Reordered.{Stops, apart_from, some_or_none}
 abbrev pub stands : List (ℕ × Block) → ℕ → ℕ → Option ℕ
 stands [] at n = None
 stands (e ∷ es) at n = if e.0 == n then Some at else stands es (at + 4 * block_words e.1) n
-
-abbrev pub size : List (ℕ × Block) → ℕ
-size es = sum_by (λ (e : ℕ × Block). block_words e.1) es
 
 pub stands_named : (bs : List Block) (at n : ℕ) → address_by block_words bs at n ≡ stands (named bs) at n
 stands_named [] at n = refl

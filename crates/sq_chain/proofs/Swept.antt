@@ -1,44 +1,16 @@
 -- A chain that has moved in a graph that was made canonical then.
-use Rattle.std.proofs.Common.{◌≡◌, ℕ, ◌+◌, ◌-◌, ◌≤◌, refl, sym, ap, ◌∙◌, subst, arith}
+use Rattle.std.proofs.Common.{◌≡◌, ℕ, ◌-◌, ◌≤◌, refl, sym, ap, ◌∙◌, subst, arith}
 use Rattle.sq_num.specs.declared.packed.Savings.{Savings}
-use Rattle.sq_graph.specs.Canonical.{canonical_of}
 use Rattle.sq_graph.specs.Graph.{Graph}
 use Rattle.sq_graph.specs.Leaders.{IsCanonical}
-use Rattle.sq_graph.specs.Places.{IsInReach}
-use Rattle.sq_graph.specs.Rules.{IsGraph}
 use Rattle.sq_graph.specs.Words.{words_of}
 use Rattle.sq_graph.proofs.CanonicalLaws.{canonical_is_canonical, canonical_keeps_words}
 use Rattle.law_follow.specs.Follows.{Follows}
 use Rattle.sq_pass.specs.declared.cut.Row.TheVariants.{L}
 use Rattle.sq_pass.specs.Counted.{counted}
 use Rattle.sq_pass.specs.Rewrites.{IsRewritten}
-use Rattle.sq_chain.specs.Moves.{IsMovable, fallen, carried}
 use Rattle.sq_chain.specs.Candidates.{IsCandidate, described, IsSwept}
-use Rattle.sq_chain.proofs.Lighter.{fallen_most}
-use Rattle.sq_chain.proofs.Moved.{near_saves, near_applied, move_lighter, move_rewritten}
-
--- where each Branch reaches
-pub swept_near : (g new : Graph) (from to : ℕ) → IsGraph g → IsMovable g from to → IsInReach (fallen (carried g from to)) → new ≡ canonical_of (fallen (carried g from to)) → IsSwept g new
-swept_near g new from to rules movable near is =
-    let u = carried g from to in
-    let saved = words_of u - words_of (fallen u) in
-    let words : words_of (fallen u) + saved ≡ words_of u = omega (arith, fallen_most (carried g from to).blocks) in
-    record {
-      mid = fallen u;
-      moved =
-          record {
-            from = from;
-            to = to;
-            moved =
-                record {
-                  movable = movable;
-                  saving = saved;
-                  some = near_saves g u from to rules movable refl near (fallen u) saved refl words;
-                  applied = near_applied g u from to rules movable refl near (fallen u) saved refl words;
-                };
-          };
-      is = is;
-    }
+use Rattle.sq_chain.proofs.Moved.{move_lighter, move_rewritten}
 
 module _ (old new : Graph) (s : IsSwept old new) where
   swept_canonical : IsCanonical new

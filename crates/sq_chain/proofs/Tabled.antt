@@ -1,14 +1,13 @@
 -- Tables of where blocks stand: one more is put there, one goes, and all are moved.
-use Rattle.std.proofs.Common.{◌≡◌, ◌≢◌, ℕ, zero, suc, ◌-◌, ◌*◌, ◌≤◌, ◌<◌, ◌==◌, nat_eq, true, false, if◌then◌else◌, List, [], ◌∷◌, map, length, get_or, set, None, Some, inl, inr, refl, sym, ap, ◌∙◌, arith}
+use Rattle.std.proofs.Common.{◌≡◌, ◌≢◌, ℕ, zero, suc, ◌+◌, ◌*◌, ◌≤◌, ◌<◌, ◌==◌, nat_eq, true, false, if◌then◌else◌, List, [], ◌∷◌, map, length, get_or, set, None, Some, inl, inr, refl, sym, ap, ◌∙◌, arith}
 use Rattle.std.specs.Prelude.{option_map, nat_lt}
 use Rattle.std.specs.Map.{update}
 use Rattle.std.proofs.lemmas.Bool.{cases_Bool, cases_lt, lt-ltb, le-ltb, ltb-true, ltb-false, eqb-true, eqb-false}
 use Rattle.sq_lookup.specs.declared.parts.Pieces.{Pieces}
 use Rattle.sq_lookup.specs.Exchanging.{AreInOrder, exchanged_word}
-use Rattle.sq_lookup.specs.Lowering.{nowhere, lowered_word}
-use Rattle.sq_lookup.proofs.Exchanging.{stays_behind}
+use Rattle.sq_lookup.specs.Lowering.{nowhere, lowered_word, raised_word}
 use Rattle.sq_chain.specs.Places.{address_behind, placed_at}
-use Rattle.sq_chain.specs.Shifts.{exchanged_to, lowered_to}
+use Rattle.sq_chain.specs.Shifts.{exchanged_to, lowered_to, raised_to}
 use Rattle.sq_chain.specs.declared.seams.Seams.{Seams}
 
 -- an address is that behind so many words
@@ -111,7 +110,42 @@ lowered_at start t n = mapped_at (lowered_word start) (lowered_to (4 * start)) s
               rw (here, after, after') (there, refl)
         ]
 
+-- A WORD MORE
+
+pub raised_at : (start : ℕ) (t : List ℕ) (n : ℕ) → ((at : ℕ) → placed_at t n ≡ Some at → at + 4 < 4 * nowhere) → placed_at (map (raised_word start) t) n ≡ option_map (raised_to (4 * start)) (placed_at t n)
+raised_at start t n few = ap address_behind (mapped_read (raised_word start) t n (stays nowhere (omega arith))) ∙ by_words (get_or t n nowhere) few
+  where
+    stays : (w : ℕ) → nowhere ≤ w → raised_word start w ≡ w
+    stays w far = let none = le-ltb w nowhere far in rw none refl
+
+    by_words : (w : ℕ) → ((at : ℕ) → address_behind w ≡ Some at → at + 4 < 4 * nowhere) → address_behind (raised_word start w) ≡ option_map (raised_to (4 * start)) (address_behind w)
+    by_words w few =
+        elim (cases_lt w nowhere) [
+          | inl there ↦
+              let here = lt-ltb w nowhere there in
+              let small = few (4 * w) (behind_there w there) in
+              elim (cases_lt start w) [
+                | inl before ↦
+                    let less = lt-ltb start w before in
+                    let less' : nat_lt (4 * start) (4 * w) ≡ true = lt-ltb (4 * start) (4 * w) (omega (arith, before)) in
+                    let more : nat_lt (w + 1) nowhere ≡ true = lt-ltb (w + 1) nowhere (omega (arith, small)) in
+                    rw (here, less, less', more) (ap Some (omega arith))
+                | inr after ↦
+                    let not : nat_lt start w ≡ false = le-ltb start w after in
+                    let not' : nat_lt (4 * start) (4 * w) ≡ false = le-ltb (4 * start) (4 * w) (omega (arith, after)) in
+                    rw (here, not, not', here) refl
+              ]
+          | inr none ↦ let far = le-ltb w nowhere none in ap address_behind (stays w none) ∙ rw far refl
+        ]
+
 -- AN EXCHANGE
+
+stays_behind : (pieces : Pieces) (words : ℕ) → AreInOrder pieces → pieces.end ≤ words → exchanged_word pieces words ≡ words
+stays_behind pieces words order behind =
+    let first : nat_lt words pieces.first ≡ false = le-ltb words pieces.first (omega (arith, behind, order.first, order.second)) in
+    let second : nat_lt words pieces.second ≡ false = le-ltb words pieces.second (omega (arith, behind, order.second)) in
+    let end : nat_lt words pieces.end ≡ false = le-ltb words pieces.end (omega (arith, behind)) in
+    rw (first, second, end) refl
 
 module _ (pieces : Pieces) (seams : Seams) (order : AreInOrder pieces) (few : pieces.end ≤ nowhere) (first : 4 * pieces.first ≡ seams.first) (second : 4 * pieces.second ≡ seams.second) (end : 4 * pieces.end ≡ seams.end) where
   scaled : (w : ℕ) → w < nowhere → (exchanged_word pieces w < nowhere) × (4 * exchanged_word pieces w ≡ exchanged_to seams (4 * w))

@@ -5,6 +5,8 @@ pub mod Surveys
 pub mod Moves
 pub mod Seams
 pub mod Shifts
+pub mod Settled
+pub mod Tests
 pub mod Places
 pub mod Around
 pub mod Candidates

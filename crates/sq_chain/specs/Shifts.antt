@@ -19,3 +19,7 @@ exchanged_to seams at =
 -- once the word at another address is gone
 abbrev pub lowered_to : ℕ → ℕ → ℕ
 lowered_to start at = if nat_lt start at then at - 4 else at
+
+-- once there is a word more behind another address, in a block that stands there
+abbrev pub raised_to : ℕ → ℕ → ℕ
+raised_to start at = if nat_lt start at then at + 4 else at

@@ -107,7 +107,7 @@ pub(crate) fn move_by(
             Ok(true)
         }
         Outlook::Still => Ok(false),
-        Outlook::Unsure => move_wide(alloc, graph, from, to),
+        Outlook::Wide(_) | Outlook::Unsure => move_wide(alloc, graph, from, to),
     }
 }
 

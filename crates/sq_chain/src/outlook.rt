@@ -1,18 +1,21 @@
 //! What a move comes to, as one look tells at the blocks in the order that they would have.
 
-ghost use Rattle.std.specs.Prelude.{◌≡◌, ◌≤◌, Ok};
+ghost use Rattle.std.specs.Prelude.{◌≡◌, ◌≢◌, ◌≤◌, Ok};
 ghost use Rattle.sq_graph.specs.Graph.{Graph as Parts};
 ghost use Rattle.sq_graph.specs.Places.{IsInReach};
 ghost use Rattle.sq_graph.specs.Words.{words_of};
 ghost use Rattle.sq_chain.specs.Least.{least_widened};
 ghost use Rattle.sq_chain.specs.Moves.{IsMovable, fallen, carried, moved};
 ghost use Rattle.sq_chain.specs.Surveys.{AreBelow, IsLaidOut, IsSurvey};
-ghost use Rattle.sq_chain.specs.declared.outlook.Outlook.TheVariants.{Near, Still};
+ghost use Rattle.sq_chain.specs.Settled.{IsLeastWide};
+ghost use Rattle.sq_chain.specs.declared.shift.Wide.{Wide as Branches};
+ghost use Rattle.sq_chain.specs.declared.outlook.Outlook.TheVariants.{Near, Still, Wide as Few};
 
 use crate::counting::count_short;
+use crate::looks::outlook_at_seams;
 use crate::order::carried_extents;
 use crate::placing::fallen_addresses;
-use crate::seams::outlook_at_seams;
+use crate::shift::Wide;
 use crate::survey::{Extent, Survey, listing_of, room_for};
 use sq_graph::Graph;
 use sq_num::Memory;
@@ -23,6 +26,8 @@ use std::alloc::Global;
 pub(crate) enum Outlook {
     /// Each Branch reaches.
     Near,
+    /// Branches are to be widened, fewer than words are saved, and these are all.
+    Wide(Wide),
     /// It saves no word.
     Still,
     /// There are Branches to be widened, but maybe fewer than words are saved.
@@ -36,6 +41,7 @@ fn ordered_outlook(alloc: Global, names: usize, order: &[Extent]) -> Result<Outl
     requires { (h : Parts) × IsLaidOut h order.now × AreBelow names h }
     ensures near { result ≡ Ok Near → (h : Parts) → IsLaidOut h order.now → AreBelow names h → IsInReach (fallen h) }
     ensures still { result ≡ Ok Still → (h : Parts) → IsLaidOut h order.now → AreBelow names h → words_of h ≤ words_of (least_widened (fallen h)) }
+    ensures few { (wide : Branches) → result ≢ Ok (Few wide) }
 {
     let addresses = room_for(alloc, names)?;
     let they = fallen_addresses(addresses, order);
@@ -61,6 +67,7 @@ pub(crate) fn outlook_of(
     requires survey { IsSurvey graph.now.graph survey.now }
     ensures near { result ≡ Ok Near → IsInReach (fallen (carried graph.now.graph from to)) }
     ensures still { result ≡ Ok Still → words_of graph.now.graph ≤ words_of (moved graph.now.graph from to) }
+    ensures few { (wide : Branches) → result ≡ Ok (Few wide) → IsLeastWide graph.now.graph (fallen (carried graph.now.graph from to)) wide }
 {
     graph.learn();
     let seen = outlook_at_seams(graph, survey, from, to);

@@ -10,7 +10,7 @@ ghost use Rattle.sq_lookup.specs.Addresses.{address_at};
 ghost use Rattle.sq_lookup.specs.Lowering.{nowhere};
 ghost use Rattle.sq_chain.specs.Places.{placed_at};
 ghost use Rattle.sq_chain.specs.Moves.{JumpsTo, fallen_blocks, fallen};
-ghost use Rattle.sq_chain.specs.Shifts.{AreWhole, exchanged_to, lowered_to};
+ghost use Rattle.sq_chain.specs.Shifts.{AreWhole, exchanged_to, lowered_to, raised_to};
 ghost use Rattle.sq_chain.specs.Surveys.{extent_of, IsRoom, IsLaidOut};
 
 use crate::seams::Seams;
@@ -54,7 +54,7 @@ fn fall_of(extent: Extent, next: Option<u32>) -> u32
 }
 
 /// Puts a block under a name for which there is room, with so many words before it.
-fn put(addresses: &mut WordsBefore, name: u32, words: u32)
+pub(crate) fn put(addresses: &mut WordsBefore, name: u32, words: u32)
     requires within { name < length addresses.old }
     requires there { words < nowhere }
     ensures length { length addresses.new ≡ length addresses.old }
@@ -117,6 +117,15 @@ pub(crate) fn lower_behind(addresses: &mut WordsBefore, start: u32)
     ensures { (n : ℕ) → placed_at addresses.new n ≡ option_map (lowered_to (4 * start)) (placed_at addresses.old n) }
 {
     addresses.lower_behind(start);
+}
+
+/// Raises each address behind this word by one.
+pub(crate) fn raise_behind(addresses: &mut WordsBefore, start: u32)
+    requires { (n at : ℕ) → placed_at addresses.old n ≡ Some at → at + 4 < 4 * nowhere }
+    ensures length { length addresses.new ≡ length addresses.old }
+    ensures raised { (n : ℕ) → placed_at addresses.new n ≡ option_map (raised_to (4 * start)) (placed_at addresses.old n) }
+{
+    addresses.raise_behind(start);
 }
 
 /// Takes out the address under a name.

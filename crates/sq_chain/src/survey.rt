@@ -9,11 +9,15 @@ ghost use Rattle.sq_chain.specs.Places.{placed_at};
 ghost use Rattle.sq_chain.specs.Surveys.{extent_of, extents_of, IsSurvey};
 
 use crate::counting::count_short;
+use crate::jumps::{Jumps, jumps_of};
 use crate::placing::fallen_addresses;
 use sq_graph::{Graph, Term};
 use sq_lookup::WordsBefore;
 use sq_num::Memory;
 use std::alloc::Global;
+
+/// For the names of so many blocks to come there is room.
+const MORE: usize = 1024;
 
 /// A block's name, how many words it takes, and its term.
 #[derive(Clone, Copy, Debug, PartialEq, Eq)]
@@ -23,11 +27,13 @@ pub(crate) struct Extent {
     pub term: Term,
 }
 
-/// Where the blocks of a graph stand, by their names, and how many words the graph takes.
+/// Where the blocks of a graph stand, by their names, how many words the graph takes, and which blocks jump to each name
+/// or call it.
 #[derive(Drop)]
 pub(crate) struct Places {
     pub addresses: WordsBefore,
     pub words: u32,
+    pub jumps: Jumps,
 }
 
 /// What is known of a graph: a number that is greater than each name of a block, where the blocks stand once each Jump to the
@@ -49,7 +55,7 @@ pub(crate) struct Listing {
 }
 
 /// The block of this name, by its slot alone: the length there is that of its items.
-fn extent_of(graph: &Graph, block: u32) -> Extent
+pub(crate) fn extent_of(graph: &Graph, block: u32) -> Extent
     requires few { words_of graph.now.graph < 2 ^ 31 }
     requires block { HasBlock graph.now.graph block }
     ensures { option_map extent_of (block_of graph.now.graph block) ≡ Some result }
@@ -115,20 +121,30 @@ pub(crate) fn room_for(alloc: Global, names: usize) -> Result<WordsBefore, Memor
     WordsBefore::new(alloc, names)
 }
 
+/// The same, and under names of blocks to come.
+fn room_to_come(alloc: Global, names: usize) -> Result<WordsBefore, Memory>
+    ensures within { IfOk result (λ room. names ≤ length room) }
+    ensures none { IfOk result (λ room. (n : ℕ) → placed_at room n ≡ None) }
+{
+    room_for(alloc, names.saturating_add(MORE))
+}
+
 /// The survey of a graph, by one walk over the blocks and two looks at their listing.
 pub(crate) fn survey_of(alloc: Global, graph: &Graph) -> Result<Survey, Memory>
     ensures { IfOk result (λ survey. IsSurvey graph.now.graph survey) }
 {
     graph.learn();
     let listing = listing_of(alloc, graph)?;
-    let room = room_for(alloc, listing.names)?;
+    let room = room_to_come(alloc, listing.names)?;
     let fallen = fallen_addresses(room, &listing.extents);
     let near = count_short(&fallen.addresses, &listing.extents, 1) == 0;
+    let jumps = jumps_of(alloc, &listing.extents, fallen.addresses.names())?;
     Ok(Survey {
         names: listing.names,
         places: Places {
             addresses: fallen.addresses,
             words: listing.words + words_of_procedures(graph),
+            jumps,
         },
         falls: fallen.falls,
         near,

@@ -1,23 +1,23 @@
 //! Moves many chains by one look over the blocks.
 
-ghost use Rattle.std.specs.Prelude.{◌≡◌, ◌≤◌, ◌+◌, true, false, length, Ok, IfOk, OnOk};
+ghost use Rattle.std.specs.Prelude.{◌≡◌, ◌≤◌, ◌+◌, true, false, length, Ok, IfOk, IfSome, OnOk};
 ghost use Rattle.sq_num.specs.Saved.{words_saved};
 ghost use Rattle.sq_graph.specs.Leaders.{IsCanonical};
-ghost use Rattle.sq_graph.specs.Places.{IsInReach};
 ghost use Rattle.sq_graph.specs.Words.{words_of, most_words};
 ghost use Rattle.law_follow.specs.Follows.{Follows};
 ghost use Rattle.sq_pass.specs.Rewrites.{IsRewritten};
 ghost use Rattle.sq_chain.specs.Candidates.{IsCandidate, described, IsSwept};
 ghost use Rattle.sq_chain.specs.Moves.{IsMovable, fallen, carried};
+ghost use Rattle.sq_chain.specs.Settled.{IsLeastWide, Widens};
 ghost use Rattle.sq_chain.specs.Surveys.{IsSurvey};
 ghost use Rattle.sq_lookup.specs.Counts.{AreUses, AreKnown};
-ghost use Rattle.sq_chain.specs.declared.outlook.Outlook.TheVariants.{Near};
 
 use crate::local::carry_joined;
 use crate::moving::{movable_target, move_by};
 use crate::outlook::{Outlook, outlook_of};
+use crate::shift::Wide;
 use crate::survey::{Survey, survey_of};
-use sq_graph::Graph;
+use sq_graph::{Graph, Room};
 use sq_live::block_names;
 use sq_lookup::{Uses, WordsBefore, uses_of};
 use sq_num::{Memory, Savings};
@@ -47,13 +47,22 @@ pub trait Watch {
     ) -> Result<bool, Memory>;
 }
 
-/// Whether a move that comes to this is made at its seams alone, where so many blocks jump to the next slot before.
-fn is_local(outlook: Outlook, falls: u32) -> bool
-    ensures { result ≡ true → (outlook ≡ Near) × (falls ≡ 0) }
+/// The Branches that are widened by a move that comes to this, where it is made at its seams alone, and so many blocks jump to the
+/// next slot before.
+fn local_wide(outlook: Outlook, falls: u32) -> Option<Wide>
+    ensures stays { IfSome result (λ wide. falls ≡ 0) }
+    ensures wide { IfSome result (λ wide. Widens outlook wide) }
 {
+    if falls != 0 {
+        return None;
+    }
     match outlook {
-        Outlook::Near => falls == 0,
-        Outlook::Still | Outlook::Unsure => false,
+        Outlook::Near => Some(Wide {
+            one: None,
+            other: None,
+        }),
+        Outlook::Wide(wide) => Some(wide),
+        Outlook::Still | Outlook::Unsure => None,
     }
 }
 
@@ -68,19 +77,21 @@ fn known_uses(alloc: Global, graph: &Graph, uses: Option<Uses>) -> Result<Uses, 
     }
 }
 
-/// Moves the chain of `to` behind `from` and makes the graph canonical, by a look at the seams of the move alone, or where that
-/// leaves a block empty whose name is used far away by looks at all.
+/// Moves the chain of `to` behind `from`, widens these Branches and makes the graph canonical, by a look at the seams of the move
+/// alone, or where that isn't enough by looks at all.
 fn sweep_near(
     alloc: Global,
     graph: &mut Graph,
     view: &mut Survey,
     uses: &mut Option<Uses>,
+    wide: Wide,
     from: u32,
     to: u32,
 ) -> Result<(), Memory>
     requires movable { IsMovable graph.old.graph from to }
     requires canonical { IsCanonical graph.old.graph }
-    requires near { IsInReach (fallen (carried graph.old.graph from to)) }
+    requires blocks { length graph.old.graph.blocks ≤ 16777216 }
+    requires wide { IsLeastWide graph.old.graph (fallen (carried graph.old.graph from to)) wide }
     requires survey { IsSurvey graph.old.graph view.old }
     requires stays { view.old.falls ≡ 0 }
     requires uses { AreKnown graph.old.graph uses.old }
@@ -91,8 +102,15 @@ fn sweep_near(
 {
     graph.learn();
     let mut they = known_uses(alloc, graph, uses.take())?;
-    if carry_joined(graph, &mut they, &mut view.places, from, to) {
+    graph.loosen()?;
+    graph.reserve(Room {
+        blocks: 2,
+        items: 0,
+        procedures: 0,
+    })?;
+    if carry_joined(graph, &mut they, &mut view.places, wide, from, to) {
         *uses = Some(they);
+        view.names = view.places.addresses.names();
         view.near = true;
     } else {
         *view = survey_of(alloc, graph)?;
@@ -100,8 +118,8 @@ fn sweep_near(
     Ok(())
 }
 
-/// Moves the chain of `to` behind `from`, where that saves words, and makes the graph canonical then. Where each Branch reaches
-/// and no block jumps to its next slot before, it looks at the seams of the move alone.
+/// Moves the chain of `to` behind `from`, where that saves words, and makes the graph canonical then. Where a few Branches are
+/// widened at most and no block jumps to its next slot before, it looks at the seams of the move alone.
 fn sweep_chain(
     alloc: Global,
     graph: &mut Graph,
@@ -121,9 +139,10 @@ fn sweep_chain(
     ensures uses { OnOk result (AreKnown graph.new.graph uses.new) }
     ensures follows { Follows graph.old.graph graph.new.graph }
 {
+    graph.learn();
     let outlook = outlook_of(alloc, graph, view, from, to)?;
-    if is_local(outlook, view.falls) {
-        sweep_near(alloc, graph, view, uses, from, to)?;
+    if let Some(wide) = local_wide(outlook, view.falls) {
+        sweep_near(alloc, graph, view, uses, wide, from, to)?;
         return Ok(true);
     }
     if !move_by(alloc, graph, outlook, from, to)? {

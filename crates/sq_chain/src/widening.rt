@@ -7,8 +7,10 @@
 //!              t: ..                      ..
 //!                                         t: ..
 
-ghost use Rattle.std.specs.Prelude.{◌≡◌, ℕ, ◌≤◌, ◌<◌, ◌+◌, true, length, IfOk, OnOk, OnErr};
+ghost use Rattle.std.specs.Prelude.{◌≡◌, ℕ, ◌≤◌, ◌<◌, ◌+◌, true, length, Some, IfOk, OnOk, OnErr};
 ghost use Rattle.sq_graph.specs.Alike.{AreAlike};
+ghost use Rattle.sq_graph.specs.Blocks.{next_of};
+ghost use Rattle.sq_graph.specs.Operations.{IsNew, changed};
 ghost use Rattle.sq_graph.specs.Parts.{names_of};
 ghost use Rattle.sq_graph.specs.Places.{IsInReach};
 ghost use Rattle.sq_graph.specs.Soundness.{IsSound};
@@ -16,7 +18,7 @@ ghost use Rattle.sq_graph.specs.Words.{words_of};
 ghost use Rattle.law_follow.specs.Follows.{Follows};
 ghost use Rattle.sq_lookup.specs.Names.{is_listed};
 ghost use Rattle.sq_pass.specs.Applied.{KeepsNames};
-ghost use Rattle.sq_chain.specs.Widening.{EndsInBranch, IsOneWider, size_of, IsWidened};
+ghost use Rattle.sq_chain.specs.Widening.{EndsInBranch, over_jump, IsOneWider, size_of, IsWidened};
 ghost use Rattle.sq_chain.specs.Least.{least, least_widened};
 
 use crate::least::least_widening;
@@ -41,21 +43,20 @@ fn size_of(graph: &Graph, names: &[u32], wide: &Names) -> u32
     size
 }
 
-/// Inverts the Branch of the block, over a new lone Jump block to its target.
-fn widen_one(graph: &mut Graph, block: u32)
+/// Inverts the Branch of the block, to this next slot, over a new lone Jump block to its target. The answer is that one's name.
+pub(crate) fn jump_over(graph: &mut Graph, block: u32, next: u32) -> u32
     requires branch { EndsInBranch graph.old.graph block }
+    requires slot { next_of graph.old.graph block ≡ Some next }
     requires spare { 0 < graph.old.spare.blocks }
-    ensures wider { IsOneWider graph.old.graph graph.new.graph block }
+    ensures new { IsNew graph.old.graph result }
+    ensures graph { graph.new.graph ≡ changed (over_jump result next) graph.old.graph block }
     ensures spare { graph.new.spare.blocks + 1 ≡ graph.old.spare.blocks }
 {
     graph.learn();
     let Term::Branch { cond, a, b, to } = graph.term(block) else {
         unreachable!()
     };
-    let Some(next) = graph.next(block) else {
-        unreachable!()
-    };
-    graph.insert_after(block, Term::Jump { to });
+    let new = graph.insert_after(block, Term::Jump { to });
     let cond = inverse(cond);
     graph.set_term(
         block,
@@ -66,6 +67,21 @@ fn widen_one(graph: &mut Graph, block: u32)
             to: next,
         },
     );
+    new
+}
+
+/// The same for the Branch of the block, whatever its next slot is.
+pub(crate) fn widen_one(graph: &mut Graph, block: u32)
+    requires branch { EndsInBranch graph.old.graph block }
+    requires spare { 0 < graph.old.spare.blocks }
+    ensures wider { IsOneWider graph.old.graph graph.new.graph block }
+    ensures spare { graph.new.spare.blocks + 1 ≡ graph.old.spare.blocks }
+{
+    graph.learn();
+    let Some(next) = graph.next(block) else {
+        unreachable!()
+    };
+    jump_over(graph, block, next);
 }
 
 /// The same for each Branch in the set.

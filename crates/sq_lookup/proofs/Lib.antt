@@ -9,5 +9,7 @@ pub mod Adding
 pub mod Previous
 pub mod Counting
 pub mod JoiningBefore
-pub mod Lowering
-pub mod Exchanging
+pub mod Moving
+pub mod Placing
+pub mod Splitting
+pub mod Viewing

@@ -5,3 +5,5 @@ pub mod Addresses
 pub mod Counts
 pub mod Lowering
 pub mod Exchanging
+pub mod Shifting
+pub mod Standing

@@ -9,12 +9,15 @@
 mod addresses;
 mod blocks;
 mod counts;
+mod gathering;
 mod lone_jumps;
 mod names;
 mod parts;
+mod places;
 mod reach;
 mod resolutions;
 mod table;
+mod text;
 mod uses;
 mod words_before;
 

@@ -1,17 +1,12 @@
-//! How many words are before the blocks of 256 names in a row.
+//! Pieces of the text, and where two of them change places.
 
-ghost use Rattle.std.specs.Prelude.{◌≡◌, ℕ, map};
-ghost use Rattle.std.specs.List.{All};
+ghost use Rattle.std.specs.Prelude.{◌≡◌, ◌%◌, ◌+◌, ◌<◌, ◌≤◌, ◌^◌, ℕ, IfSome};
 ghost use Rattle.sq_lookup.specs.Exchanging.{AreInOrder, exchanged_word};
-ghost use Rattle.sq_lookup.specs.Lowering.{fewer, lowered_word, IsBetween};
-
-use std::marker::Model;
+ghost use Rattle.sq_lookup.specs.Lowering.{nowhere, lowered_word, raised_word};
+ghost use Rattle.sq_lookup.specs.Shifting.{changed_word, IsRight, IsBetween, IsShift, shifted_word};
 
 /// What stands under a name of no block.
 pub const NOWHERE: u32 = u32::MAX;
-
-/// How many names a part has.
-pub(crate) const NAMES: usize = 256;
 
 /// Two pieces of a text that follow each other: how many words are before the first, before the second, and up to its end.
 #[derive(Clone, Copy, Debug, PartialEq, Eq)]
@@ -23,19 +18,33 @@ pub struct Pieces {
 
 /// How many words are before each block at least and at most.
 #[derive(Clone, Copy, Debug, PartialEq, Eq)]
-struct Bounds {
-    least: u32,
-    most: u32,
+pub(crate) struct Bounds {
+    pub least: u32,
+    pub most: u32,
 }
 
-/// How many words are before a block once so many of them are gone.
-fn fewer(late: u32, words: u32) -> u32
-    ensures { result ≡ fewer late words }
+/// The bounds of nothing.
+pub(crate) const NONE: Bounds = Bounds {
+    least: NOWHERE,
+    most: 0,
+};
+
+/// What happens to a text: the word behind the first so many goes, one comes there, or two pieces change places.
+#[derive(Clone, Copy, Debug, PartialEq, Eq)]
+pub(crate) enum Change {
+    Lower(u32),
+    Raise(u32),
+    Exchange(Pieces),
+}
+
+/// How many words are before a block once its part is shifted by so many, around 2^32.
+pub(crate) fn shifted(shift: u32, words: u32) -> u32
+    ensures { result ≡ shifted_word shift words }
 {
     if words == NOWHERE {
         NOWHERE
     } else {
-        words.saturating_sub(late)
+        words.wrapping_add(shift)
     }
 }
 
@@ -50,12 +59,14 @@ fn lowered(start: u32, words: u32) -> u32
     }
 }
 
-/// Takes off from each what is late, and then the word behind `start`.
-fn lower_each(words: &mut [u32; 256], late: u32, start: u32)
-    ensures { words.new ≡ map (λ w. lowered_word start (fewer late w)) words.old }
+/// How many words are before what so many are before, once there is one more behind `start` of them.
+fn raised(start: u32, words: u32) -> u32
+    ensures { result ≡ raised_word start words }
 {
-    for place in words.iter_mut() {
-        *place = lowered(start, fewer(late, *place));
+    if words < NOWHERE && start < words {
+        words + 1
+    } else {
+        words
     }
 }
 
@@ -73,139 +84,79 @@ fn exchanged(pieces: Pieces, words: u32) -> u32
     }
 }
 
-/// Takes off from each what is late, and then exchanges the pieces.
-fn exchange_each(words: &mut [u32; 256], late: u32, pieces: Pieces)
+/// How many words are before what so many are before, once the text is changed.
+pub(crate) fn changed(change: Change, words: u32) -> u32
+    requires { IsRight change }
+    ensures { result ≡ changed_word change words }
+{
+    match change {
+        Change::Lower(start) => lowered(start, words),
+        Change::Raise(start) => raised(start, words),
+        Change::Exchange(pieces) => exchanged(pieces, words),
+    }
+}
+
+/// By how much all that is within the bounds is lowered, if that is the same for all.
+fn lowering(start: u32, bounds: Bounds) -> Option<u32>
+    ensures { IfSome result (λ s. IsShift (lowered_word start) bounds s) }
+{
+    if bounds.most <= start {
+        Some(0)
+    } else if start < bounds.least && bounds.most < NOWHERE {
+        Some(u32::MAX)
+    } else {
+        None
+    }
+}
+
+/// By how much all that is within the bounds is raised, if that is the same for all.
+fn raising(start: u32, bounds: Bounds) -> Option<u32>
+    ensures { IfSome result (λ s. IsShift (raised_word start) bounds s) }
+{
+    if bounds.most <= start {
+        Some(0)
+    } else if start < bounds.least && bounds.most < NOWHERE {
+        Some(1)
+    } else {
+        None
+    }
+}
+
+/// By how much all that is within the bounds is moved, if that is the same for all.
+fn exchanging(pieces: Pieces, bounds: Bounds) -> Option<u32>
     requires { AreInOrder pieces }
-    ensures { words.new ≡ map (λ w. exchanged_word pieces (fewer late w)) words.old }
+    ensures { IfSome result (λ s. IsShift (exchanged_word pieces) bounds s) }
 {
-    for place in words.iter_mut() {
-        *place = exchanged(pieces, fewer(late, *place));
+    if bounds.most < pieces.first || pieces.end <= bounds.least {
+        Some(0)
+    } else if pieces.first <= bounds.least && bounds.most < pieces.second {
+        Some(pieces.end - pieces.second)
+    } else if pieces.second <= bounds.least && bounds.most < pieces.end {
+        Some(0_u32.wrapping_sub(pieces.second - pieces.first))
+    } else {
+        None
     }
 }
 
-/// Takes off from each what is late.
-fn settle(words: &mut [u32; 256], late: u32)
-    ensures { words.new ≡ map (fewer late) words.old }
+/// By how much all that is within the bounds is moved, if that is the same for all.
+pub(crate) fn shift_of(change: Change, bounds: Bounds) -> Option<u32>
+    requires { IsRight change }
+    ensures { IfSome result (λ s. IsShift (changed_word change) bounds s) }
 {
-    if late != 0 {
-        // Nothing is behind there.
-        lower_each(words, late, NOWHERE);
+    match change {
+        Change::Lower(start) => lowering(start, bounds),
+        Change::Raise(start) => raising(start, bounds),
+        Change::Exchange(pieces) => exchanging(pieces, bounds),
     }
 }
 
-/// The bounds of nothing.
-const NONE: Bounds = Bounds {
-    least: NOWHERE,
-    most: 0,
-};
-
-/// The bounds of what these bound once so many words are gone, and of this.
-fn widened(bounds: Bounds, late: u32, words: u32) -> Bounds
-    ensures old { (w : ℕ) → IsBetween bounds w → IsBetween result (fewer late w) }
+/// The bounds of what these bound, and of this.
+pub(crate) fn widened(bounds: Bounds, words: u32) -> Bounds
+    ensures old { (w : ℕ) → IsBetween bounds w → IsBetween result w }
     ensures new { IsBetween result words }
 {
-    let most = if words == NOWHERE { 0 } else { words };
     Bounds {
-        least: bounds.least.saturating_sub(late).min(words),
-        most: bounds.most.saturating_sub(late).max(most),
-    }
-}
-
-/// How many words are before each block at least and at most.
-fn bounds_of(words: &[u32; 256]) -> Bounds
-    ensures { All (IsBetween result) words.now }
-{
-    let mut bounds = NONE;
-    for place in words {
-        bounds = widened(bounds, 0, *place);
-    }
-    bounds
-}
-
-/// How many words are before the blocks of 256 names in a row. Where all come to have one less before them it only counts that.
-#[derive(Drop)]
-pub(crate) struct Part {
-    words: [u32; 256],
-    // Each has so many less before it than stands there.
-    late: u32,
-    // Of what stands there.
-    bounds: Bounds,
-}
-
-impl Model for Part {
-    ghost use Rattle.std.specs.Prelude.{ℕ, List, map};
-    ghost use Rattle.std.specs.List.{All};
-    ghost use Rattle.sq_lookup.specs.Lowering.{fewer, IsBetween};
-
-    ghost Value = { List ℕ };
-
-    ghost view = { λ p. map (fewer p.late) p.words };
-
-    ghost invariant = { λ p. All (IsBetween p.bounds) p.words };
-}
-
-impl Part {
-    ghost use Rattle.std.specs.Prelude.{◌≡◌, ◌<◌, get_or, map, replicate, set};
-    ghost use Rattle.sq_lookup.specs.Exchanging.{AreInOrder, exchanged_word};
-    ghost use Rattle.sq_lookup.specs.Lowering.{nowhere, lowered_word};
-
-    /// No blocks.
-    pub(crate) fn none() -> Part
-        ensures { result ≡ replicate 256 nowhere }
-    {
-        Part {
-            words: [NOWHERE; 256],
-            late: 0,
-            bounds: NONE,
-        }
-    }
-
-    pub(crate) fn get(&self, at: usize) -> u32
-        requires { at < 256 }
-        ensures { result ≡ get_or self.now at nowhere }
-    {
-        fewer(self.late, self.words[at])
-    }
-
-    pub(crate) fn put(&mut self, at: usize, words: u32)
-        requires { at < 256 }
-        ensures { self.new ≡ set self.old at words }
-    {
-        settle(&mut self.words, self.late);
-        self.words[at] = words;
-        self.bounds = widened(self.bounds, self.late, words);
-        self.late = 0;
-    }
-
-    /// Takes one from all that have more than `start` words before them.
-    pub(crate) fn lower_behind(&mut self, start: u32)
-        ensures { self.new ≡ map (lowered_word start) self.old }
-    {
-        if self.bounds.most.saturating_sub(self.late) <= start {
-            return;
-        }
-        if start < self.bounds.least.saturating_sub(self.late) {
-            self.late += 1;
-            return;
-        }
-        lower_each(&mut self.words, self.late, start);
-        self.late = 0;
-        self.bounds = bounds_of(&self.words);
-    }
-
-    /// Exchanges the pieces.
-    pub(crate) fn exchange(&mut self, pieces: Pieces)
-        requires { AreInOrder pieces }
-        ensures { self.new ≡ map (exchanged_word pieces) self.old }
-    {
-        if self.bounds.most.saturating_sub(self.late) < pieces.first {
-            return;
-        }
-        if pieces.end <= self.bounds.least.saturating_sub(self.late) {
-            return;
-        }
-        exchange_each(&mut self.words, self.late, pieces);
-        self.late = 0;
-        self.bounds = bounds_of(&self.words);
+        least: bounds.least.min(words),
+        most: bounds.most.max(words),
     }
 }

@@ -1,59 +1,57 @@
 //! How many words are before blocks, by their names.
 
-use crate::parts::{NAMES, NOWHERE, Part, Pieces};
+use crate::parts::{Change, NOWHERE, Pieces};
+use crate::text::{Text, change, empty, put, word};
 use sq_num::Memory;
 use std::alloc::Global;
 use std::marker::Model;
 
-/// How many words are before each block, by their names, in parts of 256 names. Where one word goes, it looks at each part, and
-/// at the names of those alone of which some blocks stand behind the word and some don't.
+/// How many words are before each block, by their names, in parts that are pieces of the text. Where one word goes or comes
+/// or two pieces change places, it looks at each part, and at the names of those alone of which not all blocks are moved alike.
 #[derive(Drop)]
 pub struct WordsBefore {
-    parts: Vec<Part>,
+    text: Text,
 }
 
 impl Model for WordsBefore {
-    ghost use Rattle.std.specs.Prelude.{◌≡◌, ℕ, List, length};
-    ghost use Rattle.std.specs.List.{All, concat};
+    ghost use Rattle.std.specs.Prelude.{ℕ, List, map};
+    ghost use Rattle.sq_lookup.specs.Standing.{word_in, IsKept};
 
     ghost Value = { List ℕ };
 
-    ghost view = { λ t. concat t.parts.items };
+    ghost view = { λ t. map (word_in t.text.parts.items) t.text.places.items };
 
-    ghost invariant = { λ t. All (λ part. length part ≡ 256) t.parts.items };
+    ghost invariant = { λ t. IsKept t.text };
 }
 
 impl WordsBefore {
     ghost use Rattle.std.specs.Prelude.{◌≡◌, ◌≤◌, ◌<◌, ◌^◌, ℕ, get_or, length, map, set, IfOk};
     ghost use Rattle.sq_lookup.specs.Exchanging.{AreInOrder, exchanged_word};
-    ghost use Rattle.sq_lookup.specs.Lowering.{nowhere, lowered_word};
+    ghost use Rattle.sq_lookup.specs.Lowering.{nowhere, lowered_word, raised_word};
 
     /// Room for each name below this number.
     pub fn new(alloc: Global, names: usize) -> Result<WordsBefore, Memory>
         ensures within { IfOk result (λ room. names ≤ length room) }
         ensures none { IfOk result (λ room. (n : ℕ) → get_or room n nowhere ≡ nowhere) }
     {
-        let mut parts = Vec::with_capacity(alloc, names / NAMES + 1)?;
-        for _part in 0..names / NAMES + 1 {
-            parts.push(Part::none())?;
-        }
-        Ok(WordsBefore { parts })
+        let text = empty(alloc, names)?;
+        Ok(WordsBefore { text })
     }
 
-    /// A number that is greater than the name of each block.
+    /// For how many names there is room. It is greater than the name of each block.
     pub fn names(&self) -> usize
-        ensures { (n : ℕ) → n < 2 ^ 32 → result ≤ n → get_or self.now n nowhere ≡ nowhere }
+        ensures past { (n : ℕ) → n < 2 ^ 32 → result ≤ n → get_or self.now n nowhere ≡ nowhere }
+        ensures count { result ≡ length self.now }
     {
-        self.parts.len().saturating_mul(NAMES)
+        self.text.places.len()
     }
 
     /// How many words are before the block of this name, and `NOWHERE` where there is none.
     pub fn get(&self, name: u32) -> u32
         ensures { result ≡ get_or self.now name nowhere }
     {
-        let name = name as usize;
-        if name / NAMES < self.parts.len() {
-            self.parts[name / NAMES].get(name % NAMES)
+        if (name as usize) < self.text.places.len() {
+            word(&self.text, name)
         } else {
             NOWHERE
         }
@@ -64,15 +62,14 @@ impl WordsBefore {
         requires { name < length self.old }
         ensures { self.new ≡ set self.old name words }
     {
-        let name = name as usize;
-        self.parts[name / NAMES].put(name % NAMES, words);
+        put(&mut self.text, name, words);
     }
 
     /// Takes out the block of this name.
     pub fn forget(&mut self, name: u32)
         ensures { self.new ≡ set self.old name nowhere }
     {
-        if (name as usize) / NAMES < self.parts.len() {
+        if (name as usize) < self.text.places.len() {
             self.put(name, NOWHERE);
         }
     }
@@ -81,9 +78,14 @@ impl WordsBefore {
     pub fn lower_behind(&mut self, start: u32)
         ensures { self.new ≡ map (lowered_word start) self.old }
     {
-        for part in self.parts.iter_mut() {
-            part.lower_behind(start);
-        }
+        change(&mut self.text, Change::Lower(start));
+    }
+
+    /// Adds one to all that have more than `start` words before them.
+    pub fn raise_behind(&mut self, start: u32)
+        ensures { self.new ≡ map (raised_word start) self.old }
+    {
+        change(&mut self.text, Change::Raise(start));
     }
 
     /// Exchanges two pieces of the text. It looks at the names of those parts alone of which some blocks may stand in them.
@@ -91,8 +93,6 @@ impl WordsBefore {
         requires { AreInOrder pieces }
         ensures { self.new ≡ map (exchanged_word pieces) self.old }
     {
-        for part in self.parts.iter_mut() {
-            part.exchange(pieces);
-        }
+        change(&mut self.text, Change::Exchange(pieces));
     }
 }

@@ -8,8 +8,8 @@ use Rattle.sq_chain.proofs.local.join_before.Goals as goal
 pub returns-then-not-is_block-clause-placed : goal.returns-then-not-is_block-clause-placed
 returns-then-not-is_block-clause-placed c =
     let g = c.args.graph.now.graph in
-    subst (λ (k : Graph). IsPlaced k (record { addresses = c.forget.new.addresses; words = c.args.places.now.words })) (sym c.join_before.ensures.graph)
-    (placed_joined g c.args.name c.learn.ensures.rules c.args.places.now (record { addresses = c.forget.new.addresses; words = c.args.places.now.words })
+    subst (λ (k : Graph). IsPlaced k (record { addresses = c.forget.new.addresses; words = c.args.places.now.words; jumps = c.join.new.self })) (sym c.join_before.ensures.graph)
+    (placed_joined g c.args.name c.learn.ensures.rules c.args.places.now (record { addresses = c.forget.new.addresses; words = c.args.places.now.words; jumps = c.join.new.self })
     (λ there. let yes = c.is_block.ensures.1 (subst (λ (k : Graph). HasBlock k c.args.name) (sym c.join_before.ensures.graph) there) in let no = c.if-not-is_block.true in cc)
     c.requires.placed c.forget.ensures refl)
 

@@ -25,3 +25,6 @@ returns-clause-still c = λ e.
     let below = carried_below g c.args.from c.args.to c.learn.ensures.rules c.requires.movable c.args.survey.now.names c.requires.survey.names in
     let few = c.ordered_outlook.ensures.still e (carried g c.args.from c.args.to) laid below in
     omega (arith, few, carried_words g c.args.from c.args.to c.learn.ensures.rules c.requires.movable)
+
+pub returns-then-ne-clause-few : goal.returns-then-ne-clause-few
+returns-then-ne-clause-few c = λ wide e. c.outlook_at_seams-seen.ensures.few wide (cc (e))

@@ -2,11 +2,11 @@ use Rattle.std.proofs.Common.{◌*◌, sym, ap, subst, arith}
 use Rattle.sq_arena.specs.Entries.{through}
 use Rattle.sq_graph.specs.Blocks.{named, HasBlock}
 use Rattle.sq_layout.proofs.Walks.{words_here}
+use Rattle.sq_chain.specs.Seams.{size}
 use Rattle.sq_chain.specs.Places.{placed_at}
-use Rattle.sq_chain.proofs.Exchanging.{start_is, end_is, through_few, last_block, seams_back, seams_ahead}
+use Rattle.sq_chain.proofs.Exchanging.{start_is, end_is, through_few, last_block, seams_back, seams_ahead, are_seams_back, are_seams_ahead}
 use Rattle.sq_chain.proofs.Orders.{last_has}
 use Rattle.sq_chain.proofs.Reordered.{head, jumping}
-use Rattle.sq_chain.proofs.Standing.{size}
 use Rattle.sq_chain.proofs.seams.seams_of.Goals as goal
 
 pub block_words-requires : goal.block_words-requires
@@ -93,3 +93,35 @@ returns-clause-whole c =
       second = omega (arith, start, first, last, c.address.ensures, c.address-2.ensures, c.address-start.ensures, c.from.ensures, c.from-2.ensures);
       end = omega (arith, start, first, last, c.address.ensures, c.address-2.ensures, c.address-start.ensures, c.from.ensures, c.from-2.ensures);
     }
+
+pub returns-then-after-start-clause-are : goal.returns-then-after-start-clause-are
+returns-then-after-start-clause-are c =
+    let g = c.args.graph.now.graph in
+    let rules = c.learn.ensures.rules in
+    let head = head g c.args.from c.args.to rules c.requires.movable in
+    let start = start_is g rules c.args.to head.0 head.1 (placed_at c.args.addresses.now) c.requires.addresses in
+    let jump = jumping g c.args.from c.args.to rules c.requires.movable in
+    let jump_words = words_here g c.args.from c.block_words-2.result jump.0 jump.1 c.block_words-2.ensures in
+    let after = end_is g rules c.args.from jump.0 jump.1 (placed_at c.args.addresses.now) c.requires.addresses in
+    let block = last_block g c.args.from c.args.to c.learn.ensures.rules c.requires.movable c.args.end c.requires.end in
+    let words = words_here g c.args.end c.block_words.result block.0 block.1 c.block_words.ensures in
+    let behind = end_is g rules c.args.end block.0 block.1 (placed_at c.args.addresses.now) c.requires.addresses in
+    let same = ap (λ n. 4 * size (through (named g.blocks) n)) c.requires.end in
+    are_seams_back g c.args.from c.args.to rules c.requires.movable _
+    (omega (arith, after, jump_words, c.address-2.ensures, c.from-2.ensures)) (omega (arith, start, c.address-start.ensures)) (omega (arith, behind, words, same, c.address.ensures, c.from.ensures)) (omega (arith, c.if-after-start.true))
+
+pub returns-clause-are : goal.returns-clause-are
+returns-clause-are c =
+    let g = c.args.graph.now.graph in
+    let rules = c.learn.ensures.rules in
+    let head = head g c.args.from c.args.to rules c.requires.movable in
+    let start = start_is g rules c.args.to head.0 head.1 (placed_at c.args.addresses.now) c.requires.addresses in
+    let jump = jumping g c.args.from c.args.to rules c.requires.movable in
+    let jump_words = words_here g c.args.from c.block_words-2.result jump.0 jump.1 c.block_words-2.ensures in
+    let after = end_is g rules c.args.from jump.0 jump.1 (placed_at c.args.addresses.now) c.requires.addresses in
+    let block = last_block g c.args.from c.args.to c.learn.ensures.rules c.requires.movable c.args.end c.requires.end in
+    let words = words_here g c.args.end c.block_words.result block.0 block.1 c.block_words.ensures in
+    let behind = end_is g rules c.args.end block.0 block.1 (placed_at c.args.addresses.now) c.requires.addresses in
+    let same = ap (λ n. 4 * size (through (named g.blocks) n)) c.requires.end in
+    are_seams_ahead g c.args.from c.args.to rules c.requires.movable _
+    (omega (arith, start, c.address-start.ensures)) (omega (arith, behind, words, same, c.address.ensures, c.from.ensures)) (omega (arith, after, jump_words, c.address-2.ensures, c.from-2.ensures)) (omega (arith, c.if-after-start.false))

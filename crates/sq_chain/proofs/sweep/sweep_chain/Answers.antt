@@ -1,8 +1,12 @@
-use Rattle.std.proofs.Common.{sym, subst, arith}
+use Rattle.std.proofs.Common.{◌≡◌, sym, subst}
+use Rattle.std.specs.Prelude.{IfSome}
 use Rattle.sq_graph.specs.Room.{GraphAndRoom}
 use Rattle.law_follow.specs.Follows.{Follows}
 use Rattle.law_follow.proofs.Following.{graph_follows_itself}
 use Rattle.sq_lookup.specs.Counts.{AreKnown}
+use Rattle.sq_chain.specs.Moves.{carried, fallen}
+use Rattle.sq_chain.specs.Settled.{Widens}
+use Rattle.sq_chain.proofs.Broad.{near_least, least_by}
 use Rattle.sq_chain.proofs.Swept.{swept_follows}
 use Rattle.sq_chain.proofs.sweep.sweep_chain.Goals as goal
 
@@ -10,10 +14,17 @@ pub returns-in_err-outlook-clause-follows : goal.returns-in_err-outlook-clause-f
 returns-in_err-outlook-clause-follows c = graph_follows_itself c.args.graph.now.graph
 
 pub sweep_near-requires-clause-stays : goal.sweep_near-requires-clause-stays
-sweep_near-requires-clause-stays c = omega (arith, c.requires.survey.falls, (c.is_local.ensures c.if-is_local.true).1)
+sweep_near-requires-clause-stays c = subst (λ o. IfSome o (λ wide. c.args.view.now.falls ≡ 0)) c.in-Some.is c.local_wide.ensures.stays
 
-pub sweep_near-requires-clause-near : goal.sweep_near-requires-clause-near
-sweep_near-requires-clause-near c = let near = (c.is_local.ensures c.if-is_local.true).0 in c.in_ok-outlook.ensures.near (cc)
+pub sweep_near-requires-clause-wide : goal.sweep_near-requires-clause-wide
+sweep_near-requires-clause-wide c =
+    let g = c.args.graph.now.graph in
+    let from = c.args.from in
+    let to = c.args.to in
+    least_by g (fallen (carried g from to)) c.in_ok-outlook.outlook c.in-Some.wide
+    (subst (λ o. IfSome o (λ wide. Widens c.in_ok-outlook.outlook wide)) c.in-Some.is c.local_wide.ensures.wide)
+    (λ same. near_least g from to c.learn.ensures.rules c.requires.movable (c.in_ok-outlook.ensures.near (cc)))
+    (λ few same. c.in_ok-outlook.ensures.few few (cc))
 
 pub returns-in_err-sweep_near-clause-follows : goal.returns-in_err-sweep_near-clause-follows
 returns-in_err-sweep_near-clause-follows c = c.sweep_near.ensures.follows
@@ -39,9 +50,6 @@ returns-clause-swept c = λ done.
       moved = record { from = c.args.from; to = c.args.to; moved = c.in_ok-move_by.ensures.moved (cc) };
       is = c.canonical.ensures.graph;
     }
-
-pub returns-then-is_local-clause-follows : goal.returns-then-is_local-clause-follows
-returns-then-is_local-clause-follows c = c.sweep_near.ensures.follows
 
 pub returns-then-not-branch-clause-follows : goal.returns-then-not-branch-clause-follows
 returns-then-not-branch-clause-follows c =

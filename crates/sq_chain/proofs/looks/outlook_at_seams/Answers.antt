@@ -1,0 +1,27 @@
+use Rattle.std.proofs.Common.{refl, sym, subst}
+use Rattle.sq_graph.specs.Blocks.{HasBlock}
+use Rattle.sq_chain.proofs.Distant.{addresses_stay}
+use Rattle.sq_chain.proofs.FallenNear.{reach_there}
+use Rattle.sq_chain.proofs.Orders.{last_has}
+use Rattle.sq_chain.proofs.Reordered.{to_has}
+use Rattle.sq_chain.proofs.looks.outlook_at_seams.Goals as goal
+
+pub end_of_chain-requires-clause-to : goal.end_of_chain-requires-clause-to
+end_of_chain-requires-clause-to c = to_has c.args.graph.now.graph c.args.from c.args.to c.learn.ensures.rules c.requires.movable
+
+pub shift_of-shift-requires-clause-addresses : goal.shift_of-shift-requires-clause-addresses
+shift_of-shift-requires-clause-addresses c = addresses_stay c.args.graph.now.graph c.args.survey.now c.requires.survey c.if-survey-ne0.false
+
+pub outlook_by-requires-clause-to : goal.outlook_by-requires-clause-to
+outlook_by-requires-clause-to c = to_has c.args.graph.now.graph c.args.from c.args.to c.learn.ensures.rules c.requires.movable
+
+pub outlook_by-requires-clause-end : goal.outlook_by-requires-clause-end
+outlook_by-requires-clause-end c =
+    let g = c.args.graph.now.graph in
+    subst (HasBlock g) (sym (c.in-Some.ensures.some c.in-Some.end refl)) (last_has g c.args.from c.args.to c.learn.ensures.rules c.requires.movable)
+
+pub outlook_by-requires-clause-addresses : goal.outlook_by-requires-clause-addresses
+outlook_by-requires-clause-addresses c = addresses_stay c.args.graph.now.graph c.args.survey.now c.requires.survey c.if-survey-ne0.false
+
+pub outlook_by-requires-clause-reach : goal.outlook_by-requires-clause-reach
+outlook_by-requires-clause-reach c = reach_there c.args.graph.now.graph c.args.survey.now c.requires.survey c.if-survey-ne0.false c.if-not-survey.false
