@@ -1,10 +1,10 @@
 //! Branches that rows J2 and J3 would lead elsewhere if they reached: so that it is told, as words go, when one does.
 
-ghost use Rattle.std.specs.Prelude.{◌≡◌};
+ghost use Rattle.std.specs.Prelude.{◌≡◌, IfSome};
 ghost use Rattle.sq_graph.specs.Blocks.{HasBlock};
 ghost use Rattle.sq_graph.specs.Parts.{names_of};
 
-use sq_graph::{Graph, Term};
+use sq_graph::{Graph, Slot, Term};
 use sq_lookup::{
     NOWHERE, Names, Table, WordsBefore, address, block_addresses, is_block, jump_from,
 };
@@ -330,17 +330,33 @@ const NONE: Reach = Reach {
     over: false,
 };
 
-/// By which ways the block's Branch reaches.
-fn reach_of(graph: &Graph, addresses: &WordsBefore, block: u32) -> Reach
+/// By which ways the block's Branch reaches, if this term, in which it ends, is one.
+fn reach_of(graph: &Graph, addresses: &WordsBefore, block: u32, term: Term) -> Reach
     requires { HasBlock graph.now.graph block }
 {
-    let Term::Branch { to, .. } = graph.term(block) else {
+    let Term::Branch { to, .. } = term else {
         return NONE;
     };
     Reach {
         past: reaches_by(graph, addresses, block, to),
         over: inversion(graph, block, to).is_some_and(|way| is_near(graph, addresses, way)),
     }
+}
+
+/// The slot of this block, if there is one.
+fn slot_of(graph: &Graph, block: u32) -> Option<Slot>
+    ensures { IfSome result (λ slot. HasBlock graph.now.graph block) }
+{
+    graph.links().get(block).copied()
+}
+
+/// How many bytes a block takes.
+fn bytes_of(slot: Slot) -> u64 {
+    let words = match slot.term {
+        Term::Fall => u64::from(slot.length),
+        _ => u64::from(slot.length) + 1,
+    };
+    4 * words
 }
 
 /// Where a look for Branches begins at a block: ahead at its end, since the seam may stand there within it.
@@ -351,6 +367,15 @@ fn start_at(graph: &Graph, addresses: &WordsBefore, block: u32, ahead: bool) -> 
         at.saturating_add(4 * graph.items(block).len() as u64)
     } else {
         at
+    }
+}
+
+/// Where a look ahead comes to a block: where it begins, and a look back where it ends.
+fn edge_of(graph: &Graph, addresses: &WordsBefore, block: u32, ahead: bool) -> u64 {
+    let at = address_in(addresses, block);
+    match slot_of(graph, block) {
+        Some(slot) if !ahead => at.saturating_add(bytes_of(slot)),
+        _ => at,
     }
 }
 
@@ -401,8 +426,8 @@ impl Reaching {
         let mut reaching = Reaching::new(alloc);
         reaching.reaches.resize(addresses.names(), NONE)?;
         for name in 0..u32::try_from(addresses.names()).unwrap_or(u32::MAX) {
-            if is_block(graph, name) {
-                reaching.note(graph, addresses, name)?;
+            if let Some(slot) = slot_of(graph, name) {
+                reaching.note(graph, addresses, name, slot.term)?;
             }
         }
         Ok(reaching)
@@ -419,11 +444,17 @@ impl Reaching {
     }
 
     /// Takes note of the block's Branch, if it ends in one. Whether it is new that it reaches.
-    fn note(&mut self, graph: &Graph, addresses: &WordsBefore, block: u32) -> Result<bool, Memory>
+    fn note(
+        &mut self,
+        graph: &Graph,
+        addresses: &WordsBefore,
+        block: u32,
+        term: Term,
+    ) -> Result<bool, Memory>
         requires { HasBlock graph.now.graph block }
     {
         let before = self.reaches.get(block as usize).copied().unwrap_or(NONE);
-        let now = reach_of(graph, addresses, block);
+        let now = reach_of(graph, addresses, block, term);
         if now != before {
             self.put(block, now)?;
         }
@@ -442,21 +473,32 @@ impl Reaching {
     ) -> Result<bool, Memory> {
         let start = start_at(graph, addresses, from, ahead);
         let last = last_of(graph, addresses, starts, start, ahead);
+        // Where the next block begins, or back where it ends.
+        let mut edge = edge_of(graph, addresses, from, ahead);
         let mut new = false;
         let mut place = Some(from);
         for _slot in 0..NEAR_SLOTS {
             let Some(block) = place else {
                 return Ok(new);
             };
-            let at = address_in(addresses, block);
-            if !is_block(graph, block) || ahead && last < at {
+            let Some(slot) = slot_of(graph, block) else {
+                return Ok(new);
+            };
+            let bytes = bytes_of(slot);
+            let at = if ahead {
+                edge
+            } else {
+                edge.saturating_sub(bytes)
+            };
+            if ahead && last < at {
                 return Ok(new);
             }
-            new |= self.note(graph, addresses, block)?;
+            new |= self.note(graph, addresses, block, slot.term)?;
             // A block that begins before that may end in a Branch behind it.
             if !ahead && at < last {
                 return Ok(new);
             }
+            edge = if ahead { at.saturating_add(bytes) } else { at };
             place = beside(graph, block, ahead);
         }
         Ok(new)
