@@ -110,6 +110,7 @@ impl Watch for RowWatch {
             return Ok(false);
         }
         self.news = self.unmoved.news(alloc, graph, addresses)?;
+        self.patience.spend_seams();
         self.patience
             .spend_passes(graph, self.unmoved.take_passes());
         self.ended = match self.news {

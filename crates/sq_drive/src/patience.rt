@@ -26,6 +26,9 @@ const LOOK: u32 = 96;
 /// So many pairs of bodies are compared in the time of a word that is gone over.
 const PAIRS: u64 = 4;
 
+/// The looks around the seams of a move, whether it brought a Branch near, take as long as so many words.
+const SEAMS: u64 = 8_000;
+
 /// How many words may still be gone over for the order of the rows.
 #[derive(Clone, Copy, Debug)]
 pub struct Patience {
@@ -56,6 +59,11 @@ impl Patience {
     /// Takes note of so many words that rows J2 and J3 saved, each of which may have brought the next Branch near.
     pub(crate) fn spend_jumps(&mut self, graph: &Graph, words: u32) {
         self.spend_passes(graph, words.saturating_mul(JUMP));
+    }
+
+    /// Takes note of the looks around the seams of a move.
+    pub(crate) fn spend_seams(&mut self) {
+        self.words = self.words.saturating_sub(SEAMS);
     }
 
     /// Takes note of an exact look for candidates of all rows, and of the pairs of bodies that row O1's compares.
