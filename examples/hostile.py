@@ -8,6 +8,7 @@ KIND is one of:
     table      COUNT lone jumps to one block, each named by a word of data alone
     detours    COUNT blocks with a Branch to a lone jump of their own
     chained    the same, but each lone jump leads to another one, in shuffled order, and all but the near ones stay
+    held       the same, and a word of data names each lone jump: the whole graph is made canonical behind each second move
     threads    COUNT blocks of an item and a jump, each to the next in shuffled order, which words name: each moves
     falls      COUNT jumps to the next slot, which nothing else names, each behind an item
     steps      COUNT calls, each before a lone jump to the next slot
@@ -228,6 +229,12 @@ def detours(p, count):
 def chained(p, count):
     _, behind = shuffled(count)
     branches(p, [behind[number] for number in range(count)])
+
+
+def held(p, count):
+    chained(p, count)
+    for number in range(count):
+        p.word(number)
 
 
 def threads(p, count):
@@ -733,6 +740,7 @@ KINDS = {
     "table": (table, 1),
     "detours": (detours, 4),
     "chained": (chained, 4),
+    "held": (held, 4),
     "threads": (threads, 2),
     "falls": (falls, 2),
     "steps": (steps, 2),
