@@ -70,3 +70,4 @@ pub mod RenamedReach
 pub mod RenamedSound
 pub mod FewWords
 pub mod Settling
+pub mod HoldingWrites

@@ -1,10 +1,11 @@
 -- What each call makes of a graph. A call that makes a block is given the block's name.
-use Rattle.std.specs.Prelude.{◌≡◌, ℕ, ◌+◌, ◌==◌, if◌then◌else◌, List, [], ◌∷◌, ◌++◌, map, take, drop, Option, None, Some, slice_get, slice_range, remove}
+use Rattle.std.specs.Prelude.{◌≡◌, ℕ, zero, suc, ◌+◌, ◌==◌, if◌then◌else◌, List, [], ◌∷◌, ◌++◌, map, take, drop, Option, None, Some, slice_get, slice_range, remove}
 use Rattle.sq_arena.specs.Entries.{move_run_after}
 use Rattle.sq_graph.specs.declared.item.Item.{Item}
 use Rattle.sq_graph.specs.declared.item.Item.TheVariants.{Op, Hi, Lo, Out}
 use Rattle.sq_graph.specs.declared.item.Term.{Term}
 use Rattle.sq_graph.specs.declared.item.Term.TheVariants.{Fall}
+use Rattle.sq_graph.specs.declared.parts.CodeRef.{CodeRef}
 use Rattle.sq_graph.specs.Graph.{Block, Graph}
 use Rattle.sq_graph.specs.Blocks.{named, block_of, items_of, body_of}
 use Rattle.sq_graph.specs.Renames.{retargeted, recalled, swapped, lowered}
@@ -100,6 +101,19 @@ with_next_taken b (next ∷ rest) = record b { items = b.items ++ next.items; te
 abbrev pub joined_at : List Block → ℕ → List Block
 joined_at [] name = []
 joined_at (b ∷ rest) name = if b.name == name then with_next_taken b rest else b ∷ joined_at rest name
+
+-- the word of data at this place holds the address of another block
+abbrev pub words_with : List CodeRef → ℕ → ℕ → List CodeRef
+words_with [] at to = []
+words_with (word ∷ rest) zero to = record word { block = to } ∷ rest
+words_with (word ∷ rest) (suc at) to = word ∷ words_with rest at to
+
+abbrev pub with_word : Graph → ℕ → ℕ → Graph
+with_word g at to = record g { code_words = words_with g.code_words at to }
+
+-- the program starts at another block
+abbrev pub with_entry : Graph → ℕ → Graph
+with_entry g to = record g { entry = to }
 
 -- the block takes over the items and the term of the next slot, which goes
 abbrev pub joined_with_next : Graph → ℕ → Graph

@@ -14,6 +14,7 @@ mod edits;
 mod fates;
 mod gaps;
 mod graph;
+mod holding;
 mod item;
 pub mod laws;
 mod loose;

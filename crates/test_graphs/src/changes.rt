@@ -44,6 +44,27 @@ fn set_jump(graph: &mut Graph, block: u32, to: u32) -> Option<()> {
     Some(())
 }
 
+/// Has a word of data name a block.
+fn set_word(graph: &mut Graph, at: u32, block: u32) -> Option<()> {
+    if graph.code_words().len() <= at as usize {
+        return None;
+    }
+    if !is_block(graph, block) {
+        return None;
+    }
+    graph.set_word(at, block);
+    Some(())
+}
+
+/// Has the program start at a block.
+fn set_entry(graph: &mut Graph, block: u32) -> Option<()> {
+    if !is_block(graph, block) {
+        return None;
+    }
+    graph.set_entry(block);
+    Some(())
+}
+
 /// Puts a lone Jump behind a block.
 fn insert_jump(graph: &mut Graph, block: u32, to: u32) -> Option<()> {
     if graph.spare().blocks == 0 {
@@ -216,8 +237,8 @@ fn split_often(graph: &mut Graph, times: u32) -> Option<()> {
     Some(())
 }
 
-/// Makes the change of a verb, behind which stand positions of blocks, places in them, numbers of procedures and of
-/// registers. `names` are those of the blocks.
+/// Makes the change of a verb, behind which stand positions of blocks, places in them and among the words of data, numbers
+/// of procedures and of registers. `names` are those of the blocks.
 pub fn change(graph: &mut Graph, names: &[u32], verb: &str, operands: &[u32]) -> Option<()> {
     let name = |position: u32| names.get(position as usize).copied().unwrap_or(u32::MAX);
     match (verb, operands) {
@@ -230,6 +251,8 @@ pub fn change(graph: &mut Graph, names: &[u32], verb: &str, operands: &[u32]) ->
         ("split", &[block, at]) => split(graph, name(block), at).map(|_| ()),
         ("split_often", &[times]) => split_often(graph, times),
         ("jump", &[block, to]) => set_jump(graph, name(block), name(to)),
+        ("set_word", &[at, block]) => set_word(graph, at, name(block)),
+        ("set_entry", &[block]) => set_entry(graph, name(block)),
         ("insert", &[block, to]) => insert_jump(graph, name(block), name(to)),
         ("redirect", &[from, to]) => redirect(graph, name(from), name(to)),
         ("remove", &[block, to]) => remove(graph, name(block), name(to)),
