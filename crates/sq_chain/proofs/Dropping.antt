@@ -266,7 +266,8 @@ module _ (g : Graph) (n : ℕ) (rules : IsGraph g) (bare : IsBareAt g n) where
   pub are_without : (they : Uses) → AreUses g they → AreUses (without_block g n) they
   are_without they are =
       uses_keep g (without_block g n) they
-      (λ k. ap (λ is. times_named (g.entry ∷ (code_word_uses g.code_words ++ items_uses is)) k) items_without)
+      (λ k. ap (λ is. times_named (items_uses is) k) items_without)
+      (λ k. refl)
       (λ k. ap (λ us. times_named us k) terms_without)
       are
 

@@ -38,5 +38,8 @@ pub mod Swept
 pub mod Resurveyed
 pub mod Tabled
 pub mod Replaced
+pub mod HandedOn
 pub mod PassedOn
 pub mod Spread
+pub mod Marked
+pub mod Unmarked

@@ -44,6 +44,8 @@ use Rattle.sq_chain.specs.Moves.{fallen_term, fallen_blocks}
 use Rattle.sq_chain.specs.Passing.{passed_term, passed_block, passed_on, IsTurned, IsPassedOn, IsPassed}
 use Rattle.sq_chain.specs.Surveys.{IsPlaced, NoneFalls}
 use Rattle.sq_chain.specs.declared.survey.Places.{Places}
+use Rattle.sq_chain.proofs.HandedOn.{handed_slot, handed_bare, handed_placed, handed_falls, handed_solid, handed_led, handed_used, handed_canonical}
+use Rattle.sq_chain.proofs.Marked.{marked_passed}
 use Rattle.sq_chain.proofs.OneMore.{slot_behind, slot_after}
 
 -- the name of a block that is empty with Fall goes where the next one's goes
@@ -318,6 +320,7 @@ module _ (among : ℕ → Bool) (bare next : ℕ) where
     placed_on places placed = record {
       addresses = λ n. placed.addresses n ∙ sym (addresses_turned g.blocks 0 n);
       words = omega (arith, placed.words, words_turned g.blocks);
+      branches = marked_passed among bare next g places.branches (value_turned g.blocks) placed.branches;
     }
 
     pub canonical_on : IsGraph g → IsBareAt g bare → next_of g bare ≡ Some next → IsGraph (passed_on among bare next g) → canonical_of (passed_on among bare next g) ≡ canonical_of g
@@ -486,10 +489,8 @@ module _ (g : Graph) (m bare next : ℕ) (t new : Term) (rules : IsGraph g) (was
 
     pub uses_one : (they : Uses) → IsCounted bare they more → AreUses (with_term g m new) they
     uses_one they less = record {
-      held = λ k.
-          ap (λ ns. is_listed ns k) (sym less.held ∙ counted.held)
-          ∙ are.held k
-          ∙ ap (λ is. is_listed (g.entry ∷ (code_word_uses g.code_words ++ items_uses is)) k) (sym items_one);
+      items = λ k. ap (λ ns. is_listed ns k) (sym less.items ∙ counted.items) ∙ are.items k ∙ ap (λ is. is_listed (items_uses is) k) (sym items_one);
+      words = λ k. ap (λ ws. count_at ws.items k) (sym less.words ∙ counted.words) ∙ are.words k;
       terms = λ k. omega (arith, less.terms k, counted.terms k, are.terms k, times_one k);
     }
 
@@ -500,34 +501,51 @@ module _ (bare next : ℕ) (g h : Graph) (on : IsPassedOn bare next g h) where
   passed_has k has = subst (λ (u : Graph). HasBlock u k) (sym on.is) (has_on on.among bare next g k has)
 
 module _ (bare : ℕ) (g h : Graph) (passed : IsPassed bare g h) where
+  abbrev next : ℕ
+  next = passed.next
+
+  abbrev mid : Graph
+  mid = passed.mid
+
+  mid_slot : next_of mid bare ≡ Some next
+  mid_slot = handed_slot bare next g mid passed.handed bare ∙ passed.slot
+
+  mid_bare : IsBareAt g bare → IsBareAt mid bare
+  mid_bare is = handed_bare bare next g mid passed.handed bare is
+
   pub passed_bare : IsBareAt g bare → IsBareAt h bare
-  passed_bare is = subst (λ (u : Graph). IsBareAt u bare) (sym passed.on.is) (bare_on passed.on.among bare passed.next g bare is)
+  passed_bare is = subst (λ (u : Graph). IsBareAt u bare) (sym passed.on.is) (bare_on passed.on.among bare passed.next passed.mid bare (mid_bare is))
 
   pub passed_placed : (places : Places) → IsPlaced g places → IsPlaced h places
-  passed_placed places placed = subst (λ (u : Graph). IsPlaced u places) (sym passed.on.is) (placed_on passed.on.among bare passed.next g places placed)
+  passed_placed places placed = subst (λ (u : Graph). IsPlaced u places) (sym passed.on.is) (placed_on passed.on.among bare passed.next passed.mid places (handed_placed bare next g mid passed.handed places placed))
 
   -- the block before the next one is the one that is empty with Fall
-  off_next : IsGraph g → IsBareAt g bare → IsOff passed.on.among bare passed.next g.blocks
-  off_next rules is m slot jump =
-      let same : m ≡ bare = one_before g m bare passed.next rules slot passed.slot in
-      let both : Some is.block.term ≡ Some (Jump bare) = sym (ap block_term is.there) ∙ ap (term_of g) (sym same) ∙ jump in
+  off_next : IsBareAt mid bare → IsOff passed.on.among bare passed.next passed.mid.blocks
+  off_next is m slot jump =
+      let same : m ≡ bare = one_before mid m bare next passed.rules slot mid_slot in
+      let both : Some is.block.term ≡ Some (Jump bare) = sym (ap block_term is.there) ∙ ap (term_of mid) (sym same) ∙ jump in
       let term : is.block.term ≡ Jump bare = cc in
       let fall = bare_falls is.block is.bare in
       cc (ap is_fall term, fall)
 
-  pub passed_falls : IsGraph g → IsBareAt g bare → NoneFalls g → NoneFalls h
-  passed_falls rules is falls = subst NoneFalls (sym passed.on.is) (fallen_turned passed.on.among bare passed.next g.blocks rules.distinct (off_next rules is) falls)
+  pub passed_falls : IsBareAt g bare → NoneFalls g → NoneFalls h
+  passed_falls is falls =
+      subst NoneFalls (sym passed.on.is) (fallen_turned passed.on.among bare passed.next passed.mid.blocks passed.rules.distinct (off_next (mid_bare is)) (handed_falls bare next g mid passed.handed falls))
 
   pub passed_solid : (may : ℕ → Bool) → AreSolidBut may g → AreSolidBut may h
-  passed_solid may solid = subst (λ (u : Graph). AreSolidBut may u) (sym passed.on.is) (solid_turned passed.on.among bare passed.next may g.blocks solid)
+  passed_solid may solid =
+      subst (λ (u : Graph). AreSolidBut may u) (sym passed.on.is) (solid_turned passed.on.among bare passed.next may passed.mid.blocks (handed_solid bare next g mid passed.handed may solid))
 
   pub passed_led : (leads : ℕ → Bool) → FallsIntoLeaders leads g.blocks → FallsIntoLeaders leads h.blocks
-  passed_led leads led = subst (λ (u : Graph). FallsIntoLeaders leads u.blocks) (sym passed.on.is) (led_turned passed.on.among bare passed.next leads g.blocks led)
+  passed_led leads led =
+      subst (λ (u : Graph). FallsIntoLeaders leads u.blocks) (sym passed.on.is) (led_turned passed.on.among bare passed.next leads passed.mid.blocks (handed_led bare next g mid passed.handed leads led))
 
   pub passed_used : (m : ℕ) → m ≢ bare → is_among (uses g) m ≡ true → is_among (uses h) m ≡ true
-  passed_used m other used = ap (λ (u : Graph). is_among (uses u) m) passed.on.is ∙ used_on passed.on.among bare passed.next g m other used
+  passed_used m other used =
+      ap (λ (u : Graph). is_among (uses u) m) passed.on.is ∙ used_on passed.on.among bare passed.next passed.mid m other (handed_used bare next g mid passed.handed m other used)
 
   pub passed_canonical : IsGraph g → IsGraph h → IsBareAt g bare → canonical_of h ≡ canonical_of g
   passed_canonical rules h_rules is =
       ap canonical_of passed.on.is
-      ∙ canonical_on passed.on.among bare passed.next g rules is passed.slot (subst IsGraph passed.on.is h_rules)
+      ∙ canonical_on passed.on.among bare passed.next passed.mid passed.rules (mid_bare is) mid_slot (subst IsGraph passed.on.is h_rules)
+      ∙ handed_canonical bare next g mid passed.handed rules passed.rules (names_go g bare next rules is passed.slot)

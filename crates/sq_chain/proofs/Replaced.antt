@@ -1,7 +1,7 @@
 -- Where the blocks of a graph stand, and how many words it takes, once a chain has moved, a block falls, goes or is joined.
 use Rattle.std.proofs.Common.{◌≡◌, ◌⊎◌, ℕ, ◌+◌, ◌*◌, ◌≤◌, ◌<◌, ◌==◌, true, if◌then◌else◌, List, [], ◌∷◌, length, get_or, sum_by, Option, None, Some, IsSome, is_some, inl, inr, refl, sym, ap, ◌∙◌, subst, arith}
 use Rattle.std.specs.Prelude.{option_map, nat_lt}
-use Rattle.std.proofs.lemmas.Bool.{cases_Bool, eqb-true, lt-ltb, le-ltb, ltb-true, ltb-false}
+use Rattle.std.proofs.lemmas.Bool.{cases_Bool, eqb-true, eq-eqb, lt-ltb, le-ltb, ltb-true, ltb-false}
 use Rattle.sq_arena.specs.Entries.{HasDistinctKeys, value_of, next_key, previous_key}
 use Rattle.sq_isa.specs.Registers.{is_among}
 use Rattle.sq_graph.specs.declared.item.Term.{Term}
@@ -19,6 +19,7 @@ use Rattle.sq_graph.proofs.Bypassing.{bare_falls, bare_items}
 use Rattle.sq_graph.proofs.Kept.{absent_behind, fall_words}
 use Rattle.sq_layout.specs.Weights.{address_by}
 use Rattle.sq_lookup.specs.Lowering.{nowhere}
+use Rattle.sq_lookup.specs.Marks.{is_marked}
 use Rattle.sq_chain.specs.Places.{address_behind, placed_at}
 use Rattle.sq_lookup.proofs.JoiningBefore.{fall_is, joins, joins_not}
 use Rattle.sq_lookup.proofs.Targets.{has_term}
@@ -27,11 +28,12 @@ use Rattle.sq_chain.specs.Bare.{IsBareAt, IsSpanned}
 use Rattle.sq_chain.specs.Moves.{fallen}
 use Rattle.sq_chain.specs.Seams.{IsShifted, IsExchanged}
 use Rattle.sq_chain.specs.Shifts.{exchanged_to, lowered_to}
-use Rattle.sq_chain.specs.Surveys.{AreBelow, IsSurvey, IsPlaced, NoneFalls}
+use Rattle.sq_chain.specs.Surveys.{AreBelow, AreMarked, IsSurvey, IsPlaced, NoneFalls}
 use Rattle.sq_chain.specs.declared.seams.Seams.{Seams}
 use Rattle.sq_chain.specs.declared.survey.Places.{Places}
 use Rattle.sq_chain.specs.declared.survey.Survey.{Survey}
 use Rattle.sq_chain.proofs.Lighter.{falls_fewer}
+use Rattle.sq_chain.proofs.Marked.{marked_exchanged, marked_fell, marked_without, marked_joined}
 use Rattle.sq_chain.proofs.Resurveyed.{apart_from, first_there, rest_distinct, somewhere, absent, fell_words, fell_addresses, fallen_joined, joined_addresses, joined_words, without_addresses, without_words, IsLeft, fallen_without}
 use Rattle.sq_chain.proofs.Shortness.{stands_there}
 use Rattle.sq_chain.proofs.Tabled.{behind_is, placed_within}
@@ -88,10 +90,11 @@ none_saved g falls = ap (λ bs. words_of (record g { blocks = bs })) falls
 
 -- ONCE PIECES ARE EXCHANGED
 
-pub placed_exchanged : (g h : Graph) (seams : Seams) (old new : Places) → IsExchanged g h seams → words_of h ≡ words_of g → IsPlaced g old → ((n : ℕ) → placed_at new.addresses n ≡ option_map (exchanged_to seams) (placed_at old.addresses n)) → new.words ≡ old.words → IsPlaced h new
-placed_exchanged g h seams old new x words placed is same = record {
+pub placed_exchanged : (g h : Graph) (seams : Seams) (old new : Places) → IsExchanged g h seams → words_of h ≡ words_of g → IsPlaced g old → ((n : ℕ) → placed_at new.addresses n ≡ option_map (exchanged_to seams) (placed_at old.addresses n)) → new.words ≡ old.words → new.branches ≡ old.branches → IsPlaced h new
+placed_exchanged g h seams old new x words placed is same marks = record {
   addresses = λ n. is n ∙ ap (option_map (exchanged_to seams)) (placed.addresses n) ∙ by_address n (address_by block_words g.blocks 0 n) refl;
   words = same ∙ placed.words ∙ sym words;
+  branches = subst (AreMarked h) (sym marks) (marked_exchanged g h seams old.branches x placed.branches);
 }
   where
     by_address : (n : ℕ) (o : Option ℕ) → address_by block_words g.blocks 0 n ≡ o → option_map (exchanged_to seams) (address_by block_words g.blocks 0 n) ≡ address_by block_words h.blocks 0 n
@@ -104,28 +107,31 @@ placed_exchanged g h seams old new x words placed is same = record {
 
 -- A FALL
 
-pub placed_fell : (g : Graph) (m n start : ℕ) (old new : Places) → term_of g m ≡ Some (Jump n) → IsPlaced g old → start ≡ get_or old.addresses m nowhere → ((k : ℕ) → placed_at new.addresses k ≡ option_map (lowered_to (4 * start)) (placed_at old.addresses k)) → new.words + 1 ≡ old.words → IsPlaced (with_term g m Fall) new
-placed_fell g m n start old new jump placed at is less =
+pub placed_fell : (g : Graph) (m n start : ℕ) (old new : Places) → term_of g m ≡ Some (Jump n) → IsPlaced g old → start ≡ get_or old.addresses m nowhere → ((k : ℕ) → placed_at new.addresses k ≡ option_map (lowered_to (4 * start)) (placed_at old.addresses k)) → new.words + 1 ≡ old.words → new.branches ≡ old.branches → IsPlaced (with_term g m Fall) new
+placed_fell g m n start old new jump placed at is less marks =
     let found = stands_there block_words g m (has_term g m (Jump n) jump) in
     let same : 4 * start ≡ stands_at block_words g m = behind_is start (stands_at block_words g m) (ap address_behind at ∙ placed.addresses m ∙ found) in
     record {
       addresses = λ k. is k ∙ ap (option_map (lowered_to (4 * start))) (placed.addresses k) ∙ sym (fell_addresses g.blocks m n 0 (4 * start) k jump (found ∙ ap Some (sym same)));
       words = omega (arith, less, placed.words, fell_words g.blocks m n jump);
+      branches = subst (AreMarked (with_term g m Fall)) (sym marks) (marked_fell g m old.branches placed.branches);
     }
 
 -- A BLOCK THAT IS EMPTY WITH FALL GOES
 
 module _ (g : Graph) (m : ℕ) (rules : IsGraph g) where
-  pub placed_without : (old new : Places) → IsBareAt g m → IsPlaced g old → ((k : ℕ) → placed_at new.addresses k ≡ (if m == k then None else placed_at old.addresses k)) → new.words ≡ old.words → IsPlaced (without_block g m) new
-  placed_without old new bare placed is words =
+  pub placed_without : (old new : Places) → IsBareAt g m → IsPlaced g old → ((k : ℕ) → placed_at new.addresses k ≡ (if m == k then None else placed_at old.addresses k)) → new.words ≡ old.words → new.branches ≡ old.branches → IsPlaced (without_block g m) new
+  placed_without old new bare placed is words marks =
       let none : (b : Block) → block_of g m ≡ Some b → block_words b ≡ 0 = λ b found.
       let both : Some b ≡ Some bare.block = sym found ∙ bare.there in
       let same : b ≡ bare.block = cc in
       let is : is_bare b ≡ true = ap is_bare same ∙ bare.bare in
       omega (arith, ap (λ is. length is) (bare_items b is), fall_words b.term (bare_falls b is)) in
+      let gone = somewhere (without_block g m).blocks m 0 (without_addresses g.blocks m 0 m rules.distinct none ∙ rw (eq-eqb m m refl) refl) in
       record {
         addresses = λ k. is k ∙ ap (λ o. if m == k then None else o) (placed.addresses k) ∙ sym (without_addresses g.blocks m 0 k rules.distinct none);
         words = omega (arith, words, placed.words, without_words g.blocks m none);
+        branches = subst (AreMarked (without_block g m)) (sym marks) (marked_without g m old.branches gone placed.branches);
       }
 
   -- a block before it doesn't jump to it
@@ -211,8 +217,8 @@ module _ (g : Graph) (n : ℕ) (rules : IsGraph g) where
             absurd (cc (ap is_some none, there))
       ]
 
-  pub placed_joined : (old new : Places) → ¬ HasBlock (joined_before g n) n → IsPlaced g old → ((k : ℕ) → placed_at new.addresses k ≡ (if n == k then None else placed_at old.addresses k)) → new.words ≡ old.words → IsPlaced (joined_before g n) new
-  placed_joined old new gone placed is same =
+  pub placed_joined : (old new : Places) → ¬ HasBlock (joined_before g n) n → IsPlaced g old → ((k : ℕ) → placed_at new.addresses k ≡ (if n == k then None else placed_at old.addresses k)) → new.words ≡ old.words → ((k : ℕ) → is_marked old.branches k ≡ true → is_marked new.branches k ≡ true) → ((m : ℕ) → next_of g m ≡ Some n → is_marked old.branches n ≡ true → is_marked new.branches m ≡ true) → IsPlaced (joined_before g n) new
+  placed_joined old new gone placed is same others marks =
       elim same_or_joined [
         | inl stays ↦
             subst (λ (h : Graph). IsPlaced h new) (sym stays)
@@ -222,12 +228,14 @@ module _ (g : Graph) (n : ℕ) (rules : IsGraph g) where
                 | inr apart ↦ rw apart refl
               ];
               words = same ∙ placed.words;
+              branches = λ k ends. others k (placed.branches k ends);
             })
         | inr joined ↦
             subst (λ (h : Graph). IsPlaced h new) (sym joined.is)
             (record {
               addresses = λ k. is k ∙ ap (λ o. if n == k then None else o) (placed.addresses k) ∙ sym (joined_addresses g.blocks joined.before n 0 k rules.distinct joined.slot joined.falls);
               words = omega (arith, same, placed.words, joined_words g.blocks joined.before joined.falls);
+              branches = marked_joined g joined.before n old.branches new.branches rules joined.slot others (marks joined.before joined.slot) placed.branches;
             })
       ]
     where
@@ -259,4 +267,5 @@ placed_survey g old places names stays reach placed falls count = record {
   falls = omega (arith, none_saved g falls, stays);
   near = λ _. subst (λ bs. IsInReach (record g { blocks = bs })) (sym falls) reach;
   words = placed.words;
+  branches = placed.branches;
 }

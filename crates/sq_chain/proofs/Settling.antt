@@ -15,7 +15,7 @@ use Rattle.sq_graph.specs.Canonical.{canonical_of}
 use Rattle.sq_graph.specs.Leaders.{is_bare, FallsIntoLeaders, IsCanonical}
 use Rattle.sq_graph.specs.Operations.{with_blocks, with_term}
 use Rattle.sq_graph.specs.Rules.{IsGraph}
-use Rattle.sq_graph.specs.Uses.{term_uses, items_uses, terms_uses, code_word_uses, uses}
+use Rattle.sq_graph.specs.Uses.{term_uses, items_uses, terms_uses, uses}
 use Rattle.sq_graph.specs.Words.{words_of}
 use Rattle.sq_graph.proofs.BlockPasses.{falls_used}
 use Rattle.sq_graph.proofs.CanonicalLaws.{falls_agree}
@@ -32,7 +32,7 @@ use Rattle.sq_lookup.specs.Names.{is_listed}
 use Rattle.sq_chain.specs.Moves.{chain_end, IsMovable, JumpsTo, fallen_term, fallen_blocks, fallen, fallen_into, fallen_before, carried}
 use Rattle.sq_lookup.specs.Counts.{count_at, times_named, AreUses, IsCounted}
 use Rattle.sq_lookup.specs.declared.counts.Uses.{Uses}
-use Rattle.sq_lookup.proofs.Counting.{times-append, times_held, used_same, uses_keep}
+use Rattle.sq_lookup.proofs.Counting.{times-append, times_in_items, times_held, used_same, uses_keep}
 use Rattle.sq_chain.specs.Bare.{AreSolidBut, AreLed}
 use Rattle.sq_chain.proofs.Fallen.{fall_keeps}
 use Rattle.sq_lookup.proofs.Previous.{one_before}
@@ -106,7 +106,8 @@ module _ (g : Graph) (from to after behind : ℕ) (rules : IsGraph g) (canonical
   pub uses_carried : (they : Uses) → AreUses g they → AreUses (carried g from to) they
   uses_carried they are =
       uses_keep g (carried g from to) they
-      (λ n. times_held g (carried g from to).blocks n (times_exchanged (λ b. items_uses b.items) g.blocks (carried g from to).blocks moved.pieces n))
+      (λ n. times_in_items g (carried g from to).blocks n (times_exchanged (λ b. items_uses b.items) g.blocks (carried g from to).blocks moved.pieces n))
+      (λ n. refl)
       (λ n. times_exchanged (λ b. term_uses b.term) g.blocks (carried g from to).blocks moved.pieces n)
       are
 
@@ -272,7 +273,8 @@ module _ (g : Graph) (m n : ℕ) (rules : IsGraph g) (slot : next_of g m ≡ Som
       let items : all_items (with_term g m Fall) ≡ all_items g =
       ap (λ is. is ++ items_of_bodies g.procedures) (items_of_blocks-kept (λ b. record b { term = Fall } ∷ []) g.blocks m at (append-nil at.block.items)) in
       record {
-        held = λ k. ap (λ ns. is_listed ns k) (sym one.held) ∙ are.held k ∙ ap (λ is. is_listed (g.entry ∷ (code_word_uses g.code_words ++ items_uses is)) k) (sym items);
+        items = λ k. ap (λ ns. is_listed ns k) (sym one.items) ∙ are.items k ∙ ap (λ is. is_listed (items_uses is) k) (sym items);
+        words = λ k. ap (λ ws. count_at ws.items k) (sym one.words) ∙ are.words k;
         terms = λ k. omega (arith, one.terms k, are.terms k, times_fell k);
       }
 

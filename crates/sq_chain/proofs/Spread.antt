@@ -25,7 +25,7 @@ use Rattle.sq_graph.proofs.SlotReads.{block_at}
 use Rattle.sq_graph.proofs.SplitRules.{flat_map-at, flat_map-changed}
 use Rattle.sq_layout.specs.Weights.{address_by}
 use Rattle.sq_layout.proofs.Shrinking.{some_is}
-use Rattle.sq_lookup.specs.Counts.{times_named, AreUses, IsCounted}
+use Rattle.sq_lookup.specs.Counts.{count_at, times_named, AreUses, IsCounted}
 use Rattle.sq_lookup.specs.Lowering.{nowhere}
 use Rattle.sq_lookup.specs.Names.{is_listed, held_uses}
 use Rattle.sq_lookup.specs.declared.counts.Uses.{Uses}
@@ -36,9 +36,10 @@ use Rattle.sq_chain.specs.Least.{stands_at}
 use Rattle.sq_chain.specs.Moves.{fallen_term, fallen_blocks}
 use Rattle.sq_chain.specs.Places.{address_behind, placed_at}
 use Rattle.sq_chain.specs.Shifts.{raised_to}
-use Rattle.sq_chain.specs.Surveys.{IsPlaced, NoneFalls}
+use Rattle.sq_chain.specs.Surveys.{AreMarked, IsPlaced, NoneFalls}
 use Rattle.sq_chain.specs.Widening.{jumped_over, over_jump}
 use Rattle.sq_chain.specs.declared.survey.Places.{Places}
+use Rattle.sq_chain.proofs.Marked.{marked_wider}
 use Rattle.sq_chain.proofs.Over.{over_first}
 use Rattle.sq_chain.proofs.Placed.{most}
 use Rattle.sq_chain.proofs.Shortness.{stands_there}
@@ -272,9 +273,8 @@ module _ (g : Graph) (new n next : ℕ) (cond : Cond) (a b to : ℕ) (is : term_
 
   pub wider_uses : (old more : Uses) → AreUses g old → IsCounted next old more → AreUses (changed (over_jump new next) g n) more
   wider_uses old more are counted = record {
-    held = λ k.
-        ap (λ ns. is_listed ns k) counted.held ∙ are.held k
-        ∙ ap (λ items. is_listed (g.entry ∷ (code_word_uses g.code_words ++ items_uses items)) k) (sym items_wider);
+    items = λ k. ap (λ ns. is_listed ns k) counted.items ∙ are.items k ∙ ap (λ items. is_listed (items_uses items) k) (sym items_wider);
+    words = λ k. ap (λ ws. count_at ws.items k) counted.words ∙ are.words k;
     terms = λ k. omega (arith, counted.terms k, are.terms k, times_wider k);
   }
 
@@ -318,14 +318,15 @@ module _ (g : Graph) (new n next : ℕ) (cond : Cond) (a b to : ℕ) (is : term_
 
     pub wider_placed : (words : ℕ) (more : Places) → IsNew g new → words ≡ length (items_of g n) + 1
         → ((k : ℕ) → placed_at more.addresses k ≡ update nat_eq (λ j. option_map (raised_to (4 * start)) (placed_at old.addresses j)) new (Some (4 * (start + words))) k)
-        → more.words ≡ old.words + 1 → IsPlaced (changed (over_jump new next) g n) more
-    wider_placed words more fresh words_is are counted = record {
+        → more.words ≡ old.words + 1 → more.branches ≡ old.branches → IsPlaced (changed (over_jump new next) g n) more
+    wider_placed words more fresh words_is are counted marks = record {
       addresses = λ k.
           are k
           ∙ ap (λ o. if nat_eq new k then Some (4 * (start + words)) else option_map (raised_to (4 * start)) o) (placed.addresses k)
           ∙ ap (λ s. if nat_eq new k then Some s else option_map (raised_to (4 * start)) (address_by block_words g.blocks 0 k)) (omega (arith, words_is, size))
           ∙ sym (wider_addresses new next n cond a b to g.blocks 0 (4 * start) k at.block is fresh (block_at g.blocks n at) place);
       words = omega (arith, counted, placed.words, wider_words new next n cond a b to g.blocks is);
+      branches = subst (AreMarked (changed (over_jump new next) g n)) (sym marks) (marked_wider g new next n old.branches placed.branches);
     }
 
 -- no block stands further on than all words take

@@ -1,10 +1,11 @@
 -- Branches around an address: those that reach or are widened, and those too far from it to be touched.
-use Rattle.std.specs.Prelude.{◌≡◌, ◌⊎◌, ℕ, ◌+◌, ◌*◌, ◌≤◌, ◌<◌, true, false, length, Option, None, Some}
+use Rattle.std.specs.Prelude.{◌≡◌, ◌⊎◌, ℕ, ◌+◌, ◌*◌, ◌≤◌, ◌<◌, true, false, List, length, Option, None, Some}
 use Rattle.sq_arena.specs.Entries.{ContainsKey, before}
 use Rattle.sq_graph.specs.Graph.{Graph}
 use Rattle.sq_graph.specs.Blocks.{named, HasBlock, items_of}
 use Rattle.sq_graph.specs.Words.{block_words}
 use Rattle.sq_chain.specs.Least.{stands_at}
+use Rattle.sq_chain.specs.Places.{placed_at}
 use Rattle.sq_chain.specs.Settled.{is_missed}
 use Rattle.sq_chain.specs.Widening.{EndsInBranch}
 use Rattle.sq_chain.specs.declared.around.Spans.{Spans}
@@ -17,6 +18,14 @@ abbrev pub IsFar : Graph → ℕ → ℕ → Type 0
 IsFar g seam block =
     (stands_at block_words g block + 4 * length (items_of g block) + 4096 < seam)
     ⊎ (seam + 4096 < stands_at block_words g block)
+
+-- each Branch is far from this address
+abbrev pub IsClear : Graph → ℕ → Type 0
+IsClear g seam = (n : ℕ) → EndsInBranch g n → IsFar g seam n
+
+-- so many words are before some block, no more than these, or none are
+abbrev pub IsStart : List ℕ → ℕ → ℕ → Type 0
+IsStart addresses words start = (start ≡ 0) ⊎ ((start ≤ words) × ((n : ℕ) × (placed_at addresses n ≡ Some (4 * start))))
 
 -- each Branch of a slot before this block is further ahead of this address than it reaches
 abbrev pub AreFarBefore : Graph → ℕ → ℕ → Type 0

@@ -1,11 +1,14 @@
 -- Branches, Jumps and Calls that go to another block in place of one.
-use Rattle.std.specs.Prelude.{◌≡◌, ◌⊎◌, ℕ, Bool, map, Option, None, Some, if◌then◌else◌}
+use Rattle.std.specs.Prelude.{◌≡◌, ◌≢◌, ◌⊎◌, ℕ, Bool, true, map, Option, None, Some, if◌then◌else◌}
+use Rattle.sq_isa.specs.Registers.{is_among}
 use Rattle.sq_isa.specs.declared.instructions.Cond.{Cond}
 use Rattle.sq_graph.specs.declared.item.Term.{Term}
 use Rattle.sq_graph.specs.declared.item.Term.TheVariants.{Branch, Jump, Call}
 use Rattle.sq_graph.specs.Graph.{Block, Graph}
 use Rattle.sq_graph.specs.Blocks.{next_of}
-use Rattle.sq_graph.specs.Renames.{swapped}
+use Rattle.sq_graph.specs.Renames.{retargeted_words, swapped}
+use Rattle.sq_graph.specs.Rules.{IsGraph}
+use Rattle.sq_lookup.specs.Counts.{word_uses}
 
 -- where a term jumps to, or what it calls
 abbrev pub leads_to : Term → Option ℕ
@@ -54,8 +57,20 @@ pub record IsPassedOn (bare next : ℕ) (g h : Graph) : Type 0 where
   pub among : ℕ → Bool
   pub is : h ≡ passed_on among bare next g
 
--- the other graph is this one, but some of the Branches, Jumps and Calls to this block go to the next one
+-- the other graph is this one, but where the entry or a word of data names the one block, it may name the other;
+-- each further block that they name is still named
+pub record IsHandedOn (bare next : ℕ) (g h : Graph) : Type 0 where
+  pub blocks : h.blocks ≡ g.blocks
+  pub procedures : h.procedures ≡ g.procedures
+  pub entry : swapped bare next h.entry ≡ swapped bare next g.entry
+  pub words : retargeted_words (swapped bare next) h.code_words ≡ retargeted_words (swapped bare next) g.code_words
+  pub used : (m : ℕ) → m ≢ bare → is_among (word_uses g) m ≡ true → is_among (word_uses h) m ≡ true
+
+-- the other graph is this one, but some of the uses of this block, which are none in items, are uses of the next one
 pub record IsPassed (bare : ℕ) (g h : Graph) : Type 0 where
   pub next : ℕ
   pub slot : next_of g bare ≡ Some next
-  pub on : IsPassedOn bare next g h
+  pub mid : Graph
+  pub rules : IsGraph mid
+  pub handed : IsHandedOn bare next g mid
+  pub on : IsPassedOn bare next mid h

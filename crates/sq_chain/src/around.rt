@@ -25,7 +25,7 @@ use sq_lookup::WordsBefore;
 pub(crate) const SLOTS: u32 = 4800;
 
 /// How many bytes from a place it goes: more than a Branch reaches.
-const REACH: u64 = 4200;
+pub(crate) const REACH: u64 = 4200;
 
 /// What Branches come to once the pieces are exchanged.
 #[derive(Clone, Copy, Debug, PartialEq, Eq)]

@@ -14,7 +14,7 @@ use sq_num::Memory;
 use std::alloc::Global;
 
 /// The name of no block.
-const NOBODY: u32 = u32::MAX;
+pub(crate) const NOBODY: u32 = u32::MAX;
 
 /// The lists. A block is in one at most; a name for which there is no room is in none.
 #[derive(Drop)]
@@ -27,7 +27,7 @@ pub(crate) struct Jumps {
 }
 
 /// What stands under a name.
-fn look(list: &[u32], name: u32) -> u32 {
+pub(crate) fn look(list: &[u32], name: u32) -> u32 {
     let name = name as usize;
     if name < list.len() {
         list[name]
@@ -37,7 +37,7 @@ fn look(list: &[u32], name: u32) -> u32 {
 }
 
 /// Writes under a name, where there is room.
-fn mark(list: &mut [u32], name: u32, other: u32) {
+pub(crate) fn mark(list: &mut [u32], name: u32, other: u32) {
     let name = name as usize;
     if name < list.len() {
         list[name] = other;
@@ -45,7 +45,7 @@ fn mark(list: &mut [u32], name: u32, other: u32) {
 }
 
 /// So many names, under which nobody stands.
-fn empty(alloc: Global, names: usize) -> Result<Vec<u32>, Memory> {
+pub(crate) fn empty(alloc: Global, names: usize) -> Result<Vec<u32>, Memory> {
     let mut list = Vec::new(alloc);
     list.resize(names, NOBODY)?;
     Ok(list)
@@ -72,6 +72,11 @@ fn jump_of(graph: &Graph, block: u32) -> Option<u32>
 }
 
 impl Jumps {
+    /// Where the lists have their memory.
+    pub fn alloc(&self) -> Global {
+        *self.firsts.allocator()
+    }
+
     /// A block that jumps to this name, or calls it, if one is listed.
     pub fn first(&self, to: u32) -> Option<u32> {
         let block = look(&self.firsts, to);

@@ -6,10 +6,14 @@
 //! left follows the graph before, is in reach, and sound where that was; the names of the new blocks don't matter.
 #![tactic(auto)]
 
+mod along;
 mod around;
 mod carry;
 mod chain;
+mod clear;
 mod counting;
+mod handing;
+mod holders;
 mod jumps;
 pub mod laws;
 mod least;

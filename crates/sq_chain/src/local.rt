@@ -15,6 +15,7 @@ ghost use Rattle.sq_chain.specs.Surveys.{IsPlaced, NoneFalls};
 ghost use Rattle.sq_chain.specs.Settled.{is_wide, AreWide, IsLeastWide};
 ghost use Rattle.sq_chain.specs.Widening.{EndsInBranch, IsOneWider, IsWidened};
 ghost use Rattle.sq_lookup.specs.Counts.{AreUses};
+ghost use Rattle.sq_lookup.specs.Marks.{is_marked};
 
 use crate::chain::end_of_chain;
 use crate::passing::pass_on_uses;
@@ -25,7 +26,7 @@ use crate::spreading::widen_placed;
 use crate::survey::Places;
 use crate::widening::widen_one;
 use sq_graph::{Graph, Term};
-use sq_lookup::{Uses, block_before, is_block};
+use sq_lookup::{Marks, Uses, block_before, is_block};
 
 /// The blocks before the seams of a move whose Jumps became Fall.
 #[derive(Clone, Copy)]
@@ -91,7 +92,8 @@ fn jumps_over(graph: &Graph, block: u32) -> bool
 }
 
 /// Takes out this block, if there is one and it is empty with Fall, once Jumps and Calls to it and Branches near it go to the next
-/// one. Where its name is used otherwise, or the block before it jumps over it, it leaves it, and answers false.
+/// one, and the entry and the words of data name that. Where its name is used otherwise, or the block before it jumps over it, it
+/// leaves it, and answers false.
 fn drop_bare(graph: &mut Graph, uses: &mut Uses, places: &mut Places, fell: Option<u32>) -> bool
     requires uses { AreUses graph.old.graph uses.old }
     requires placed { IsPlaced graph.old.graph places.old }
@@ -139,6 +141,18 @@ fn drop_at_seams(graph: &mut Graph, uses: &mut Uses, places: &mut Places, fell: 
     drop_bare(graph, uses, places, fell.second)
 }
 
+/// Marks a block as the one behind it is that was joined to it.
+fn mark_joined(branches: &mut Marks, joined: u32, before: Option<u32>)
+    ensures others { (n : ℕ) → is_marked branches.old n ≡ true → is_marked branches.new n ≡ true }
+    ensures joined { IfSome before (λ n. is_marked branches.old joined ≡ true → is_marked branches.new n ≡ true) }
+{
+    if let Some(block) = before {
+        if branches.has(joined) {
+            branches.put(block);
+        }
+    }
+}
+
 /// Joins this block to the one before, where that falls into it and its name isn't used.
 fn join_before(graph: &mut Graph, uses: &Uses, places: &mut Places, name: u32)
     requires uses { AreUses graph.old.graph uses.now }
@@ -154,6 +168,7 @@ fn join_before(graph: &mut Graph, uses: &Uses, places: &mut Places, name: u32)
     if !is_block(graph, name) {
         forget(&mut places.addresses, name);
         places.jumps.join(graph, name, before);
+        mark_joined(&mut places.branches, name, before);
     }
 }
 

@@ -15,6 +15,7 @@ ghost use Rattle.sq_chain.specs.declared.outlook.Outlook.TheVariants.{Near, Stil
 
 use crate::around::{Around, Corners, look_around};
 use crate::chain::end_of_chain;
+use crate::clear::{are_clear, has_branch_near};
 use crate::outlook::Outlook;
 use crate::shift::{Shift, Wide, shift_of};
 use crate::survey::Survey;
@@ -77,6 +78,9 @@ pub(crate) fn outlook_at_seams(graph: &Graph, survey: &Survey, from: u32, to: u3
     }
     let addresses = &survey.places.addresses;
     let shift = shift_of(graph, addresses, from, to, end);
+    if !has_branch_near(graph, from) && are_clear(addresses, &survey.places.branches, shift.seams) {
+        return Outlook::Near;
+    }
     let corners = Corners { from, to, end };
     outlook_by(graph, addresses, shift, corners)
 }

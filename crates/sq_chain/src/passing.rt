@@ -13,6 +13,7 @@ ghost use Rattle.sq_chain.specs.Places.{placed_at};
 ghost use Rattle.sq_chain.specs.Surveys.{IsPlaced};
 
 use crate::around::{SLOTS, far_before};
+use crate::handing::hand_on;
 use crate::jumps::Jumps;
 use crate::placing::address;
 use crate::survey::Places;
@@ -117,8 +118,8 @@ fn pass_branches(
     false
 }
 
-/// Has the Jumps and Calls to this block, which is empty with Fall, and the Branches around it go to the next one in its place.
-/// Whether nothing uses its name then.
+/// Has the Jumps and Calls to this block, which is empty with Fall, and the Branches around it go to the next one in its place,
+/// and the entry and the words of data name that. Whether nothing uses its name then.
 pub(crate) fn pass_on_uses(
     graph: &mut Graph,
     uses: &mut Uses,
@@ -137,6 +138,13 @@ pub(crate) fn pass_on_uses(
     let Some(next) = graph.next(bare) else {
         unreachable!()
     };
+    let names = places.addresses.names();
+    let alloc = places.jumps.alloc();
+    let handed = hand_on(alloc, graph, uses, &mut places.holders, names, bare, next);
+    graph.learn();
+    if !handed {
+        return false;
+    }
     if !pass_jumps(graph, uses, &mut places.jumps, bare, next) {
         return false;
     }

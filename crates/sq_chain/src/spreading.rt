@@ -21,6 +21,7 @@ fn put_behind(places: &mut Places, name: u32, start: u32, words: u32) -> bool
     requires end { start + words < 2 ^ 31 }
     requires words { places.old.words < 2 ^ 31 }
     requires few { (n at : ℕ) → placed_at places.old.addresses n ≡ Some at → at < 2 ^ 33 }
+    ensures branches { places.new.branches ≡ places.old.branches }
     ensures words { result ≡ true → places.new.words ≡ places.old.words + 1 }
     ensures addresses { result ≡ true → (n : ℕ) → placed_at places.new.addresses n ≡ update nat_eq (λ m. option_map (raised_to (4 * start)) (placed_at places.old.addresses m)) name (Some (4 * (start + words))) n }
 {

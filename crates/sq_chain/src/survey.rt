@@ -2,17 +2,19 @@
 
 ghost use Rattle.std.specs.Prelude.{◌≡◌, ℕ, ◌≤◌, ◌<◌, ◌^◌, length, option_map, sum_by, Some, None, IfOk};
 ghost use Rattle.std.specs.List.{All};
+ghost use Rattle.sq_graph.specs.Graph.{Graph as Parts};
 ghost use Rattle.sq_graph.specs.Blocks.{HasBlock, block_of};
 ghost use Rattle.sq_graph.specs.Parts.{names_of};
 ghost use Rattle.sq_graph.specs.Words.{block_words, procedure_words, words_of};
 ghost use Rattle.sq_chain.specs.Places.{placed_at};
-ghost use Rattle.sq_chain.specs.Surveys.{extent_of, extents_of, IsSurvey};
+ghost use Rattle.sq_chain.specs.Surveys.{extent_of, extents_of, AreMarked, IsSurvey};
 
 use crate::counting::count_short;
+use crate::holders::Holders;
 use crate::jumps::{Jumps, jumps_of};
 use crate::placing::fallen_addresses;
 use sq_graph::{Graph, Term};
-use sq_lookup::WordsBefore;
+use sq_lookup::{Marks, WordsBefore};
 use sq_num::Memory;
 use std::alloc::Global;
 
@@ -34,6 +36,10 @@ pub(crate) struct Places {
     pub addresses: WordsBefore,
     pub words: u32,
     pub jumps: Jumps,
+    // Names of blocks, among which are all that end in a Branch.
+    pub branches: Marks,
+    // Which words of data name each block, once it was asked.
+    pub holders: Option<Holders>,
 }
 
 /// What is known of a graph: a number that is greater than each name of a block, where the blocks stand once each Jump to the
@@ -129,6 +135,19 @@ fn room_to_come(alloc: Global, names: usize) -> Result<WordsBefore, Memory>
     room_for(alloc, names.saturating_add(MORE))
 }
 
+/// Marks on the names of those blocks that end in a Branch, with room for the names below a number.
+fn branches_of(alloc: Global, extents: &[Extent], names: usize) -> Result<Marks, Memory>
+    ensures { (g : Parts) → extents.now ≡ extents_of g → IfOk result (AreMarked g) }
+{
+    let mut branches = Marks::new(alloc, names)?;
+    for extent in extents {
+        if let Term::Branch { .. } = extent.term {
+            branches.put(extent.name);
+        }
+    }
+    Ok(branches)
+}
+
 /// The survey of a graph, by one walk over the blocks and two looks at their listing.
 pub(crate) fn survey_of(alloc: Global, graph: &Graph) -> Result<Survey, Memory>
     ensures { IfOk result (λ survey. IsSurvey graph.now.graph survey) }
@@ -138,13 +157,17 @@ pub(crate) fn survey_of(alloc: Global, graph: &Graph) -> Result<Survey, Memory>
     let room = room_to_come(alloc, listing.names)?;
     let fallen = fallen_addresses(room, &listing.extents);
     let near = count_short(&fallen.addresses, &listing.extents, 1) == 0;
-    let jumps = jumps_of(alloc, &listing.extents, fallen.addresses.names())?;
+    let names = fallen.addresses.names();
+    let jumps = jumps_of(alloc, &listing.extents, names)?;
+    let branches = branches_of(alloc, &listing.extents, names)?;
     Ok(Survey {
         names: listing.names,
         places: Places {
             addresses: fallen.addresses,
             words: listing.words + words_of_procedures(graph),
             jumps,
+            branches,
+            holders: None,
         },
         falls: fallen.falls,
         near,

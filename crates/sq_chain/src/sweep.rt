@@ -12,6 +12,7 @@ ghost use Rattle.sq_chain.specs.Settled.{IsLeastWide, Widens};
 ghost use Rattle.sq_chain.specs.Surveys.{IsSurvey};
 ghost use Rattle.sq_lookup.specs.Counts.{AreUses, AreKnown};
 
+use crate::along::Along;
 use crate::local::carry_joined;
 use crate::moving::{movable_target, move_by};
 use crate::outlook::{Outlook, outlook_of};
@@ -189,7 +190,7 @@ fn sweep_behind(
 
 /// Moves chains by one look over the blocks in layout order, each where the pair is movable and words are saved, and makes the
 /// graph canonical after each. It ends behind a move where `watch` says so. It may leave moves: those that `watch` doesn't want,
-/// and those of pairs that came to be movable behind the look.
+/// those of long chains, and those of pairs that came to be movable behind the look.
 #[tactic(auto, using(law_follow::proofs::Following::graph_follows_through))]
 pub fn sweep_moves<W: Watch>(
     alloc: Global,
@@ -208,8 +209,9 @@ pub fn sweep_moves<W: Watch>(
     let mut uses = None;
     watch.begins(alloc, graph, &view.places.addresses)?;
     let mut after = savings;
+    let mut along = Along::of(graph);
     for name in &names {
-        if !watch.wants(graph, *name)? {
+        if !watch.wants(graph, *name)? || !along.suits(graph, *name) {
             continue;
         }
         let next = sweep_behind(alloc, graph, &mut view, &mut uses, *name, after)?;

@@ -6,7 +6,7 @@ use Rattle.std.proofs.lemmas.List.Concat.{flat_map-append}
 use Rattle.std.proofs.lemmas.List.Folds.{list_any-append}
 use Rattle.std.proofs.lemmas.Option.{slice_get_cases}
 use Rattle.std.specs.List.{flat_map}
-use Rattle.std.proofs.Math.Bool.{or_assoc}
+use Rattle.std.proofs.Math.Bool.{or_assoc, or_comm}
 use Rattle.sq_isa.specs.Registers.{is_among}
 use Rattle.sq_graph.specs.Graph.{Block, Procedure, Graph}
 use Rattle.sq_graph.specs.Blocks.{items_of_blocks, items_of_bodies, all_items}
@@ -60,16 +60,29 @@ pub uses_of_bodies : (ps : List Procedure) → flat_map (λ p. items_uses p.body
 uses_of_bodies [] = refl
 uses_of_bodies (p ∷ ps) = ap (λ ns. items_uses p.body ++ ns) (uses_of_bodies ps) ∙ sym (flat_map-append item_uses p.body (items_of_bodies ps))
 
--- the parts of a graph one after another
-pub adds_held : (g : Graph) (a b c d e : List ℕ) → Adds (g.entry ∷ []) a b → Adds (code_word_uses g.code_words) b c → Adds (flat_map (λ b. items_uses b.items) g.blocks) c d → Adds (flat_map (λ p. items_uses p.body) g.procedures) d e → Adds (held_uses g) a e
-adds_held g a b c d e entry words blocks bodies =
-    let in_blocks : Adds (items_uses (items_of_blocks g.blocks)) c d = subst (λ ns. Adds ns c d) (uses_of_blocks g.blocks) blocks in
-    let in_bodies : Adds (items_uses (items_of_bodies g.procedures)) d e = subst (λ ns. Adds ns d e) (uses_of_bodies g.procedures) bodies in
-    let items : Adds (items_uses (all_items g)) c e =
-    subst (λ ns. Adds ns c e) (sym (flat_map-append item_uses (items_of_blocks g.blocks) (items_of_bodies g.procedures)))
-    (adds_then (items_uses (items_of_blocks g.blocks)) (items_uses (items_of_bodies g.procedures)) c d e in_blocks in_bodies) in
-    adds_then (g.entry ∷ []) (code_word_uses g.code_words ++ items_uses (all_items g)) a b e entry
-    (adds_then (code_word_uses g.code_words) (items_uses (all_items g)) b c e words items)
+-- in whichever order the names come
+adds_turned : (names more s t : List ℕ) → Adds (names ++ more) s t → Adds (more ++ names) s t
+adds_turned names more s t add = record {
+  each = λ n.
+      add.each n
+      ∙ ap (λ b. is_listed s n || b) (is_listed-append names more n ∙ or_comm (is_listed names n) (is_listed more n) ∙ sym (is_listed-append more names n));
+}
+
+-- the items of a graph, those of blocks first
+pub adds_items : (g : Graph) (a b c : List ℕ) → Adds (flat_map (λ b. items_uses b.items) g.blocks) a b → Adds (flat_map (λ p. items_uses p.body) g.procedures) b c → Adds (items_uses (all_items g)) a c
+adds_items g a b c blocks bodies =
+    let in_blocks : Adds (items_uses (items_of_blocks g.blocks)) a b = subst (λ ns. Adds ns a b) (uses_of_blocks g.blocks) blocks in
+    let in_bodies : Adds (items_uses (items_of_bodies g.procedures)) b c = subst (λ ns. Adds ns b c) (uses_of_bodies g.procedures) bodies in
+    subst (λ ns. Adds ns a c) (sym (flat_map-append item_uses (items_of_blocks g.blocks) (items_of_bodies g.procedures)))
+    (adds_then (items_uses (items_of_blocks g.blocks)) (items_uses (items_of_bodies g.procedures)) a b c in_blocks in_bodies)
+
+-- then the entry and the code words
+pub adds_held : (g : Graph) (a b c d : List ℕ) → Adds (items_uses (all_items g)) a b → Adds (g.entry ∷ []) b c → Adds (code_word_uses g.code_words) c d → Adds (held_uses g) a d
+adds_held g a b c d items entry words =
+    let first = g.entry ∷ [] in
+    let W = code_word_uses g.code_words in
+    let I = items_uses (all_items g) in
+    adds_turned I (g.entry ∷ W) a d (adds_then I (g.entry ∷ W) a b d items (adds_then first W b c d entry words))
 
 -- a name is used where it is held, or a term names it
 pub used_or_held : (g : Graph) (n : ℕ) → is_listed (uses g) n ≡ (is_listed (held_uses g) n || is_listed (terms_uses g.blocks) n)

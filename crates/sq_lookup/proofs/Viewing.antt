@@ -1,9 +1,11 @@
 -- How many words are before blocks, as a list by their names.
-use Rattle.std.proofs.Common.{◌≡◌, ◌∙◌, ℕ, ◌<◌, List, length, map, set, get_or, inl, inr, sym, ap, arith}
+use Rattle.std.proofs.Common.{◌≡◌, ◌∙◌, ℕ, ◌<◌, ◌≤◌, Bool, true, List, length, map, set, get_or, Option, inl, inr, sym, ap, arith}
 use Rattle.std.proofs.lemmas.Bool.{cases_lt, cases_eq}
 use Rattle.std.proofs.lemmas.List.{length-map, length-set, ext_get_or, get_or-map, get_or-set_same, get_or-set_other, get_or_past}
 use Rattle.sq_lookup.specs.declared.text.Text.{Text}
 use Rattle.sq_lookup.specs.Lowering.{nowhere}
+use Rattle.sq_lookup.specs.Marks.{is_wanted}
+use Rattle.sq_lookup.specs.Nearby.{IsElsewhere}
 use Rattle.sq_lookup.specs.Standing.{word_in, word_at, no_place, IsChanged, IsPut}
 
 abbrev pub words_of : Text → List ℕ
@@ -45,4 +47,14 @@ words_none text none n =
     elim (cases_lt n (length text.places.items)) [
       | inl within ↦ word_read text n within ∙ none n within
       | inr past ↦ get_or_past (words_of text) n nowhere (omega (arith, past, words_count text))
+    ]
+
+-- where no wanted block is found between two places of the text, none stands there
+pub none_between : (text : Text) (marks : Option (List Bool)) (first last : ℕ) → last < nowhere → ((n : ℕ) → IsElsewhere text marks first last n) → (n : ℕ) → is_wanted marks n ≡ true → first ≤ get_or (words_of text) n nowhere → last < get_or (words_of text) n nowhere
+none_between text marks first last below none n wanted from =
+    elim (cases_lt n (length text.places.items)) [
+      | inl within ↦
+          let read = word_read text n within in
+          omega (arith, read, none n within wanted (omega (arith, read, from)))
+      | inr past ↦ omega (arith, below, get_or_past (words_of text) n nowhere (omega (arith, past, words_count text)))
     ]

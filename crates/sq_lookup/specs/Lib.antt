@@ -7,3 +7,5 @@ pub mod Lowering
 pub mod Exchanging
 pub mod Shifting
 pub mod Standing
+pub mod Marks
+pub mod Nearby

@@ -1,6 +1,6 @@
 //! How often a graph uses names of blocks, kept while it is rewritten.
 
-ghost use Rattle.std.specs.Prelude.{◌≡◌, ◌+◌, ◌≤◌, ◌<◌, ◌==◌, ◌^◌, ℕ, if◌then◌else◌, length, IfOk, OnOk};
+ghost use Rattle.std.specs.Prelude.{◌≡◌, ◌+◌, ◌≤◌, ◌<◌, ◌==◌, ℕ, if◌then◌else◌, length, IfOk, OnOk};
 ghost use Rattle.sq_graph.specs.Canonical.{joined_before};
 ghost use Rattle.sq_graph.specs.Graph.{Graph as Parts};
 ghost use Rattle.sq_graph.specs.Leaders.{is_fall};
@@ -8,20 +8,21 @@ ghost use Rattle.sq_graph.specs.Parts.{names_of};
 ghost use Rattle.sq_graph.specs.Rules.{IsGraph};
 ghost use Rattle.sq_graph.specs.Uses.{terms_uses, uses};
 ghost use Rattle.sq_isa.specs.Registers.{is_among};
-ghost use Rattle.sq_lookup.specs.Counts.{count_at, times_named, AreUses, IsCounted};
+ghost use Rattle.sq_lookup.specs.Counts.{count_at, times_named, word_uses, AreUses, IsCounted, IsWorded};
 
 use crate::blocks::block_before;
 use crate::names::Names;
-use crate::uses::held_names;
+use crate::uses::item_names;
 use sq_graph::{Graph, Term};
 use sq_live::block_names;
 use sq_num::Memory;
 use std::alloc::Global;
 
-/// The names that a graph uses elsewhere than in terms, and how many terms name each block.
+/// The names that a graph uses in items, how often the entry and the words of data name each block, and how many terms do.
 #[derive(Drop)]
 pub struct Uses {
-    pub(crate) held: Names,
+    pub(crate) items: Names,
+    pub(crate) words: Vec<u32>,
     pub(crate) terms: Vec<u32>,
 }
 
@@ -30,12 +31,33 @@ impl Uses {
     pub fn has(&self, name: u32) -> bool
         ensures { (g : Parts) → AreUses g self.now → result ≡ is_among (uses g) name }
     {
-        self.held.has(name) || count(&self.terms, name) != 0
+        self.items.has(name) || self.has_word(name) || count(&self.terms, name) != 0
+    }
+
+    /// Whether the entry or a word of data names this block in a graph that has these uses.
+    pub fn has_word(&self, name: u32) -> bool
+        ensures { (g : Parts) → AreUses g self.now → result ≡ is_among (word_uses g) name }
+    {
+        count(&self.words, name) != 0
+    }
+
+    /// Counts the entry, or one word of data, more that names this block.
+    pub fn add_word(&mut self, name: u32) -> Result<(), Memory>
+        ensures { OnOk result (IsWorded name self.old self.new) }
+    {
+        add_one(&mut self.words, name)
+    }
+
+    /// Counts the entry, or one word of data, less that names this block.
+    pub fn take_word(&mut self, name: u32)
+        requires { 1 ≤ count_at self.old.words.items name }
+        ensures { IsWorded name self.new self.old }
+    {
+        take_one(&mut self.words, name);
     }
 
     /// Counts one term more that names this block.
     pub fn add(&mut self, name: u32) -> Result<(), Memory>
-        requires { count_at self.old.terms.items name + 1 < 2 ^ 32 }
         ensures { OnOk result (IsCounted name self.old self.new) }
     {
         add_one(&mut self.terms, name)
@@ -96,13 +118,13 @@ fn grow(counts: &mut Vec<u32>, name: u32) -> Result<(), Memory>
     Ok(())
 }
 
-/// Counts one more under a name.
+/// Counts one more under a name. Where there are too many for their number, it says that there is no memory.
 fn add_one(counts: &mut Vec<u32>, name: u32) -> Result<(), Memory>
-    requires { count_at counts.old.items name + 1 < 2 ^ 32 }
     ensures { OnOk result ((n : ℕ) → count_at counts.new.items n ≡ (if name == n then 1 else 0) + count_at counts.old.items n) }
 {
     grow(counts, name)?;
-    counts[name as usize] += 1;
+    let more = counts[name as usize].checked_add(1).ok_or(Memory)?;
+    counts[name as usize] = more;
     Ok(())
 }
 
@@ -130,13 +152,30 @@ fn count_terms(alloc: Global, graph: &Graph, names: &[u32]) -> Result<Vec<u32>, 
     Ok(counts)
 }
 
+/// How often the entry and the words of data name each block.
+fn count_words(alloc: Global, graph: &Graph) -> Result<Vec<u32>, Memory>
+    ensures { IfOk result (λ counts. (n : ℕ) → count_at counts.items n ≡ times_named (word_uses graph.now.graph) n) }
+{
+    let mut counts = Vec::new(alloc);
+    add_one(&mut counts, graph.entry())?;
+    for word in graph.code_words() {
+        add_one(&mut counts, word.block)?;
+    }
+    Ok(counts)
+}
+
 /// The uses of a graph. It looks at each block and each item a few times.
 pub fn uses_of(alloc: Global, graph: &Graph) -> Result<Uses, Memory>
     ensures { IfOk result (λ they. AreUses graph.now.graph they) }
 {
     graph.learn();
     let names = block_names(alloc, graph)?;
-    let held = held_names(alloc, graph, &names)?;
+    let items = item_names(alloc, graph, &names)?;
+    let words = count_words(alloc, graph)?;
     let terms = count_terms(alloc, graph, &names)?;
-    Ok(Uses { held, terms })
+    Ok(Uses {
+        items,
+        words,
+        terms,
+    })
 }

@@ -2,7 +2,7 @@
 
 ghost use Rattle.std.specs.Prelude.{◌≡◌, ◌++◌, ◌∷◌, [], map, option_to_list, OnOk, IfOk};
 ghost use Rattle.std.specs.List.{flat_map};
-ghost use Rattle.sq_graph.specs.Blocks.{items_of_bodies};
+ghost use Rattle.sq_graph.specs.Blocks.{all_items};
 ghost use Rattle.sq_graph.specs.Parts.{names_of};
 ghost use Rattle.sq_graph.specs.Rules.{IsGraph};
 ghost use Rattle.sq_graph.specs.Uses.{item_uses, items_uses, terms_uses, code_word_uses, uses};
@@ -72,6 +72,18 @@ fn use_bodies(used: &mut Names, graph: &Graph) -> Result<(), Memory>
     Ok(())
 }
 
+/// The names that are used in items: in Hi and Lo in blocks and in all procedures. It looks at each item once.
+pub(crate) fn item_names(alloc: Global, graph: &Graph, names: &[u32]) -> Result<Names, Memory>
+    requires rules { IsGraph graph.now.graph }
+    requires names { names.now ≡ names_of graph.now.graph }
+    ensures { IfOk result (λ they. Adds (items_uses (all_items graph.now.graph)) [] they) }
+{
+    let mut they = Names::new(alloc);
+    use_blocks(&mut they, graph, names)?;
+    use_bodies(&mut they, graph)?;
+    Ok(they)
+}
+
 /// The names that are used elsewhere than in terms: in the entry, code words, and Hi and Lo in blocks and in all procedures. It
 /// looks at each item once.
 pub fn held_names(alloc: Global, graph: &Graph, names: &[u32]) -> Result<Names, Memory>
@@ -79,11 +91,9 @@ pub fn held_names(alloc: Global, graph: &Graph, names: &[u32]) -> Result<Names, 
     requires names { names.now ≡ names_of graph.now.graph }
     ensures { IfOk result (λ held. Adds (held_uses graph.now.graph) [] held) }
 {
-    let mut held = Names::new(alloc);
+    let mut held = item_names(alloc, graph, names)?;
     held.insert(graph.entry())?;
     use_words(&mut held, graph.code_words())?;
-    use_blocks(&mut held, graph, names)?;
-    use_bodies(&mut held, graph)?;
     Ok(held)
 }
 

@@ -1,5 +1,7 @@
 //! How many words are before blocks, by their names.
 
+use crate::marks::Marks;
+use crate::nearby::find;
 use crate::parts::{Change, NOWHERE, Pieces};
 use crate::text::{Text, change, empty, put, word};
 use sq_num::Memory;
@@ -25,9 +27,10 @@ impl Model for WordsBefore {
 }
 
 impl WordsBefore {
-    ghost use Rattle.std.specs.Prelude.{◌≡◌, ◌≤◌, ◌<◌, ◌^◌, ℕ, get_or, length, map, set, IfOk};
+    ghost use Rattle.std.specs.Prelude.{◌≡◌, ◌≤◌, ◌<◌, ◌^◌, ℕ, true, None, get_or, length, map, set, IfOk, IfSome};
     ghost use Rattle.sq_lookup.specs.Exchanging.{AreInOrder, exchanged_word};
     ghost use Rattle.sq_lookup.specs.Lowering.{nowhere, lowered_word, raised_word};
+    ghost use Rattle.sq_lookup.specs.Marks.{is_marked};
 
     /// Room for each name below this number.
     pub fn new(alloc: Global, names: usize) -> Result<WordsBefore, Memory>
@@ -94,5 +97,23 @@ impl WordsBefore {
         ensures { self.new ≡ map (exchanged_word pieces) self.old }
     {
         change(&mut self.text, Change::Exchange(pieces));
+    }
+
+    /// A block before which there are at least so many words, and at most so many, if there is one.
+    pub fn between(&self, first: u32, last: u32) -> Option<u32>
+        requires { last < nowhere }
+        ensures some { IfSome result (λ n. (first ≤ get_or self.now n nowhere) × (get_or self.now n nowhere ≤ last)) }
+        ensures none { result ≡ None → (n : ℕ) → first ≤ get_or self.now n nowhere → last < get_or self.now n nowhere }
+    {
+        find(&self.text, None, first, last)
+    }
+
+    /// The same of marked names.
+    pub fn marked_between(&self, marks: &Marks, first: u32, last: u32) -> Option<u32>
+        requires { last < nowhere }
+        ensures some { IfSome result (λ n. (is_marked marks.now n ≡ true) × ((first ≤ get_or self.now n nowhere) × (get_or self.now n nowhere ≤ last))) }
+        ensures none { result ≡ None → (n : ℕ) → is_marked marks.now n ≡ true → first ≤ get_or self.now n nowhere → last < get_or self.now n nowhere }
+    {
+        find(&self.text, Some(marks), first, last)
     }
 }

@@ -8,7 +8,7 @@ use Rattle.sq_isa.specs.Registers.{is_among}
 use Rattle.sq_graph.specs.declared.item.Item.{Item}
 use Rattle.sq_graph.specs.declared.item.Term.TheVariants.{Fall}
 use Rattle.sq_graph.specs.Graph.{Block, Graph}
-use Rattle.sq_graph.specs.Blocks.{HasBlock, block_items, items_of, items_of_blocks, items_of_bodies}
+use Rattle.sq_graph.specs.Blocks.{HasBlock, block_items, items_of, items_of_blocks, items_of_bodies, all_items}
 use Rattle.sq_graph.specs.Leaders.{has_no_items, is_fall, is_bare, FallsIntoLeaders}
 use Rattle.sq_graph.specs.Operations.{IsNew, halves, split_at}
 use Rattle.sq_graph.specs.Uses.{term_uses, items_uses, terms_uses, code_word_uses, uses}
@@ -17,7 +17,6 @@ use Rattle.sq_graph.proofs.Changes.{with_blocks-at, items_of_blocks-kept}
 use Rattle.sq_graph.proofs.Eachs.{All-left, All-right}
 use Rattle.sq_graph.proofs.Located.{IsAt, located}
 use Rattle.sq_graph.proofs.SlotReads.{block_at}
-use Rattle.sq_lookup.specs.Names.{held_uses}
 use Rattle.sq_tail.proofs.Uses.{falls_more}
 
 -- a list with items isn't empty
@@ -56,8 +55,8 @@ module _ (g : Graph) (new kept from : ℕ) (unused : IsNew g new) (has : HasBloc
   uses_same : uses s ≡ uses g
   uses_same = λ i. g.entry ∷ (code_word_uses g.code_words ++ (terms_same i ++ items_uses (items_same i ++ items_of_bodies g.procedures)))
 
-  pub held_same : held_uses (split_at g new kept from) ≡ held_uses g
-  held_same = λ i. g.entry ∷ (code_word_uses g.code_words ++ items_uses (items_same i ++ items_of_bodies g.procedures))
+  pub item_uses_same : items_uses (all_items (split_at g new kept from)) ≡ items_uses (all_items g)
+  item_uses_same = λ i. items_uses (items_same i ++ items_of_bodies g.procedures)
 
   abbrev leads : ℕ → Bool
   leads k = is_among (uses s) k || k == new

@@ -8,7 +8,7 @@ use Rattle.sq_graph.specs.declared.item.Item.TheVariants.{Op, Hi, Lo, Out}
 use Rattle.sq_graph.specs.declared.item.Term.{Term}
 use Rattle.sq_graph.specs.declared.item.Term.TheVariants.{Jump}
 use Rattle.sq_graph.specs.Graph.{Block, Graph}
-use Rattle.sq_graph.specs.Blocks.{HasBlock, block_items, block_term, items_of, term_of}
+use Rattle.sq_graph.specs.Blocks.{all_items, HasBlock, block_items, block_term, items_of, term_of}
 use Rattle.sq_graph.specs.Canonical.{canonical_of}
 use Rattle.sq_graph.specs.Leaders.{is_bare, FallsIntoLeaders, IsCanonical}
 use Rattle.sq_graph.specs.Matches.{IsSameForm, AreSameForms}
@@ -17,8 +17,8 @@ use Rattle.sq_graph.specs.Rules.{IsGraph}
 use Rattle.sq_graph.specs.Uses.{item_uses, items_uses, terms_uses, uses}
 use Rattle.sq_graph.proofs.BlockPasses.{falls_used}
 use Rattle.sq_graph.proofs.JoinedBefore.{joined_before_each, canonical_before}
-use Rattle.sq_lookup.specs.Counts.{count_at, times_named, AreUses, IsCounted}
-use Rattle.sq_lookup.specs.Names.{is_listed, held_uses}
+use Rattle.sq_lookup.specs.Counts.{count_at, times_named, word_uses, AreUses, IsCounted}
+use Rattle.sq_lookup.specs.Names.{is_listed}
 use Rattle.sq_lookup.specs.declared.counts.Uses.{Uses}
 use Rattle.sq_lookup.proofs.Adding.{among_listed}
 use Rattle.law_patch.specs.Merges.{merged, tailed}
@@ -33,8 +33,8 @@ use Rattle.sq_tail.proofs.Merging.{merged_term}
 use Rattle.sq_tail.proofs.Naming.{apart_from_new}
 use Rattle.sq_tail.proofs.Splitting.{second_items, other_block}
 use Rattle.sq_tail.proofs.Sweeping.{pair_there}
-use Rattle.sq_tail.proofs.Uses.{In, falls_more, CanEnd, ended_held, ended_terms, ended_solid, ended_falls}
-use Rattle.sq_tail.proofs.Halved.{terms_same, held_same, split_falls, split_solid}
+use Rattle.sq_tail.proofs.Uses.{In, falls_more, CanEnd, ended_items, ended_terms, ended_solid, ended_falls}
+use Rattle.sq_tail.proofs.Halved.{terms_same, item_uses_same, split_falls, split_solid}
 
 -- THE NAMES OF EQUAL ENDS
 
@@ -82,7 +82,8 @@ cut_uses g dropped kept n candidate =
 
 -- in it one term names a block that didn't, in place of what the dropped end named
 pub record IsEnded (g mid : Graph) (dropped to : ℕ) : Type 0 where
-  pub held : (k : ℕ) → is_among (held_uses mid) k ≡ is_among (held_uses g) k
+  pub items : (k : ℕ) → is_among (items_uses (all_items mid)) k ≡ is_among (items_uses (all_items g)) k
+  pub words : word_uses mid ≡ word_uses g
   pub terms : (k : ℕ) → times_named (terms_uses mid.blocks) k + times_named (end_uses (term_of g dropped)) k ≡ times_named (to ∷ []) k + times_named (terms_uses g.blocks) k
   pub solid : All (λ b. is_bare b ≡ false) mid.blocks
   pub falls : FallsIntoLeaders (λ k. is_among (end_uses (term_of g dropped)) k || is_among (uses mid) k) mid.blocks
@@ -111,7 +112,7 @@ joined_ended g mid dropped kept n to rules canonical candidate (new, (unused, is
           } in
           subst (IsEnded g mid dropped) target
           (subst (λ h. IsEnded g h dropped kept) (sym made)
-          (record { held = ended_held g dropped at kept can; terms = ended_terms g dropped at kept can; solid = ended_solid g dropped at kept can; falls = ended_falls g dropped at kept can }))
+          (record { items = ended_items g dropped at kept can; words = refl; terms = ended_terms g dropped at kept can; solid = ended_solid g dropped at kept can; falls = ended_falls g dropped at kept can }))
       | inr part ↦
           let made : mid ≡ tailed g new dropped (length (items_of g dropped) - n) kept (length (items_of g kept) - n) = is ∙ rw part refl in
           let s = split_at g new kept from in
@@ -133,11 +134,12 @@ joined_ended g mid dropped kept n to rules canonical candidate (new, (unused, is
             falls = split_falls g new kept from unused tails.kept_there some below canonical.no_bare led;
           } in
           let terms = terms_same g new kept from unused tails.kept_there some below canonical.no_bare led in
-          let held = held_same g new kept from unused tails.kept_there some below canonical.no_bare led in
+          let items = item_uses_same g new kept from unused tails.kept_there some below canonical.no_bare led in
           subst (IsEnded g mid dropped) target
           (subst (λ h. IsEnded g h dropped new) (sym made)
           (record {
-            held = λ k. ended_held s dropped at new can k ∙ ap (λ us. is_among us k) held;
+            items = λ k. ended_items s dropped at new can k ∙ ap (λ us. is_among us k) items;
+            words = refl;
             terms = λ k. omega (arith, ended_terms s dropped at new can k, ap (λ us. times_named us k) end, ap (λ us. times_named us k) terms);
             solid = ended_solid s dropped at new can;
             falls = subst (λ us. FallsIntoLeaders (λ k. is_among us k || is_among (uses (tailed g new dropped (length (items_of g dropped) - n) kept (length (items_of g kept) - n))) k) (tailed g new dropped (length (items_of g dropped) - n) kept (length (items_of g kept) - n)).blocks) end (ended_falls s dropped at new can);
@@ -150,14 +152,18 @@ joined_ended g mid dropped kept n to rules canonical candidate (new, (unused, is
 -- ITS USES
 
 module _ (g mid : Graph) (dropped to : ℕ) (ended : IsEnded g mid dropped to) (named : Option ℕ) (names : end_uses (term_of g dropped) ≡ option_to_list named) where
-  listed : (old : Uses) → AreUses g old → (k : ℕ) → is_listed old.held k ≡ is_listed (held_uses mid) k
+  listed : (old : Uses) → AreUses g old → (k : ℕ) → is_listed old.items k ≡ is_listed (items_uses (all_items mid)) k
   listed old are k =
-      are.held k ∙ sym (among_listed (held_uses g) k) ∙ sym (ended.held k) ∙ among_listed (held_uses mid) k
+      are.items k ∙ sym (among_listed (items_uses (all_items g)) k) ∙ sym (ended.items k) ∙ among_listed (items_uses (all_items mid)) k
+
+  worded : (old : Uses) → AreUses g old → (k : ℕ) → count_at old.words.items k ≡ times_named (word_uses mid) k
+  worded old are k = are.words k ∙ ap (λ us. times_named us k) (sym ended.words)
 
   -- where the dropped end named no block
   pub uses_more : (old new : Uses) → AreUses g old → named ≡ None → IsCounted to old new → AreUses mid new
   uses_more old new are none more = record {
-    held = λ k. ap (λ ns. is_listed ns k) more.held ∙ listed old are k;
+    items = λ k. ap (λ ns. is_listed ns k) more.items ∙ listed old are k;
+    words = λ k. ap (λ ws. count_at ws.items k) more.words ∙ worded old are k;
     terms = λ k.
         let gone : times_named (end_uses (term_of g dropped)) k ≡ 0 = ap (λ us. times_named us k) (names ∙ ap option_to_list none) in
         omega (arith, more.terms k, are.terms k, ended.terms k, gone);
@@ -175,7 +181,8 @@ module _ (g mid : Graph) (dropped to : ℕ) (ended : IsEnded g mid dropped to) (
 
     pub uses_moved : (old more new : Uses) → AreUses g old → IsCounted to old more → IsCounted name new more → AreUses mid new
     uses_moved old more new are one less = record {
-      held = λ k. ap (λ ns. is_listed ns k) (sym less.held ∙ one.held) ∙ listed old are k;
+      items = λ k. ap (λ ns. is_listed ns k) (sym less.items ∙ one.items) ∙ listed old are k;
+      words = λ k. ap (λ ws. count_at ws.items k) (sym less.words ∙ one.words) ∙ worded old are k;
       terms = λ k. omega (arith, less.terms k, one.terms k, are.terms k, ended.terms k, gone_is k);
     }
 

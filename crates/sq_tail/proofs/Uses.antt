@@ -8,16 +8,16 @@ use Rattle.std.proofs.Math.Bool.{and-false}
 use Rattle.sq_arena.specs.Entries.{value_of}
 use Rattle.sq_isa.specs.Registers.{is_among}
 use Rattle.sq_graph.specs.Graph.{Block, Graph}
-use Rattle.sq_graph.specs.Blocks.{named, HasBlock, block_of, block_items, block_term, items_of, term_of, items_of_blocks, items_of_bodies}
+use Rattle.sq_graph.specs.Blocks.{named, HasBlock, block_of, block_items, block_term, items_of, term_of, items_of_blocks, items_of_bodies, all_items}
 use Rattle.sq_graph.specs.Leaders.{has_no_items, is_fall, is_bare, FallsIntoLeaders}
-use Rattle.sq_graph.specs.Uses.{term_uses, item_uses, items_uses, terms_uses, code_word_uses, uses}
+use Rattle.sq_graph.specs.Uses.{term_uses, item_uses, items_uses, terms_uses, uses}
 use Rattle.sq_graph.proofs.Changes.{with_blocks-at}
 use Rattle.sq_graph.proofs.Eachs.{All-left, All-right}
 use Rattle.sq_graph.proofs.Located.{IsAt, located}
 use Rattle.sq_graph.proofs.Marks.{is_among-append}
 use Rattle.sq_graph.proofs.SlotReads.{block_at}
 use Rattle.sq_layout.proofs.Standing.{block_of-changed}
-use Rattle.sq_lookup.specs.Counts.{times_named}
+use Rattle.sq_lookup.specs.Counts.{times_named, word_uses}
 use Rattle.sq_lookup.specs.Names.{held_uses}
 use Rattle.sq_lookup.proofs.Counting.{times-append, some_times, none_times, times_some, among_uses}
 use Rattle.law_patch.specs.Merges.{merged}
@@ -82,27 +82,14 @@ items_in (b ∷ bs) m k e = subst (λ (us : List ℕ). In us k) (sym (flat_map-a
     here true later e = in_left (items_uses b.items) (items_uses (items_of_blocks bs)) k e
     here false later e = in_right (items_uses b.items) (items_uses (items_of_blocks bs)) k (later e)
 
--- the names that a graph uses elsewhere than in terms
-held_in : (g h : Graph) (k : ℕ) → g.entry ≡ h.entry → g.code_words ≡ h.code_words → g.procedures ≡ h.procedures → (In (items_uses (items_of_blocks g.blocks)) k → In (items_uses (items_of_blocks h.blocks)) k) → In (held_uses g) k → In (held_uses h) k
-held_in g h k entry words bodies items e =
-    let olds = items_uses (items_of_blocks g.blocks ++ items_of_bodies g.procedures) in
-    let news = items_uses (items_of_blocks h.blocks ++ items_of_bodies h.procedures) in
-    let told = code_word_uses h.code_words in
-    elim (or_cases (g.entry == k) (is_among (code_word_uses g.code_words ++ olds) k) e) [
-      | inl first ↦ or_left (h.entry == k) (is_among (told ++ news) k) (ap (λ n. n == k) (sym entry) ∙ first)
-      | inr rest ↦
-          or_right (h.entry == k) (is_among (told ++ news) k)
-          (elim (in_either (code_word_uses g.code_words) olds k rest) [
-            | inl word ↦ in_left told news k (subst (λ ws. In (code_word_uses ws) k) words word)
-            | inr item ↦
-                in_right told news k
-                (subst (λ (us : List ℕ). In us k) (sym (flat_map-append item_uses (items_of_blocks h.blocks) (items_of_bodies h.procedures)))
-                (elim (in_either (items_uses (items_of_blocks g.blocks)) (items_uses (items_of_bodies g.procedures)) k (subst (λ (us : List ℕ). In us k) (flat_map-append item_uses (items_of_blocks g.blocks) (items_of_bodies g.procedures)) item)) [
-                  | inl block ↦ in_left (items_uses (items_of_blocks h.blocks)) (items_uses (items_of_bodies h.procedures)) k (items block)
-                  | inr body ↦ in_right (items_uses (items_of_blocks h.blocks)) (items_uses (items_of_bodies h.procedures)) k (subst (λ ps. In (items_uses (items_of_bodies ps)) k) bodies body)
-                ]))
-          ])
-    ]
+-- the names that a graph uses in items
+in_items : (g h : Graph) (k : ℕ) → g.procedures ≡ h.procedures → (In (items_uses (items_of_blocks g.blocks)) k → In (items_uses (items_of_blocks h.blocks)) k) → In (items_uses (all_items g)) k → In (items_uses (all_items h)) k
+in_items g h k bodies items e =
+    subst (λ (us : List ℕ). In us k) (sym (flat_map-append item_uses (items_of_blocks h.blocks) (items_of_bodies h.procedures)))
+    (elim (in_either (items_uses (items_of_blocks g.blocks)) (items_uses (items_of_bodies g.procedures)) k (subst (λ (us : List ℕ). In us k) (flat_map-append item_uses (items_of_blocks g.blocks) (items_of_bodies g.procedures)) e)) [
+      | inl block ↦ in_left (items_uses (items_of_blocks h.blocks)) (items_uses (items_of_bodies h.procedures)) k (items block)
+      | inr body ↦ in_right (items_uses (items_of_blocks h.blocks)) (items_uses (items_of_bodies h.procedures)) k (subst (λ ps. In (items_uses (items_of_bodies ps)) k) bodies body)
+    ])
 
 -- BLOCKS THAT ARE FALLEN INTO
 
@@ -193,10 +180,16 @@ module _ (s : Graph) (dropped at to : ℕ) where
           | inr gone ↦ absurd gone
         ]
 
-    -- what is held stays
-    pub ended_held : (k : ℕ) → is_among (held_uses (merged s dropped at to)) k ≡ is_among (held_uses s) k
+    -- what items name stays
+    pub ended_items : (k : ℕ) → is_among (items_uses (all_items (merged s dropped at to))) k ≡ is_among (items_uses (all_items s)) k
+    ended_items k =
+        same_in (items_uses (all_items h)) (items_uses (all_items s)) k (in_items h s k refl (items_back k)) (in_items s h k refl (items_still k))
+
+    -- so does what is held
+    ended_held : (k : ℕ) → is_among (held_uses h) k ≡ is_among (held_uses s) k
     ended_held k =
-        same_in (held_uses h) (held_uses s) k (held_in h s k refl refl refl (items_back k)) (held_in s h k refl refl refl (items_still k))
+        is_among-append (word_uses s) (items_uses (all_items h)) k ∙ ap (λ t. is_among (word_uses s) k || t) (ended_items k)
+        ∙ sym (is_among-append (word_uses s) (items_uses (all_items s)) k)
 
     end_is : end_uses (term_of s dropped) ≡ term_uses spot.block.term
     end_is = ap (λ (o : Option Block). end_uses (block_term o)) found

@@ -27,7 +27,7 @@ fn term_keys(alloc: Global, graph: &Graph, names: &[u32]) -> Result<Vec<Option<E
     ensures { IfOk result (λ keys. keys.items ≡ map (block_key graph.now.graph) names.now) }
 {
     let table = resolve_all(alloc, graph)?;
-    let mut keys = Vec::new(alloc);
+    let mut keys = Vec::with_capacity(alloc, names.len())?;
     for name in names {
         let resolved = resolved_term_by(graph, &table, *name);
         keys.push(Some((term_key(&resolved.term), resolved.next)))?;

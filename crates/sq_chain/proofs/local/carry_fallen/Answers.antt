@@ -85,9 +85,9 @@ fall_before-second-requires-clause-placed c =
     let g = c.args.graph.now.graph in
     let end = c.end_of_chain.ensures.some c.in-Some.end c.in-Some.is in
     let is : c.move_after.new.self.graph ≡ carried c.args.graph.now.graph c.args.from c.args.to = c.move_after.ensures.graph ∙ ap (λ k. moved_after g c.args.to k c.args.from) end in
-    let new : Places = record { addresses = c.exchange.new.addresses; words = c.args.places.now.words; jumps = c.args.places.now.jumps } in
+    let new : Places = record { addresses = c.exchange.new.addresses; words = c.args.places.now.words; jumps = c.args.places.now.jumps; branches = c.args.places.now.branches; holders = c.args.places.now.holders } in
     subst (λ (k : Graph). IsPlaced k new) (sym is)
-    (placed_exchanged g (carried g c.args.from c.args.to) c.seams_of-seams.result c.args.places.now new c.seams_of-seams.ensures.exchanged (carried_words g c.args.from c.args.to c.learn.ensures.rules c.requires.movable) c.requires.placed c.exchange.ensures refl)
+    (placed_exchanged g (carried g c.args.from c.args.to) c.seams_of-seams.result c.args.places.now new c.seams_of-seams.ensures.exchanged (carried_words g c.args.from c.args.to c.learn.ensures.rules c.requires.movable) c.requires.placed c.exchange.ensures refl refl)
 
 pub returns-clause-graph : goal.returns-clause-graph
 returns-clause-graph c =

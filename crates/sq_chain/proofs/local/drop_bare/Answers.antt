@@ -69,9 +69,9 @@ returns-clause-placed c = λ done.
     let passed = c.pass_on_uses-unused.ensures.passed in
     let bare = passed_bare n g mid passed (c.is_bare.ensures.0 c.if-not-is_bare.false) in
     let old = c.pass_on_uses-unused.new.places in
-    let new : Places = record { addresses = c.forget.new.addresses; words = old.words; jumps = old.jumps } in
+    let new : Places = record { addresses = c.forget.new.addresses; words = old.words; jumps = old.jumps; branches = old.branches; holders = old.holders } in
     subst (λ (k : Graph). IsPlaced k new) (sym c.remove.ensures.graph)
-    (placed_without mid n c.learn-2.ensures.rules old new bare c.pass_on_uses-unused.ensures.placed c.forget.ensures refl)
+    (placed_without mid n c.learn-2.ensures.rules old new bare c.pass_on_uses-unused.ensures.placed c.forget.ensures refl refl)
 
 pub returns-clause-falls : goal.returns-clause-falls
 returns-clause-falls c = λ done falls.
@@ -79,7 +79,7 @@ returns-clause-falls c = λ done falls.
     let mid = c.pass_on_uses-unused.new.graph.graph in
     let n = c.in-Some.block in
     subst NoneFalls (sym c.remove.ensures.graph)
-    (falls_without mid n c.learn-2.ensures.rules (passed_falls n g mid c.pass_on_uses-unused.ensures.passed c.learn.ensures.rules (c.is_bare.ensures.0 c.if-not-is_bare.false) falls) (c.jumps_over.ensures c.if-jumps_over.false))
+    (falls_without mid n c.learn-2.ensures.rules (passed_falls n g mid c.pass_on_uses-unused.ensures.passed (c.is_bare.ensures.0 c.if-not-is_bare.false) falls) (c.jumps_over.ensures c.if-jumps_over.false))
 
 pub returns-clause-solid : goal.returns-clause-solid
 returns-clause-solid c = λ done may but.

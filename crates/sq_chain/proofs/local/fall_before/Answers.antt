@@ -1,4 +1,4 @@
-use Rattle.std.proofs.Common.{◌≡◌, ◌-◌, ◌==◌, ◌||◌, arith, Some, sym, ap, ◌∙◌, subst}
+use Rattle.std.proofs.Common.{◌≡◌, ◌-◌, ◌==◌, ◌||◌, arith, Some, refl, sym, ap, ◌∙◌, subst}
 use Rattle.sq_graph.specs.declared.item.Term.TheVariants.{Jump}
 use Rattle.sq_graph.specs.Graph.{Graph}
 use Rattle.sq_graph.specs.Blocks.{term_of}
@@ -84,6 +84,6 @@ returns-clause-placed c =
     let next = c.block_before.ensures.some c.in-Some.block c.in-Some.is in
     let jump = jump_here g c.in-Some.block c.args.name c.term.result c.term.ensures (c.jumps_to.ensures.0 c.if-not-jumps_to.false) in
     let fewer = fell_words g.blocks c.in-Some.block c.args.name jump in
-    let new : Places = record { addresses = c.lower_behind.new.addresses; words = c.args.places.now.words - 1; jumps = c.take-2.new.self } in
+    let new : Places = record { addresses = c.lower_behind.new.addresses; words = c.args.places.now.words - 1; jumps = c.take-2.new.self; branches = c.args.places.now.branches; holders = c.args.places.now.holders } in
     subst (λ (k : Graph). IsPlaced k new) (sym c.set_term.ensures.graph)
-    (placed_fell g c.in-Some.block c.args.name c.get-start.result c.args.places.now new jump c.requires.placed c.get-start.ensures c.lower_behind.ensures (omega (arith, fewer, c.requires.placed.words)))
+    (placed_fell g c.in-Some.block c.args.name c.get-start.result c.args.places.now new jump c.requires.placed c.get-start.ensures c.lower_behind.ensures (omega (arith, fewer, c.requires.placed.words)) refl)

@@ -1,19 +1,13 @@
-use Rattle.std.proofs.Common.{sym, ◌∙◌, subst, arith}
+use Rattle.std.proofs.Common.{sym, ◌∙◌, subst}
 use Rattle.std.specs.Prelude.{IfSome}
 use Rattle.sq_graph.specs.Graph.{Graph}
 use Rattle.sq_lookup.specs.Counts.{AreUses}
-use Rattle.sq_lookup.proofs.Counting.{times_few}
 use Rattle.sq_chain.specs.Passing.{IsTurned, IsPassedOn}
 use Rattle.sq_chain.proofs.PassedOn.{added, passed_none, passed_one, one_rules, still_counted, uses_one}
 use Rattle.sq_chain.proofs.passing.pass_term.Goals as goal
 
 pub returns-in_default : goal.returns-in_default
 returns-in_default c = record { passed = passed_none c.args.bare c.args.next c.args.graph.now.graph; uses = λ _. c.requires.uses }
-
-pub add-requires : goal.add-requires
-add-requires c =
-    let g = c.args.graph.now.graph in
-    omega (arith, c.requires.uses.terms c.args.next, times_few g.blocks c.args.next, c.learn.ensures.small.blocks)
 
 pub returns-then-is_err-clause-passed : goal.returns-then-is_err-clause-passed
 returns-then-is_err-clause-passed c = passed_none c.args.bare c.args.next c.args.graph.now.graph

@@ -4,7 +4,6 @@ use Rattle.sq_graph.specs.declared.item.Term.TheVariants.{Branch}
 use Rattle.sq_graph.specs.Graph.{Graph}
 use Rattle.sq_graph.specs.Blocks.{next_of}
 use Rattle.sq_lookup.specs.Counts.{AreUses}
-use Rattle.sq_lookup.proofs.Counting.{times_few}
 use Rattle.sq_chain.specs.Bare.{AreSolidBut, AreLed}
 use Rattle.sq_chain.specs.Surveys.{IsPlaced, NoneFalls}
 use Rattle.sq_chain.proofs.OneMore.{slot_after}
@@ -28,10 +27,6 @@ pub overflow_add-words : goal.overflow_add-words
 overflow_add-words c =
     let few = wider_few c.args.graph.now.graph 0 c.args.block 0 c.in-Branch.cond c.in-Branch.a c.in-Branch.b c.in-Branch.to c.in-Branch.ensures c.args.places.now c.requires.placed c.get-start.result c.get-start.ensures c.learn.ensures.few in
     omega (arith, few, ap length c.items.ensures)
-
-pub add-requires : goal.add-requires
-add-requires c =
-    omega (arith, c.requires.uses.terms c.in-Some.next, times_few c.args.graph.now.graph.blocks c.in-Some.next, c.learn.ensures.small.blocks)
 
 pub returns-then-to-next-clause-solid : goal.returns-then-to-next-clause-solid
 returns-then-to-next-clause-solid c = λ may solid.
@@ -70,7 +65,7 @@ pub returns-clause-placed : goal.returns-clause-placed
 returns-clause-placed c = λ done.
     subst (λ (k : Graph). IsPlaced k c.put_behind.new.places) (sym c.jump_over-new.ensures.graph)
     (wider_placed c.args.graph.now.graph c.jump_over-new.result c.args.block c.in-Some.next c.in-Branch.cond c.in-Branch.a c.in-Branch.b c.in-Branch.to c.in-Branch.ensures c.args.places.now c.requires.placed c.get-start.result c.get-start.ensures
-    (length c.items.result.now + 1) c.put_behind.new.places c.jump_over-new.ensures.new (ap (λ (is : List Item). length is + 1) c.items.ensures) (c.put_behind.ensures.addresses done) (c.put_behind.ensures.words done))
+    (length c.items.result.now + 1) c.put_behind.new.places c.jump_over-new.ensures.new (ap (λ (is : List Item). length is + 1) c.items.ensures) (c.put_behind.ensures.addresses done) (c.put_behind.ensures.words done) c.put_behind.ensures.branches)
 
 pub returns-clause-falls : goal.returns-clause-falls
 returns-clause-falls c = λ done falls.

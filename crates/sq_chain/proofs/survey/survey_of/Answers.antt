@@ -28,4 +28,5 @@ returns c =
           let all = c.count_short-near.ensures.all g laid' (omega (arith, zero)) in
           none_short g c.learn.ensures.rules (placed_at c.fallen_addresses-fallen.result.addresses) (c.fallen_addresses-fallen.ensures.addresses g laid there) (omega (arith, zero, all));
       words = omega (arith, c.in_ok-listing.ensures.words, c.words_of_procedures.ensures);
+      branches = c.in_ok-branches.ensures g (c.deref-4.ensures.value ∙ c.in_ok-listing.ensures.extents);
     }

@@ -25,6 +25,7 @@ carry_joined-requires-clause-placed c =
     (record {
       addresses = addresses_stay c.args.graph.now.graph c.args.view.now c.requires.survey c.requires.stays;
       words = c.requires.survey.words;
+      branches = c.requires.survey.branches;
     })
 
 pub carry_joined-requires-clause-falls : goal.carry_joined-requires-clause-falls

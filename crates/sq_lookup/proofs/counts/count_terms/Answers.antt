@@ -1,10 +1,9 @@
-use Rattle.std.proofs.Common.{◌≡◌, [], ◌∷◌, Some, is_some, option_to_list, sym, ap, ◌∙◌, arith, take}
-use Rattle.std.proofs.lemmas.List.{length-take-le}
+use Rattle.std.proofs.Common.{◌≡◌, [], ◌∷◌, Some, is_some, option_to_list, sym, ap, ◌∙◌, arith}
 use Rattle.sq_graph.specs.Blocks.{block_term}
 use Rattle.sq_graph.specs.Uses.{term_uses}
 use Rattle.sq_live.proofs.Layouts.{block_at}
 use Rattle.sq_lookup.specs.Counts.{count_at, times_named}
-use Rattle.sq_lookup.proofs.Counting.{times_few, times_pushed}
+use Rattle.sq_lookup.proofs.Counting.{times_pushed}
 use Rattle.sq_lookup.proofs.counts.count_terms.Goals as goal
 use Rattle.sq_lookup.proofs.counts.count_terms.Goals.{in-Some+in_ok-add_one, in_default}
 
@@ -12,12 +11,6 @@ pub term-requires : goal.term-requires
 term-requires c =
     let b = block_at c.args.graph.now.graph c.args.names.now c.loop-name.name-index c.requires.rules c.requires.names c.loop-name-test.true in
     ap is_some b.found
-
-pub add_one-requires : goal.add_one-requires
-add_one-requires c =
-    let g = c.args.graph.now.graph in
-    let b = block_at g c.args.names.now c.loop-name.name-index c.requires.rules c.requires.names c.loop-name-test.true in
-    omega (arith, c.loop-name.invariant c.in-Some.to, times_few (take c.loop-name.name-index g.blocks) c.in-Some.to, length-take-le c.loop-name.name-index g.blocks (omega (arith, b.within)), b.within, c.learn.ensures.small.blocks)
 
 pub loop-name-preserved : goal.loop-name-preserved
 loop-name-preserved c =

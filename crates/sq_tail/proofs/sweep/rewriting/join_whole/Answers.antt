@@ -1,7 +1,6 @@
-use Rattle.std.proofs.Common.{◌≡◌, sym, ap, ◌∙◌, option_to_list, arith}
+use Rattle.std.proofs.Common.{◌≡◌, sym, ap, ◌∙◌, option_to_list}
 use Rattle.sq_graph.specs.Blocks.{term_of}
 use Rattle.sq_graph.proofs.JoinedBefore.{joined_before_each}
-use Rattle.sq_lookup.proofs.Counting.{times_few}
 use Rattle.sq_tail.specs.Names.{end_uses}
 use Rattle.sq_tail.proofs.Sweeping.{pair_there, pair_applied, whole_follows}
 use Rattle.sq_tail.proofs.JoinedWhole.{joined_ended, uses_more, counted_still, uses_moved, whole_ended}
@@ -9,11 +8,6 @@ use Rattle.sq_tail.proofs.sweep.rewriting.join_whole.Goals as goal
 
 pub join-to-requires-clause-tails : goal.join-to-requires-clause-tails
 join-to-requires-clause-tails c = pair_there c.args.graph.now.graph c.args.dropped c.args.kept c.args.length c.requires.candidate
-
-pub add-requires : goal.add-requires
-add-requires c =
-    let g = c.args.graph.now.graph in
-    omega (arith, c.requires.uses.terms c.join-to.result, times_few g.blocks c.join-to.result, c.learn.ensures.small.blocks)
 
 pub returns-in_err-add-clause-follows : goal.returns-in_err-add-clause-follows
 returns-in_err-add-clause-follows c =
