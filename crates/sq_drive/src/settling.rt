@@ -81,18 +81,18 @@ pub fn settle_by<P: Pass>(
 
 /// Rewrites the graph, of which these are the live registers, by windows, where no pass before them has a candidate, or where they
 /// have none either by moves of chains. None where neither saves a word. Sweeps go on with what is left. Where no window can have
-/// come since windows were asked, chains move first.
+/// come since windows were asked, chains move first. While they move the live registers aren't kept, since they take much memory.
 fn rewrite_late(
     alloc: Global,
     graph: &mut Graph,
-    live: &Liveness,
+    live: Liveness,
     left: &mut Left,
     patience: &mut Patience,
     savings: Savings,
 ) -> Result<Option<Savings>, Memory>
     requires canonical { IsCanonical graph.old.graph }
     requires words { words_of graph.old.graph + words_saved savings ≤ most_words }
-    requires live { IsLivenessOf graph.old.graph live.now }
+    requires live { IsLivenessOf graph.old.graph live }
     ensures rewritten { IfOk result (λ done. IfSome done (λ after. IsRewritten IsCandidate described savings after graph.old.graph graph.new.graph)) }
     ensures fewer { IfOk result (λ done. IfSome done (λ after. words_of graph.new.graph < words_of graph.old.graph)) }
     ensures none { result ≡ Ok None → graph.new.graph ≡ graph.old.graph }
@@ -103,18 +103,21 @@ fn rewrite_late(
     let asking = patience.asking();
     if left.moves.asks_windows() {
         left.note(Swept::Windows, true);
-        if let Some(after) = window_some(alloc, graph, live, &mut left.windows, asking, savings)? {
+        if let Some(after) = window_some(alloc, graph, &live, &mut left.windows, asking, savings)? {
             return Ok(Some(after));
         }
+        drop(live);
         left.note(Swept::Moves, true);
         return move_some(alloc, graph, &mut left.moves, patience, savings);
     }
+    drop(live);
     left.note(Swept::Moves, true);
     if let Some(after) = move_some(alloc, graph, &mut left.moves, patience, savings)? {
         return Ok(Some(after));
     }
     left.note(Swept::Windows, true);
-    window_some(alloc, graph, live, &mut left.windows, asking, savings)
+    let again = sq_live::live(alloc, graph)?;
+    window_some(alloc, graph, &again, &mut left.windows, asking, savings)
 }
 
 /// Whether rows J2 and J3 alone saved words between these savings, each of which took a block away, where so many blocks went: then
@@ -161,7 +164,7 @@ fn settle_from(
             left.moves.ask_windows();
         }
         patience.spend_look(alloc, graph)?;
-        let Some(after) = rewrite_late(alloc, graph, &live, &mut left, patience, savings)? else {
+        let Some(after) = rewrite_late(alloc, graph, live, &mut left, patience, savings)? else {
             return Ok(savings);
         };
         saved = go_on(alloc, graph, &mut left, patience, after)?;
