@@ -8,8 +8,11 @@ KIND is one of:
     table      COUNT lone jumps to one block, each named by a word of data alone
     detours    COUNT blocks with a Branch to a lone jump of their own
     chained    the same, but each lone jump leads to another one, in shuffled order, and all but the near ones stay
-    held       the same, and a word of data names each lone jump: the whole graph is made canonical behind each second move
+    held       the same, and a word of data names each lone jump
+    named      the same, but two items name each lone jump: the whole graph is made canonical behind each second move
+    poured     the same as chained, in such an order that 16 * COUNT words of data, which name the first lone jump, come to name one after another
     threads    COUNT blocks of an item and a jump, each to the next in shuffled order, which words name: each moves
+    backward   the same, each to the one before it: the chains that move come to be long
     falls      COUNT jumps to the next slot, which nothing else names, each behind an item
     steps      COUNT calls, each before a lone jump to the next slot
     inverts    COUNT branches over a lone jump
@@ -52,8 +55,8 @@ import struct
 import sys
 
 BASE, DATA = 0x10000, 0x200000
-WORD, BRANCH, JAL, CALL = 1, 16, 17, 19  # types of relocations
-A0, A1, A2, A7, RA, T0, T1, T2 = 10, 11, 12, 17, 1, 5, 6, 7
+WORD, BRANCH, JAL, CALL, HIGH, LOW = 1, 16, 17, 19, 26, 27  # types of relocations
+A0, A1, A2, A3, A7, RA, T0, T1, T2 = 10, 11, 12, 13, 17, 1, 5, 6, 7
 NOTE, VERSION = 0x80515A31, 0x325A5153  # of a note: the type of its section, and its first word
 
 
@@ -112,6 +115,11 @@ class Program:
         self.jumps.append((len(self.text), CALL, name))
         self.text += [RA << 7 | 0x17, RA << 15 | RA << 7 | 0x67]
 
+    def address(self, name):
+        """lui a3, %hi(NAME) and addi a3, a3, %lo(NAME)"""
+        self.jumps += [(len(self.text), HIGH, name), (len(self.text) + 1, LOW, name)]
+        self.text += [lui(A3, 0), addi(A3, A3, 0)]
+
     def word(self, name):
         self.words.append((len(self.data), name))
         self.data.append(0)
@@ -126,7 +134,12 @@ class Program:
         text = []
         for at, kind, name in self.jumps:
             distance = 4 * (self.places[name] - at)
-            if kind == CALL:
+            address = BASE + 4 * self.places[name]
+            if kind == HIGH:
+                self.text[at] |= address + 0x800 & 0xFFFFF000
+            elif kind == LOW:
+                self.text[at] |= (address & 0xFFF) << 20
+            elif kind == CALL:
                 high = (distance + 0x800) & 0xFFFFF000
                 self.text[at] |= high
                 self.text[at + 1] |= (distance - high & 0xFFF) << 20
@@ -237,6 +250,19 @@ def held(p, count):
         p.word(number)
 
 
+def named(p, count):
+    for number in range(count):
+        p.address(number)
+    chained(p, count)
+
+
+def poured(p, count):
+    order = [number for pair in zip(range(count), range(count, 2 * count)) for number in pair]
+    branches(p, [behind for _, behind in sorted(zip(order, [*order[1:], "exit"]))])
+    for _ in range(16 * count):
+        p.word(0)
+
+
 def threads(p, count):
     _, behind = shuffled(count)
     for number in range(count):
@@ -244,6 +270,14 @@ def threads(p, count):
         p.mark(number)
         p.items(only(number))
         p.jump(behind[number])
+
+
+def backward(p, count):
+    for number in range(count):
+        p.word(number)
+        p.mark(number)
+        p.items(only(number))
+        p.jump(number - 1 if number else "exit")
 
 
 def falls(p, count):
@@ -741,7 +775,10 @@ KINDS = {
     "detours": (detours, 4),
     "chained": (chained, 4),
     "held": (held, 4),
+    "named": (named, 6),
+    "poured": (poured, 8),
     "threads": (threads, 2),
+    "backward": (backward, 2),
     "falls": (falls, 2),
     "steps": (steps, 2),
     "inverts": (inverts, 3),
