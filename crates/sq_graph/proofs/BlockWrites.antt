@@ -13,7 +13,7 @@ use Rattle.sq_graph.specs.declared.graph.Graph.TheInside.{Inside}
 use Rattle.sq_graph.specs.Graph.{Block}
 use Rattle.sq_graph.specs.Blocks.{block_items, items_of, items_of_blocks}
 use Rattle.sq_graph.specs.Cursor.{length_of_slots}
-use Rattle.sq_graph.specs.Packed.{EndBy, AreLaid, blocks_of}
+use Rattle.sq_graph.specs.Packed.{EndBy, AreDisjoint, AreLaid, blocks_of}
 use Rattle.sq_graph.specs.Rules.{IsGraph}
 use Rattle.sq_graph.specs.Operations.{with_blocks, changed, with_term, inserted_after, halves, split_at, without_block, replaced_items, replaced}
 use Rattle.sq_graph.specs.Layout.{graph_of, IsSound}
@@ -23,6 +23,7 @@ use Rattle.sq_graph.proofs.SlotPasses.{length_of_slots-append}
 use Rattle.sq_graph.proofs.SlotReads.{reads, slot_fits}
 use Rattle.sq_graph.proofs.Laid.{Stands, Lies, lies_changed, lies_blocks, lies_apart, lies_within}
 use Rattle.sq_graph.proofs.Strewn.{ends_raise, ends_append, ends_before, ends_behind, ends_found, apart_ends, strewn_changed}
+use Rattle.sq_graph.proofs.Disjoint.{disjoint_changed}
 use Rattle.sq_graph.proofs.Held.{Shows, laid, laid_shows, limits_of, in_order, in_no_order, ordered, Lie}
 
 -- fields in which the slot of a block has made way for others, and other items lie where its items were, or, where items
@@ -71,13 +72,18 @@ relaid old new name slot mid f (Some free) loose sound found change there was is
     } in
     let lies : Lies old.items.items slot.start mid (f read.block) (slot.start + slot.length) = subst (λ (ys : List Item). Lies ys slot.start mid (f read.block) (slot.start + slot.length)) same (there read.block stands) in
     let blocks = lies_blocks old.items.items slot.start mid (f read.block) (slot.start + slot.length) lies in
-    let middle : EndBy mid free = ends_raise mid (slot.start + slot.length) free fits (apart_ends mid slot.start (slot.start + slot.length) (lies_apart old.items.items slot.start mid (f read.block) (slot.start + slot.length) lies)) in
+    let apart = lies_apart old.items.items slot.start mid (f read.block) (slot.start + slot.length) lies in
+    let middle : EndBy mid free = ends_raise mid (slot.start + slot.length) free fits (apart_ends mid slot.start (slot.start + slot.length) apart) in
+    let disjoint : AreDisjoint new.slots.entries = rw change.slots (disjoint_changed old.slots.entries name slot mid sound.gaps.distinct found apart lie.1.1.1) in
     let ends : EndBy new.slots.entries free =
     rw change.slots (ends_append (before old.slots.entries name) (mid ++ behind old.slots.entries name) free (ends_before old.slots.entries name free lie.0) (ends_append mid (behind old.slots.entries name) free middle (ends_behind old.slots.entries name free lie.0))) in
     let less = lies_within old.items.items slot.start mid (f read.block) (slot.start + slot.length) lies in
     let now : AreLaid new.slots.entries new.blocks_end (Some free) (vec_capacity new.loose.scratch) = (
       ends,
-      (omega (arith, lie.1.0, change.blocks_end), omega (arith, lie.1.1, was, is, less, ap (λ l. vec_capacity l.scratch) change.loose)),
+      (
+        omega (arith, lie.1.0, change.blocks_end),
+        (omega (arith, lie.1.1.0, was, is, less, ap (λ l. vec_capacity l.scratch) change.loose), disjoint),
+      ),
     ) in
     record {
       blocks = ap (λ ys. blocks_of new.slots.entries ys) same ∙ ap (λ es. blocks_of es xs) change.slots ∙ strewn_changed xs f name slot mid (blocks ∙ ap f read.block_is) old.slots.entries found;

@@ -12,12 +12,13 @@ use Rattle.sq_graph.specs.Graph.{Block}
 use Rattle.sq_graph.specs.Blocks.{named}
 use Rattle.sq_graph.specs.Operations.{replaced_items}
 use Rattle.sq_graph.specs.Cursor.{length_of_slots}
-use Rattle.sq_graph.specs.Packed.{EndBy, AreLaid, blocks_of, HasGaps, KeepsBlocks, Carries, Follows}
+use Rattle.sq_graph.specs.Packed.{EndBy, AreDisjoint, AreLaid, blocks_of, HasGaps, KeepsBlocks, Carries, Follows}
 use Rattle.sq_graph.proofs.CursorLaws.{value_of-before, with_value-split, distinct-with_value, value_of-with_value}
 use Rattle.sq_graph.proofs.Packing.{length-replaced_items, ahead_written, upto_written, behind_written}
 use Rattle.sq_graph.proofs.Located.{value_of-at}
 use Rattle.sq_graph.proofs.SlotReads.{value_of-blocks}
 use Rattle.sq_graph.proofs.SlotPasses.{some_same, pair_of, length_of_slots-append}
+use Rattle.sq_graph.proofs.Disjoint.{disjoint_carried}
 use Rattle.sq_graph.proofs.Strewn.{ends_raise, ends_append, ends_before, ends_behind, ends_found, blocks_of-append, blocks_ahead}
 
 -- THE BLOCKS STAY
@@ -80,7 +81,8 @@ carries_keep old slots old_items items end gaps was loose name slot place has fr
     let ahead : EndBy old.entries (place + slot.length) = ends_raise es place (place + slot.length) (omega arith) lie.0 in
     let ends : EndBy slots.entries (place + slot.length) =
     rw parts (ends_append (before es name) ((name, record slot { start = place }) ∷ behind es name) (place + slot.length) (ends_before es name (place + slot.length) ahead) (omega arith, ends_behind es name (place + slot.length) ahead)) in
-    let now : AreLaid slots.entries end (Some (place + slot.length)) (vec_capacity loose.scratch) = (ends, (fits, omega (arith, lie.1.1, size, ap (λ v. vec_capacity v) scratch))) in
+    let disjoint : AreDisjoint slots.entries = rw entries (disjoint_carried es name slot new has.distinct found lie.0 lie.1.1.1) in
+    let now : AreLaid slots.entries end (Some (place + slot.length)) (vec_capacity loose.scratch) = (ends, (fits, (omega (arith, lie.1.1.0, size, ap (λ v. vec_capacity v) scratch), disjoint))) in
     record {
       gaps =
           record {

@@ -10,7 +10,7 @@ use Rattle.sq_graph.specs.declared.slot.Slot.{Slot}
 use Rattle.sq_graph.specs.declared.graph.Graph.TheInside.{Inside}
 use Rattle.sq_graph.specs.Graph.{Block}
 use Rattle.sq_graph.specs.Cursor.{length_of_slots}
-use Rattle.sq_graph.specs.Packed.{EndBy, AreApart, AreLaid, Follows, blocks_of}
+use Rattle.sq_graph.specs.Packed.{EndBy, AreApart, AreDisjoint, AreLaid, Follows, blocks_of}
 use Rattle.sq_graph.specs.Rules.{IsGraph}
 use Rattle.sq_graph.specs.Operations.{replaced_items, with_next_taken, joined_at, joined_with_next}
 use Rattle.sq_graph.specs.CanonicalSlots.{both}
@@ -22,6 +22,7 @@ use Rattle.sq_graph.proofs.SlotPasses.{some_same, IsPair, pair_of, pair_less, le
 use Rattle.sq_graph.proofs.SlotReads.{slot_fits, next_shows}
 use Rattle.sq_graph.proofs.Laid.{Stands, Lies, lies_lower, lies_behind, lies_found, lies_blocks, lies_apart, piece_ahead}
 use Rattle.sq_graph.proofs.Strewn.{ends_append, ends_before, ends_behind}
+use Rattle.sq_graph.proofs.Disjoint.{disjoint_joined}
 use Rattle.sq_graph.proofs.Held.{Shows, Lie, laid, laid_shows, limits_of, in_order, in_no_order, ordered}
 
 -- THE ITEMS
@@ -228,7 +229,8 @@ joined_lie inside name first next second slots items (Some free) loose sound two
     let behind_it : EndBy ((next, second) ∷ two.pair.rest) free = subst (λ (fs : List (ℕ × Slot)). EndBy fs free) two.back (ends_behind es name free lie.0) in
     let last : first.start + (first.length + second.length) ≤ free = omega (arith, behind_it.0, follow) in
     let ends : EndBy slots.entries free = rw parts (ends_append (before es name) ((name, both first second) ∷ two.pair.rest) free (ends_before es name free lie.0) (last, behind_it.1)) in
-    let now : AreLaid slots.entries inside.blocks_end (Some free) (vec_capacity inside.loose.scratch) = (ends, (lie.1.0, omega (arith, lie.1.1, less))) in
+    let disjoint : AreDisjoint slots.entries = rw parts (disjoint_joined es name next first second two.pair sound.gaps.distinct two.found two.found_next two.back follow lie.1.1.1) in
+    let now : AreLaid slots.entries inside.blocks_end (Some free) (vec_capacity inside.loose.scratch) = (ends, (lie.1.0, (omega (arith, lie.1.1.0, less), disjoint))) in
     record {
       blocks = ap (λ ys. blocks_of slots.entries ys) (stay xs items.items first second follow comes) ∙ ap (λ fs. blocks_of fs xs) parts ∙ strewn_joined xs name next first second two.pair.rest follow es two.found two.back;
       lie = subst (λ (o : Option ℕ). AreLaid slots.entries inside.blocks_end o (vec_capacity inside.loose.scratch)) (sym loose) now;

@@ -47,6 +47,7 @@ pub mod RunMoves
 pub mod MoveShows
 pub mod StrewnMoves
 pub mod Loosening
+pub mod Disjoint
 pub mod Carrying
 pub mod RedirectShows
 pub mod LinkReads
@@ -71,3 +72,5 @@ pub mod RenamedSound
 pub mod FewWords
 pub mod Settling
 pub mod HoldingWrites
+pub mod ItemSets
+pub mod BodySets

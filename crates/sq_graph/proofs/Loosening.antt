@@ -5,6 +5,7 @@ use Rattle.sq_graph.specs.declared.graph.Graph.TheInside.{Inside}
 use Rattle.sq_graph.specs.Packed.{AreLaid}
 use Rattle.sq_graph.specs.Layout.{graph_of, IsSound}
 use Rattle.sq_graph.proofs.Strewn.{laid_ends, laid_copied, blocks_ahead}
+use Rattle.sq_graph.proofs.Disjoint.{laid_disjoint}
 use Rattle.sq_graph.proofs.Held.{Shows, laid, laid_shows, limits_of, kept}
 
 -- other room in the vectors, while items lie in layout order
@@ -41,7 +42,8 @@ loosens inside scratch items hole room sound fits ahead behind long within capac
     let lays = laid inside sound in
     let limits = limits_of inside sound in
     let ends = laid_ends inside.slots.entries inside.blocks_end inside.loose.free (vec_capacity inside.loose.scratch) sound.gaps.lie in
-    let lie : AreLaid inside.slots.entries (inside.blocks_end + hole) (Some inside.blocks_end) (vec_capacity scratch) = (ends, (omega arith, omega (arith, lays.counted, fits))) in
+    let disjoint = laid_disjoint inside.slots.entries inside.blocks_end inside.loose.free (vec_capacity inside.loose.scratch) sound.gaps.lie in
+    let lie : AreLaid inside.slots.entries (inside.blocks_end + hole) (Some inside.blocks_end) (vec_capacity scratch) = (ends, (omega arith, (omega (arith, lays.counted, fits), disjoint))) in
     laid_shows new (graph_of inside)
     (record {
       blocks = blocks_ahead inside.slots.entries inside.items.items items.items inside.blocks_end ends ahead;

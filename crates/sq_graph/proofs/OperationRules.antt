@@ -11,12 +11,12 @@ use Rattle.sq_graph.specs.declared.item.Item.{Item}
 use Rattle.sq_graph.specs.declared.item.Item.TheVariants.{Op, Hi, Lo, Out}
 use Rattle.sq_graph.specs.declared.item.Term.{Term}
 use Rattle.sq_graph.specs.Graph.{Block, Procedure, Graph}
-use Rattle.sq_graph.specs.Blocks.{named, HasBlock, HasProcedure, next_of, items_of, block_items, procedure_body}
+use Rattle.sq_graph.specs.Blocks.{named, HasBlock, HasProcedure, next_of, items_of, block_items, procedure_body, procedure_link, link_of}
 use Rattle.sq_graph.specs.Terms.{goes_on}
 use Rattle.sq_graph.specs.Uses.{term_uses, code_word_uses, item_calls, uses, calls}
 use Rattle.sq_graph.specs.Rules.{IsGraph, TermFits, ProcedureFits, last_goes_on, mentions}
 use Rattle.sq_graph.specs.Renames.{retargeted_block, retargeted, recalled, recalled_item, recalled_items, recalled_block, recalled_procedure, swapped, lowered}
-use Rattle.sq_graph.specs.Operations.{IsNew, with_blocks, changed, with_term, redirected, replaced_items, replaced, called_at, called_body, inlined, outlined, inserted_after, without_block, redirected_calls, without_procedure, moved_after}
+use Rattle.sq_graph.specs.Operations.{IsNew, with_blocks, changed, with_term, redirected, replaced_items, replaced, procedures_with, with_body_item, called_at, called_body, inlined, outlined, inserted_after, without_block, redirected_calls, without_procedure, moved_after}
 use Rattle.sq_graph.proofs.Located.{IsAt, located, named-append}
 use Rattle.sq_graph.proofs.SlotReads.{block_at}
 use Rattle.sq_graph.proofs.Eachs.{All-left, All-right}
@@ -149,6 +149,56 @@ inlined_rules g name place rules has =
     body_stands : (called : Option ℕ) → All (ItemStands (HasBlock g) (HasProcedure g)) (called_body g called)
     body_stands None = All-nil (ItemStands (HasBlock g) (HasProcedure g))
     body_stands (Some number) = stands_at g.procedures (by_block (HasBlock g) (HasProcedure g) g rules rules.named_all rules.called_all).bodies number
+
+-- the new item fits, names a block that is there, calls nothing, and doesn't mention the procedure's link
+pub with_body_item_rules : (g : Graph) (number place : ℕ) (item : Item) → IsGraph g → ItemStands (HasBlock g) (HasProcedure g) item → item_calls item ≡ []
+    → ((link : ℕ) → link_of g number ≡ Some link → mentions item link ≡ false) → IsGraph (with_body_item g number place item)
+with_body_item_rules g number place item rules stands no_calls no_mention =
+    let N = HasBlock g in
+    let C = HasProcedure g in
+    let C' = HasProcedure (with_body_item g number place item) in
+    let by = by_block N C g rules rules.named_all rules.called_all in
+    let same : (k : ℕ) → N k → N k = λ k there. there in
+    let still : (k : ℕ) → C k → C' k = λ k there. omega (arith, there, length-procedures_with g.procedures number) in
+    from_blocks (with_body_item g number place item)
+    (record {
+      distinct = by.distinct;
+      entry = by.entry;
+      words = by.words;
+      ends = by.ends;
+      ascending = by.ascending;
+      blocks = blocks_stay N N C C' same still g.blocks by.blocks;
+      bodies = bodies_stay N N C C' same still (procedures_with g.procedures number place item) (one_body g.procedures number by.bodies no_mention);
+    })
+  where
+    length-procedures_with : (ps : List Procedure) (n : ℕ) → length (procedures_with ps n place item) ≡ length ps
+    length-procedures_with [] n = refl
+    length-procedures_with (p ∷ ps) zero = refl
+    length-procedures_with (p ∷ ps) (suc n) = ap suc (length-procedures_with ps n)
+
+    replaced_all : (P : Item → Type 0) (xs : List Item) → P item → All P xs → All P (replaced_items xs place 1 (item ∷ []))
+    replaced_all P xs new all = All-append P (take place xs) (item ∷ drop (place + 1) xs) (All-take P place xs all) (All-cons P item (drop (place + 1) xs) new (All-drop P (place + 1) xs all))
+
+    B : Procedure → Type 0
+    B = BodyStands (HasBlock g) (HasProcedure g)
+
+    one_body : (ps : List Procedure) (n : ℕ) → All (BodyStands (HasBlock g) (HasProcedure g)) ps → ((link : ℕ) → procedure_link (slice_get ps n) ≡ Some link → mentions item link ≡ false) → All (BodyStands (HasBlock g) (HasProcedure g)) (procedures_with ps n place item)
+    one_body [] n all free = All-nil B
+    one_body (p ∷ ps) zero all free =
+        let old = All-head B p ps all in
+        All-cons B (record p { body = replaced_items p.body place 1 (item ∷ []) }) ps
+        (record {
+          items = replaced_all (ItemStands (HasBlock g) (HasProcedure g)) p.body stands old.items;
+          fits =
+              record {
+                register = old.fits.register;
+                link = old.fits.link;
+                no_calls = replaced_all (λ x. item_calls x ≡ []) p.body no_calls old.fits.no_calls;
+                no_mention = replaced_all (λ x. mentions x p.link ≡ false) p.body (free p.link refl) old.fits.no_mention;
+              };
+        })
+        (All-tail B p ps all)
+    one_body (p ∷ ps) (suc n) all free = All-cons B p (procedures_with ps n place item) (All-head B p ps all) (one_body ps n (All-tail B p ps all) free)
 
 -- the new block's term fits, uses blocks that are there, and goes on only where a slot follows
 pub inserted_after_rules : (g : Graph) (new name : ℕ) (t : Term) → IsGraph g → IsNew g new → HasBlock g name → TermFits t → All (HasBlock g) (term_uses t) → (goes_on t ≡ true → IsSome (next_of g name)) → IsGraph (inserted_after g new name t)

@@ -46,7 +46,7 @@ module _ (f : ℕ → ℕ) (nm : Block → ℕ) where
   items_uses-other [] = refl
   items_uses-other (item ∷ is) = ap (λ us. us ++ items_uses (retargeted_items f is)) (item_uses-other item) ∙ ap (λ us. map f (item_uses item) ++ us) (items_uses-other is) ∙ sym (map-append f (item_uses item) (items_uses is))
 
-  term_uses-other : (t : Term) → term_uses (retargeted_term f t) ≡ map f (term_uses t)
+  pub term_uses-other : (t : Term) → term_uses (retargeted_term f t) ≡ map f (term_uses t)
   term_uses-other Fall = refl
   term_uses-other (Jump to) = refl
   term_uses-other (Branch c a b to) = refl
@@ -88,7 +88,7 @@ module _ (f : ℕ → ℕ) (nm : Block → ℕ) where
   item_fits (Lo rd rs to) fits = fits
   item_fits (Out p) fits = fits
 
-  term_fits : (t : Term) → TermFits t → TermFits (retargeted_term f t)
+  pub term_fits : (t : Term) → TermFits t → TermFits (retargeted_term f t)
   term_fits Fall fits = fits
   term_fits (Jump to) fits = fits
   term_fits (Branch c a b to) fits = fits

@@ -67,7 +67,7 @@ laid_ends es end (Some free) room lie = ends_raise es free end lie.1.0 lie.0
 pub laid_copied : (es : List (ℕ × Slot)) (end room other : ℕ) (free again : Option ℕ) → again ≡ free → AreLaid es end free room → (IsSome free → length_of_slots es ≤ other) → AreLaid es end again other
 laid_copied es end room other None again same lie fits = subst (λ (o : Option ℕ). AreLaid es end o other) (sym same) lie
 laid_copied es end room other (Some free) again same lie fits =
-    let now : AreLaid es end (Some free) other = (lie.0, (lie.1.0, fits refl)) in
+    let now : AreLaid es end (Some free) other = (lie.0, (lie.1.0, (fits refl, lie.1.1.1))) in
     subst (λ (o : Option ℕ). AreLaid es end o other) (sym same) now
 
 -- THE BLOCKS

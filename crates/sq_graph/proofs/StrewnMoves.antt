@@ -3,6 +3,7 @@ use Rattle.std.proofs.Common.{◌≡◌, ℕ, ◌==◌, List, [], ◌∷◌, ◌
 use Rattle.std.proofs.lemmas.Bool.{cases_Bool}
 use Rattle.sq_arena.specs.Arena.{Arena as Listed}
 use Rattle.sq_arena.specs.Entries.{value_of, ContainsKey, before, through, starting_at, behind, run, without_run, IsRun, move_run_after}
+use Rattle.sq_arena.proofs.EntriesLaws.{KeepsValues-move_run_after}
 use Rattle.sq_graph.specs.declared.item.Item.{Item}
 use Rattle.sq_graph.specs.declared.slot.Slot.{Slot}
 use Rattle.sq_graph.specs.declared.graph.Graph.TheInside.{Inside}
@@ -11,11 +12,12 @@ use Rattle.sq_graph.specs.Blocks.{named}
 use Rattle.sq_graph.specs.Cursor.{length_of_slots}
 use Rattle.sq_graph.specs.Rules.{IsGraph}
 use Rattle.sq_graph.specs.Operations.{moved_after}
-use Rattle.sq_graph.specs.Packed.{EndBy, AreLaid, blocks_of}
+use Rattle.sq_graph.specs.Packed.{EndBy, AreDisjoint, AreLaid, blocks_of}
 use Rattle.sq_graph.specs.Layout.{graph_of, IsSound}
 use Rattle.sq_graph.proofs.Located.{named-append}
 use Rattle.sq_graph.proofs.SlotReads.{value_of-blocks}
 use Rattle.sq_graph.proofs.Strewn.{ends_append, ends_before, ends_through, ends_starting_at, ends_behind, blocks_of-append}
+use Rattle.sq_graph.proofs.Disjoint.{disjoint_kept}
 use Rattle.sq_graph.proofs.RunMoves.{length-moved_slots}
 use Rattle.sq_graph.proofs.MoveShows.{length_moved}
 use Rattle.sq_graph.proofs.Held.{Shows, laid, laid_shows, limits_of, in_no_order}
@@ -112,7 +114,8 @@ strewn_moves old first last after free slots sound loose is_run entries spare ru
     let lie = in_no_order old free sound loose in
     let size : length_of_slots slots.entries ≡ length_of_slots old.slots.entries = ap length_of_slots entries ∙ length-moved_slots es first last after there in
     let ends : EndBy slots.entries free = rw entries (ends_moved es first last after free lie.0) in
-    let now : AreLaid slots.entries old.blocks_end (Some free) (vec_capacity old.loose.scratch) = (ends, (lie.1.0, omega (arith, lie.1.1, size))) in
+    let disjoint : AreDisjoint slots.entries = rw entries (disjoint_kept es (move_run_after es first last after) (KeepsValues-move_run_after es first last after sound.gaps.distinct there) lie.1.1.1) in
+    let now : AreLaid slots.entries old.blocks_end (Some free) (vec_capacity old.loose.scratch) = (ends, (lie.1.0, (omega (arith, lie.1.1.0, size), disjoint))) in
     laid_shows (record old { slots = slots }) (moved_after (graph_of old) first last after)
     (record {
       blocks = ap (λ fs. blocks_of fs xs) entries ∙ sym (unnamed (blocks_of (move_run_after es first last after) xs)) ∙ ap (λ ps. map (λ p. p.1) ps) (sym (named_moved es xs first last after));

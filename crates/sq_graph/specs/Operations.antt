@@ -6,7 +6,7 @@ use Rattle.sq_graph.specs.declared.item.Item.TheVariants.{Op, Hi, Lo, Out}
 use Rattle.sq_graph.specs.declared.item.Term.{Term}
 use Rattle.sq_graph.specs.declared.item.Term.TheVariants.{Fall}
 use Rattle.sq_graph.specs.declared.parts.CodeRef.{CodeRef}
-use Rattle.sq_graph.specs.Graph.{Block, Graph}
+use Rattle.sq_graph.specs.Graph.{Block, Procedure, Graph}
 use Rattle.sq_graph.specs.Blocks.{named, block_of, items_of, body_of}
 use Rattle.sq_graph.specs.Renames.{retargeted, recalled, swapped, lowered}
 
@@ -44,6 +44,15 @@ replaced_items items at length by = take at items ++ (by ++ drop (at + length) i
 abbrev pub replaced : Graph → ℕ → ℕ → ℕ → List Item → Graph
 replaced g name at length by =
     changed (λ b. record b { items = replaced_items b.items at length by } ∷ []) g name
+
+-- an item of a procedure's body is another
+abbrev pub procedures_with : List Procedure → ℕ → ℕ → Item → List Procedure
+procedures_with [] number at item = []
+procedures_with (p ∷ rest) zero at item = record p { body = replaced_items p.body at 1 (item ∷ []) } ∷ rest
+procedures_with (p ∷ rest) (suc number) at item = p ∷ procedures_with rest number at item
+
+abbrev pub with_body_item : Graph → ℕ → ℕ → Item → Graph
+with_body_item g number at item = record g { procedures = procedures_with g.procedures number at item }
 
 -- the procedure that the item at this place calls
 abbrev pub call_of : Option Item → Option ℕ

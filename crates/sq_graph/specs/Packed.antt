@@ -1,5 +1,5 @@
 -- Slots whose items don't lie one right behind another. No public clause cites this module.
-use Rattle.std.specs.Prelude.{◌≡◌, ℕ, ◌+◌, ◌-◌, ◌≤◌, ◌==◌, if◌then◌else◌, List, [], ◌∷◌, ◌++◌, take, drop, length, Option, None, Some, Vec, vec_capacity}
+use Rattle.std.specs.Prelude.{◌≡◌, ℕ, ◌+◌, ◌-◌, ◌<◌, ◌≤◌, ◌==◌, if◌then◌else◌, List, [], ◌∷◌, ◌++◌, take, drop, length, Option, None, Some, Vec, vec_capacity}
 use Rattle.std.specs.Global.{Global}
 use Rattle.sq_arena.specs.Arena.{Arena}
 use Rattle.sq_arena.specs.Entries.{HasDistinctKeys, value_of, with_value}
@@ -41,11 +41,20 @@ abbrev pub EndBy : List (ℕ × Slot) → ℕ → Type 0
 EndBy [] end = Unit {0}
 EndBy (e ∷ rest) end = (e.1.start + e.1.length ≤ end) × EndBy rest end
 
+-- an item of the slot lies at the place
+abbrev pub HasPlace : Slot → ℕ → Type 0
+HasPlace slot place = (slot.start ≤ place) × (place < slot.start + slot.length)
+
+-- no place is one of two slots
+abbrev pub AreDisjoint : List (ℕ × Slot) → Type 0
+AreDisjoint entries =
+    (place name other : ℕ) (slot second : Slot) → value_of entries name ≡ Some slot → value_of entries other ≡ Some second → HasPlace slot place → HasPlace second place → name ≡ other
+
 -- the slots lie apart ahead of `end`, in layout order; or else, where there is a free place, all lie somewhere ahead of
--- it, and there is room for a copy of their items
+-- it, no two at one place, and there is room for a copy of their items
 abbrev pub AreLaid : List (ℕ × Slot) → ℕ → Option ℕ → ℕ → Type 0
 AreLaid entries end None room = AreApart entries 0 end
-AreLaid entries end (Some free) room = EndBy entries free × ((free ≤ end) × (length_of_slots entries ≤ room))
+AreLaid entries end (Some free) room = EndBy entries free × ((free ≤ end) × ((length_of_slots entries ≤ room) × AreDisjoint entries))
 
 -- the slots lie among the items, ahead of `end`, and so many items ahead of `end` are in none
 pub record HasGaps (entries : List (ℕ × Slot)) (items : List Item) (end gaps : ℕ) (loose : Loose) : Type 0 where

@@ -2,7 +2,7 @@
 
 ghost use Rattle.std.specs.Prelude.{◌≡◌, option_to_list};
 ghost use Rattle.sq_graph.specs.Terms.{goes_on};
-ghost use Rattle.sq_graph.specs.Uses.{term_uses};
+ghost use Rattle.sq_graph.specs.Uses.{item_uses, term_uses};
 
 use sq_isa::{Cond, Insn, Reg};
 
@@ -35,6 +35,18 @@ pub enum Term {
     Indirect { link: Reg, at: Reg, offset: i32 },
     /// EBREAK, or a word that stands for no instruction.
     Stop { word: u32 },
+}
+
+impl Item {
+    /// The block that it names.
+    pub fn target(self) -> Option<u32>
+        ensures { option_to_list result ≡ item_uses self }
+    {
+        match self {
+            Item::Hi { to, .. } | Item::Lo { to, .. } => Some(to),
+            Item::Op(_) | Item::Out { .. } => None,
+        }
+    }
 }
 
 impl Term {

@@ -77,7 +77,7 @@ retargeted_words f (PartJump link part to) = refl
 retargeted_words f (Indirect link at offset) = refl
 retargeted_words f (Stop word) = refl
 
-retargeted_branch : (f : ℕ → ℕ) (t : Term) → IsBranch (retargeted_term f t) → IsBranch t
+pub retargeted_branch : (f : ℕ → ℕ) (t : Term) → IsBranch (retargeted_term f t) → IsBranch t
 retargeted_branch f Fall is = is
 retargeted_branch f (Jump to) is = is
 retargeted_branch f (Branch cond a b to) is = is

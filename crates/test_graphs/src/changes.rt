@@ -123,6 +123,43 @@ fn move_on(graph: &mut Graph, block: u32) -> Option<()> {
     Some(())
 }
 
+/// Has an item be the upper half of a block's address.
+fn set_hi(graph: &mut Graph, block: u32, at: u32, to: u32) -> Option<()> {
+    if !is_block(graph, block) {
+        return None;
+    }
+    if graph.items(block).len() <= at as usize {
+        return None;
+    }
+    if !is_block(graph, to) {
+        return None;
+    }
+    graph.learn();
+    graph.set_item(block, at, Item::Hi { rd: Reg::A2, to });
+    Some(())
+}
+
+/// The same of an item of a procedure, whose link the item doesn't mention.
+fn set_body_hi(graph: &mut Graph, procedure: u32, at: u32, to: u32) -> Option<()> {
+    if graph.procedures() <= procedure {
+        return None;
+    }
+    if graph.body(procedure).len() <= at as usize {
+        return None;
+    }
+    if !is_block(graph, to) {
+        return None;
+    }
+    let link = graph.link(procedure);
+    let item = [Item::Hi { rd: Reg::A2, to }];
+    if !body_fits(link, &item) {
+        return None;
+    }
+    graph.learn();
+    graph.set_body_item(procedure, at, Item::Hi { rd: Reg::A2, to });
+    Some(())
+}
+
 /// Puts an ECALL and a call of a procedure in the place of an item.
 fn put_call(graph: &mut Graph, block: u32, at: u32, procedure: u32) -> Option<()> {
     if !is_block(graph, block) {
@@ -253,6 +290,8 @@ pub fn change(graph: &mut Graph, names: &[u32], verb: &str, operands: &[u32]) ->
         ("jump", &[block, to]) => set_jump(graph, name(block), name(to)),
         ("set_word", &[at, block]) => set_word(graph, at, name(block)),
         ("set_entry", &[block]) => set_entry(graph, name(block)),
+        ("set_hi", &[block, at, to]) => set_hi(graph, name(block), at, name(to)),
+        ("set_body_hi", &[procedure, at, to]) => set_body_hi(graph, procedure, at, name(to)),
         ("insert", &[block, to]) => insert_jump(graph, name(block), name(to)),
         ("redirect", &[from, to]) => redirect(graph, name(from), name(to)),
         ("remove", &[block, to]) => remove(graph, name(block), name(to)),
