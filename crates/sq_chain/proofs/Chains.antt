@@ -1,10 +1,13 @@
 -- A walk along the chain of a block.
-use Rattle.std.proofs.Common.{◌≡◌, ◌≢◌, ℕ, ◌+◌, ◌==◌, true, false, if◌then◌else◌, List, [], ◌∷◌, length, Option, None, Some, IsSome, is_some, inl, inr, refl, sym, ap, ◌∙◌, subst, arith, append_assoc, ◌++◌}
-use Rattle.std.proofs.lemmas.Bool.{cases_Bool, eqb-true, eq-eqb, ne_eqb}
+use Rattle.std.proofs.Common.{◌≡◌, ◌≢◌, ℕ, ◌+◌, ◌<◌, ◌^◌, ◌==◌, nat_eq, true, false, if◌then◌else◌, List, [], ◌∷◌, length, Option, None, Some, IsSome, is_some, inl, inr, refl, sym, ap, ◌∙◌, subst, arith, append_assoc, ◌++◌}
+use Rattle.std.specs.Map.{update}
+use Rattle.std.proofs.lemmas.Bool.{cases_Bool, eqb-true, eq-eqb, ne_eqb, both_ways}
+use Rattle.std.proofs.lemmas.List.Elements.{All-head}
 use Rattle.sq_arena.specs.Entries.{HasDistinctKeys, value_of, ContainsKey, before, through, starting_at, behind, run, first_key}
-use Rattle.sq_arena.proofs.EntriesLemmas.{starting_at-behind, split_at as split_at_key}
-use Rattle.sq_arena.proofs.EntriesLaws.{absent_ahead, starting_at-append, distinct_back}
+use Rattle.sq_arena.proofs.EntriesLemmas.{starting_at-behind, split_at as split_at_key, some_value}
+use Rattle.sq_arena.proofs.EntriesLaws.{absent_ahead, starting_at-append, value_of-append, or_value, distinct_back}
 use Rattle.sq_graph.specs.declared.item.Term.{Term}
+use Rattle.sq_graph.specs.declared.item.Term.TheVariants.{Jump}
 use Rattle.sq_graph.specs.Graph.{Block, Graph}
 use Rattle.sq_graph.specs.Blocks.{named, HasBlock, block_of, block_term, next_of, term_of}
 use Rattle.sq_graph.specs.Rules.{IsGraph}
@@ -12,8 +15,10 @@ use Rattle.sq_graph.specs.Terms.{goes_on}
 use Rattle.sq_graph.proofs.Kept.{absent_behind}
 use Rattle.sq_graph.proofs.Located.{value_of-at}
 use Rattle.sq_layout.proofs.Shrinking.{block_with}
-use Rattle.sq_chain.specs.Moves.{end_of, chain_end, IsInChain}
-use Rattle.sq_chain.proofs.Reordered.{end_there}
+use Rattle.sq_lookup.specs.Tables.{number_at}
+use Rattle.sq_lookup.proofs.Targets.{targets_there}
+use Rattle.sq_chain.specs.Moves.{end_of, chain_end, AreEnds, IsInChain}
+use Rattle.sq_chain.proofs.Reordered.{end_there, apart_from, some_or_none}
 
 -- the walk has come to this block, ahead of which the other one isn't
 pub record IsOnChain (g : Graph) (to from at : ℕ) : Type 0 where
@@ -133,3 +138,108 @@ term_there g n has = by_block (block_of g n) has
     by_block : (o : Option Block) → IsSome o → (t : Term) × (block_term o ≡ Some t)
     by_block None some = absurd (cc)
     by_block (Some b) some = (b.term, refl)
+
+-- the target of a Jump is there
+pub target_there : (g : Graph) (from to : ℕ) → IsGraph g → term_of g from ≡ Some (Jump to) → HasBlock g to
+target_there g from to rules jump = All-head (HasBlock g) to [] (targets_there g from (Jump to) rules jump)
+
+alone_has : (e : ℕ × Block) (n : ℕ) → ContainsKey (e ∷ []) n → e.0 ≡ n
+alone_has e n one = elim (cases_Bool (e.0 == n)) [ inl same ↦ eqb-true e.0 n same | inr apart ↦ absurd (cc (rw apart at one)) ]
+
+-- of the blocks as far as the first that doesn't go on, no other one doesn't
+stops_last : (es : List (ℕ × Block)) (d n : ℕ) (b : Block) → value_of es n ≡ Some b → goes_on b.term ≡ false → ContainsKey (through es (end_of es d)) n → n ≡ end_of es d
+stops_last [] d n b found off there = absurd (cc)
+stops_last (e ∷ es) d n b found off there =
+    elim (cases_Bool (goes_on e.1.term)) [
+      | inl on ↦
+          let is : end_of (e ∷ es) d ≡ end_of es e.0 = ap (λ t. if t then end_of es e.0 else e.0) on in
+          let later : ContainsKey (through (e ∷ es) (end_of es e.0)) n = subst (λ k. ContainsKey (through (e ∷ es) k) n) is there in
+          elim (cases_Bool (e.0 == n)) [
+            | inl same ↦
+                let block : Some e.1 ≡ Some b = rw same at found in
+                let this : e.1 ≡ b = cc in
+                absurd (both_ways (goes_on e.1.term) (ap (λ (c : Block). goes_on c.term) this ∙ off) on)
+            | inr apart ↦
+                elim (cases_Bool (e.0 == end_of es e.0)) [
+                  | inl last ↦ absurd (cc (rw apart at (rw last at later)))
+                  | inr further ↦ stops_last es e.0 n b (rw apart at found) off (rw apart at (rw further at later)) ∙ sym is
+                ]
+          ]
+      | inr stops ↦
+          let is : end_of (e ∷ es) d ≡ e.0 = ap (λ t. if t then end_of es e.0 else e.0) stops in
+          let here : ContainsKey (through (e ∷ es) e.0) n = subst (λ k. ContainsKey (through (e ∷ es) k) n) is there in
+          sym (alone_has e n (rw (eq-eqb e.0 e.0 refl) at here)) ∙ sym is
+    ]
+
+through_has : (es : List (ℕ × Block)) (k n : ℕ) → ContainsKey (through es k) n → ContainsKey es n
+through_has [] k n there = absurd (cc)
+through_has (e ∷ es) k n there =
+    elim (cases_Bool (e.0 == n)) [
+      | inl here ↦ rw here refl
+      | inr apart ↦
+          elim (cases_Bool (e.0 == k)) [
+            | inl last ↦ absurd (cc (rw apart at (rw last at there)))
+            | inr further ↦ rw apart (through_has es k n (rw apart at (rw further at there)))
+          ]
+    ]
+
+has_through : (es : List (ℕ × Block)) (k : ℕ) → ContainsKey es k → ContainsKey (through es k) k
+has_through [] k there = there
+has_through (e ∷ es) k there =
+    elim (cases_Bool (e.0 == k)) [ inl here ↦ rw here (rw here refl) | inr apart ↦ rw apart (rw apart (has_through es k (rw apart at there))) ]
+
+module _ (g : Graph) (to : ℕ) (there : HasBlock g to) where
+  abbrev all : List (ℕ × Block)
+  all = named g.blocks
+
+  first : (b : Block) × (value_of all to ≡ Some b)
+  first = some_value (value_of all to) there
+
+  starts : starting_at all to ≡ (to, first.0) ∷ behind all to
+  starts = starting_at-behind all to first.0 first.1
+
+  -- the last block of a chain is in it
+  pub end_inside : IsInChain g to (chain_end g to)
+  end_inside =
+      has_through (starting_at all to) (chain_end g to)
+      (subst (λ (xs : List (ℕ × Block)). ContainsKey xs (end_of xs to)) (sym starts) (end_there (to, first.0) (behind all to) to))
+
+  -- a block that is in a chain, and goes on to none, is its last one
+  pub stops_at_end : (n : ℕ) (t : Term) → IsGraph g → term_of g n ≡ Some t → goes_on t ≡ false → IsInChain g to n → n ≡ chain_end g to
+  stops_at_end n t rules is off inside =
+      stops_last (starting_at all to) to n block.0 here (ap goes_on block.2 ∙ off) inside
+    where
+      block : (b : Block) × (block_of g n ≡ Some b) × (b.term ≡ t)
+      block = block_with (block_of g n) t is
+
+      split : all ≡ before all to ++ starting_at all to
+      split = split_at_key all to first.0 first.1 ∙ ap (λ (xs : List (ℕ × Block)). before all to ++ xs) (sym starts)
+
+      here : value_of (starting_at all to) n ≡ Some block.0
+      here =
+          elim (some_or_none (value_of (before all to) n)) [
+            | inl ahead ↦
+                let none = apart_from (before all to) (starting_at all to) n (subst (λ (xs : List (ℕ × Block)). HasDistinctKeys xs) split rules.distinct) ahead in
+                absurd (cc (none, through_has (starting_at all to) (chain_end g to) n inside))
+            | inr none ↦
+                let whole : value_of all n ≡ or_value (value_of (before all to) n) (value_of (starting_at all to) n) =
+                ap (λ (xs : List (ℕ × Block)). value_of xs n) split ∙ value_of-append (before all to) (starting_at all to) n in
+                sym (rw none at whole) ∙ block.1
+          ]
+
+-- no end is known at first
+pub none_known : (g : Graph) (ends : List (Option ℕ)) → ends ≡ [] → AreEnds g ends
+none_known g ends empty n end found =
+    let none : number_at ends n ≡ None = ap (λ (es : List (Option ℕ)). number_at es n) empty in
+    absurd (cc (none, found))
+
+-- one end more is known
+pub ends_with : (g : Graph) (ends more : List (Option ℕ)) (to end : ℕ) → end ≡ chain_end g to → end < 2 ^ 32 → AreEnds g ends → ((n : ℕ) → number_at more n ≡ update nat_eq (number_at ends) to (Some end) n) → AreEnds g more
+ends_with g ends more to end is small known added n last found =
+    elim (cases_Bool (to == n)) [
+      | inl here ↦
+          let this : Some end ≡ Some last = sym (rw here at (added n)) ∙ found in
+          let same : end ≡ last = cc in
+          (sym same ∙ is ∙ ap (chain_end g) (eqb-true to n here), subst (λ k. k < 2 ^ 32) same small)
+      | inr apart ↦ known n last (sym (rw apart at (added n)) ∙ found)
+    ]

@@ -38,6 +38,10 @@ pub mod Swept
 pub mod Resurveyed
 pub mod Tabled
 pub mod Replaced
+pub mod Swapped
+pub mod HandedBlocks
+pub mod HandedBodies
+pub mod HandedItems
 pub mod HandedOn
 pub mod PassedOn
 pub mod Spread

@@ -11,13 +11,15 @@ use Rattle.sq_graph.specs.declared.item.Term.TheVariants.{Fall, Jump, Branch, Ca
 use Rattle.sq_graph.specs.Graph.{Block, Graph}
 use Rattle.sq_graph.specs.Blocks.{named, block_of, block_term, term_of, next_of}
 use Rattle.sq_graph.specs.Operations.{with_blocks, with_term, without_block, changed, joined_at, joined_with_next}
+use Rattle.sq_graph.specs.Renames.{retargeted_term, swapped}
 use Rattle.sq_graph.specs.Rules.{IsGraph}
 use Rattle.sq_graph.proofs.Kept.{absent_behind}
 use Rattle.sq_layout.specs.Shrinks.{IsBranch}
+use Rattle.sq_layout.proofs.Shrunk.{retargeted_branch}
 use Rattle.sq_layout.proofs.Standing.{block_of-without}
 use Rattle.sq_lookup.specs.Marks.{is_marked}
 use Rattle.sq_lookup.proofs.Previous.{next_there}
-use Rattle.sq_chain.specs.Passing.{passed_term, passed_block, passed_on}
+use Rattle.sq_chain.specs.Passing.{passed_block, passed_on}
 use Rattle.sq_chain.specs.Seams.{IsExchanged}
 use Rattle.sq_chain.specs.Surveys.{extent_of, extents_of, AreMarked}
 use Rattle.sq_chain.specs.Widening.{EndsInBranch, jumped_over, over_jump}
@@ -97,15 +99,9 @@ pub marked_passed : (among : ℕ → Bool) (bare next : ℕ) (g : Graph) (marks 
 marked_passed among bare next g marks passed =
     marked_still g (passed_on among bare next g) marks (λ n is. by_block (block_of g n) (subst (λ (o : Option Block). IsBranched (block_term o)) (passed n) is))
   where
-    by_term : (own : Bool) (t : Term) → IsBranch (if own then passed_term bare next t else t) → IsBranch t
+    by_term : (own : Bool) (t : Term) → IsBranch (if own then retargeted_term (swapped bare next) t else t) → IsBranch t
     by_term false t is = is
-    by_term true Fall is = is
-    by_term true (Jump to) is = is
-    by_term true (Branch cond a b to) is = is
-    by_term true (Call link to) is = is
-    by_term true (PartJump link part to) is = is
-    by_term true (Indirect link x offset) is = is
-    by_term true (Stop word) is = is
+    by_term true t is = retargeted_branch (swapped bare next) t is
 
     by_block : (o : Option Block) → IsBranched (block_term (option_map (passed_block among bare next) o)) → IsBranched (block_term o)
     by_block None is = is

@@ -1,5 +1,5 @@
--- Branches, Jumps and Calls to a block that is empty with Fall go to the next one in its place, and the canonical graph stays.
-use Rattle.std.proofs.Common.{◌≡◌, ◌≢◌, ◌⊎◌, ℕ, ◌+◌, ◌*◌, ◌≤◌, ◌==◌, Bool, true, false, ◌&&◌, ◌||◌, not, if◌then◌else◌, List, [], ◌∷◌, ◌++◌, map, length, sum_by, Option, None, Some, IsSome, is_some, Result, Ok, Err, OnOk, is_err, inl, inr, refl, sym, ap, ◌∙◌, subst, arith, append_assoc}
+-- Terms that name a block which is empty with Fall name the next one in its place, and the canonical graph stays.
+use Rattle.std.proofs.Common.{◌≡◌, ◌≢◌, ℕ, ◌+◌, ◌*◌, ◌≤◌, ◌==◌, Bool, true, false, ◌&&◌, ◌||◌, not, if◌then◌else◌, List, [], ◌∷◌, ◌++◌, map, length, sum_by, Option, None, Some, IsSome, is_some, Result, Ok, Err, OnOk, is_err, inl, inr, refl, sym, ap, ◌∙◌, subst, arith, append_assoc}
 use Rattle.std.specs.List.{All}
 use Rattle.std.specs.Option.{option_map}
 use Rattle.std.proofs.lemmas.Bool.{cases_Bool, eqb-true, eq-eqb, ne_eqb, or_left}
@@ -9,7 +9,6 @@ use Rattle.std.proofs.lemmas.List.Sums.{sum_by-cons}
 use Rattle.sq_arena.specs.Entries.{HasDistinctKeys, value_of, first_key, next_key}
 use Rattle.sq_arena.proofs.EntriesLaws.{absent_ahead, distinct_back}
 use Rattle.sq_isa.specs.Registers.{is_among}
-use Rattle.sq_isa.specs.declared.instructions.Cond.{Cond}
 use Rattle.sq_graph.specs.declared.item.Term.{Term}
 use Rattle.sq_graph.specs.declared.item.Term.TheVariants.{Fall, Jump, Branch, Call, PartJump, Indirect, Stop}
 use Rattle.sq_graph.specs.Graph.{Block, Graph}
@@ -23,17 +22,18 @@ use Rattle.sq_graph.specs.Rules.{IsGraph, TermFits}
 use Rattle.sq_graph.specs.Terms.{goes_on}
 use Rattle.sq_graph.specs.Uses.{term_uses, terms_uses, items_uses, code_word_uses, uses}
 use Rattle.sq_graph.specs.Words.{term_words, block_words}
-use Rattle.sq_graph.proofs.Bypassing.{passed-behind, passed-bare, bare_falls}
-use Rattle.sq_graph.proofs.CanonicalLaws.{canonical_is_joined}
+use Rattle.sq_graph.proofs.Bypassing.{passed-behind, passed-bare, bare_falls, is_fall-other, term_twice}
+use Rattle.sq_graph.proofs.CanonicalLaws.{canonical_is_joined, term_words-other}
 use Rattle.sq_graph.proofs.Changes.{items_of_blocks-kept}
 use Rattle.sq_graph.proofs.Eachs.{All-right}
 use Rattle.sq_graph.proofs.Kept.{absent_behind}
 use Rattle.sq_graph.proofs.Located.{IsAt, located, named-append}
 use Rattle.sq_graph.proofs.OperationRules.{with_term_rules}
+use Rattle.sq_graph.proofs.RetargetRules.{goes_on-other, term_fits, term_uses-other}
 use Rattle.sq_graph.proofs.SlotReads.{block_at}
 use Rattle.sq_graph.proofs.SplitRules.{flat_map-at, flat_map-changed}
 use Rattle.sq_layout.specs.Weights.{address_by}
-use Rattle.sq_lookup.specs.Names.{is_listed, held_uses}
+use Rattle.sq_lookup.specs.Names.{held_uses}
 use Rattle.sq_lookup.specs.Counts.{count_at, times_named, AreUses, IsCounted}
 use Rattle.sq_lookup.specs.declared.counts.Uses.{Uses}
 use Rattle.sq_lookup.proofs.Counting.{times-append, some_times, times_some, among_uses}
@@ -41,12 +41,13 @@ use Rattle.sq_lookup.proofs.Previous.{one_before}
 use Rattle.sq_lookup.proofs.Targets.{has_term}
 use Rattle.sq_chain.specs.Bare.{IsBareAt, AreSolidBut}
 use Rattle.sq_chain.specs.Moves.{fallen_term, fallen_blocks}
-use Rattle.sq_chain.specs.Passing.{passed_term, passed_block, passed_on, IsTurned, IsPassedOn, IsPassed}
+use Rattle.sq_chain.specs.Passing.{passed_block, passed_on, IsTurned, IsPassedOn, IsPassed}
 use Rattle.sq_chain.specs.Surveys.{IsPlaced, NoneFalls}
 use Rattle.sq_chain.specs.declared.survey.Places.{Places}
 use Rattle.sq_chain.proofs.HandedOn.{handed_slot, handed_bare, handed_placed, handed_falls, handed_solid, handed_led, handed_used, handed_canonical}
 use Rattle.sq_chain.proofs.Marked.{marked_passed}
 use Rattle.sq_chain.proofs.OneMore.{slot_behind, slot_after}
+use Rattle.sq_chain.proofs.Swapped.{swapped_bare, swap_goes, swaps_once, times_swapped}
 
 -- the name of a block that is empty with Fall goes where the next one's goes
 module _ (g : Graph) (bare next : ℕ) (rules : IsGraph g) (is : IsBareAt g bare) (slot : next_of g bare ≡ Some next) where
@@ -105,57 +106,27 @@ pub added : {A E : Type 0} {P : Type 0} (r : Result A E) → OnOk r P → is_err
 added (Ok x) one none = one
 added (Err e) one none = absurd (cc)
 
--- SOME OF THE BRANCHES, JUMPS AND CALLS
+-- SOME OF THE TERMS
 
 module _ (among : ℕ → Bool) (bare next : ℕ) where
   abbrev turned : Block → Block
   turned b = passed_block among bare next b
 
-  by_term : (t : Term) → (passed_term bare next t ≡ t) ⊎ IsTurned bare next t (passed_term bare next t)
-  by_term Fall = inl refl
-  by_term (Jump to) =
-      elim (cases_Bool (to == bare)) [
-        | inl here ↦ inr (inr (inl (record { was = ap Jump (eqb-true to bare here); is = rw here refl })))
-        | inr apart ↦ inl (rw apart refl)
-      ]
-  by_term (Branch c x y to) =
-      elim (cases_Bool (to == bare)) [
-        | inl here ↦ inr (inl (record { cond = c; a = x; b = y; was = ap (λ n. Branch c x y n) (eqb-true to bare here); is = rw here refl }))
-        | inr apart ↦ inl (rw apart refl)
-      ]
-  by_term (Call link to) =
-      elim (cases_Bool (to == bare)) [
-        | inl here ↦ inr (inr (inr (record { link = link; was = ap (λ n. Call link n) (eqb-true to bare here); is = rw here refl })))
-        | inr apart ↦ inl (rw apart refl)
-      ]
-  by_term (PartJump link part to) = inl refl
-  by_term (Indirect link at offset) = inl refl
-  by_term (Stop word) = inl refl
+  abbrev S : ℕ → ℕ
+  S k = swapped bare next k
 
-  by_block : (b : Block) → ((turned b).term ≡ b.term) ⊎ IsTurned bare next b.term (turned b).term
-  by_block b = elim (cases_Bool (among b.name)) [ inl one ↦ rw one (by_term b.term) | inr out ↦ inl (rw out refl) ]
-
-  -- what terms have that is the same of both Branches, of both Jumps and of both Calls
-  same_of : {X : Type 0} (f : Term → X) → ((c : Cond) (x y : ℕ) → f (Branch c x y bare) ≡ f (Branch c x y next)) → f (Jump bare) ≡ f (Jump next) → ((link : ℕ) → f (Call link bare) ≡ f (Call link next)) → (b : Block) → f (turned b).term ≡ f b.term
-  same_of f branch jump call b =
-      elim (by_block b) [
-        | inl stays ↦ ap f stays
-        | inr turns ↦
-            elim turns [
-              | inl t ↦ ap f t.is ∙ sym (branch t.cond t.a t.b) ∙ sym (ap f t.was)
-              | inr (inl t) ↦ ap f t.is ∙ sym jump ∙ sym (ap f t.was)
-              | inr (inr t) ↦ ap f t.is ∙ sym (call t.link) ∙ sym (ap f t.was)
-            ]
-      ]
+  -- what is the same of a term that names the other block is the same of a block's term
+  same_of : {X : Type 0} (f : Term → X) → ((t : Term) → f (retargeted_term (swapped bare next) t) ≡ f t) → (b : Block) → f (turned b).term ≡ f b.term
+  same_of f same b = elim (cases_Bool (among b.name)) [ inl one ↦ rw one (same b.term) | inr out ↦ rw out refl ]
 
   falls_same : (b : Block) → is_fall (turned b).term ≡ is_fall b.term
-  falls_same b = same_of is_fall (λ c x y. refl) refl (λ link. refl) b
+  falls_same b = same_of is_fall (is_fall-other S) b
 
   pub bare_same : (b : Block) → is_bare (turned b) ≡ is_bare b
   bare_same b = ap (λ t. has_no_items b.items && t) (falls_same b)
 
   words_same : (b : Block) → block_words (turned b) ≡ block_words b
-  words_same b = ap (λ n. length b.items + n) (same_of term_words (λ c x y. refl) refl (λ link. refl) b)
+  words_same b = ap (λ n. length b.items + n) (same_of term_words (term_words-other S) b)
 
   -- ITS BLOCKS
 
@@ -174,20 +145,26 @@ module _ (among : ℕ → Bool) (bare next : ℕ) where
       let P : Block → Type 0 = λ b. (not (may b.name) && is_bare b) ≡ false in
       All-map P turned bs (All-weaker P (λ b. P (turned b)) (λ b own. ap (λ t. not (may b.name) && t) (bare_same b) ∙ own) bs solid)
 
+  term_stays : (k : ℕ) (t : Term) → (t ≡ Jump bare → k ≢ next) → fallen_term k t ≡ t → fallen_term k (retargeted_term (swapped bare next) t) ≡ retargeted_term (swapped bare next) t
+  term_stays k (Jump to) off stays =
+      elim (cases_Bool (to == bare)) [
+        | inl here ↦
+            let apart : (next == k) ≡ false = ne_eqb next k (λ same. off (ap Jump (eqb-true to bare here)) (sym same)) in
+            rw here (rw apart refl)
+        | inr apart ↦ rw apart stays
+      ]
+  term_stays k Fall off stays = refl
+  term_stays k (Branch c x y to) off stays = refl
+  term_stays k (Call link to) off stays = refl
+  term_stays k (PartJump link part to) off stays = refl
+  term_stays k (Indirect link at offset) off stays = refl
+  term_stays k (Stop word) off stays = refl
+
   stays_turned : (k : ℕ) (b : Block) → (b.term ≡ Jump bare → k ≢ next) → record b { term = fallen_term k b.term } ≡ b → record (turned b) { term = fallen_term k (turned b).term } ≡ turned b
   stays_turned k b off stays =
+      let own : fallen_term k b.term ≡ b.term = ap (λ (c : Block). c.term) stays in
       ap (λ t. record b { term = t })
-      (elim (by_block b) [
-        | inl same ↦ ap (fallen_term k) same ∙ ap (λ (c : Block). c.term) stays ∙ sym same
-        | inr turns ↦
-            elim turns [
-              | inl t ↦ ap (fallen_term k) t.is ∙ sym t.is
-              | inr (inr t) ↦ ap (fallen_term k) t.is ∙ sym t.is
-              | inr (inl t) ↦
-                  let apart : (next == k) ≡ false = ne_eqb next k (λ same. off t.was (sym same)) in
-                  ap (fallen_term k) t.is ∙ ap (λ e. if e then Fall else Jump next) apart ∙ sym t.is
-            ]
-      ])
+      (elim (cases_Bool (among b.name)) [ inl one ↦ rw one (term_stays k b.term off own) | inr out ↦ rw out own ])
 
   -- no block before the other one jumps to the one
   abbrev pub IsOff : List Block → Type 0
@@ -241,15 +218,11 @@ module _ (among : ℕ → Bool) (bare next : ℕ) where
     where
       own : times_named (term_uses b.term) m ≤ times_named (term_uses (turned b).term) m
       own =
-          elim (by_block b) [
-            | inl same ↦ omega (arith, ap (λ t. times_named (term_uses t) m) same)
-            | inr turns ↦
-                let none : times_named (bare ∷ []) m ≡ 0 = rw (ne_eqb bare m (λ same. other (sym same))) refl in
-                elim turns [
-                  | inl t ↦ omega (arith, ap (λ u. times_named (term_uses u) m) t.was, none)
-                  | inr (inl t) ↦ omega (arith, ap (λ u. times_named (term_uses u) m) t.was, none)
-                  | inr (inr t) ↦ omega (arith, ap (λ u. times_named (term_uses u) m) t.was, none)
-                ]
+          elim (cases_Bool (among b.name)) [
+            | inl one ↦
+                let all = ap (λ us. times_named us m) (term_uses-other S (λ c. c.name) b.term) in
+                rw one (omega (arith, times_swapped bare next (term_uses b.term) m other, all))
+            | inr out ↦ rw out (omega arith)
           ]
 
   -- WHERE NAMES GO
@@ -266,7 +239,9 @@ module _ (among : ℕ → Bool) (bare next : ℕ) where
       ∙ passed_turned bs (if is_bare b then swapped b.name (first_name bs k) k else k)
 
   block_again : (f : ℕ → ℕ) → f bare ≡ f next → (b : Block) → retargeted_block f (turned b) ≡ retargeted_block f b
-  block_again f same b = ap (λ t. record { name = b.name; items = retargeted_items f b.items; term = t }) (same_of (retargeted_term f) (λ c x y. ap (λ n. Branch c x y n) same) (ap Jump same) (λ link. ap (λ n. Call link n) same) b)
+  block_again f same b =
+      let go = λ (t : Term). term_twice S f t ∙ ap (λ to. retargeted_term to t) (swap_goes bare next f same) in
+      ap (λ t. record { name = b.name; items = retargeted_items f b.items; term = t }) (same_of (retargeted_term f) go b)
 
   kept_turned : (f : ℕ → ℕ) → f bare ≡ f next → (bs : List Block) → map (retargeted_block f) (kept (map turned bs)) ≡ map (retargeted_block f) (kept bs)
   kept_turned f same [] = refl
@@ -340,24 +315,11 @@ passed_twice A B bare next b =
     ap (λ t. record b { term = t })
     (elim (cases_Bool (A b.name)) [
       | inr out ↦ rw out refl
-      | inl one ↦ rw one (elim (cases_Bool (B b.name)) [ inl both ↦ rw both (term_twice b.term) | inr other ↦ rw other refl ])
+      | inl one ↦ rw one (elim (cases_Bool (B b.name)) [ inl both ↦ rw both (once b.term) | inr other ↦ rw other refl ])
     ])
   where
-    name_twice : (n : ℕ) → swapped bare next (swapped bare next n) ≡ swapped bare next n
-    name_twice n =
-        elim (cases_Bool (n == bare)) [
-          | inr apart ↦ rw (apart, apart) refl
-          | inl here ↦ rw here (elim (cases_Bool (next == bare)) [ inl same ↦ rw same refl | inr other ↦ rw other refl ])
-        ]
-
-    term_twice : (t : Term) → passed_term bare next (passed_term bare next t) ≡ passed_term bare next t
-    term_twice Fall = refl
-    term_twice (Jump to) = ap Jump (name_twice to)
-    term_twice (Branch c x y to) = ap (λ n. Branch c x y n) (name_twice to)
-    term_twice (Call link to) = ap (λ n. Call link n) (name_twice to)
-    term_twice (PartJump link part to) = refl
-    term_twice (Indirect link at offset) = refl
-    term_twice (Stop word) = refl
+    once : (t : Term) → retargeted_term (swapped bare next) (retargeted_term (swapped bare next) t) ≡ retargeted_term (swapped bare next) t
+    once t = term_twice (swapped bare next) (swapped bare next) t ∙ ap (λ to. retargeted_term to t) (swaps_once bare next)
 
 blocks_twice : (A B : ℕ → Bool) (bare next : ℕ) (bs : List Block) → map (passed_block A bare next) (map (passed_block B bare next) bs) ≡ map (passed_block (λ n. A n || B n) bare next) bs
 blocks_twice A B bare next [] = refl
@@ -385,34 +347,17 @@ passed_none bare next g = record { among = λ n. false; is = ap (λ bs. record g
 
 -- ONE OF THEM
 
-module _ (bare next : ℕ) (t new : Term) where
-  to_next : swapped bare next bare ≡ next
-  to_next = rw (eq-eqb bare bare refl) refl
+module _ (bare next : ℕ) (t new : Term) (turns : IsTurned bare next t new) where
+  uses_new : term_uses new ≡ next ∷ []
+  uses_new =
+      let S = swapped bare next in
+      ap term_uses turns.is ∙ term_uses-other S (λ b. b.name) t ∙ ap (map S) turns.was ∙ ap (λ n. n ∷ []) (swapped_bare bare next bare refl)
 
-  turned_is : IsTurned bare next t new → new ≡ passed_term bare next t
-  turned_is (inl b) = b.is ∙ ap (λ n. Branch b.cond b.a b.b n) (sym to_next) ∙ ap (passed_term bare next) (sym b.was)
-  turned_is (inr (inl j)) = j.is ∙ ap Jump (sym to_next) ∙ ap (passed_term bare next) (sym j.was)
-  turned_is (inr (inr c)) = c.is ∙ ap (λ n. Call c.link n) (sym to_next) ∙ ap (passed_term bare next) (sym c.was)
+  turned_fits : TermFits t → TermFits new
+  turned_fits fits = subst TermFits (sym turns.is) (term_fits (swapped bare next) (λ b. b.name) t fits)
 
-  uses_old : IsTurned bare next t new → term_uses t ≡ bare ∷ []
-  uses_old (inl b) = ap term_uses b.was
-  uses_old (inr (inl j)) = ap term_uses j.was
-  uses_old (inr (inr c)) = ap term_uses c.was
-
-  uses_new : IsTurned bare next t new → term_uses new ≡ next ∷ []
-  uses_new (inl b) = ap term_uses b.is
-  uses_new (inr (inl j)) = ap term_uses j.is
-  uses_new (inr (inr c)) = ap term_uses c.is
-
-  turned_fits : IsTurned bare next t new → TermFits t → TermFits new
-  turned_fits (inl b) fits = subst TermFits (sym b.is) (subst TermFits b.was fits)
-  turned_fits (inr (inl j)) fits = subst TermFits (sym j.is) tt
-  turned_fits (inr (inr c)) fits = subst TermFits (sym c.is) (subst TermFits c.was fits)
-
-  turned_goes : IsTurned bare next t new → goes_on new ≡ true → goes_on t ≡ true
-  turned_goes (inl b) on = ap goes_on b.was
-  turned_goes (inr (inl j)) on = absurd (let off = ap goes_on j.is in cc)
-  turned_goes (inr (inr c)) on = ap goes_on c.was
+  turned_goes : goes_on new ≡ true → goes_on t ≡ true
+  turned_goes on = sym (ap goes_on turns.is ∙ goes_on-other (swapped bare next) (λ b. b.name) t) ∙ on
 
 module _ (g : Graph) (m bare next : ℕ) (t new : Term) (rules : IsGraph g) (was : term_of g m ≡ Some t) (turns : IsTurned bare next t new) where
   abbrev turn : Block → List Block
@@ -437,8 +382,8 @@ module _ (g : Graph) (m bare next : ℕ) (t new : Term) (rules : IsGraph g) (was
             let some : Some x.term ≡ Some t = rw here at is in
             let term : x.term ≡ t = cc in
             let gone : value_of (named bs) m ≡ None = subst (λ k. value_of (named bs) k ≡ None) (eqb-true x.name m here) (absent_behind (x.name, x) (named bs) distinct) in
-            let same : new ≡ passed_term bare next x.term = turned_is bare next t new turns ∙ ap (passed_term bare next) (sym term) in
-            rw here (ap (λ u. record x { term = u } ∷ bs) same ∙ ap (λ cs. record x { term = passed_term bare next x.term } ∷ cs) (one_absent bs gone))
+            let same : new ≡ retargeted_term (swapped bare next) x.term = turns.is ∙ ap (retargeted_term (swapped bare next)) (sym term) in
+            rw here (ap (λ u. record x { term = u } ∷ bs) same ∙ ap (λ cs. record x { term = retargeted_term (swapped bare next) x.term } ∷ cs) (one_absent bs gone))
         | inr apart ↦ rw apart (ap (λ cs. x ∷ cs) (one_turned bs (distinct_back ((x.name, x) ∷ []) (named bs) distinct) (rw apart at is)))
       ]
 
@@ -467,7 +412,7 @@ module _ (g : Graph) (m bare next : ℕ) (t new : Term) (rules : IsGraph g) (was
       omega (
         arith,
         ap (λ u. times_named (term_uses u) k) at_term,
-        ap (λ us. times_named us k) (uses_old bare next t new turns),
+        ap (λ us. times_named us k) turns.was,
         ap (λ us. times_named us k) (uses_new bare next t new turns),
         ap (λ us. times_named us k) (flat_map-at (λ x. term_uses x.term) g.blocks m at),
         ap (λ us. times_named us k) (flat_map-changed (λ x. term_uses x.term) turn g.blocks m at),
@@ -489,7 +434,7 @@ module _ (g : Graph) (m bare next : ℕ) (t new : Term) (rules : IsGraph g) (was
 
     pub uses_one : (they : Uses) → IsCounted bare they more → AreUses (with_term g m new) they
     uses_one they less = record {
-      items = λ k. ap (λ ns. is_listed ns k) (sym less.items ∙ counted.items) ∙ are.items k ∙ ap (λ is. is_listed (items_uses is) k) (sym items_one);
+      items = λ k. ap (λ is. count_at is.items k) (sym less.items ∙ counted.items) ∙ are.items k ∙ ap (λ is. times_named (items_uses is) k) (sym items_one);
       words = λ k. ap (λ ws. count_at ws.items k) (sym less.words ∙ counted.words) ∙ are.words k;
       terms = λ k. omega (arith, less.terms k, counted.terms k, are.terms k, times_one k);
     }

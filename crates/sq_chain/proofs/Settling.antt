@@ -28,7 +28,6 @@ use Rattle.sq_graph.proofs.SlotReads.{block_at}
 use Rattle.sq_graph.proofs.SplitRules.{flat_map-at, flat_map-changed}
 use Rattle.sq_lookup.proofs.Adding.{uses_of_blocks}
 use Rattle.sq_lookup.proofs.Targets.{has_term}
-use Rattle.sq_lookup.specs.Names.{is_listed}
 use Rattle.sq_chain.specs.Moves.{chain_end, IsMovable, JumpsTo, fallen_term, fallen_blocks, fallen, fallen_into, fallen_before, carried}
 use Rattle.sq_lookup.specs.Counts.{count_at, times_named, AreUses, IsCounted}
 use Rattle.sq_lookup.specs.declared.counts.Uses.{Uses}
@@ -273,7 +272,7 @@ module _ (g : Graph) (m n : ℕ) (rules : IsGraph g) (slot : next_of g m ≡ Som
       let items : all_items (with_term g m Fall) ≡ all_items g =
       ap (λ is. is ++ items_of_bodies g.procedures) (items_of_blocks-kept (λ b. record b { term = Fall } ∷ []) g.blocks m at (append-nil at.block.items)) in
       record {
-        items = λ k. ap (λ ns. is_listed ns k) (sym one.items) ∙ are.items k ∙ ap (λ is. is_listed (items_uses is) k) (sym items);
+        items = λ k. ap (λ is. count_at is.items k) (sym one.items) ∙ are.items k ∙ ap (λ is. times_named (items_uses is) k) (sym items);
         words = λ k. ap (λ ws. count_at ws.items k) (sym one.words) ∙ are.words k;
         terms = λ k. omega (arith, one.terms k, are.terms k, times_fell k);
       }

@@ -27,7 +27,7 @@ use Rattle.sq_layout.specs.Weights.{address_by}
 use Rattle.sq_layout.proofs.Shrinking.{some_is}
 use Rattle.sq_lookup.specs.Counts.{count_at, times_named, AreUses, IsCounted}
 use Rattle.sq_lookup.specs.Lowering.{nowhere}
-use Rattle.sq_lookup.specs.Names.{is_listed, held_uses}
+use Rattle.sq_lookup.specs.Names.{held_uses}
 use Rattle.sq_lookup.specs.declared.counts.Uses.{Uses}
 use Rattle.sq_lookup.proofs.Counting.{times-append, some_times, times_some, among_uses}
 use Rattle.sq_lookup.proofs.Targets.{has_term}
@@ -273,7 +273,7 @@ module _ (g : Graph) (new n next : ℕ) (cond : Cond) (a b to : ℕ) (is : term_
 
   pub wider_uses : (old more : Uses) → AreUses g old → IsCounted next old more → AreUses (changed (over_jump new next) g n) more
   wider_uses old more are counted = record {
-    items = λ k. ap (λ ns. is_listed ns k) counted.items ∙ are.items k ∙ ap (λ items. is_listed (items_uses items) k) (sym items_wider);
+    items = λ k. ap (λ is. count_at is.items k) counted.items ∙ are.items k ∙ ap (λ items. times_named (items_uses items) k) (sym items_wider);
     words = λ k. ap (λ ws. count_at ws.items k) counted.words ∙ are.words k;
     terms = λ k. omega (arith, counted.terms k, are.terms k, times_wider k);
   }

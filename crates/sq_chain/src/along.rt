@@ -1,8 +1,12 @@
 //! How far a sweep goes along chains. It leaves those that are long once that took long: each that moves may be longer than the one
-//! before, and the next sweep begins anew. No clause says what it leaves.
+//! before, and many blocks may jump to one that doesn't move. The next sweep begins anew. No clause says what it leaves.
 
-use sq_graph::{Graph, Term};
+use crate::chain::apart_target;
+use crate::jumps::{look, mark};
+use sq_graph::Graph;
 use sq_lookup::is_block;
+use sq_num::Memory;
+use std::alloc::Global;
 
 /// A chain of no more blocks than these is always gone along.
 const SHORT: u32 = 128;
@@ -10,49 +14,74 @@ const SHORT: u32 = 128;
 /// So often as many blocks as there are may be gone along by longer ones.
 const TIMES: u32 = 64;
 
-/// How many blocks may still be gone along by long chains.
+/// How many blocks may still be gone along by long chains, and how many there are: a chain is gone along until it took as many. How
+/// many it took is told by the name of its first block.
 #[derive(Drop)]
 pub(crate) struct Along {
+    left: u32,
     blocks: u32,
+    gone: Vec<u32>,
 }
 
-/// How many blocks the chain to which this block jumps has before its last, if it does; but at most so many.
-fn length_behind(graph: &Graph, from: u32, most: u32) -> u32 {
-    if !is_block(graph, from) {
-        return 0;
-    }
-    let Term::Jump { to } = graph.term(from) else {
-        return 0;
-    };
-    let mut at = to;
+/// The last block of a chain, and how many blocks are before it there.
+#[derive(Clone, Copy, Debug)]
+struct Gone {
+    end: u32,
+    length: u32,
+}
+
+/// The end of the chain of this block, if fewer blocks than these are before it.
+fn gone_along(graph: &Graph, head: u32, most: u32) -> Option<Gone> {
+    let mut end = head;
     for length in 0..most {
-        if !is_block(graph, at) || !graph.term(at).goes_on() {
-            return length;
+        if !is_block(graph, end) {
+            return None;
         }
-        let Some(next) = graph.next(at) else {
-            return length;
-        };
-        at = next;
+        if !graph.term(end).goes_on() {
+            return Some(Gone { end, length });
+        }
+        end = graph.next(end)?;
     }
-    most
+    None
 }
 
 impl Along {
-    /// What there is when a sweep begins.
-    pub fn of(graph: &Graph) -> Along {
-        Along {
-            blocks: graph.links().len().saturating_mul(TIMES),
+    /// What there is when a sweep begins, in which blocks have names below a number.
+    pub fn of(alloc: Global, graph: &Graph, names: usize) -> Result<Along, Memory> {
+        let mut gone = Vec::new(alloc);
+        gone.resize(names, 0)?;
+        let blocks = graph.links().len();
+        Ok(Along {
+            left: blocks.saturating_mul(TIMES),
+            blocks,
+            gone,
+        })
+    }
+
+    /// How many blocks may be gone along from this one on.
+    fn most(&self, head: u32) -> u32 {
+        if look(&self.gone, head) >= self.blocks {
+            SHORT
+        } else {
+            self.left.max(SHORT)
         }
     }
 
-    /// Whether the chain is gone along to which this block jumps, if it does.
-    pub fn suits(&mut self, graph: &Graph, from: u32) -> bool {
-        let most = self.blocks.max(SHORT);
-        let length = length_behind(graph, from, most);
-        if length < SHORT {
-            return true;
+    /// Takes note that so many blocks were gone along from this one on.
+    fn spend(&mut self, head: u32, length: u32) {
+        if length >= SHORT {
+            self.left = self.left.saturating_sub(length);
+            let gone = look(&self.gone, head).saturating_add(length);
+            mark(&mut self.gone, head, gone);
         }
-        self.blocks = self.blocks.saturating_sub(length);
-        length < most
+    }
+
+    /// The last block of the chain to which this block jumps, if it does, none goes on into that, and it is gone along.
+    pub fn end_behind(&mut self, graph: &Graph, from: u32) -> Option<u32> {
+        let head = apart_target(graph, from)?;
+        let most = self.most(head);
+        let gone = gone_along(graph, head, most);
+        self.spend(head, gone.map_or(most, |it| it.length));
+        Some(gone?.end)
     }
 }

@@ -19,7 +19,7 @@ use crate::shift::{Shift, Wide, swollen_to};
 use crate::survey::{Extent, extent_of};
 use sq_graph::{Graph, Term};
 use sq_layout::{distance, reaches};
-use sq_lookup::WordsBefore;
+use sq_lookup::{WordsBefore, is_block};
 
 /// How many slots a look goes along at most.
 pub(crate) const SLOTS: u32 = 4800;
@@ -81,6 +81,27 @@ fn is_missed(
         return false;
     };
     is_branch_missed(graph, addresses, shift, wide, Extent { term, ..block })
+}
+
+/// Whether there is this block, and it ends in a Branch that doesn't reach then and isn't widened.
+fn is_missed_at(
+    graph: &Graph,
+    addresses: &WordsBefore,
+    shift: Shift,
+    wide: Wide,
+    block: u32,
+) -> bool
+    requires addresses { (n : ℕ) → placed_at addresses.now n ≡ address_by words_in graph.now.graph.blocks 0 n }
+    requires settled { (h : Parts) × IsSettled graph.now.graph h shift }
+    ensures { result ≡ true → is_missed graph.now.graph shift wide block ≡ true }
+{
+    graph.learn();
+    if !is_block(graph, block) {
+        return false;
+    }
+    let taken = extent_of(graph, block);
+    let term = taken.term;
+    is_missed(graph, addresses, shift, wide, Extent { term, ..taken })
 }
 
 /// The nearest block from this one back before which each Branch is further ahead of the seam than it reaches. None where that
@@ -361,7 +382,7 @@ fn look_at_block(
 }
 
 /// What all Branches come to once these are widened. It looks around the three seams and around these alone.
-pub(crate) fn look_around(
+fn look_around(
     graph: &Graph,
     addresses: &WordsBefore,
     shift: Shift,
@@ -382,4 +403,31 @@ pub(crate) fn look_around(
     let seams = look_at_seams(graph, addresses, shift, wide, corners);
     let around = look_at_block(graph, addresses, shift, wide, wide.one, seams);
     look_at_block(graph, addresses, shift, wide, wide.other, around)
+}
+
+/// The same, by a look first at a block whose Branch didn't reach before, if one is known.
+pub(crate) fn look_again(
+    graph: &Graph,
+    addresses: &WordsBefore,
+    shift: Shift,
+    wide: Wide,
+    corners: Corners,
+    known: Option<u32>,
+) -> Around
+    requires from { HasBlock graph.now.graph corners.from }
+    requires to { HasBlock graph.now.graph corners.to }
+    requires end { HasBlock graph.now.graph corners.end }
+    requires addresses { (n : ℕ) → placed_at addresses.now n ≡ address_by words_in graph.now.graph.blocks 0 n }
+    requires settled { (h : Parts) × IsSettled graph.now.graph h shift }
+    requires reach { IsInReach graph.now.graph }
+    requires wide { AreWide graph.now.graph wide }
+    ensures near { result ≡ Near → NoneMissed graph.now.graph shift wide }
+    ensures short { (n : ℕ) → result ≡ Short n → is_missed graph.now.graph shift wide n ≡ true }
+{
+    if let Some(block) = known {
+        if is_missed_at(graph, addresses, shift, wide, block) {
+            return Around::Short(block);
+        }
+    }
+    look_around(graph, addresses, shift, wide, corners)
 }

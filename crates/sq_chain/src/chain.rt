@@ -1,12 +1,16 @@
 //! Chains of blocks, and which of them can move.
 
-ghost use Rattle.std.specs.Prelude.{◌≡◌, ◌↔◌, ℕ, None, Some, IsTrue};
-ghost use Rattle.sq_graph.specs.Blocks.{HasBlock};
+ghost use Rattle.std.specs.Prelude.{◌≡◌, ◌↔◌, ℕ, None, Some, Ok, IsTrue, IfSome, IfOk, OnOk};
+ghost use Rattle.sq_graph.specs.declared.item.Term.TheVariants.{Jump};
+ghost use Rattle.sq_graph.specs.Blocks.{HasBlock, term_of};
 ghost use Rattle.sq_graph.specs.Rules.{IsGraph};
 ghost use Rattle.law_patch.specs.LoneJumps.{IsApart};
-ghost use Rattle.sq_chain.specs.Moves.{chain_end, IsInChain, IsMovable};
+ghost use Rattle.sq_chain.specs.Moves.{chain_end, AreEnds, IsInChain, IsMovable};
 
+use crate::around::Corners;
 use sq_graph::{Graph, Term};
+use sq_lookup::{Table, is_block};
+use sq_num::Memory;
 
 /// Whether no block goes on into this one.
 fn is_apart(graph: &Graph, block: u32) -> bool
@@ -60,4 +64,75 @@ pub fn movable(graph: &Graph, from: u32, to: u32) -> bool
         return false;
     }
     end_of_chain(graph, to, from).is_some()
+}
+
+/// The block to which this one jumps, where there is this one and no block goes on into that.
+pub(crate) fn apart_target(graph: &Graph, from: u32) -> Option<u32>
+    ensures jump { IfSome result (λ to. term_of graph.now.graph from ≡ Some (Jump to)) }
+    ensures apart { IfSome result (λ to. IsApart graph.now.graph to) }
+    ensures none { result ≡ None → (to : ℕ) → ¬ IsMovable graph.now.graph from to }
+{
+    graph.learn();
+    if !is_block(graph, from) {
+        return None;
+    }
+    let Term::Jump { to } = graph.term(from) else {
+        return None;
+    };
+    if is_apart(graph, to) { Some(to) } else { None }
+}
+
+/// The corners of the move of the chain to which this block jumps, where the pair is movable.
+pub(crate) fn corners_of(graph: &Graph, from: u32) -> Option<Corners>
+    ensures movable { IfSome result (λ corners. IsMovable graph.now.graph from corners.to) }
+    ensures from { IfSome result (λ corners. corners.from ≡ from) }
+    ensures end { IfSome result (λ corners. corners.end ≡ chain_end graph.now.graph corners.to) }
+    ensures none { result ≡ None → (to : ℕ) → ¬ IsMovable graph.now.graph from to }
+{
+    graph.learn();
+    let to = apart_target(graph, from)?;
+    let end = end_of_chain(graph, to, from)?;
+    Some(Corners { from, to, end })
+}
+
+/// The last block of the chain to which this block jumps: one of the ends that are known, or what a walk finds, which is known
+/// then.
+fn end_by(graph: &Graph, ends: &mut Table, from: u32, to: u32) -> Result<u32, Memory>
+    requires jump { term_of graph.now.graph from ≡ Some (Jump to) }
+    requires ends { AreEnds graph.now.graph ends.old }
+    ensures end { IfOk result (λ end. end ≡ chain_end graph.now.graph to) }
+    ensures ends { OnOk result (AreEnds graph.now.graph ends.new) }
+{
+    graph.learn();
+    if let Some(end) = ends.get(to) {
+        return Ok(end as u32);
+    }
+    // A block that jumps goes on to none: in the chain it is the last one.
+    let end = end_of_chain(graph, to, from).unwrap_or(from);
+    ends.insert(to, u64::from(end))?;
+    Ok(end)
+}
+
+/// The corners of the move of the chain to which this block jumps, where the pair is movable, by these ends of chains.
+pub(crate) fn corners_by(
+    graph: &Graph,
+    ends: &mut Table,
+    from: u32,
+) -> Result<Option<Corners>, Memory>
+    requires ends { AreEnds graph.now.graph ends.old }
+    ensures movable { IfOk result (λ found. IfSome found (λ corners. IsMovable graph.now.graph from corners.to)) }
+    ensures from { IfOk result (λ found. IfSome found (λ corners. corners.from ≡ from)) }
+    ensures end { IfOk result (λ found. IfSome found (λ corners. corners.end ≡ chain_end graph.now.graph corners.to)) }
+    ensures none { result ≡ Ok None → (to : ℕ) → ¬ IsMovable graph.now.graph from to }
+    ensures ends { OnOk result (AreEnds graph.now.graph ends.new) }
+{
+    graph.learn();
+    let Some(to) = apart_target(graph, from) else {
+        return Ok(None);
+    };
+    let end = end_by(graph, ends, from, to)?;
+    if end == from {
+        return Ok(None);
+    }
+    Ok(Some(Corners { from, to, end }))
 }

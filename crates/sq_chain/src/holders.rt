@@ -1,53 +1,74 @@
-//! Lists of the words of data that name each block. They are hints, of which no proof says anything: who goes along one looks
-//! whether the word names that block, and the uses tell whether one is missed.
+//! Which words of data, and which items, name each block. These are hints (`lists.rt`).
 
-use crate::jumps::{NOBODY, empty, look, mark};
+use crate::jumps::NOBODY;
+use crate::lists::Lists;
+use crate::spots::{Spots, spots_of};
 use sq_graph::Graph;
 use sq_num::Memory;
 use std::alloc::Global;
 
-/// The lists, by places among the code words. A name for which there is no room has none.
+/// The lists of words, by places among the code words, and those of items, with room for the names below a number. Each is made
+/// when it is first asked for.
 #[derive(Drop)]
 pub(crate) struct Holders {
-    // The first of each name's list.
-    firsts: Vec<u32>,
-    // By the words in the lists: the one behind.
-    nexts: Vec<u32>,
+    alloc: Global,
+    names: usize,
+    words: Option<Lists>,
+    items: Option<Spots>,
+}
+
+/// The lists of the words that name each block.
+fn words_of(alloc: Global, graph: &Graph, names: usize) -> Result<Lists, Memory> {
+    let words = graph.code_words();
+    let mut lists = Lists::new(alloc, names, words.len())?;
+    let count = words.len().min(NOBODY as usize) as u32;
+    for at in 0..count {
+        lists.put(at, words[at as usize].block);
+    }
+    Ok(lists)
 }
 
 impl Holders {
-    /// A word of data that names this block, if one is listed.
-    pub fn first(&self, name: u32) -> Option<u32> {
-        let word = look(&self.firsts, name);
-        if word == NOBODY { None } else { Some(word) }
+    /// Nothing was asked for yet.
+    pub fn new(alloc: Global, names: usize) -> Holders {
+        Holders {
+            alloc,
+            names,
+            words: None,
+            items: None,
+        }
     }
 
-    /// Lists a word, which is in no list, as one that names this block.
-    fn put(&mut self, word: u32, name: u32) {
-        let first = look(&self.firsts, name);
-        mark(&mut self.nexts, word, first);
-        mark(&mut self.firsts, name, word);
+    /// Takes the lists of words out, which are those of this graph where there were none.
+    pub fn take_words(&mut self, graph: &Graph) -> Result<Lists, Memory> {
+        match self.words.take() {
+            Some(lists) => Ok(lists),
+            None => words_of(self.alloc, graph, self.names),
+        }
     }
 
-    /// Lists the first of the words that name one block as one that names another.
-    pub fn pass_first(&mut self, from: u32, to: u32) {
-        let word = look(&self.firsts, from);
-        let next = look(&self.nexts, word);
-        mark(&mut self.firsts, from, next);
-        self.put(word, to);
+    /// Puts them back.
+    pub fn keep_words(&mut self, lists: Lists) {
+        self.words = Some(lists);
     }
-}
 
-/// The lists of this graph, with room for the names below a number.
-pub(crate) fn holders_of(alloc: Global, graph: &Graph, names: usize) -> Result<Holders, Memory> {
-    let words = graph.code_words();
-    let mut holders = Holders {
-        firsts: empty(alloc, names)?,
-        nexts: empty(alloc, words.len())?,
-    };
-    let count = words.len().min(NOBODY as usize) as u32;
-    for at in 0..count {
-        holders.put(at, words[at as usize].block);
+    /// Takes the lists of items out, which are those of this graph where there were none.
+    pub fn take_items(&mut self, graph: &Graph) -> Result<Spots, Memory> {
+        match self.items.take() {
+            Some(spots) => Ok(spots),
+            None => spots_of(self.alloc, graph, self.names),
+        }
     }
-    Ok(holders)
+
+    /// Puts them back.
+    pub fn keep_items(&mut self, spots: Spots) {
+        self.items = Some(spots);
+    }
+
+    /// Notes that a block was joined to the one before, if there is one, which had so many items.
+    pub fn join(&mut self, joined: u32, before: Option<u32>, items: u32) {
+        if let (Some(spots), Some(block)) = (&mut self.items, before) {
+            spots.join(joined, block, items);
+        }
+    }
 }

@@ -56,12 +56,12 @@ fn led_to(term: Term) -> Option<u32>
     ensures { result ≡ leads_to term }
 {
     match term {
-        Term::Jump { to } | Term::Call { to, .. } => Some(to),
+        Term::Jump { to } | Term::Call { to, .. } | Term::PartJump { to, .. } => Some(to),
         _ => None,
     }
 }
 
-/// Where this block jumps to, or what it calls, if it is there and ends in a Jump or a Call.
+/// Where this block jumps to, or what it calls, if it is there and its term names that.
 fn jump_of(graph: &Graph, block: u32) -> Option<u32>
     ensures { IfSome result (λ to. option_map leads_to (term_of graph.now.graph block) ≡ Some (Some to)) }
 {
@@ -72,11 +72,6 @@ fn jump_of(graph: &Graph, block: u32) -> Option<u32>
 }
 
 impl Jumps {
-    /// Where the lists have their memory.
-    pub fn alloc(&self) -> Global {
-        *self.firsts.allocator()
-    }
-
     /// A block that jumps to this name, or calls it, if one is listed.
     pub fn first(&self, to: u32) -> Option<u32> {
         let block = look(&self.firsts, to);

@@ -92,8 +92,8 @@ fn jumps_over(graph: &Graph, block: u32) -> bool
 }
 
 /// Takes out this block, if there is one and it is empty with Fall, once Jumps and Calls to it and Branches near it go to the next
-/// one, and the entry and the words of data name that. Where its name is used otherwise, or the block before it jumps over it, it
-/// leaves it, and answers false.
+/// one, and the entry, the words of data and the items name that. Where its name is used even so, or the block before it jumps
+/// over it, it leaves it, and answers false.
 fn drop_bare(graph: &mut Graph, uses: &mut Uses, places: &mut Places, fell: Option<u32>) -> bool
     requires uses { AreUses graph.old.graph uses.old }
     requires placed { IsPlaced graph.old.graph places.old }
@@ -153,6 +153,16 @@ fn mark_joined(branches: &mut Marks, joined: u32, before: Option<u32>)
     }
 }
 
+/// How many items this block has, if there is one.
+fn count_items(graph: &Graph, block: Option<u32>) -> u32 {
+    match block {
+        Some(name) if is_block(graph, name) => {
+            u32::try_from(graph.items(name).len()).unwrap_or(0)
+        }
+        _ => 0,
+    }
+}
+
 /// Joins this block to the one before, where that falls into it and its name isn't used.
 fn join_before(graph: &mut Graph, uses: &Uses, places: &mut Places, name: u32)
     requires uses { AreUses graph.old.graph uses.now }
@@ -164,10 +174,12 @@ fn join_before(graph: &mut Graph, uses: &Uses, places: &mut Places, name: u32)
 {
     graph.learn();
     let before = block_before(graph, name);
+    let ahead = count_items(graph, before);
     uses.join_before(graph, name);
     if !is_block(graph, name) {
         forget(&mut places.addresses, name);
         places.jumps.join(graph, name, before);
+        places.holders.join(name, before, ahead);
         mark_joined(&mut places.branches, name, before);
     }
 }

@@ -7,17 +7,17 @@ ghost use Rattle.sq_graph.specs.Places.{IsInReach};
 ghost use Rattle.sq_graph.specs.Words.{block_words as words_in, words_of};
 ghost use Rattle.sq_layout.specs.Weights.{address_by};
 ghost use Rattle.sq_chain.specs.Places.{placed_at};
-ghost use Rattle.sq_chain.specs.Moves.{IsMovable, fallen, carried, moved};
+ghost use Rattle.sq_chain.specs.Moves.{chain_end, IsMovable, fallen, carried, moved};
 ghost use Rattle.sq_chain.specs.Settled.{IsSettled, IsLeastWide};
 ghost use Rattle.sq_chain.specs.Surveys.{IsSurvey};
 ghost use Rattle.sq_chain.specs.declared.shift.Wide.{Wide as Branches};
 ghost use Rattle.sq_chain.specs.declared.outlook.Outlook.TheVariants.{Near, Still, Wide as Few};
 
-use crate::around::{Around, Corners, look_around};
-use crate::chain::end_of_chain;
+use crate::around::{Around, Corners, look_again};
 use crate::clear::{are_clear, has_branch_near};
 use crate::outlook::Outlook;
 use crate::shift::{Shift, Wide, shift_of};
+use crate::shorts::Shorts;
 use crate::survey::Survey;
 use sq_graph::Graph;
 use sq_lookup::WordsBefore;
@@ -36,7 +36,13 @@ fn outlook_with(wide: Wide) -> Outlook
 }
 
 /// What a look around its seams shows that the move of this shift comes to.
-fn outlook_by(graph: &Graph, addresses: &WordsBefore, shift: Shift, corners: Corners) -> Outlook
+fn outlook_by(
+    graph: &Graph,
+    addresses: &WordsBefore,
+    shift: Shift,
+    corners: Corners,
+    shorts: &mut Shorts,
+) -> Outlook
     requires from { HasBlock graph.now.graph corners.from }
     requires to { HasBlock graph.now.graph corners.to }
     requires end { HasBlock graph.now.graph corners.end }
@@ -51,36 +57,44 @@ fn outlook_by(graph: &Graph, addresses: &WordsBefore, shift: Shift, corners: Cor
         one: None,
         other: None,
     };
-    for _size in 0..shift.falls {
-        match look_around(graph, addresses, shift, wide, corners) {
+    for size in 0..shift.falls {
+        let known = shorts.get(corners.to, size);
+        match look_again(graph, addresses, shift, wide, corners, known) {
             Around::Near => return outlook_with(wide),
-            Around::Short(block) => wide = wide.with(block),
+            Around::Short(block) => {
+                shorts.put(corners.to, size, block);
+                wide = wide.with(block);
+            }
             Around::Unsure => return Outlook::Unsure,
         }
     }
     Outlook::Still
 }
 
-/// What a look around its seams shows that the move of the chain of `to` behind `from` comes to.
-pub(crate) fn outlook_at_seams(graph: &Graph, survey: &Survey, from: u32, to: u32) -> Outlook
-    requires movable { IsMovable graph.now.graph from to }
+/// What a look around its seams shows that the move of these corners comes to.
+pub(crate) fn outlook_at_seams(
+    graph: &Graph,
+    survey: &Survey,
+    shorts: &mut Shorts,
+    corners: Corners,
+) -> Outlook
+    requires movable { IsMovable graph.now.graph corners.from corners.to }
+    requires end { corners.end ≡ chain_end graph.now.graph corners.to }
     requires survey { IsSurvey graph.now.graph survey.now }
-    ensures near { result ≡ Near → IsInReach (fallen (carried graph.now.graph from to)) }
-    ensures still { result ≡ Still → words_of graph.now.graph ≤ words_of (moved graph.now.graph from to) }
-    ensures few { (wide : Branches) → result ≡ Few wide → IsLeastWide graph.now.graph (fallen (carried graph.now.graph from to)) wide }
+    ensures near { result ≡ Near → IsInReach (fallen (carried graph.now.graph corners.from corners.to)) }
+    ensures still { result ≡ Still → words_of graph.now.graph ≤ words_of (moved graph.now.graph corners.from corners.to) }
+    ensures few { (wide : Branches) → result ≡ Few wide → IsLeastWide graph.now.graph (fallen (carried graph.now.graph corners.from corners.to)) wide }
 {
     graph.learn();
-    let Some(end) = end_of_chain(graph, to, from) else {
-        unreachable!()
-    };
     if survey.falls != 0 || !survey.near {
         return Outlook::Unsure;
     }
     let addresses = &survey.places.addresses;
-    let shift = shift_of(graph, addresses, from, to, end);
-    if !has_branch_near(graph, from) && are_clear(addresses, &survey.places.branches, shift.seams) {
+    let shift = shift_of(graph, addresses, corners.from, corners.to, corners.end);
+    if !has_branch_near(graph, corners.from)
+        && are_clear(addresses, &survey.places.branches, shift.seams)
+    {
         return Outlook::Near;
     }
-    let corners = Corners { from, to, end };
-    outlook_by(graph, addresses, shift, corners)
+    outlook_by(graph, addresses, shift, corners, shorts)
 }

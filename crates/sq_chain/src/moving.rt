@@ -1,6 +1,6 @@
 //! Row L: a chain moves behind the Jump to it, where the words are fewer then.
 
-ghost use Rattle.std.specs.Prelude.{◌≡◌, ℕ, ◌≤◌, true, false, length, None, Ok, IfOk, IfSome, OnErr};
+ghost use Rattle.std.specs.Prelude.{◌≡◌, ◌≤◌, true, false, length, None, Ok, IfOk, IfSome, OnErr, OnOk};
 ghost use Rattle.sq_graph.specs.Leaders.{IsCanonical};
 ghost use Rattle.sq_graph.specs.Parts.{names_of};
 ghost use Rattle.sq_graph.specs.Places.{IsInReach};
@@ -8,20 +8,22 @@ ghost use Rattle.sq_graph.specs.Words.{words_of, most_words};
 ghost use Rattle.sq_pass.specs.Applied.{IsApplied};
 ghost use Rattle.sq_pass.specs.declared.cut.Cut.{Cut as Told};
 ghost use Rattle.sq_pass.specs.Rewrites.{IsRewrite, IsLighter};
-ghost use Rattle.sq_chain.specs.Moves.{IsMovable, fallen, carried, moved, IsStill};
+ghost use Rattle.sq_chain.specs.Moves.{chain_end, AreEnds, IsMovable, fallen, carried, moved, IsStill};
 ghost use Rattle.sq_chain.specs.Candidates.{IsCandidate, described, IsMoved, HasMoved, IsStillAt};
 ghost use Rattle.sq_chain.specs.Surveys.{IsSurvey};
 ghost use Rattle.sq_chain.specs.declared.outlook.Outlook.TheVariants.{Near, Still};
 
+use crate::around::Corners;
 use crate::carry::carry;
-use crate::chain::movable;
+use crate::chain::{corners_by, end_of_chain};
 use crate::outlook::{Outlook, outlook_of};
+use crate::shorts::Shorts;
 use crate::survey::{Survey, survey_of};
 use crate::widening::widen;
-use sq_graph::{Graph, Term};
+use sq_graph::Graph;
 use sq_layout::words_of;
 use sq_live::block_names;
-use sq_lookup::is_block;
+use sq_lookup::Table;
 use sq_num::Memory;
 use sq_pass::{Rewrite, Row};
 use std::alloc::Global;
@@ -59,28 +61,35 @@ pub fn try_move(alloc: Global, graph: &mut Graph, from: u32, to: u32) -> Result<
     ensures same { result ≡ Ok false → graph.new ≡ graph.old }
     ensures kept { OnErr result (graph.new ≡ graph.old) }
 {
+    graph.learn();
+    let Some(end) = end_of_chain(graph, to, from) else {
+        unreachable!()
+    };
     let survey = survey_of(alloc, graph)?;
-    move_surveyed(alloc, graph, &survey, from, to)
+    let mut shorts = Shorts::new(alloc, 0)?;
+    let corners = Corners { from, to, end };
+    move_surveyed(alloc, graph, &survey, &mut shorts, corners)
 }
 
-/// The same by this survey of the graph.
+/// The same by this survey of the graph, and these corners of the move.
 fn move_surveyed(
     alloc: Global,
     graph: &mut Graph,
     survey: &Survey,
-    from: u32,
-    to: u32,
+    shorts: &mut Shorts,
+    corners: Corners,
 ) -> Result<bool, Memory>
-    requires movable { IsMovable graph.old.graph from to }
+    requires movable { IsMovable graph.old.graph corners.from corners.to }
+    requires end { corners.end ≡ chain_end graph.old.graph corners.to }
     requires blocks { length graph.old.graph.blocks ≤ 16777216 }
     requires survey { IsSurvey graph.old.graph survey.now }
-    ensures moved { result ≡ Ok true → IsMoved from to graph.old.graph graph.new.graph }
-    ensures still { result ≡ Ok false → words_of graph.old.graph ≤ words_of (moved graph.old.graph from to) }
+    ensures moved { result ≡ Ok true → IsMoved corners.from corners.to graph.old.graph graph.new.graph }
+    ensures still { result ≡ Ok false → words_of graph.old.graph ≤ words_of (moved graph.old.graph corners.from corners.to) }
     ensures same { result ≡ Ok false → graph.new ≡ graph.old }
     ensures kept { OnErr result (graph.new ≡ graph.old) }
 {
-    let outlook = outlook_of(alloc, graph, survey, from, to)?;
-    move_by(alloc, graph, outlook, from, to)
+    let outlook = outlook_of(alloc, graph, survey, shorts, corners)?;
+    move_by(alloc, graph, outlook, corners.from, corners.to)
 }
 
 /// The same by what the move comes to.
@@ -111,41 +120,32 @@ pub(crate) fn move_by(
     }
 }
 
-/// The block to which this one jumps, where there is this one and the pair is movable.
-pub(crate) fn movable_target(graph: &Graph, from: u32) -> Option<u32>
-    ensures some { IfSome result (λ to. IsMovable graph.now.graph from to) }
-    ensures none { result ≡ None → (to : ℕ) → ¬ IsMovable graph.now.graph from to }
-{
-    graph.learn();
-    if !is_block(graph, from) {
-        return None;
-    }
-    let Term::Jump { to } = graph.term(from) else {
-        return None;
-    };
-    if movable(graph, from, to) {
-        Some(to)
-    } else {
-        None
-    }
-}
-
-/// The same for the block to which this one jumps, where the pair is movable.
-fn move_behind(alloc: Global, graph: &mut Graph, survey: &Survey, from: u32) -> Result<bool, Memory>
+/// The same for the block to which this one jumps, where the pair is movable, by these ends of chains.
+fn move_behind(
+    alloc: Global,
+    graph: &mut Graph,
+    survey: &Survey,
+    ends: &mut Table,
+    shorts: &mut Shorts,
+    from: u32,
+) -> Result<bool, Memory>
     requires blocks { length graph.old.graph.blocks ≤ 16777216 }
     requires survey { IsSurvey graph.old.graph survey.now }
+    requires ends { AreEnds graph.old.graph ends.old }
     ensures moved { result ≡ Ok true → HasMoved graph.old.graph graph.new.graph }
     ensures still { result ≡ Ok false → IsStillAt graph.old.graph from }
     ensures same { result ≡ Ok false → graph.new ≡ graph.old }
     ensures kept { OnErr result (graph.new ≡ graph.old) }
+    ensures ends { OnOk result (AreEnds graph.old.graph ends.new) }
 {
-    match movable_target(graph, from) {
-        Some(to) => move_surveyed(alloc, graph, survey, from, to),
+    match corners_by(graph, ends, from)? {
+        Some(corners) => move_surveyed(alloc, graph, survey, shorts, corners),
         None => Ok(false),
     }
 }
 
-/// The same for the first of the blocks whose chain has such a move. The names are those of the blocks in layout order.
+/// The same for the first of the blocks whose chain has such a move. The names are those of the blocks in layout order. It
+/// looks for the end of each chain once.
 fn move_first(alloc: Global, graph: &mut Graph, names: &[u32]) -> Result<bool, Memory>
     requires names { names.now ≡ names_of graph.old.graph }
     requires blocks { length graph.old.graph.blocks ≤ 16777216 }
@@ -156,8 +156,10 @@ fn move_first(alloc: Global, graph: &mut Graph, names: &[u32]) -> Result<bool, M
 {
     graph.learn();
     let survey = survey_of(alloc, graph)?;
+    let mut ends = Table::new(alloc);
+    let mut shorts = Shorts::new(alloc, survey.names)?;
     for name in names {
-        if move_behind(alloc, graph, &survey, *name)? {
+        if move_behind(alloc, graph, &survey, &mut ends, &mut shorts, *name)? {
             return Ok(true);
         }
     }

@@ -5,17 +5,19 @@ ghost use Rattle.sq_graph.specs.Graph.{Graph as Parts};
 ghost use Rattle.sq_graph.specs.Places.{IsInReach};
 ghost use Rattle.sq_graph.specs.Words.{words_of};
 ghost use Rattle.sq_chain.specs.Least.{least_widened};
-ghost use Rattle.sq_chain.specs.Moves.{IsMovable, fallen, carried, moved};
+ghost use Rattle.sq_chain.specs.Moves.{chain_end, IsMovable, fallen, carried, moved};
 ghost use Rattle.sq_chain.specs.Surveys.{AreBelow, IsLaidOut, IsSurvey};
 ghost use Rattle.sq_chain.specs.Settled.{IsLeastWide};
 ghost use Rattle.sq_chain.specs.declared.shift.Wide.{Wide as Branches};
 ghost use Rattle.sq_chain.specs.declared.outlook.Outlook.TheVariants.{Near, Still, Wide as Few};
 
+use crate::around::Corners;
 use crate::counting::count_short;
 use crate::looks::outlook_at_seams;
 use crate::order::carried_extents;
 use crate::placing::fallen_addresses;
 use crate::shift::Wide;
+use crate::shorts::Shorts;
 use crate::survey::{Extent, Survey, listing_of, room_for};
 use sq_graph::Graph;
 use sq_num::Memory;
@@ -55,26 +57,28 @@ fn ordered_outlook(alloc: Global, names: usize, order: &[Extent]) -> Result<Outl
     Ok(Outlook::Unsure)
 }
 
-/// What the move of the chain of `to` behind `from` comes to. It moves nothing.
+/// What the move of these corners comes to. It moves nothing.
 pub(crate) fn outlook_of(
     alloc: Global,
     graph: &Graph,
     survey: &Survey,
-    from: u32,
-    to: u32,
+    shorts: &mut Shorts,
+    corners: Corners,
 ) -> Result<Outlook, Memory>
-    requires movable { IsMovable graph.now.graph from to }
+    requires movable { IsMovable graph.now.graph corners.from corners.to }
+    requires end { corners.end ≡ chain_end graph.now.graph corners.to }
     requires survey { IsSurvey graph.now.graph survey.now }
-    ensures near { result ≡ Ok Near → IsInReach (fallen (carried graph.now.graph from to)) }
-    ensures still { result ≡ Ok Still → words_of graph.now.graph ≤ words_of (moved graph.now.graph from to) }
-    ensures few { (wide : Branches) → result ≡ Ok (Few wide) → IsLeastWide graph.now.graph (fallen (carried graph.now.graph from to)) wide }
+    ensures near { result ≡ Ok Near → IsInReach (fallen (carried graph.now.graph corners.from corners.to)) }
+    ensures still { result ≡ Ok Still → words_of graph.now.graph ≤ words_of (moved graph.now.graph corners.from corners.to) }
+    ensures few { (wide : Branches) → result ≡ Ok (Few wide) → IsLeastWide graph.now.graph (fallen (carried graph.now.graph corners.from corners.to)) wide }
 {
     graph.learn();
-    let seen = outlook_at_seams(graph, survey, from, to);
+    let seen = outlook_at_seams(graph, survey, shorts, corners);
     if seen != Outlook::Unsure {
         return Ok(seen);
     }
     let listing = listing_of(alloc, graph)?;
+    let Corners { from, to, .. } = corners;
     let order = carried_extents(alloc, graph, &listing.extents, from, to)?;
     ordered_outlook(alloc, survey.names, &order)
 }

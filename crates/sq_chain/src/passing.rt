@@ -1,4 +1,4 @@
-//! Branches, Jumps and Calls to a block that is empty with Fall, which go to the next one in its place.
+//! Terms that name a block which is empty with Fall, and come to name the next one.
 
 ghost use Rattle.std.specs.Prelude.{◌≡◌, ℕ, true, false, IfSome};
 ghost use Rattle.sq_isa.specs.Registers.{is_among};
@@ -20,7 +20,7 @@ use crate::survey::Places;
 use sq_graph::{Graph, Term};
 use sq_lookup::{Uses, WordsBefore, is_block};
 
-/// This term with `next` for `bare`, where it is a Branch, a Jump or a Call to that.
+/// The term that names `next`, where this one names `bare`.
 fn turned(term: Term, bare: u32, next: u32) -> Option<Term>
     ensures { IfSome result (λ new. IsTurned bare next term new) }
 {
@@ -33,12 +33,16 @@ fn turned(term: Term, bare: u32, next: u32) -> Option<Term>
         }),
         Term::Jump { to } if to == bare => Some(Term::Jump { to: next }),
         Term::Call { link, to } if to == bare => Some(Term::Call { link, to: next }),
+        Term::PartJump { link, part, to } if to == bare => Some(Term::PartJump {
+            link,
+            part,
+            to: next,
+        }),
         _ => None,
     }
 }
 
-/// Has the Branch, Jump or Call of this block, if it ends in one to `bare`, go to `next`. False where there is no memory to
-/// count that.
+/// Has the term of this block, if it names `bare`, name `next`. False where there is no memory to count that.
 fn pass_term(graph: &mut Graph, uses: &mut Uses, block: u32, bare: u32, next: u32) -> bool
     requires uses { AreUses graph.old.graph uses.old }
     requires block { HasBlock graph.old.graph block }
@@ -58,7 +62,7 @@ fn pass_term(graph: &mut Graph, uses: &mut Uses, block: u32, bare: u32, next: u3
     true
 }
 
-/// Has the blocks that are listed as jumping to `bare`, or calling it, go to `next`, and lists them so. False where there is no
+/// Has the blocks that are listed as jumping to `bare`, or calling it, name `next`, and lists them so. False where there is no
 /// memory to count that.
 fn pass_jumps(graph: &mut Graph, uses: &mut Uses, jumps: &mut Jumps, bare: u32, next: u32) -> bool
     requires uses { AreUses graph.old.graph uses.old }
@@ -118,8 +122,8 @@ fn pass_branches(
     false
 }
 
-/// Has the Jumps and Calls to this block, which is empty with Fall, and the Branches around it go to the next one in its place,
-/// and the entry and the words of data name that. Whether nothing uses its name then.
+/// Has what names this block, which is empty with Fall, name the next one in its place: the entry, words of data, items, Jumps,
+/// Calls and PartJumps, and the Branches around it. Whether nothing uses its name then.
 pub(crate) fn pass_on_uses(
     graph: &mut Graph,
     uses: &mut Uses,
@@ -138,9 +142,7 @@ pub(crate) fn pass_on_uses(
     let Some(next) = graph.next(bare) else {
         unreachable!()
     };
-    let names = places.addresses.names();
-    let alloc = places.jumps.alloc();
-    let handed = hand_on(alloc, graph, uses, &mut places.holders, names, bare, next);
+    let handed = hand_on(graph, uses, &mut places.holders, bare, next);
     graph.learn();
     if !handed {
         return false;

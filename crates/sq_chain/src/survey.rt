@@ -38,8 +38,8 @@ pub(crate) struct Places {
     pub jumps: Jumps,
     // Names of blocks, among which are all that end in a Branch.
     pub branches: Marks,
-    // Which words of data name each block, once it was asked.
-    pub holders: Option<Holders>,
+    // Which words of data, and which items, name each block, once it was asked.
+    pub holders: Holders,
 }
 
 /// What is known of a graph: a number that is greater than each name of a block, where the blocks stand once each Jump to the
@@ -167,7 +167,7 @@ pub(crate) fn survey_of(alloc: Global, graph: &Graph) -> Result<Survey, Memory>
             words: listing.words + words_of_procedures(graph),
             jumps,
             branches,
-            holders: None,
+            holders: Holders::new(alloc, names),
         },
         falls: fallen.falls,
         near,

@@ -7,16 +7,19 @@ ghost use Rattle.sq_graph.specs.Words.{words_of, most_words};
 ghost use Rattle.law_follow.specs.Follows.{Follows};
 ghost use Rattle.sq_pass.specs.Rewrites.{IsRewritten};
 ghost use Rattle.sq_chain.specs.Candidates.{IsCandidate, described, IsSwept};
-ghost use Rattle.sq_chain.specs.Moves.{IsMovable, fallen, carried};
+ghost use Rattle.sq_chain.specs.Moves.{chain_end, IsMovable, fallen, carried};
 ghost use Rattle.sq_chain.specs.Settled.{IsLeastWide, Widens};
 ghost use Rattle.sq_chain.specs.Surveys.{IsSurvey};
 ghost use Rattle.sq_lookup.specs.Counts.{AreUses, AreKnown};
 
 use crate::along::Along;
+use crate::around::Corners;
+use crate::chain::corners_of;
 use crate::local::carry_joined;
-use crate::moving::{movable_target, move_by};
+use crate::moving::move_by;
 use crate::outlook::{Outlook, outlook_of};
 use crate::shift::Wide;
+use crate::shorts::Shorts;
 use crate::survey::{Survey, survey_of};
 use sq_graph::{Graph, Room};
 use sq_live::block_names;
@@ -36,8 +39,12 @@ pub trait Watch {
         addresses: &WordsBefore,
     ) -> Result<(), Memory>;
 
-    /// Whether the sweep tries to move a chain behind this block. It may look at the graph as it is before that.
-    fn wants(&mut self, graph: &Graph, from: u32) -> Result<bool, Memory>;
+    /// Whether a chain was to move behind this block before, so that the sweep leaves it.
+    fn has_tried(&self, from: u32) -> bool;
+
+    /// Whether the sweep tries to move a chain, of which this is the last block, behind another block. It may look at the graph as it
+    /// is before that.
+    fn wants(&mut self, graph: &Graph, from: u32, end: u32) -> Result<bool, Memory>;
 
     /// Whether the sweep ends at this graph, in which a chain has just moved.
     fn ends(
@@ -119,17 +126,18 @@ fn sweep_near(
     Ok(())
 }
 
-/// Moves the chain of `to` behind `from`, where that saves words, and makes the graph canonical then. Where a few Branches are
+/// Makes the move of these corners, where that saves words, and makes the graph canonical then. Where a few Branches are
 /// widened at most and no block jumps to its next slot before, it looks at the seams of the move alone.
 fn sweep_chain(
     alloc: Global,
     graph: &mut Graph,
     view: &mut Survey,
     uses: &mut Option<Uses>,
-    from: u32,
-    to: u32,
+    shorts: &mut Shorts,
+    corners: Corners,
 ) -> Result<bool, Memory>
-    requires movable { IsMovable graph.old.graph from to }
+    requires movable { IsMovable graph.old.graph corners.from corners.to }
+    requires end { corners.end ≡ chain_end graph.old.graph corners.to }
     requires canonical { IsCanonical graph.old.graph }
     requires blocks { length graph.old.graph.blocks ≤ 16777216 }
     requires survey { IsSurvey graph.old.graph view.old }
@@ -141,7 +149,8 @@ fn sweep_chain(
     ensures follows { Follows graph.old.graph graph.new.graph }
 {
     graph.learn();
-    let outlook = outlook_of(alloc, graph, view, from, to)?;
+    let Corners { from, to, .. } = corners;
+    let outlook = outlook_of(alloc, graph, view, shorts, corners)?;
     if let Some(wide) = local_wide(outlook, view.falls) {
         sweep_near(alloc, graph, view, uses, wide, from, to)?;
         return Ok(true);
@@ -161,6 +170,7 @@ fn sweep_behind(
     graph: &mut Graph,
     view: &mut Survey,
     uses: &mut Option<Uses>,
+    shorts: &mut Shorts,
     from: u32,
     savings: Savings,
 ) -> Result<Savings, Memory>
@@ -174,11 +184,11 @@ fn sweep_behind(
     ensures uses { OnOk result (AreKnown graph.new.graph uses.new) }
 {
     graph.learn();
-    let Some(to) = movable_target(graph, from) else {
+    let Some(corners) = corners_of(graph, from) else {
         return Ok(savings);
     };
     let before = view.places.words;
-    if !sweep_chain(alloc, graph, view, uses, from, to)? {
+    if !sweep_chain(alloc, graph, view, uses, shorts, corners)? {
         return Ok(savings);
     }
     let done = Rewrite {
@@ -208,13 +218,29 @@ pub fn sweep_moves<W: Watch>(
     let mut view = survey_of(alloc, graph)?;
     let mut uses = None;
     watch.begins(alloc, graph, &view.places.addresses)?;
+    let room = view.places.addresses.names();
+    let mut along = Along::of(alloc, graph, room)?;
+    let mut shorts = Shorts::new(alloc, room)?;
     let mut after = savings;
-    let mut along = Along::of(graph);
     for name in &names {
-        if !watch.wants(graph, *name)? || !along.suits(graph, *name) {
+        if watch.has_tried(*name) {
             continue;
         }
-        let next = sweep_behind(alloc, graph, &mut view, &mut uses, *name, after)?;
+        let Some(end) = along.end_behind(graph, *name) else {
+            continue;
+        };
+        if !watch.wants(graph, *name, end)? {
+            continue;
+        }
+        let next = sweep_behind(
+            alloc,
+            graph,
+            &mut view,
+            &mut uses,
+            &mut shorts,
+            *name,
+            after,
+        )?;
         if next.moved != after.moved && watch.ends(alloc, graph, &view.places.addresses)? {
             return Ok(next);
         }

@@ -89,8 +89,12 @@ impl Watch for RowWatch {
         Ok(())
     }
 
-    fn wants(&mut self, graph: &Graph, from: u32) -> Result<bool, Memory> {
-        if self.tried.has(from) || self.asks() && !self.unmoved.begin(graph, from)? {
+    fn has_tried(&self, from: u32) -> bool {
+        self.tried.has(from)
+    }
+
+    fn wants(&mut self, graph: &Graph, from: u32, end: u32) -> Result<bool, Memory> {
+        if self.asks() && !self.unmoved.begin(graph, from, end)? {
             return Ok(false);
         }
         self.tried.insert(from)?;

@@ -1,27 +1,27 @@
 //! How often a graph uses names of blocks, kept while it is rewritten.
 
+ghost use Rattle.std.specs.List.{flat_map};
 ghost use Rattle.std.specs.Prelude.{◌≡◌, ◌+◌, ◌≤◌, ◌<◌, ◌==◌, ℕ, if◌then◌else◌, length, IfOk, OnOk};
 ghost use Rattle.sq_graph.specs.Canonical.{joined_before};
 ghost use Rattle.sq_graph.specs.Graph.{Graph as Parts};
 ghost use Rattle.sq_graph.specs.Leaders.{is_fall};
 ghost use Rattle.sq_graph.specs.Parts.{names_of};
 ghost use Rattle.sq_graph.specs.Rules.{IsGraph};
-ghost use Rattle.sq_graph.specs.Uses.{terms_uses, uses};
+ghost use Rattle.sq_graph.specs.Blocks.{all_items};
+ghost use Rattle.sq_graph.specs.Uses.{items_uses, terms_uses, uses};
 ghost use Rattle.sq_isa.specs.Registers.{is_among};
-ghost use Rattle.sq_lookup.specs.Counts.{count_at, times_named, word_uses, AreUses, IsCounted, IsWorded};
+ghost use Rattle.sq_lookup.specs.Counts.{count_at, times_named, word_uses, AreTaken, AreUses, IsCounted, IsItemed, IsWorded};
 
 use crate::blocks::block_before;
-use crate::names::Names;
-use crate::uses::item_names;
-use sq_graph::{Graph, Term};
+use sq_graph::{Graph, Item, Term};
 use sq_live::block_names;
 use sq_num::Memory;
 use std::alloc::Global;
 
-/// The names that a graph uses in items, how often the entry and the words of data name each block, and how many terms do.
+/// How often items of a graph name each block, how often the entry and the words of data do, and how many terms do.
 #[derive(Drop)]
 pub struct Uses {
-    pub(crate) items: Names,
+    pub(crate) items: Vec<u32>,
     pub(crate) words: Vec<u32>,
     pub(crate) terms: Vec<u32>,
 }
@@ -31,7 +31,14 @@ impl Uses {
     pub fn has(&self, name: u32) -> bool
         ensures { (g : Parts) → AreUses g self.now → result ≡ is_among (uses g) name }
     {
-        self.items.has(name) || self.has_word(name) || count(&self.terms, name) != 0
+        self.has_item(name) || self.has_word(name) || count(&self.terms, name) != 0
+    }
+
+    /// Whether an item names this block in a graph that has these uses.
+    pub fn has_item(&self, name: u32) -> bool
+        ensures { (g : Parts) → AreUses g self.now → result ≡ is_among (items_uses (all_items g)) name }
+    {
+        count(&self.items, name) != 0
     }
 
     /// Whether the entry or a word of data names this block in a graph that has these uses.
@@ -39,6 +46,33 @@ impl Uses {
         ensures { (g : Parts) → AreUses g self.now → result ≡ is_among (word_uses g) name }
     {
         count(&self.words, name) != 0
+    }
+
+    /// Counts one item more that names this block.
+    pub fn add_item(&mut self, name: u32) -> Result<(), Memory>
+        ensures { OnOk result (IsItemed name self.old self.new) }
+    {
+        add_one(&mut self.items, name)
+    }
+
+    /// Counts one item less that names this block.
+    pub fn take_item(&mut self, name: u32)
+        requires { 1 ≤ count_at self.old.items.items name }
+        ensures { IsItemed name self.new self.old }
+    {
+        take_one(&mut self.items, name);
+    }
+
+    /// The same of each of these items.
+    pub fn take_items(&mut self, items: &[Item])
+        requires { (n : ℕ) → times_named (items_uses items.now) n ≤ count_at self.old.items.items n }
+        ensures { AreTaken items.now self.old self.new }
+    {
+        for item in items {
+            if let Some(to) = item.target() {
+                self.take_item(to);
+            }
+        }
     }
 
     /// Counts the entry, or one word of data, more that names this block.
@@ -152,6 +186,50 @@ fn count_terms(alloc: Global, graph: &Graph, names: &[u32]) -> Result<Vec<u32>, 
     Ok(counts)
 }
 
+/// Counts each name that these items use.
+fn add_items(counts: &mut Vec<u32>, items: &[Item]) -> Result<(), Memory>
+    ensures { OnOk result ((n : ℕ) → count_at counts.new.items n ≡ times_named (items_uses items.now) n + count_at counts.old.items n) }
+{
+    for item in items {
+        if let Some(to) = item.target() {
+            add_one(counts, to)?;
+        }
+    }
+    Ok(())
+}
+
+fn add_blocks(counts: &mut Vec<u32>, graph: &Graph, names: &[u32]) -> Result<(), Memory>
+    requires rules { IsGraph graph.now.graph }
+    requires names { names.now ≡ names_of graph.now.graph }
+    ensures { OnOk result ((n : ℕ) → count_at counts.new.items n ≡ times_named (flat_map (λ b. items_uses b.items) graph.now.graph.blocks) n + count_at counts.old.items n) }
+{
+    for name in names {
+        add_items(counts, graph.items(*name))?;
+    }
+    Ok(())
+}
+
+fn add_bodies(counts: &mut Vec<u32>, graph: &Graph) -> Result<(), Memory>
+    ensures { OnOk result ((n : ℕ) → count_at counts.new.items n ≡ times_named (flat_map (λ p. items_uses p.body) graph.now.graph.procedures) n + count_at counts.old.items n) }
+{
+    for procedure in 0..graph.procedures() {
+        add_items(counts, graph.body(procedure))?;
+    }
+    Ok(())
+}
+
+/// How often items of blocks and of procedures name each block.
+fn count_items(alloc: Global, graph: &Graph, names: &[u32]) -> Result<Vec<u32>, Memory>
+    requires rules { IsGraph graph.now.graph }
+    requires names { names.now ≡ names_of graph.now.graph }
+    ensures { IfOk result (λ counts. (n : ℕ) → count_at counts.items n ≡ times_named (items_uses (all_items graph.now.graph)) n) }
+{
+    let mut counts = Vec::new(alloc);
+    add_blocks(&mut counts, graph, names)?;
+    add_bodies(&mut counts, graph)?;
+    Ok(counts)
+}
+
 /// How often the entry and the words of data name each block.
 fn count_words(alloc: Global, graph: &Graph) -> Result<Vec<u32>, Memory>
     ensures { IfOk result (λ counts. (n : ℕ) → count_at counts.items n ≡ times_named (word_uses graph.now.graph) n) }
@@ -170,7 +248,7 @@ pub fn uses_of(alloc: Global, graph: &Graph) -> Result<Uses, Memory>
 {
     graph.learn();
     let names = block_names(alloc, graph)?;
-    let items = item_names(alloc, graph, &names)?;
+    let items = count_items(alloc, graph, &names)?;
     let words = count_words(alloc, graph)?;
     let terms = count_terms(alloc, graph, &names)?;
     Ok(Uses {

@@ -1,27 +1,17 @@
 //! Which names a graph uses.
 
-ghost use Rattle.std.specs.Prelude.{◌≡◌, ◌++◌, ◌∷◌, [], map, option_to_list, OnOk, IfOk};
+ghost use Rattle.std.specs.Prelude.{◌≡◌, ◌++◌, ◌∷◌, [], map, OnOk, IfOk};
 ghost use Rattle.std.specs.List.{flat_map};
 ghost use Rattle.sq_graph.specs.Blocks.{all_items};
 ghost use Rattle.sq_graph.specs.Parts.{names_of};
 ghost use Rattle.sq_graph.specs.Rules.{IsGraph};
-ghost use Rattle.sq_graph.specs.Uses.{item_uses, items_uses, terms_uses, code_word_uses, uses};
+ghost use Rattle.sq_graph.specs.Uses.{items_uses, terms_uses, code_word_uses, uses};
 ghost use Rattle.sq_lookup.specs.Names.{Adds, held_uses};
 
 use crate::names::Names;
 use sq_graph::{CodeRef, Graph, Item};
 use sq_num::Memory;
 use std::alloc::Global;
-
-/// The block that an item names.
-fn item_target(item: Item) -> Option<u32>
-    ensures { option_to_list result ≡ item_uses item }
-{
-    match item {
-        Item::Hi { to, .. } | Item::Lo { to, .. } => Some(to),
-        Item::Op(_) | Item::Out { .. } => None,
-    }
-}
 
 fn use_words(used: &mut Names, words: &[CodeRef]) -> Result<(), Memory>
     ensures { OnOk result (Adds (code_word_uses words.now) used.old used.new) }
@@ -36,7 +26,7 @@ fn use_items(used: &mut Names, items: &[Item]) -> Result<(), Memory>
     ensures { OnOk result (Adds (items_uses items.now) used.old used.new) }
 {
     for item in items {
-        used.insert_some(item_target(*item))?;
+        used.insert_some(item.target())?;
     }
     Ok(())
 }
@@ -73,7 +63,7 @@ fn use_bodies(used: &mut Names, graph: &Graph) -> Result<(), Memory>
 }
 
 /// The names that are used in items: in Hi and Lo in blocks and in all procedures. It looks at each item once.
-pub(crate) fn item_names(alloc: Global, graph: &Graph, names: &[u32]) -> Result<Names, Memory>
+fn item_names(alloc: Global, graph: &Graph, names: &[u32]) -> Result<Names, Memory>
     requires rules { IsGraph graph.now.graph }
     requires names { names.now ≡ names_of graph.now.graph }
     ensures { IfOk result (λ they. Adds (items_uses (all_items graph.now.graph)) [] they) }

@@ -105,22 +105,6 @@ fn has_other_items(graph: &Graph, was: Was) -> bool
     is_block(graph, was.block) && graph.items(was.block).len() != was.count
 }
 
-/// The last block of the chain that begins at this one.
-fn end_of_chain(graph: &Graph, start: u32) -> u32 {
-    graph.learn();
-    let mut at = start;
-    for _slot in 0..u32::MAX {
-        if !is_block(graph, at) || !graph.term(at).goes_on() {
-            return at;
-        }
-        let Some(next) = graph.next(at) else {
-            return at;
-        };
-        at = next;
-    }
-    at
-}
-
 /// Where the block jumps to, if there is this one and it does.
 fn jump_target(graph: &Graph, block: u32) -> Option<u32> {
     graph.learn();
@@ -306,9 +290,9 @@ impl Unmoved {
         }
     }
 
-    /// Takes note of the blocks at the seams that a chain leaves and makes if it moves behind this block: whether that jumps to one.
-    /// It looks at the chain.
-    pub fn begin(&mut self, graph: &Graph, from: u32) -> Result<bool, Memory> {
+    /// Takes note of the blocks at the seams that a chain, of which this is the last block, leaves and makes if it moves behind
+    /// another one: whether that jumps to it.
+    pub fn begin(&mut self, graph: &Graph, from: u32, end: u32) -> Result<bool, Memory> {
         self.blocks = graph.links().len();
         self.seams.clear();
         self.sides.clear();
@@ -318,7 +302,6 @@ impl Unmoved {
         if is_entered_at(graph, to) {
             return Ok(false);
         }
-        let end = end_of_chain(graph, to);
         let ahead = before(graph, to);
         // Those that it closes, and those that it makes: of these the first block goes where it is a lone Jump.
         self.note_seam(graph, Some(from), behind(graph, from))?;

@@ -1,7 +1,9 @@
 -- Where the ends of two blocks are joined: which names the graph uses then, and what makes it canonical.
-use Rattle.std.proofs.Common.{◌≡◌, ◌≢◌, ℕ, ◌+◌, ◌-◌, ◌<◌, ◌≤◌, ◌==◌, false, ◌||◌, if◌then◌else◌, List, [], ◌∷◌, ◌++◌, drop, length, Option, None, Some, IsSome, option_to_list, inl, inr, refl, sym, ap, ◌∙◌, subst, arith}
+use Rattle.std.proofs.Common.{◌≡◌, ◌≢◌, ℕ, ◌+◌, ◌-◌, ◌<◌, ◌≤◌, ◌==◌, false, ◌||◌, if◌then◌else◌, List, [], ◌∷◌, ◌++◌, take, drop, length, Option, None, Some, IsSome, option_to_list, inl, inr, refl, sym, ap, ◌∙◌, subst, take-append-drop, arith}
 use Rattle.std.specs.List.{All}
 use Rattle.std.proofs.lemmas.Bool.{cases_Bool, eqb-true, eqb-false, or_left, eq-eqb}
+use Rattle.std.proofs.lemmas.List.{length-drop, take_all}
+use Rattle.std.proofs.lemmas.List.Concat.{flat_map-append}
 use Rattle.sq_isa.specs.Registers.{is_among}
 use Rattle.sq_graph.specs.declared.item.Item.{Item}
 use Rattle.sq_graph.specs.declared.item.Item.TheVariants.{Op, Hi, Lo, Out}
@@ -17,10 +19,9 @@ use Rattle.sq_graph.specs.Rules.{IsGraph}
 use Rattle.sq_graph.specs.Uses.{item_uses, items_uses, terms_uses, uses}
 use Rattle.sq_graph.proofs.BlockPasses.{falls_used}
 use Rattle.sq_graph.proofs.JoinedBefore.{joined_before_each, canonical_before}
-use Rattle.sq_lookup.specs.Counts.{count_at, times_named, word_uses, AreUses, IsCounted}
-use Rattle.sq_lookup.specs.Names.{is_listed}
+use Rattle.sq_lookup.specs.Counts.{count_at, times_named, word_uses, AreTaken, AreUses, IsCounted}
 use Rattle.sq_lookup.specs.declared.counts.Uses.{Uses}
-use Rattle.sq_lookup.proofs.Adding.{among_listed}
+use Rattle.sq_lookup.proofs.Counting.{times-append, times_own}
 use Rattle.law_patch.specs.Merges.{merged, tailed}
 use Rattle.sq_tail.specs.Admitted.{CanJoin}
 use Rattle.sq_tail.specs.Candidates.{IsCandidate}
@@ -80,9 +81,9 @@ cut_uses g dropped kept n candidate =
 
 -- THE JOINED GRAPH
 
--- in it one term names a block that didn't, in place of what the dropped end named
-pub record IsEnded (g mid : Graph) (dropped to : ℕ) : Type 0 where
-  pub items : (k : ℕ) → is_among (items_uses (all_items mid)) k ≡ is_among (items_uses (all_items g)) k
+-- in it one term names a block that didn't, in place of what the dropped end named, and the dropped items name blocks no more
+pub record IsEnded (g mid : Graph) (dropped n to : ℕ) : Type 0 where
+  pub items : (k : ℕ) → times_named (items_uses (last_items n (items_of g dropped))) k + times_named (items_uses (all_items mid)) k ≡ times_named (items_uses (all_items g)) k
   pub words : word_uses mid ≡ word_uses g
   pub terms : (k : ℕ) → times_named (terms_uses mid.blocks) k + times_named (end_uses (term_of g dropped)) k ≡ times_named (to ∷ []) k + times_named (terms_uses g.blocks) k
   pub solid : All (λ b. is_bare b ≡ false) mid.blocks
@@ -91,7 +92,7 @@ pub record IsEnded (g mid : Graph) (dropped to : ℕ) : Type 0 where
 same_target : (o : Option Term) (a b : ℕ) → o ≡ Some (Jump a) → o ≡ Some (Jump b) → a ≡ b
 same_target o a b first second = let both : Some (Jump a) ≡ Some (Jump b) = sym first ∙ second in cc
 
-pub joined_ended : (g mid : Graph) (dropped kept n to : ℕ) → IsGraph g → IsCanonical g → IsCandidate g (tail_cut g dropped kept n) → IsJoined g dropped kept n mid → term_of mid dropped ≡ Some (Jump to) → IsEnded g mid dropped to
+pub joined_ended : (g mid : Graph) (dropped kept n to : ℕ) → IsGraph g → IsCanonical g → IsCandidate g (tail_cut g dropped kept n) → IsJoined g dropped kept n mid → term_of mid dropped ≡ Some (Jump to) → IsEnded g mid dropped n to
 joined_ended g mid dropped kept n to rules canonical candidate (new, (unused, is)) jump =
     let tails = pair_there g dropped kept n candidate in
     let alike = cut_uses g dropped kept n candidate in
@@ -106,12 +107,13 @@ joined_ended g mid dropped kept n to rules canonical candidate (new, (unused, is
           let can : CanEnd g dropped (length (items_of g dropped) - n) kept = record {
             has = tails.dropped_there;
             apart = tails.other;
+            whole = omega (arith, tails.dropped_items, eqb-true n (length (items_of g kept)) whole);
             same = λ k e. subst (λ (us : List ℕ). In us k) (alike ∙ ap (λ m. items_uses (drop m (items_of g kept))) none) e;
             solid = canonical.no_bare;
             falls = falls_more (is_among (uses g)) (λ m. is_among (uses g) m || m == kept) (λ k e. or_left (is_among (uses g) k) (k == kept) e) g.blocks led;
           } in
-          subst (IsEnded g mid dropped) target
-          (subst (λ h. IsEnded g h dropped kept) (sym made)
+          subst (IsEnded g mid dropped n) target
+          (subst (λ h. IsEnded g h dropped n kept) (sym made)
           (record { items = ended_items g dropped at kept can; words = refl; terms = ended_terms g dropped at kept can; solid = ended_solid g dropped at kept can; falls = ended_falls g dropped at kept can }))
       | inr part ↦
           let made : mid ≡ tailed g new dropped (length (items_of g dropped) - n) kept (length (items_of g kept) - n) = is ∙ rw part refl in
@@ -129,16 +131,17 @@ joined_ended g mid dropped kept n to rules canonical candidate (new, (unused, is
           let can : CanEnd (split_at g new kept (length (items_of g kept) - n)) dropped (length (items_of g dropped) - n) new = record {
             has = there;
             apart = λ e. apart_from_new g new dropped unused tails.dropped_there (sym e);
+            whole = omega (arith, tails.dropped_items, within, ap length (ap block_items same), ap length second, length-drop from (items_of g kept));
             same = λ k e. subst (λ (us : List ℕ). In us k) (ap (λ (o : Option Block). items_uses (drop at (block_items o))) same ∙ alike ∙ sym (ap items_uses second)) e;
             solid = split_solid g new kept from unused tails.kept_there some below canonical.no_bare led;
             falls = split_falls g new kept from unused tails.kept_there some below canonical.no_bare led;
           } in
           let terms = terms_same g new kept from unused tails.kept_there some below canonical.no_bare led in
           let items = item_uses_same g new kept from unused tails.kept_there some below canonical.no_bare led in
-          subst (IsEnded g mid dropped) target
-          (subst (λ h. IsEnded g h dropped new) (sym made)
+          subst (IsEnded g mid dropped n) target
+          (subst (λ h. IsEnded g h dropped n new) (sym made)
           (record {
-            items = λ k. ended_items s dropped at new can k ∙ ap (λ us. is_among us k) items;
+            items = λ k. omega (arith, ended_items s dropped at new can k, ap (λ us. times_named us k) items, ap (λ (o : Option Block). times_named (items_uses (drop at (block_items o))) k) same);
             words = refl;
             terms = λ k. omega (arith, ended_terms s dropped at new can k, ap (λ us. times_named us k) end, ap (λ us. times_named us k) terms);
             solid = ended_solid s dropped at new can;
@@ -149,42 +152,64 @@ joined_ended g mid dropped kept n to rules canonical candidate (new, (unused, is
     by_size : (a b : ℕ) → a ≢ b → a ≤ b → 1 ≤ b - a
     by_size a b apart within = grind (arith, apart)
 
+-- the end of a list, as a slice of it
+pub end_slice : (items own : List Item) (n : ℕ) → items ≡ own → take (length items - (length items - n)) (drop (length items - n) items) ≡ last_items n own
+end_slice items own n same =
+    take_all (length items - (length items - n)) (last_items n items) (omega (arith, length-drop (length items - n) items)) ∙ ap (last_items n) same
+
+-- the items that go are counted
+pub end_counted : (g : Graph) (block n : ℕ) (they : Uses) → AreUses g they → (k : ℕ) → times_named (items_uses (last_items n (items_of g block))) k ≤ count_at they.items.items k
+end_counted g block n they are k =
+    let is = items_of g block in
+    let at = length is - n in
+    omega (
+      arith,
+      are.items k,
+      times_own g block k,
+      ap (λ xs. times_named (items_uses xs) k) (sym (take-append-drop at is)),
+      ap (λ us. times_named us k) (flat_map-append item_uses (take at is) (drop at is)),
+      times-append (items_uses (take at is)) (items_uses (drop at is)) k,
+    )
+
 -- ITS USES
 
-module _ (g mid : Graph) (dropped to : ℕ) (ended : IsEnded g mid dropped to) (named : Option ℕ) (names : end_uses (term_of g dropped) ≡ option_to_list named) where
-  listed : (old : Uses) → AreUses g old → (k : ℕ) → is_listed old.items k ≡ is_listed (items_uses (all_items mid)) k
-  listed old are k =
-      are.items k ∙ sym (among_listed (items_uses (all_items g)) k) ∙ sym (ended.items k) ∙ among_listed (items_uses (all_items mid)) k
+module _ (g mid : Graph) (dropped n to : ℕ) (ended : IsEnded g mid dropped n to) (named : Option ℕ) (names : end_uses (term_of g dropped) ≡ option_to_list named) where
+  module _ (first old : Uses) (are : AreUses g first) (taken : AreTaken (last_items n (items_of g dropped)) first old) where
+    itemed : (k : ℕ) → count_at old.items.items k ≡ times_named (items_uses (all_items mid)) k
+    itemed k = omega (arith, taken.items k, are.items k, ended.items k)
 
-  worded : (old : Uses) → AreUses g old → (k : ℕ) → count_at old.words.items k ≡ times_named (word_uses mid) k
-  worded old are k = are.words k ∙ ap (λ us. times_named us k) (sym ended.words)
+    worded : (k : ℕ) → count_at old.words.items k ≡ times_named (word_uses mid) k
+    worded k = ap (λ ws. count_at ws.items k) taken.words ∙ are.words k ∙ ap (λ us. times_named us k) (sym ended.words)
 
-  -- where the dropped end named no block
-  pub uses_more : (old new : Uses) → AreUses g old → named ≡ None → IsCounted to old new → AreUses mid new
-  uses_more old new are none more = record {
-    items = λ k. ap (λ ns. is_listed ns k) more.items ∙ listed old are k;
-    words = λ k. ap (λ ws. count_at ws.items k) more.words ∙ worded old are k;
-    terms = λ k.
-        let gone : times_named (end_uses (term_of g dropped)) k ≡ 0 = ap (λ us. times_named us k) (names ∙ ap option_to_list none) in
-        omega (arith, more.terms k, are.terms k, ended.terms k, gone);
-  }
+    termed : (k : ℕ) → count_at old.terms.items k ≡ times_named (terms_uses g.blocks) k
+    termed k = ap (λ ts. count_at ts.items k) taken.terms ∙ are.terms k
 
-  -- and where it named one
-  module _ (name : ℕ) (some : named ≡ Some name) where
-    gone_is : (k : ℕ) → times_named (end_uses (term_of g dropped)) k ≡ times_named (name ∷ []) k
-    gone_is k = ap (λ us. times_named us k) (names ∙ ap option_to_list some)
-
-    pub counted_still : (old more : Uses) → AreUses g old → IsCounted to old more → 1 ≤ count_at more.terms.items name
-    counted_still old more are one =
-        let own : ◌≡◌ {A = ℕ} (if name == name then 1 else 0) 1 = ap (λ t. if t then 1 else 0) (eq-eqb name name refl) in
-        omega (arith, one.terms name, are.terms name, ended.terms name, gone_is name, own)
-
-    pub uses_moved : (old more new : Uses) → AreUses g old → IsCounted to old more → IsCounted name new more → AreUses mid new
-    uses_moved old more new are one less = record {
-      items = λ k. ap (λ ns. is_listed ns k) (sym less.items ∙ one.items) ∙ listed old are k;
-      words = λ k. ap (λ ws. count_at ws.items k) (sym less.words ∙ one.words) ∙ worded old are k;
-      terms = λ k. omega (arith, less.terms k, one.terms k, are.terms k, ended.terms k, gone_is k);
+    -- where the dropped end named no block
+    pub uses_more : (new : Uses) → named ≡ None → IsCounted to old new → AreUses mid new
+    uses_more new none more = record {
+      items = λ k. ap (λ is. count_at is.items k) more.items ∙ itemed k;
+      words = λ k. ap (λ ws. count_at ws.items k) more.words ∙ worded k;
+      terms = λ k.
+          let gone : times_named (end_uses (term_of g dropped)) k ≡ 0 = ap (λ us. times_named us k) (names ∙ ap option_to_list none) in
+          omega (arith, more.terms k, termed k, ended.terms k, gone);
     }
+
+    -- and where it named one
+    module _ (name : ℕ) (some : named ≡ Some name) (more : Uses) (one : IsCounted to old more) where
+      gone_is : (k : ℕ) → times_named (end_uses (term_of g dropped)) k ≡ times_named (name ∷ []) k
+      gone_is k = ap (λ us. times_named us k) (names ∙ ap option_to_list some)
+
+      pub counted_still : 1 ≤ count_at more.terms.items name
+      counted_still =
+          let own : ◌≡◌ {A = ℕ} (if name == name then 1 else 0) 1 = ap (λ t. if t then 1 else 0) (eq-eqb name name refl) in
+          omega (arith, one.terms name, termed name, ended.terms name, gone_is name, own)
+
+      pub uses_moved : (new : Uses) → IsCounted name new more → AreUses mid new
+      uses_moved new less = record {
+        items = λ k. ap (λ is. count_at is.items k) (sym less.items ∙ one.items) ∙ itemed k;
+        words = λ k. ap (λ ws. count_at ws.items k) (sym less.words ∙ one.words) ∙ worded k;
+        terms = λ k. omega (arith, less.terms k, one.terms k, termed k, ended.terms k, gone_is k);
+      }
 
   -- WHAT MAKES IT CANONICAL
 

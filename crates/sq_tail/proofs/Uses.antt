@@ -2,6 +2,7 @@
 use Rattle.std.proofs.Common.{◌≡◌, ◌≢◌, ◌⊎◌, ℕ, ◌+◌, ◌≤◌, ◌==◌, Bool, true, false, ◌||◌, if◌then◌else◌, List, [], ◌∷◌, ◌++◌, take, drop, length, Option, Some, inl, inr, refl, sym, ap, ◌∙◌, subst, take-append-drop, arith}
 use Rattle.std.specs.List.{All}
 use Rattle.std.proofs.lemmas.Bool.{cases_Bool, or_left, or_right, eqb-true, eq-eqb, or_cases}
+use Rattle.std.proofs.lemmas.List.{append-nil, drop_all}
 use Rattle.std.proofs.lemmas.List.Concat.{flat_map-append}
 use Rattle.std.proofs.lemmas.List.Elements.{All-cons, All-tail, All-append}
 use Rattle.std.proofs.Math.Bool.{and-false}
@@ -38,22 +39,6 @@ in_left us vs k e = is_among-append us vs k ∙ or_left (is_among us k) (is_amon
 pub in_right : (us vs : List ℕ) (k : ℕ) → In vs k → In (us ++ vs) k
 in_right us vs k e = is_among-append us vs k ∙ or_right (is_among us k) (is_among vs k) e
 
--- a part of a list is another
-swapped_part : (front olds news back : List ℕ) (k : ℕ) (Q : Type 0) → (In olds k → In news k ⊎ Q) → In (front ++ (olds ++ back)) k → In (front ++ (news ++ back)) k ⊎ Q
-swapped_part front olds news back k Q moves e =
-    elim (in_either front (olds ++ back) k e) [
-      | inl ahead ↦ inl (in_left front (news ++ back) k ahead)
-      | inr on ↦
-          elim (in_either olds back k on) [
-            | inr behind ↦ inl (in_right front (news ++ back) k (in_right news back k behind))
-            | inl here ↦
-                elim (moves here) [
-                  | inl still ↦ inl (in_right front (news ++ back) k (in_left news back k still))
-                  | inr gone ↦ inr gone
-                ]
-          ]
-    ]
-
 -- two lists with the same names
 same_in : (us vs : List ℕ) (k : ℕ) → (In us k → In vs k) → (In vs k → In us k) → is_among us k ≡ is_among vs k
 same_in us vs k there back = by (is_among us k) (is_among vs k) there back
@@ -82,15 +67,6 @@ items_in (b ∷ bs) m k e = subst (λ (us : List ℕ). In us k) (sym (flat_map-a
     here true later e = in_left (items_uses b.items) (items_uses (items_of_blocks bs)) k e
     here false later e = in_right (items_uses b.items) (items_uses (items_of_blocks bs)) k (later e)
 
--- the names that a graph uses in items
-in_items : (g h : Graph) (k : ℕ) → g.procedures ≡ h.procedures → (In (items_uses (items_of_blocks g.blocks)) k → In (items_uses (items_of_blocks h.blocks)) k) → In (items_uses (all_items g)) k → In (items_uses (all_items h)) k
-in_items g h k bodies items e =
-    subst (λ (us : List ℕ). In us k) (sym (flat_map-append item_uses (items_of_blocks h.blocks) (items_of_bodies h.procedures)))
-    (elim (in_either (items_uses (items_of_blocks g.blocks)) (items_uses (items_of_bodies g.procedures)) k (subst (λ (us : List ℕ). In us k) (flat_map-append item_uses (items_of_blocks g.blocks) (items_of_bodies g.procedures)) e)) [
-      | inl block ↦ in_left (items_uses (items_of_blocks h.blocks)) (items_uses (items_of_bodies h.procedures)) k (items block)
-      | inr body ↦ in_right (items_uses (items_of_blocks h.blocks)) (items_uses (items_of_bodies h.procedures)) k (subst (λ ps. In (items_uses (items_of_bodies ps)) k) bodies body)
-    ])
-
 -- BLOCKS THAT ARE FALLEN INTO
 
 module _ (leads others : ℕ → Bool) (more : (k : ℕ) → leads k ≡ true → others k ≡ true) where
@@ -112,6 +88,7 @@ module _ (s : Graph) (dropped at to : ℕ) where
   pub record CanEnd : Type 0 where
     pub has : HasBlock s dropped
     pub apart : to ≢ dropped
+    pub whole : length (items_of s dropped) ≤ at + length (items_of s to)
     pub same : (k : ℕ) → In (items_uses (drop at (items_of s dropped))) k → In (items_uses (items_of s to)) k
     pub solid : All (λ b. is_bare b ≡ false) s.blocks
     pub falls : FallsIntoLeaders (λ n. is_among (uses s) n || n == to) s.blocks
@@ -138,57 +115,65 @@ module _ (s : Graph) (dropped at to : ℕ) where
     still : (m : ℕ) → m ≢ dropped → block_of h m ≡ block_of s m
     still m other = ap (λ (bs : List Block). value_of (named bs) m) (merged_blocks s dropped at to) ∙ block_of-changed (ended to at n) s.blocks dropped m (λ b. refl) other
 
-    items_kept : (k : ℕ) → In (items_uses spot.block.items) k → In (items_uses new_block.items) k ⊎ In (items_uses (drop at spot.block.items)) k
-    items_kept k e =
-        let is = spot.block.items in
-        let parts : items_uses spot.block.items ≡ items_uses (take at spot.block.items) ++ items_uses (drop at spot.block.items) = ap items_uses (sym (take-append-drop at is)) ∙ flat_map-append item_uses (take at is) (drop at is) in
-        elim (in_either (items_uses (take at is)) (items_uses (drop at is)) k (subst (λ (us : List ℕ). In us k) parts e)) [
-          | inl front ↦ inl (subst (λ (us : List ℕ). In us k) (sym (flat_map-append item_uses (take at is) (drop (at + n) is))) (in_left (items_uses (take at is)) (items_uses (drop (at + n) is)) k front))
-          | inr gone ↦ inr gone
-        ]
+    gone_is : drop at (items_of s dropped) ≡ drop at spot.block.items
+    gone_is = ap (λ (o : Option Block). drop at (block_items o)) found
 
-    items_still : (k : ℕ) → In (items_uses (items_of_blocks s.blocks)) k → In (items_uses (items_of_blocks h.blocks)) k
-    items_still k e =
-        let front = items_uses (items_of_blocks spot.front) in
-        let back = items_uses (items_of_blocks spot.back) in
-        let olds : In (items_uses (items_of_blocks spot.front) ++ (items_uses spot.block.items ++ items_uses (items_of_blocks spot.back))) k =
-        subst (λ (us : List ℕ). In us k) (ap (λ (bs : List Block). items_uses (items_of_blocks bs)) spot.whole ∙ items_parts spot.front spot.back spot.block) e in
-        elim (swapped_part front (items_uses spot.block.items) (items_uses new_block.items) back k (In (items_uses (drop at spot.block.items)) k) (items_kept k) olds) [
-          | inl left ↦ subst (λ (us : List ℕ). In us k) (sym (ap (λ (bs : List Block). items_uses (items_of_blocks bs)) now ∙ items_parts spot.front spot.back new_block)) left
-          | inr gone ↦
-              let there = c.same k (subst (λ (o : Option Block). In (items_uses (drop at (block_items o))) k) (sym found) gone) in
-              items_in h.blocks to k (subst (λ (o : Option Block). In (items_uses (block_items o)) k) (sym (still to c.apart)) there)
-        ]
+    new_items : new_block.items ≡ take at spot.block.items
+    new_items =
+        let past : length spot.block.items ≤ at + n = subst (λ (o : Option Block). length (block_items o) ≤ at + n) found c.whole in
+        ap (λ is. take at spot.block.items ++ is) (drop_all (at + n) spot.block.items past) ∙ append-nil (take at spot.block.items)
 
-    items_fewer : (k : ℕ) → In (items_uses new_block.items) k → In (items_uses spot.block.items) k
-    items_fewer k e =
-        let is = spot.block.items in
-        let parted = λ (m : ℕ). sym (flat_map-append item_uses (take m is) (drop m is)) ∙ ap items_uses (take-append-drop m is) in
-        elim (in_either (items_uses (take at is)) (items_uses (drop (at + n) is)) k (subst (λ (us : List ℕ). In us k) (flat_map-append item_uses (take at is) (drop (at + n) is)) e)) [
-          | inl front ↦ subst (λ (us : List ℕ). In us k) (parted at) (in_left (items_uses (take at is)) (items_uses (drop at is)) k front)
-          | inr back ↦ subst (λ (us : List ℕ). In us k) (parted (at + n)) (in_right (items_uses (take (at + n) is)) (items_uses (drop (at + n) is)) k back)
-        ]
-
-    items_back : (k : ℕ) → In (items_uses (items_of_blocks h.blocks)) k → In (items_uses (items_of_blocks s.blocks)) k
-    items_back k e =
-        let front = items_uses (items_of_blocks spot.front) in
-        let back = items_uses (items_of_blocks spot.back) in
-        let news : In (items_uses (items_of_blocks spot.front) ++ (items_uses new_block.items ++ items_uses (items_of_blocks spot.back))) k =
-        subst (λ (us : List ℕ). In us k) (ap (λ (bs : List Block). items_uses (items_of_blocks bs)) now ∙ items_parts spot.front spot.back new_block) e in
-        elim (swapped_part front (items_uses new_block.items) (items_uses spot.block.items) back k ⊥ (λ here. inl (items_fewer k here)) news) [
-          | inl left ↦ subst (λ (us : List ℕ). In us k) (sym (ap (λ (bs : List Block). items_uses (items_of_blocks bs)) spot.whole ∙ items_parts spot.front spot.back spot.block)) left
-          | inr gone ↦ absurd gone
-        ]
-
-    -- what items name stays
-    pub ended_items : (k : ℕ) → is_among (items_uses (all_items (merged s dropped at to))) k ≡ is_among (items_uses (all_items s)) k
+    -- items name what they named before, but those that went
+    pub ended_items : (k : ℕ) → times_named (items_uses (drop at (items_of s dropped))) k + times_named (items_uses (all_items (merged s dropped at to))) k ≡ times_named (items_uses (all_items s)) k
     ended_items k =
-        same_in (items_uses (all_items h)) (items_uses (all_items s)) k (in_items h s k refl (items_back k)) (in_items s h k refl (items_still k))
+        let T = λ (us : List ℕ). times_named us k in
+        let front = items_uses (items_of_blocks spot.front) in
+        let back = items_uses (items_of_blocks spot.back) in
+        let bodies = items_uses (items_of_bodies s.procedures) in
+        let is = spot.block.items in
+        omega (
+          arith,
+          ap (λ is. T (items_uses is)) gone_is,
+          ap T (flat_map-append item_uses (items_of_blocks s.blocks) (items_of_bodies s.procedures)),
+          ap T (flat_map-append item_uses (items_of_blocks h.blocks) (items_of_bodies s.procedures)),
+          times-append (items_uses (items_of_blocks s.blocks)) bodies k,
+          times-append (items_uses (items_of_blocks h.blocks)) bodies k,
+          ap T (ap (λ (bs : List Block). items_uses (items_of_blocks bs)) spot.whole ∙ items_parts spot.front spot.back spot.block),
+          ap T (ap (λ (bs : List Block). items_uses (items_of_blocks bs)) now ∙ items_parts spot.front spot.back new_block),
+          times-append front (items_uses is ++ back) k,
+          times-append (items_uses is) back k,
+          times-append front (items_uses new_block.items ++ back) k,
+          times-append (items_uses new_block.items) back k,
+          ap (λ is. T (items_uses is)) new_items,
+          ap (λ is. T (items_uses is)) (sym (take-append-drop at is)),
+          ap T (flat_map-append item_uses (take at is) (drop at is)),
+          times-append (items_uses (take at is)) (items_uses (drop at is)) k,
+        )
 
-    -- so does what is held
+    -- each name of those that went is one of the target's
+    gone_still : (k : ℕ) → In (items_uses (drop at (items_of s dropped))) k → In (items_uses (all_items h)) k
+    gone_still k gone =
+        let there : In (items_uses (items_of h to)) k = subst (λ (o : Option Block). In (items_uses (block_items o)) k) (sym (still to c.apart)) (c.same k gone) in
+        subst (λ (us : List ℕ). In us k) (sym (flat_map-append item_uses (items_of_blocks h.blocks) (items_of_bodies h.procedures)))
+        (in_left (items_uses (items_of_blocks h.blocks)) (items_uses (items_of_bodies h.procedures)) k (items_in h.blocks to k there))
+
+    -- so the names stay
+    items_same : (k : ℕ) → is_among (items_uses (all_items h)) k ≡ is_among (items_uses (all_items s)) k
+    items_same k =
+        same_in (items_uses (all_items h)) (items_uses (all_items s)) k
+        (λ now. times_some (items_uses (all_items s)) k (omega (arith, some_times (items_uses (all_items h)) k now, ended_items k)))
+        (λ was.
+        elim (cases_Bool (is_among (items_uses (drop at (items_of s dropped))) k)) [
+          | inl gone ↦ gone_still k gone
+          | inr stays ↦
+              times_some (items_uses (all_items h)) k
+              (omega (arith, some_times (items_uses (all_items s)) k was, ended_items k, none_times (items_uses (drop at (items_of s dropped))) k stays))
+        ])
+
+    -- so do those that are held
     ended_held : (k : ℕ) → is_among (held_uses h) k ≡ is_among (held_uses s) k
     ended_held k =
-        is_among-append (word_uses s) (items_uses (all_items h)) k ∙ ap (λ t. is_among (word_uses s) k || t) (ended_items k)
+        is_among-append (word_uses s) (items_uses (all_items h)) k ∙ ap (λ t. is_among (word_uses s) k || t) (items_same k)
         ∙ sym (is_among-append (word_uses s) (items_uses (all_items s)) k)
 
     end_is : end_uses (term_of s dropped) ≡ term_uses spot.block.term

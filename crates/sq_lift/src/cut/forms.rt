@@ -1,8 +1,7 @@
 //! Items and terms that words are read as.
 
-ghost use Rattle.std.specs.Prelude.{◌≡◌, option_to_list};
+ghost use Rattle.std.specs.Prelude.{◌≡◌};
 ghost use Rattle.sq_lift.specs.Read.{seen};
-ghost use Rattle.sq_graph.specs.Uses.{item_uses};
 ghost use Rattle.law_program.specs.Lifted.{form_of};
 ghost use Rattle.sq_lift.specs.Forms.{shaped};
 
@@ -28,15 +27,5 @@ pub(crate) fn form_of(procedures: &Procedures, reading: Reading) -> Form
             Some(procedure) => Form::Item(Item::Out { procedure }),
             None => Form::Term(Term::Call { link, to }),
         },
-    }
-}
-
-/// The block whose address an item holds a half of.
-pub(crate) fn item_target(item: &Item) -> Option<u32>
-    ensures { option_to_list result ≡ item_uses item.now }
-{
-    match *item {
-        Item::Hi { to, .. } | Item::Lo { to, .. } => Some(to),
-        Item::Op(_) | Item::Out { .. } => None,
     }
 }

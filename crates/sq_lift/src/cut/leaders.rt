@@ -10,7 +10,7 @@ ghost use Rattle.sq_lift.specs.Flags.{is_flagged};
 ghost use Rattle.sq_lift.specs.Forms.{shaped};
 ghost use Rattle.sq_lift.specs.Raised.{Raises};
 
-use crate::cut::forms::{Form, form_of, item_target};
+use crate::cut::forms::{Form, form_of};
 use crate::cut::procedures::Procedures;
 use crate::{Note, Text, TextWord, WordSet, reading_of};
 use sq_graph::Term;
@@ -60,7 +60,7 @@ fn add_form(set: &mut WordSet, at: u32, form: &Form)
     ensures { Raises (is_among (form_leads at (shaped form.now))) set.old set.new }
 {
     match *form {
-        Form::Item(item) => add_some(set, item_target(&item)),
+        Form::Item(item) => add_some(set, item.target()),
         Form::Term(term) => add_term(set, at, &term),
     }
 }

@@ -37,6 +37,8 @@ fn join_whole(
 {
     graph.learn();
     let named = graph.term(dropped).target();
+    let items = graph.items(dropped);
+    uses.take_items(&items[items.len() - length as usize..]);
     let to = join(graph, dropped, kept, length);
     uses.add(to)?;
     if let Some(name) = named {

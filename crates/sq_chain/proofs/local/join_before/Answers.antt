@@ -18,7 +18,7 @@ pub returns-then-not-is_block-clause-placed : goal.returns-then-not-is_block-cla
 returns-then-not-is_block-clause-placed c =
     let g = c.args.graph.now.graph in
     let old = c.args.places.now in
-    let new : Places = record { addresses = c.forget.new.addresses; words = old.words; jumps = c.join.new.self; branches = c.mark_joined.new.branches; holders = old.holders } in
+    let new : Places = record { addresses = c.forget.new.addresses; words = old.words; jumps = c.join.new.self; branches = c.mark_joined.new.branches; holders = c.join-then-not-is_block.new.self } in
     subst (λ (k : Graph). IsPlaced k new) (sym c.join_before.ensures.graph)
     (placed_joined g c.args.name c.learn.ensures.rules old new
     (λ there. let yes = c.is_block.ensures.1 (subst (λ (k : Graph). HasBlock k c.args.name) (sym c.join_before.ensures.graph) there) in let no = c.if-not-is_block.true in cc)

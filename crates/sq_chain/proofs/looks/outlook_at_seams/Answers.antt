@@ -1,4 +1,4 @@
-use Rattle.std.proofs.Common.{refl, sym, subst}
+use Rattle.std.proofs.Common.{sym, subst}
 use Rattle.sq_graph.specs.Blocks.{HasBlock}
 use Rattle.sq_chain.specs.Moves.{fallen, carried}
 use Rattle.sq_chain.proofs.Distant.{addresses_stay}
@@ -8,19 +8,16 @@ use Rattle.sq_chain.proofs.Reordered.{to_has}
 use Rattle.sq_chain.proofs.Unmarked.{clear_reaches}
 use Rattle.sq_chain.proofs.looks.outlook_at_seams.Goals as goal
 
-pub end_of_chain-requires-clause-to : goal.end_of_chain-requires-clause-to
-end_of_chain-requires-clause-to c = to_has c.args.graph.now.graph c.args.from c.args.to c.learn.ensures.rules c.requires.movable
-
 pub shift_of-shift-requires-clause-addresses : goal.shift_of-shift-requires-clause-addresses
 shift_of-shift-requires-clause-addresses c = addresses_stay c.args.graph.now.graph c.args.survey.now c.requires.survey c.if-survey-ne0.false
 
 pub outlook_by-requires-clause-to : goal.outlook_by-requires-clause-to
-outlook_by-requires-clause-to c = to_has c.args.graph.now.graph c.args.from c.args.to c.learn.ensures.rules c.requires.movable
+outlook_by-requires-clause-to c = to_has c.args.graph.now.graph c.args.corners.from c.args.corners.to c.learn.ensures.rules c.requires.movable
 
 pub outlook_by-requires-clause-end : goal.outlook_by-requires-clause-end
 outlook_by-requires-clause-end c =
     let g = c.args.graph.now.graph in
-    subst (HasBlock g) (sym (c.in-Some.ensures.some c.in-Some.end refl)) (last_has g c.args.from c.args.to c.learn.ensures.rules c.requires.movable)
+    subst (HasBlock g) (sym c.requires.end) (last_has g c.args.corners.from c.args.corners.to c.learn.ensures.rules c.requires.movable)
 
 pub outlook_by-requires-clause-addresses : goal.outlook_by-requires-clause-addresses
 outlook_by-requires-clause-addresses c = addresses_stay c.args.graph.now.graph c.args.survey.now c.requires.survey c.if-survey-ne0.false
@@ -34,5 +31,5 @@ returns-then-are_clear-clause-near c = λ near.
     let s = c.requires.survey in
     let at = addresses_stay g c.args.survey.now s c.if-survey-ne0.false in
     let clear = c.are_clear.ensures in
-    clear_reaches g (fallen (carried g c.args.from c.args.to)) c.shift_of-shift.result c.learn.ensures.rules c.shift_of-shift.ensures (reach_there g c.args.survey.now s c.if-survey-ne0.false c.if-not-survey.false)
+    clear_reaches g (fallen (carried g c.args.corners.from c.args.corners.to)) c.shift_of-shift.result c.learn.ensures.rules c.shift_of-shift.ensures (reach_there g c.args.survey.now s c.if-survey-ne0.false c.if-not-survey.false)
     (clear.first c.if-are_clear.true g c.learn.ensures.rules at s.branches) (clear.second c.if-are_clear.true g c.learn.ensures.rules at s.branches) (clear.end c.if-are_clear.true g c.learn.ensures.rules at s.branches)

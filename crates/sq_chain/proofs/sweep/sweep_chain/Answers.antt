@@ -19,8 +19,8 @@ sweep_near-requires-clause-stays c = subst (λ o. IfSome o (λ wide. c.args.view
 pub sweep_near-requires-clause-wide : goal.sweep_near-requires-clause-wide
 sweep_near-requires-clause-wide c =
     let g = c.args.graph.now.graph in
-    let from = c.args.from in
-    let to = c.args.to in
+    let from = c.args.corners.from in
+    let to = c.args.corners.to in
     least_by g (fallen (carried g from to)) c.in_ok-outlook.outlook c.in-Some.wide
     (subst (λ o. IfSome o (λ wide. Widens c.in_ok-outlook.outlook wide)) c.in-Some.is c.local_wide.ensures.wide)
     (λ same. near_least g from to c.learn.ensures.rules c.requires.movable (c.in_ok-outlook.ensures.near (cc)))
@@ -47,7 +47,7 @@ pub returns-clause-swept : goal.returns-clause-swept
 returns-clause-swept c = λ done.
     record {
       mid = c.move_by.new.graph.graph;
-      moved = record { from = c.args.from; to = c.args.to; moved = c.in_ok-move_by.ensures.moved (cc) };
+      moved = record { from = c.args.corners.from; to = c.args.corners.to; moved = c.in_ok-move_by.ensures.moved (cc) };
       is = c.canonical.ensures.graph;
     }
 
@@ -60,7 +60,7 @@ returns-clause-follows c =
     swept_follows c.args.graph.now.graph c.canonical.new.self.graph
     (record {
       mid = c.move_by.new.graph.graph;
-      moved = record { from = c.args.from; to = c.args.to; moved = c.in_ok-move_by.ensures.moved (cc) };
+      moved = record { from = c.args.corners.from; to = c.args.corners.to; moved = c.in_ok-move_by.ensures.moved (cc) };
       is = c.canonical.ensures.graph;
     })
 
@@ -69,6 +69,6 @@ returns-in_err-view-clause-follows c =
     swept_follows c.args.graph.now.graph c.canonical.new.self.graph
     (record {
       mid = c.move_by.new.graph.graph;
-      moved = record { from = c.args.from; to = c.args.to; moved = c.in_ok-move_by.ensures.moved (cc) };
+      moved = record { from = c.args.corners.from; to = c.args.corners.to; moved = c.in_ok-move_by.ensures.moved (cc) };
       is = c.canonical.ensures.graph;
     })

@@ -12,6 +12,12 @@ returns-in_err-view-clause-follows g c = graph_follows_itself c.args.graph.now.g
 pub returns-in_err-begins-clause-follows : goal.returns-in_err-begins-clause-follows
 returns-in_err-begins-clause-follows g c = graph_follows_itself c.args.graph.now.graph
 
+pub returns-in_err-along-clause-follows : goal.returns-in_err-along-clause-follows
+returns-in_err-along-clause-follows g c = graph_follows_itself c.args.graph.now.graph
+
+pub returns-in_err-shorts-clause-follows : goal.returns-in_err-shorts-clause-follows
+returns-in_err-shorts-clause-follows g c = graph_follows_itself c.args.graph.now.graph
+
 pub loop-name-init : goal.loop-name-init
 loop-name-init g c = record {
   rewritten = rewritten_itself IsCandidate described c.args.savings c.args.graph.now.graph c.requires.canonical;

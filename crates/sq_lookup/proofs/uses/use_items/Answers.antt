@@ -10,4 +10,4 @@ loop-item-init c = adds_none c.args.used.now
 pub loop-item-preserved : goal.loop-item-preserved
 loop-item-preserved c =
     adds_more item_uses c.args.items.now c.loop-item.item-index c.item-item.result c.args.used.now c.loop-item.used c.insert_some.new.self c.loop-item-test.true c.item-item.is c.loop-item.invariant
-    (subst (λ ns. Adds ns c.loop-item.used c.insert_some.new.self) c.item_target.ensures c.in_ok-insert_some.ensures)
+    (subst (λ ns. Adds ns c.loop-item.used c.insert_some.new.self) c.target.ensures c.in_ok-insert_some.ensures)
