@@ -9,10 +9,13 @@ KIND is one of:
     detours    COUNT blocks with a Branch to a lone jump of their own
     chained    the same, but each lone jump leads to another one, in shuffled order, and all but the near ones stay
     held       the same, and a word of data names each lone jump
-    named      the same, but two items name each lone jump: the whole graph is made canonical behind each second move
+    named      the same, but two items name each lone jump
+    parted     the same, but an upper half, a lower half and a jump by a register do
+    embodied   the same, but two items of a procedure do, which a note lists and which is called twice
     poured     the same as chained, in such an order that 16 * COUNT words of data, which name the first lone jump, come to name one after another
     threads    COUNT blocks of an item and a jump, each to the next in shuffled order, which words name: each moves
     backward   the same, each to the one before it: the chains that move come to be long
+    vain       COUNT jumps to the first of some four times as many blocks, which follow each other and none of which may move
     falls      COUNT jumps to the next slot, which nothing else names, each behind an item
     steps      COUNT calls, each before a lone jump to the next slot
     inverts    COUNT branches over a lone jump
@@ -106,9 +109,15 @@ class Program:
 
     def procedure(self, name, items):
         """A procedure that a note lists, behind what doesn't go on."""
-        self.mark(name)
-        self.items(*items, T0 << 15 | 0x67)
-        self.procedures.append((name, T0, len(items)))
+        start = len(self.text)
+        self.items(*items)
+        self.procedure_from(name, start)
+
+    def procedure_from(self, name, start):
+        """The same, whose items are those from this place on."""
+        self.places[name] = start
+        self.procedures.append((name, T0, len(self.text) - start))
+        self.items(T0 << 15 | 0x67)
 
     def far_call(self, name):
         """auipc ra and jalr ra, ra"""
@@ -119,6 +128,12 @@ class Program:
         """lui a3, %hi(NAME) and addi a3, a3, %lo(NAME)"""
         self.jumps += [(len(self.text), HIGH, name), (len(self.text) + 1, LOW, name)]
         self.text += [lui(A3, 0), addi(A3, A3, 0)]
+
+    def part_jump(self, name):
+        """lui t0, %hi(NAME), addi a3, t0, %lo(NAME) and jalr zero, %lo(NAME)(t0)"""
+        start = len(self.text)
+        self.jumps += [(start, HIGH, name), (start + 1, LOW, name), (start + 2, LOW, name)]
+        self.text += [lui(T0, 0), addi(A3, T0, 0), T0 << 15 | 0x67]
 
     def word(self, name):
         self.words.append((len(self.data), name))
@@ -256,6 +271,27 @@ def named(p, count):
     chained(p, count)
 
 
+def parted(p, count):
+    for number in range(count):
+        p.branch(("behind", number))
+        p.part_jump(number)
+        p.mark(("behind", number))
+    chained(p, count)
+
+
+def embodied(p, count):
+    for number in range(count):
+        p.jump(("procedure", number), T0)
+        p.jump(("procedure", number), T0)
+    chained(p, count)
+    p.jump("exit")
+    for number in range(count):
+        start = len(p.text)
+        p.address(number)
+        p.items(addi(A2, A2, 1), addi(A2, A2, 2))
+        p.procedure_from(("procedure", number), start)
+
+
 def poured(p, count):
     order = [number for pair in zip(range(count), range(count, 2 * count)) for number in pair]
     branches(p, [behind for _, behind in sorted(zip(order, [*order[1:], "exit"]))])
@@ -278,6 +314,30 @@ def backward(p, count):
         p.mark(number)
         p.items(only(number))
         p.jump(number - 1 if number else "exit")
+
+
+def vain(p, count):
+    """Where the chain moved, its first Branch wouldn't reach."""
+    for name, items in [("aim", 1), ("between", 900)]:
+        p.word(name)
+        p.mark(name)
+        p.items(*[addi(A3, A3, number % 3) for number in range(items)])
+        p.jump("exit")
+    p.mark("first")
+    p.branch("aim")
+    for number in range(17 * count // 4):
+        p.mark(("chain", number))
+        p.branch(("chain", max(0, number - 7)))
+    p.jump("exit")
+    p.word("far")
+    p.mark("far")
+    p.items(*[addi(A2, A2, number) for number in range(1100)])
+    p.jump("exit")
+    for number in range(count):
+        p.word(number)
+        p.mark(number)
+        p.items(lui(A2, number))
+        p.jump("first")
 
 
 def falls(p, count):
@@ -776,9 +836,12 @@ KINDS = {
     "chained": (chained, 4),
     "held": (held, 4),
     "named": (named, 6),
+    "parted": (parted, 8),
+    "embodied": (embodied, 11),
     "poured": (poured, 8),
     "threads": (threads, 2),
     "backward": (backward, 2),
+    "vain": (vain, 7),
     "falls": (falls, 2),
     "steps": (steps, 2),
     "inverts": (inverts, 3),
