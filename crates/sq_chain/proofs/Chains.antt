@@ -2,7 +2,7 @@
 use Rattle.std.proofs.Common.{◌≡◌, ◌≢◌, ℕ, ◌+◌, ◌<◌, ◌^◌, ◌==◌, nat_eq, true, false, if◌then◌else◌, List, [], ◌∷◌, length, Option, None, Some, IsSome, is_some, inl, inr, refl, sym, ap, ◌∙◌, subst, arith, append_assoc, ◌++◌}
 use Rattle.std.specs.Map.{update}
 use Rattle.std.proofs.lemmas.Bool.{cases_Bool, eqb-true, eq-eqb, ne_eqb, both_ways}
-use Rattle.std.proofs.lemmas.List.Elements.{All-head}
+use Rattle.std.proofs.lemmas.List.Elements.{All-head, All-nil}
 use Rattle.sq_arena.specs.Entries.{HasDistinctKeys, value_of, ContainsKey, before, through, starting_at, behind, run, first_key}
 use Rattle.sq_arena.proofs.EntriesLemmas.{starting_at-behind, split_at as split_at_key, some_value}
 use Rattle.sq_arena.proofs.EntriesLaws.{absent_ahead, starting_at-append, value_of-append, or_value, distinct_back}
@@ -17,7 +17,8 @@ use Rattle.sq_graph.proofs.Located.{value_of-at}
 use Rattle.sq_layout.proofs.Shrinking.{block_with}
 use Rattle.sq_lookup.specs.Tables.{number_at}
 use Rattle.sq_lookup.proofs.Targets.{targets_there}
-use Rattle.sq_chain.specs.Moves.{end_of, chain_end, AreEnds, IsInChain}
+use Rattle.sq_chain.specs.Moves.{end_of, chain_end, AreEnds, AreChains, IsInChain}
+use Rattle.sq_chain.specs.declared.along.Chain.{Chain}
 use Rattle.sq_chain.proofs.Reordered.{end_there, apart_from, some_or_none}
 
 -- the walk has come to this block, ahead of which the other one isn't
@@ -232,6 +233,10 @@ pub none_known : (g : Graph) (ends : List (Option ℕ)) → ends ≡ [] → AreE
 none_known g ends empty n end found =
     let none : number_at ends n ≡ None = ap (λ (es : List (Option ℕ)). number_at es n) empty in
     absurd (cc (none, found))
+
+-- no chain is known at first
+pub no_chains : (g : Graph) (chains : List Chain) → chains ≡ [] → AreChains g chains
+no_chains g chains empty = subst (λ (cs : List Chain). AreChains g cs) (sym empty) (All-nil (λ (chain : Chain). chain.end ≡ chain_end g chain.head))
 
 -- one end more is known
 pub ends_with : (g : Graph) (ends more : List (Option ℕ)) (to end : ℕ) → end ≡ chain_end g to → end < 2 ^ 32 → AreEnds g ends → ((n : ℕ) → number_at more n ≡ update nat_eq (number_at ends) to (Some end) n) → AreEnds g more

@@ -1,5 +1,6 @@
 -- Chains of blocks, and their moves.
 use Rattle.std.specs.Prelude.{◌≡◌, ℕ, Bool, ◌≤◌, ◌<◌, ◌^◌, ◌==◌, List, [], ◌∷◌, Option, Some, if◌then◌else◌}
+use Rattle.std.specs.List.{All}
 use Rattle.sq_arena.specs.Entries.{ContainsKey, starting_at, run}
 use Rattle.sq_graph.specs.declared.item.Term.{Term}
 use Rattle.sq_graph.specs.declared.item.Term.TheVariants.{Fall, Jump}
@@ -10,6 +11,7 @@ use Rattle.sq_graph.specs.Terms.{goes_on}
 use Rattle.sq_graph.specs.Words.{words_of}
 use Rattle.sq_lookup.specs.Tables.{number_at}
 use Rattle.law_patch.specs.LoneJumps.{IsApart}
+use Rattle.sq_chain.specs.declared.along.Chain.{Chain}
 use Rattle.sq_chain.specs.Least.{least_widened}
 
 -- the name of the first of these blocks that doesn't go on to its next slot
@@ -27,6 +29,10 @@ IsInChain g to n = ContainsKey (run (named g.blocks) to (chain_end g to)) n
 -- each of these numbers is the last block of the chain of its name
 abbrev pub AreEnds : Graph → List (Option ℕ) → Type 0
 AreEnds g ends = (n end : ℕ) → number_at ends n ≡ Some end → (end ≡ chain_end g n) × (end < 2 ^ 32)
+
+-- each of these chains ends in its last block
+abbrev pub AreChains : Graph → List Chain → Type 0
+AreChains g chains = All (λ chain. chain.end ≡ chain_end g chain.head) chains
 
 -- A block ends in a Jump to another one, into which no block goes on, and isn't in that one's chain.
 pub record IsMovable (g : Graph) (from to : ℕ) : Type 0 where

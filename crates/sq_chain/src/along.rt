@@ -1,8 +1,15 @@
-//! How far a sweep goes along chains. It leaves those that are long once that took long: each that moves may be longer than the one
-//! before, and many blocks may jump to one that doesn't move. The next sweep begins anew. No clause says what it leaves.
+//! How far a sweep goes along chains. It looks for the end of a long one once until a chain moves, however many blocks jump to it. And
+//! it leaves those that are long once that took long, since each that moves may be longer than the one before. The next sweep begins
+//! anew. No clause says what it leaves.
 
-use crate::chain::apart_target;
-use crate::jumps::{look, mark};
+ghost use Rattle.std.specs.Prelude.{◌≡◌, [], Some, IfOk, IfSome, OnOk};
+ghost use Rattle.sq_graph.specs.declared.item.Term.TheVariants.{Jump};
+ghost use Rattle.sq_graph.specs.Graph.{Graph as Parts};
+ghost use Rattle.sq_graph.specs.Blocks.{term_of};
+ghost use Rattle.sq_chain.specs.Moves.{AreChains, IsMovable, chain_end};
+
+use crate::around::Corners;
+use crate::chain::{apart_target, corners_at, end_behind};
 use sq_graph::Graph;
 use sq_lookup::is_block;
 use sq_num::Memory;
@@ -14,74 +21,105 @@ const SHORT: u32 = 128;
 /// So often as many blocks as there are may be gone along by longer ones.
 const TIMES: u32 = 64;
 
-/// How many blocks may still be gone along by long chains, and how many there are: a chain is gone along until it took as many. How
-/// many it took is told by the name of its first block.
+/// A chain, by the names of its first block and its last one.
+#[derive(Clone, Copy, Debug)]
+pub(crate) struct Chain {
+    pub head: u32,
+    pub end: u32,
+}
+
+/// How many blocks may still be gone along by long chains, and those that were gone along since one moved.
 #[derive(Drop)]
 pub(crate) struct Along {
     left: u32,
-    blocks: u32,
-    gone: Vec<u32>,
+    known: Vec<Chain>,
 }
 
-/// The last block of a chain, and how many blocks are before it there.
-#[derive(Clone, Copy, Debug)]
-struct Gone {
-    end: u32,
-    length: u32,
-}
-
-/// The end of the chain of this block, if fewer blocks than these are before it.
-fn gone_along(graph: &Graph, head: u32, most: u32) -> Option<Gone> {
-    let mut end = head;
+/// How many blocks of the chain of this one are before its last one, if fewer than these.
+fn length_of(graph: &Graph, head: u32, most: u32) -> Option<u32> {
+    let mut block = head;
     for length in 0..most {
-        if !is_block(graph, end) {
+        if !is_block(graph, block) {
             return None;
         }
-        if !graph.term(end).goes_on() {
-            return Some(Gone { end, length });
+        if !graph.term(block).goes_on() {
+            return Some(length);
         }
-        end = graph.next(end)?;
+        block = graph.next(block)?;
+    }
+    None
+}
+
+/// The last block of the chain of this one, if it is one of these.
+fn known_end(known: &[Chain], head: u32) -> Option<u32>
+    ensures { (g : Parts) → AreChains g known.now → IfSome result (λ end. end ≡ chain_end g head) }
+{
+    for chain in known {
+        if chain.head == head {
+            return Some(chain.end);
+        }
     }
     None
 }
 
 impl Along {
-    /// What there is when a sweep begins, in which blocks have names below a number.
-    pub fn of(alloc: Global, graph: &Graph, names: usize) -> Result<Along, Memory> {
-        let mut gone = Vec::new(alloc);
-        gone.resize(names, 0)?;
-        let blocks = graph.links().len();
-        Ok(Along {
-            left: blocks.saturating_mul(TIMES),
-            blocks,
-            gone,
-        })
-    }
-
-    /// How many blocks may be gone along from this one on.
-    fn most(&self, head: u32) -> u32 {
-        if look(&self.gone, head) >= self.blocks {
-            SHORT
-        } else {
-            self.left.max(SHORT)
+    /// What there is when a sweep begins.
+    pub fn new(alloc: Global, graph: &Graph) -> Along
+        ensures { result.known.items ≡ [] }
+    {
+        Along {
+            left: graph.links().len().saturating_mul(TIMES),
+            known: Vec::new(alloc),
         }
     }
 
-    /// Takes note that so many blocks were gone along from this one on.
-    fn spend(&mut self, head: u32, length: u32) {
-        if length >= SHORT {
-            self.left = self.left.saturating_sub(length);
-            let gone = look(&self.gone, head).saturating_add(length);
-            mark(&mut self.gone, head, gone);
+    /// The last block of the chain to which this block jumps, if it is known, or that is gone along.
+    fn end(&mut self, graph: &Graph, from: u32, to: u32) -> Result<Option<u32>, Memory>
+        requires jump { term_of graph.now.graph from ≡ Some (Jump to) }
+        requires known { AreChains graph.now.graph self.old.known.items }
+        ensures end { IfOk result (λ found. IfSome found (λ end. end ≡ chain_end graph.now.graph to)) }
+        ensures known { OnOk result (AreChains graph.now.graph self.new.known.items) }
+    {
+        if let Some(end) = known_end(&self.known, to) {
+            return Ok(Some(end));
         }
+        let most = self.left.max(SHORT);
+        let length = length_of(graph, to, most);
+        let gone = length.unwrap_or(most);
+        if gone >= SHORT {
+            self.left = self.left.saturating_sub(gone);
+        }
+        if length.is_none() {
+            return Ok(None);
+        }
+        let end = end_behind(graph, from, to);
+        if gone >= SHORT {
+            self.known.push(Chain { head: to, end })?;
+        }
+        Ok(Some(end))
     }
 
-    /// The last block of the chain to which this block jumps, if it does, none goes on into that, and it is gone along.
-    pub fn end_behind(&mut self, graph: &Graph, from: u32) -> Option<u32> {
-        let head = apart_target(graph, from)?;
-        let most = self.most(head);
-        let gone = gone_along(graph, head, most);
-        self.spend(head, gone.map_or(most, |it| it.length));
-        Some(gone?.end)
+    /// The corners of the move of the chain to which this block jumps, where the pair is movable and the chain's end is known or gone
+    /// along.
+    pub fn corners_behind(&mut self, graph: &Graph, from: u32) -> Result<Option<Corners>, Memory>
+        requires known { AreChains graph.now.graph self.old.known.items }
+        ensures movable { IfOk result (λ found. IfSome found (λ corners. IsMovable graph.now.graph corners.from corners.to)) }
+        ensures end { IfOk result (λ found. IfSome found (λ corners. corners.end ≡ chain_end graph.now.graph corners.to)) }
+        ensures known { OnOk result (AreChains graph.now.graph self.new.known.items) }
+    {
+        let Some(to) = apart_target(graph, from) else {
+            return Ok(None);
+        };
+        let Some(end) = self.end(graph, from, to)? else {
+            return Ok(None);
+        };
+        Ok(corners_at(graph, from, to, end))
+    }
+
+    /// A chain has moved: no end is known any more.
+    pub fn forget(&mut self)
+        ensures { self.new.known.items ≡ [] }
+    {
+        self.known.clear();
     }
 }

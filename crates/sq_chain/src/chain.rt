@@ -82,16 +82,31 @@ pub(crate) fn apart_target(graph: &Graph, from: u32) -> Option<u32>
     if is_apart(graph, to) { Some(to) } else { None }
 }
 
-/// The corners of the move of the chain to which this block jumps, where the pair is movable.
-pub(crate) fn corners_of(graph: &Graph, from: u32) -> Option<Corners>
-    ensures movable { IfSome result (λ corners. IsMovable graph.now.graph from corners.to) }
+/// The last block of the chain to which this block jumps.
+pub(crate) fn end_behind(graph: &Graph, from: u32, to: u32) -> u32
+    requires jump { term_of graph.now.graph from ≡ Some (Jump to) }
+    ensures { result ≡ chain_end graph.now.graph to }
+{
+    graph.learn();
+    // A block that jumps goes on to none: in the chain it is the last one.
+    end_of_chain(graph, to, from).unwrap_or(from)
+}
+
+/// The corners of the move of the chain of `to`, of which this is the last block, behind a block that jumps to it, where the pair is
+/// movable.
+pub(crate) fn corners_at(graph: &Graph, from: u32, to: u32, end: u32) -> Option<Corners>
+    requires jump { term_of graph.now.graph from ≡ Some (Jump to) }
+    requires apart { IsApart graph.now.graph to }
+    requires end { end ≡ chain_end graph.now.graph to }
+    ensures movable { IfSome result (λ corners. IsMovable graph.now.graph corners.from corners.to) }
     ensures from { IfSome result (λ corners. corners.from ≡ from) }
     ensures end { IfSome result (λ corners. corners.end ≡ chain_end graph.now.graph corners.to) }
     ensures none { result ≡ None → (to : ℕ) → ¬ IsMovable graph.now.graph from to }
 {
     graph.learn();
-    let to = apart_target(graph, from)?;
-    let end = end_of_chain(graph, to, from)?;
+    if end == from {
+        return None;
+    }
     Some(Corners { from, to, end })
 }
 
@@ -103,12 +118,10 @@ fn end_by(graph: &Graph, ends: &mut Table, from: u32, to: u32) -> Result<u32, Me
     ensures end { IfOk result (λ end. end ≡ chain_end graph.now.graph to) }
     ensures ends { OnOk result (AreEnds graph.now.graph ends.new) }
 {
-    graph.learn();
     if let Some(end) = ends.get(to) {
         return Ok(end as u32);
     }
-    // A block that jumps goes on to none: in the chain it is the last one.
-    let end = end_of_chain(graph, to, from).unwrap_or(from);
+    let end = end_behind(graph, from, to);
     ends.insert(to, u64::from(end))?;
     Ok(end)
 }
@@ -126,13 +139,9 @@ pub(crate) fn corners_by(
     ensures none { result ≡ Ok None → (to : ℕ) → ¬ IsMovable graph.now.graph from to }
     ensures ends { OnOk result (AreEnds graph.now.graph ends.new) }
 {
-    graph.learn();
     let Some(to) = apart_target(graph, from) else {
         return Ok(None);
     };
     let end = end_by(graph, ends, from, to)?;
-    if end == from {
-        return Ok(None);
-    }
-    Ok(Some(Corners { from, to, end }))
+    Ok(corners_at(graph, from, to, end))
 }

@@ -1,6 +1,6 @@
 //! Moves many chains by one look over the blocks.
 
-ghost use Rattle.std.specs.Prelude.{◌≡◌, ◌≤◌, ◌+◌, true, false, length, Ok, IfOk, IfSome, OnOk};
+ghost use Rattle.std.specs.Prelude.{◌≡◌, ◌≤◌, ◌+◌, true, false, length, Ok, None, IfOk, IfSome, OnOk};
 ghost use Rattle.sq_num.specs.Saved.{words_saved};
 ghost use Rattle.sq_graph.specs.Leaders.{IsCanonical};
 ghost use Rattle.sq_graph.specs.Words.{words_of, most_words};
@@ -14,7 +14,6 @@ ghost use Rattle.sq_lookup.specs.Counts.{AreUses, AreKnown};
 
 use crate::along::Along;
 use crate::around::Corners;
-use crate::chain::corners_of;
 use crate::local::carry_joined;
 use crate::moving::move_by;
 use crate::outlook::{Outlook, outlook_of};
@@ -164,38 +163,37 @@ fn sweep_chain(
     Ok(true)
 }
 
-/// The same of the chain to which this block jumps.
-fn sweep_behind(
+/// The same, and counts what it saves. None where it makes no move.
+fn sweep_corners(
     alloc: Global,
     graph: &mut Graph,
     view: &mut Survey,
     uses: &mut Option<Uses>,
     shorts: &mut Shorts,
-    from: u32,
+    corners: Corners,
     savings: Savings,
-) -> Result<Savings, Memory>
+) -> Result<Option<Savings>, Memory>
+    requires movable { IsMovable graph.old.graph corners.from corners.to }
+    requires end { corners.end ≡ chain_end graph.old.graph corners.to }
     requires canonical { IsCanonical graph.old.graph }
     requires words { words_of graph.old.graph + words_saved savings ≤ most_words }
     requires survey { IsSurvey graph.old.graph view.old }
     requires uses { AreKnown graph.old.graph uses.old }
-    ensures rewritten { IfOk result (λ after. IsRewritten IsCandidate described savings after graph.old.graph graph.new.graph) }
+    ensures rewritten { IfOk result (λ done. IfSome done (λ after. IsRewritten IsCandidate described savings after graph.old.graph graph.new.graph)) }
+    ensures same { result ≡ Ok None → graph.new ≡ graph.old }
     ensures follows { Follows graph.old.graph graph.new.graph }
     ensures survey { OnOk result (IsSurvey graph.new.graph view.new) }
     ensures uses { OnOk result (AreKnown graph.new.graph uses.new) }
 {
-    graph.learn();
-    let Some(corners) = corners_of(graph, from) else {
-        return Ok(savings);
-    };
     let before = view.places.words;
     if !sweep_chain(alloc, graph, view, uses, shorts, corners)? {
-        return Ok(savings);
+        return Ok(None);
     }
     let done = Rewrite {
         row: Row::L,
         saving: before - view.places.words,
     };
-    Ok(done.count(savings))
+    Ok(Some(done.count(savings)))
 }
 
 /// Moves chains by one look over the blocks in layout order, each where the pair is movable and words are saved, and makes the
@@ -218,33 +216,36 @@ pub fn sweep_moves<W: Watch>(
     let mut view = survey_of(alloc, graph)?;
     let mut uses = None;
     watch.begins(alloc, graph, &view.places.addresses)?;
-    let room = view.places.addresses.names();
-    let mut along = Along::of(alloc, graph, room)?;
-    let mut shorts = Shorts::new(alloc, room)?;
+    let mut along = Along::new(alloc, graph);
+    let mut shorts = Shorts::new(alloc, view.places.addresses.names())?;
     let mut after = savings;
     for name in &names {
         if watch.has_tried(*name) {
             continue;
         }
-        let Some(end) = along.end_behind(graph, *name) else {
+        let Some(corners) = along.corners_behind(graph, *name)? else {
             continue;
         };
-        if !watch.wants(graph, *name, end)? {
+        if !watch.wants(graph, *name, corners.end)? {
             continue;
         }
-        let next = sweep_behind(
+        let Some(next) = sweep_corners(
             alloc,
             graph,
             &mut view,
             &mut uses,
             &mut shorts,
-            *name,
+            corners,
             after,
-        )?;
-        if next.moved != after.moved && watch.ends(alloc, graph, &view.places.addresses)? {
-            return Ok(next);
-        }
+        )?
+        else {
+            continue;
+        };
         after = next;
+        along.forget();
+        if watch.ends(alloc, graph, &view.places.addresses)? {
+            return Ok(after);
+        }
     }
     Ok(after)
 }

@@ -1,5 +1,6 @@
 use Rattle.sq_pass.specs.Rewrites.{IsRewritten}
 use Rattle.sq_chain.specs.Candidates.{IsCandidate, described}
+use Rattle.sq_chain.specs.Moves.{AreChains}
 use Rattle.sq_chain.specs.Surveys.{IsSurvey}
 use Rattle.sq_lookup.specs.Counts.{AreKnown}
 use Rattle.sq_chain.proofs.sweep.sweep_moves.Given as goal
@@ -9,4 +10,5 @@ invariant-loop-name g l = record {
   rewritten : IsRewritten IsCandidate described l.fn.savings l.after l.initial.graph.graph l.graph.graph;
   survey : IsSurvey l.graph.graph l.view;
   uses : AreKnown l.graph.graph l.uses;
+  known : AreChains l.graph.graph l.along.known.items;
 }

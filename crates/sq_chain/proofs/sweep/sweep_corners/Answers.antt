@@ -3,18 +3,9 @@ use Rattle.sq_graph.specs.Room.{GraphAndRoom}
 use Rattle.sq_graph.specs.Words.{words_of}
 use Rattle.law_follow.specs.Follows.{Follows}
 use Rattle.law_follow.proofs.Following.{graph_follows_itself}
-use Rattle.sq_pass.specs.Rewrites.{IsRewritten}
-use Rattle.sq_pass.proofs.Rewriting.{rewritten_itself}
-use Rattle.sq_chain.specs.Candidates.{IsCandidate, described}
 use Rattle.sq_chain.proofs.Moved.{canonical_few}
 use Rattle.sq_chain.proofs.Swept.{swept_fewer, swept_rewritten}
-use Rattle.sq_chain.proofs.sweep.sweep_behind.Goals as goal
-
-pub returns-in_default-clause-rewritten : goal.returns-in_default-clause-rewritten
-returns-in_default-clause-rewritten c = rewritten_itself IsCandidate described c.args.savings c.args.graph.now.graph c.requires.canonical
-
-pub returns-in_default-clause-follows : goal.returns-in_default-clause-follows
-returns-in_default-clause-follows c = graph_follows_itself c.args.graph.now.graph
+use Rattle.sq_chain.proofs.sweep.sweep_corners.Goals as goal
 
 pub sweep_chain-requires-clause-blocks : goal.sweep_chain-requires-clause-blocks
 sweep_chain-requires-clause-blocks c =
@@ -24,11 +15,6 @@ sweep_chain-requires-clause-blocks c =
 
 pub returns-in_err-sweep_chain-clause-follows : goal.returns-in_err-sweep_chain-clause-follows
 returns-in_err-sweep_chain-clause-follows c = c.sweep_chain.ensures.follows
-
-pub returns-then-not-branch-clause-rewritten : goal.returns-then-not-branch-clause-rewritten
-returns-then-not-branch-clause-rewritten c =
-    subst (λ (v : GraphAndRoom). IsRewritten IsCandidate described c.args.savings c.args.savings c.args.graph.now.graph v.graph) (sym (c.in_ok-sweep_chain.ensures.same (cc)))
-    (rewritten_itself IsCandidate described c.args.savings c.args.graph.now.graph c.requires.canonical)
 
 pub returns-then-not-branch-clause-follows : goal.returns-then-not-branch-clause-follows
 returns-then-not-branch-clause-follows c =
