@@ -16,6 +16,7 @@ KIND is one of:
     threads    COUNT blocks of an item and a jump, each to the next in shuffled order, which words name: each moves
     backward   the same, each to the one before it: the chains that move come to be long
     vain       COUNT jumps to the first of some four times as many blocks, which follow each other and none of which may move
+    stays      COUNT jumps to some chains of about as many blocks, behind which none may move, and then one to each, behind which it may
     falls      COUNT jumps to the next slot, which nothing else names, each behind an item
     steps      COUNT calls, each before a lone jump to the next slot
     inverts    COUNT branches over a lone jump
@@ -53,6 +54,7 @@ The text has at most 262,144 words, or Squeeze refuses it. Each kind ends with a
 """
 
 import itertools
+import math
 import random
 import struct
 import sys
@@ -338,6 +340,35 @@ def vain(p, count):
         p.mark(number)
         p.items(lui(A2, number))
         p.jump("first")
+
+
+def stays(p, count):
+    """Where a chain moved, its first Branch wouldn't reach, but for behind the last jump to it."""
+    chains = math.isqrt(10 * count // 23)
+    for number in range(count):
+        p.word(number)
+        p.mark(number)
+        p.items(lui(A2, number))
+        p.jump(("first", number % chains))
+    p.word("far")
+    p.mark("far")
+    p.items(*[addi(A2, A2, number) for number in range(1100)])
+    p.jump("exit")
+    for chain in range(chains):
+        p.word(("aim", chain))
+        p.mark(("aim", chain))
+        p.items(lui(A3, chain))
+        p.jump("exit")
+        p.mark(("first", chain))
+        p.branch(("aim", chain))
+        for number in range(2 * chains):
+            p.mark(("chain", chain, number))
+            p.branch(("chain", chain, max(0, number - 7)))
+        p.jump("exit")
+        p.word(("last", chain))
+        p.mark(("last", chain))
+        p.items(lui(A1, chain))
+        p.jump(("first", chain))
 
 
 def falls(p, count):
@@ -842,6 +873,7 @@ KINDS = {
     "threads": (threads, 2),
     "backward": (backward, 2),
     "vain": (vain, 7),
+    "stays": (stays, 3),
     "falls": (falls, 2),
     "steps": (steps, 2),
     "inverts": (inverts, 3),

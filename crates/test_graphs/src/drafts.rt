@@ -66,16 +66,24 @@ impl Draft {
         }
     }
 
+    /// Takes in a block, `ITEMS => TERM`; with `N * TERM`, and N - 1 behind it that have this term alone.
+    fn push_blocks(&mut self, alloc: Global, words: &str, text: &str) -> Result<(), Error> {
+        let (items, terms) = text.split_once("=> ").context("no term")?;
+        let (times, term) = terms.split_once(" * ").unwrap_or(("1", terms));
+        let length = push_items(alloc, words, &mut self.items, items)?;
+        let term = term_of(alloc, term)?;
+        self.blocks.push(BlockPart { length, term })?;
+        let behind = decimal(times)?.saturating_sub(1) as usize;
+        let copies = vec![in alloc; BlockPart { length: 0, term }; behind]?;
+        self.blocks.extend_from_slice(&copies)?;
+        Ok(())
+    }
+
     /// Takes in a part: `entry BLOCK`, `block ITEMS => TERM`, `word ADDRESS BLOCK` or `procedure LINK ; ITEMS`.
     fn push(&mut self, alloc: Global, words: &str, part: &Step<'_>) -> Result<(), Error> {
         match part.verb {
             "entry" => self.entry = decimal(part.words)?,
-            "block" => {
-                let (items, term) = part.words.split_once("=> ").context("no term")?;
-                let length = push_items(alloc, words, &mut self.items, items)?;
-                let term = term_of(alloc, term)?;
-                self.blocks.push(BlockPart { length, term })?;
-            }
+            "block" => self.push_blocks(alloc, words, part.words)?,
             "word" => {
                 let (at, block) = part.words.split_once(" ").context("no block")?;
                 let at = hexadecimal(at)?;
