@@ -7,7 +7,7 @@ ghost use Rattle.sq_graph.specs.Words.{words_of, most_words};
 ghost use Rattle.law_follow.specs.Follows.{Follows};
 ghost use Rattle.sq_pass.specs.Rewrites.{IsRewritten};
 ghost use Rattle.sq_chain.specs.Candidates.{IsCandidate, described, IsSwept};
-ghost use Rattle.sq_chain.specs.Moves.{chain_end, IsMovable, fallen, carried};
+ghost use Rattle.sq_chain.specs.Moves.{chain_end, AreChains, IsMovable, fallen, carried};
 ghost use Rattle.sq_chain.specs.Settled.{IsLeastWide, Widens};
 ghost use Rattle.sq_chain.specs.Surveys.{IsSurvey};
 ghost use Rattle.sq_lookup.specs.Counts.{AreUses, AreKnown};
@@ -163,13 +163,20 @@ fn sweep_chain(
     Ok(true)
 }
 
+/// With what a sweep looks at moves of the graph as it is.
+#[derive(Drop)]
+struct Looks {
+    view: Survey,
+    uses: Option<Uses>,
+    along: Along,
+    shorts: Shorts,
+}
+
 /// The same, and counts what it saves. None where it makes no move.
 fn sweep_corners(
     alloc: Global,
     graph: &mut Graph,
-    view: &mut Survey,
-    uses: &mut Option<Uses>,
-    shorts: &mut Shorts,
+    looks: &mut Looks,
     corners: Corners,
     savings: Savings,
 ) -> Result<Option<Savings>, Memory>
@@ -177,14 +184,21 @@ fn sweep_corners(
     requires end { corners.end ≡ chain_end graph.old.graph corners.to }
     requires canonical { IsCanonical graph.old.graph }
     requires words { words_of graph.old.graph + words_saved savings ≤ most_words }
-    requires survey { IsSurvey graph.old.graph view.old }
-    requires uses { AreKnown graph.old.graph uses.old }
+    requires survey { IsSurvey graph.old.graph looks.old.view }
+    requires uses { AreKnown graph.old.graph looks.old.uses }
     ensures rewritten { IfOk result (λ done. IfSome done (λ after. IsRewritten IsCandidate described savings after graph.old.graph graph.new.graph)) }
     ensures same { result ≡ Ok None → graph.new ≡ graph.old }
     ensures follows { Follows graph.old.graph graph.new.graph }
-    ensures survey { OnOk result (IsSurvey graph.new.graph view.new) }
-    ensures uses { OnOk result (AreKnown graph.new.graph uses.new) }
+    ensures survey { OnOk result (IsSurvey graph.new.graph looks.new.view) }
+    ensures along { looks.new.along ≡ looks.old.along }
+    ensures uses { OnOk result (AreKnown graph.new.graph looks.new.uses) }
 {
+    let Looks {
+        view,
+        uses,
+        shorts,
+        ..
+    } = looks;
     let before = view.places.words;
     if !sweep_chain(alloc, graph, view, uses, shorts, corners)? {
         return Ok(None);
@@ -196,9 +210,71 @@ fn sweep_corners(
     Ok(Some(done.count(savings)))
 }
 
-/// Moves chains by one look over the blocks in layout order, each where the pair is movable and words are saved, and makes the
-/// graph canonical after each. It ends behind a move where `watch` says so. It may leave moves: those that `watch` doesn't want,
-/// those of long chains, and those of pairs that came to be movable behind the look.
+/// What one look over blocks leaves: what was saved by then, and the blocks behind which no move saved a word, none where the sweep
+/// ends.
+#[derive(Drop)]
+struct Look {
+    after: Savings,
+    vain: Vec<u32>,
+}
+
+/// The names of the blocks in layout order behind which no chain was to move before.
+fn untried<W: Watch>(alloc: Global, graph: &Graph, watch: &W) -> Result<Vec<u32>, Memory> {
+    graph.learn();
+    let mut names = block_names(alloc, graph)?;
+    names.retain(|name| !watch.has_tried(*name));
+    Ok(names)
+}
+
+/// Moves chains behind these blocks, as `sweep_moves` does.
+#[tactic(auto, using(law_follow::proofs::Following::graph_follows_through))]
+fn sweep_behind<W: Watch>(
+    alloc: Global,
+    graph: &mut Graph,
+    watch: &mut W,
+    looks: &mut Looks,
+    names: &[u32],
+    savings: Savings,
+) -> Result<Look, Memory>
+    requires canonical { IsCanonical graph.old.graph }
+    requires words { words_of graph.old.graph + words_saved savings ≤ most_words }
+    requires survey { IsSurvey graph.old.graph looks.old.view }
+    requires uses { AreKnown graph.old.graph looks.old.uses }
+    requires known { AreChains graph.old.graph looks.old.along.known.items }
+    ensures rewritten { IfOk result (λ look. IsRewritten IsCandidate described savings look.after graph.old.graph graph.new.graph) }
+    ensures follows { Follows graph.old.graph graph.new.graph }
+    ensures survey { OnOk result (IsSurvey graph.new.graph looks.new.view) }
+    ensures uses { OnOk result (AreKnown graph.new.graph looks.new.uses) }
+    ensures known { OnOk result (AreChains graph.new.graph looks.new.along.known.items) }
+{
+    graph.learn();
+    let mut after = savings;
+    let mut vain = Vec::new(alloc);
+    for name in names {
+        let Some(corners) = looks.along.corners_behind(graph, *name)? else {
+            continue;
+        };
+        if !watch.wants(graph, *name, corners.end)? {
+            continue;
+        }
+        let Some(next) = sweep_corners(alloc, graph, looks, corners, after)? else {
+            vain.push(*name)?;
+            continue;
+        };
+        after = next;
+        looks.along.forget();
+        if watch.ends(alloc, graph, &looks.view.places.addresses)? {
+            vain.clear();
+            return Ok(Look { after, vain });
+        }
+    }
+    Ok(Look { after, vain })
+}
+
+/// Moves chains by looks over the blocks, each where the pair is movable and words are saved, and makes the graph canonical after
+/// each. The first look goes in layout order; the others go over the blocks behind which no move saved a word before, to and fro, as
+/// long as chains move. It ends behind a move where `watch` says so. It may leave moves: those that `watch` doesn't want, those of
+/// long chains, and those of pairs that came to be movable behind the look.
 #[tactic(auto, using(law_follow::proofs::Following::graph_follows_through))]
 pub fn sweep_moves<W: Watch>(
     alloc: Global,
@@ -212,39 +288,27 @@ pub fn sweep_moves<W: Watch>(
     ensures follows { Follows graph.old.graph graph.new.graph }
 {
     graph.learn();
-    let names = block_names(alloc, graph)?;
-    let mut view = survey_of(alloc, graph)?;
-    let mut uses = None;
+    let mut names = untried(alloc, graph, watch)?;
+    let view = survey_of(alloc, graph)?;
     watch.begins(alloc, graph, &view.places.addresses)?;
-    let mut along = Along::new(alloc, graph);
-    let mut shorts = Shorts::new(alloc, view.places.addresses.names())?;
+    let along = Along::new(alloc, graph);
+    let shorts = Shorts::new(alloc, view.places.addresses.names())?;
+    let mut looks = Looks {
+        view,
+        uses: None,
+        along,
+        shorts,
+    };
     let mut after = savings;
-    for name in &names {
-        if watch.has_tried(*name) {
-            continue;
+    for turn in 0..names.len() {
+        let look = sweep_behind(alloc, graph, watch, &mut looks, &names, after)?;
+        if look.after.moved == after.moved {
+            return Ok(look.after);
         }
-        let Some(corners) = along.corners_behind(graph, *name)? else {
-            continue;
-        };
-        if !watch.wants(graph, *name, corners.end)? {
-            continue;
-        }
-        let Some(next) = sweep_corners(
-            alloc,
-            graph,
-            &mut view,
-            &mut uses,
-            &mut shorts,
-            corners,
-            after,
-        )?
-        else {
-            continue;
-        };
-        after = next;
-        along.forget();
-        if watch.ends(alloc, graph, &view.places.addresses)? {
-            return Ok(after);
+        after = look.after;
+        names = look.vain;
+        if turn > 0 {
+            names.reverse();
         }
     }
     Ok(after)

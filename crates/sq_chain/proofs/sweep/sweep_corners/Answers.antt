@@ -28,10 +28,10 @@ pub returns-clause-rewritten : goal.returns-clause-rewritten
 returns-clause-rewritten c =
     let g = c.args.graph.now.graph in
     let words = c.in_ok-sweep_chain.ensures.survey.words in
-    let is : c.args.view.now.places.words - c.sweep_chain.new.view.places.words ≡ words_of g - words_of c.sweep_chain.new.graph.graph =
+    let is : c.args.looks.now.view.places.words - c.sweep_chain.new.view.places.words ≡ words_of g - words_of c.sweep_chain.new.graph.graph =
     ap (λ n. n - c.sweep_chain.new.view.places.words) c.requires.survey.words ∙ ap (λ n. words_of g - n) words
     in
-    swept_rewritten g c.sweep_chain.new.graph.graph (c.in_ok-sweep_chain.ensures.swept (cc)) (c.args.view.now.places.words - c.sweep_chain.new.view.places.words) c.args.savings c.count.result is c.count.ensures.value
+    swept_rewritten g c.sweep_chain.new.graph.graph (c.in_ok-sweep_chain.ensures.swept (cc)) (c.args.looks.now.view.places.words - c.sweep_chain.new.view.places.words) c.args.savings c.count.result is c.count.ensures.value
 
 pub returns-clause-follows : goal.returns-clause-follows
 returns-clause-follows c = (returns-clause-rewritten c).lighter.follows

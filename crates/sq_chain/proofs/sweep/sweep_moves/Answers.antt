@@ -1,7 +1,4 @@
-use Rattle.std.proofs.Common.{subst}
-use Rattle.std.specs.Prelude.{IfSome}
 use Rattle.law_follow.proofs.Following.{graph_follows_itself, graph_follows_through}
-use Rattle.sq_pass.specs.Rewrites.{IsRewritten}
 use Rattle.sq_pass.proofs.Rewriting.{rewritten_itself, rewritten_through}
 use Rattle.sq_chain.specs.Candidates.{IsCandidate, described}
 use Rattle.sq_chain.proofs.Chains.{no_chains}
@@ -19,32 +16,24 @@ returns-in_err-begins-clause-follows g c = graph_follows_itself c.args.graph.now
 pub returns-in_err-shorts-clause-follows : goal.returns-in_err-shorts-clause-follows
 returns-in_err-shorts-clause-follows g c = graph_follows_itself c.args.graph.now.graph
 
-pub loop-name-init : goal.loop-name-init
-loop-name-init g c = record {
+pub returns-in_err-look-clause-follows : goal.returns-in_err-look-clause-follows
+returns-in_err-look-clause-follows g c = graph_follows_through c.args.graph.now.graph c.loop-turn.graph.graph c.sweep_behind.new.graph.graph c.loop-turn.invariant.rewritten.lighter.follows c.sweep_behind.ensures.follows
+
+pub loop-turn-init : goal.loop-turn-init
+loop-turn-init g c = record {
   rewritten = rewritten_itself IsCandidate described c.args.savings c.args.graph.now.graph c.requires.canonical;
   survey = c.in_ok-view.ensures;
   uses = tt;
   known = no_chains c.args.graph.now.graph c.new-along.result.known.items c.new-along.ensures;
 }
 
-pub returns-in_err-corners-clause-follows : goal.returns-in_err-corners-clause-follows
-returns-in_err-corners-clause-follows g c = c.loop-name.invariant.rewritten.lighter.follows
-
-pub returns-in_err-wants-clause-follows : goal.returns-in_err-wants-clause-follows
-returns-in_err-wants-clause-follows g c = c.loop-name.invariant.rewritten.lighter.follows
-
-pub returns-in_err-next-clause-follows : goal.returns-in_err-next-clause-follows
-returns-in_err-next-clause-follows g c = graph_follows_through c.args.graph.now.graph c.loop-name.graph.graph c.sweep_corners.new.graph.graph c.loop-name.invariant.rewritten.lighter.follows c.sweep_corners.ensures.follows
-
-pub loop-name-preserved : goal.loop-name-preserved
-loop-name-preserved g c = record {
-  rewritten = rewritten_through IsCandidate described c.args.savings c.loop-name.after c.in-Some-2.next c.args.graph.now.graph c.loop-name.graph.graph c.sweep_corners.new.graph.graph c.loop-name.invariant.rewritten
-      (subst (λ o. IfSome o (λ after. IsRewritten IsCandidate described c.loop-name.after after c.loop-name.graph.graph c.sweep_corners.new.graph.graph)) c.in-Some-2.is c.in_ok-next.ensures.rewritten);
-  survey = c.in_ok-next.ensures.survey;
-  uses = c.in_ok-next.ensures.uses;
-  known = no_chains c.sweep_corners.new.graph.graph c.forget.new.self.known.items c.forget.ensures;
+pub loop-turn-preserved : goal.loop-turn-preserved
+loop-turn-preserved g c = record {
+  rewritten = rewritten_through IsCandidate described c.args.savings c.loop-turn.after c.in_ok-look.look.after c.args.graph.now.graph c.loop-turn.graph.graph c.sweep_behind.new.graph.graph c.loop-turn.invariant.rewritten c.in_ok-look.ensures.rewritten;
+  survey = c.in_ok-look.ensures.survey;
+  uses = c.in_ok-look.ensures.uses;
+  known = c.in_ok-look.ensures.known;
 }
 
-pub returns-then-branch-clause-rewritten : goal.returns-then-branch-clause-rewritten
-returns-then-branch-clause-rewritten g c = rewritten_through IsCandidate described c.args.savings c.loop-name.after c.in-Some-2.next c.args.graph.now.graph c.loop-name.graph.graph c.sweep_corners.new.graph.graph c.loop-name.invariant.rewritten
-    (subst (λ o. IfSome o (λ after. IsRewritten IsCandidate described c.loop-name.after after c.loop-name.graph.graph c.sweep_corners.new.graph.graph)) c.in-Some-2.is c.in_ok-next.ensures.rewritten)
+pub returns-then-look-after-clause-rewritten : goal.returns-then-look-after-clause-rewritten
+returns-then-look-after-clause-rewritten g c = rewritten_through IsCandidate described c.args.savings c.loop-turn.after c.in_ok-look.look.after c.args.graph.now.graph c.loop-turn.graph.graph c.sweep_behind.new.graph.graph c.loop-turn.invariant.rewritten c.in_ok-look.ensures.rewritten
