@@ -17,6 +17,8 @@ KIND is one of:
     backward   the same, each to the one before it: the chains that move come to be long
     vain       COUNT jumps to the first of some four times as many blocks, which follow each other and none of which may move
     stays      COUNT jumps to some chains of about as many blocks, behind which none may move, and then one to each, behind which it may
+    enabled    COUNT chains, each before a branch over the next 29 of them, so that one may move once all of these have
+    alternate  the same of 21, and each move lets a branch reach past a lone jump, which has to go before the next chain may move
     falls      COUNT jumps to the next slot, which nothing else names, each behind an item
     steps      COUNT calls, each before a lone jump to the next slot
     inverts    COUNT branches over a lone jump
@@ -369,6 +371,47 @@ def stays(p, count):
         p.mark(("last", chain))
         p.items(lui(A1, chain))
         p.jump(("first", chain))
+
+
+def enabled(p, count):
+    """A chain of 33 words moves behind its branch, over 1,019 words of which one goes with each of the 29 moves there."""
+    p.jump("exit")
+    for number in range(count + 31):
+        items = [lui(A2, 32 * number + item) for item in range(32)]
+        p.mark(("chain", number))
+        p.items(*items[:2])
+        p.word(("aim", number))
+        p.mark(("aim", number))
+        p.items(*items[2:])
+        p.jump("exit")
+        p.word(("behind", number))
+        p.mark(("behind", number))
+        p.branch(("aim", number + 30) if number < count else ("chain", number))
+        p.jump(("chain", number))
+
+
+def alternate(p, count):
+    """A chain of 45 words moves behind its branch, over 1,020 words of which two go with each of the 21 moves there: the jump to the
+    chain, and the lone jump of the chain's first branch, which is a word too far from where that leads before the move."""
+    p.jump("exit")
+    for number in range(count + 24):
+        ahead = 22 if number < count else 0
+        parts = [("chain", 9), ("aim", 5), ("between", 8), ("lone aim", 21)]
+        values = itertools.count(64 * number)
+        for name, items in parts:
+            if "aim" in name:
+                p.word((name, number))
+            p.mark((name, number))
+            p.items(*[lui(A2, next(values)) for _ in range(items)])
+            if name == "aim":
+                p.branch(("lone", number))
+        p.jump("exit")
+        p.word(("behind", number))
+        p.mark(("behind", number))
+        p.branch(("aim", number + ahead) if ahead else ("chain", number))
+        p.jump(("chain", number))
+        p.mark(("lone", number))
+        p.jump(("lone aim", number + ahead))
 
 
 def falls(p, count):
@@ -874,6 +917,8 @@ KINDS = {
     "backward": (backward, 2),
     "vain": (vain, 7),
     "stays": (stays, 3),
+    "enabled": (enabled, 36),
+    "alternate": (alternate, 49),
     "falls": (falls, 2),
     "steps": (steps, 2),
     "inverts": (inverts, 3),
